@@ -1,0 +1,10 @@
+mod FirstMoves
+mod Computing
+mod Listing
+mod Naming
+mod Extending
+mod Forms
+mod Bounds
+mod Readings
+mod Fronts
+mod Statuses

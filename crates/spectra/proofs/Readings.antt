@@ -1,0 +1,43 @@
+-- What follows for a whole text from what its tokens, its tree and its specification are.
+use Rattle.std.proofs.Common.{◌≡◌, ℕ, List, sym, subst}
+use Rattle.spec_model.specs.Syntax.{Specification}
+use Rattle.spectra_lexer.specs.declared.token.Token.{Token}
+use Rattle.spectra_lexer.specs.Tokens.{AreTokens}
+use Rattle.spectra_parser.specs.Data.{TreeData}
+use Rattle.spectra_parser.specs.Texts.{IsText}
+use Rattle.spectra.specs.declared.reading.Verdict.{Verdict}
+use Rattle.spectra.specs.declared.reading.Verdict.TheVariants.{Realizable, Unrealizable, Unsupported, TooManyStates}
+use Rattle.spectra.specs.First.{IsInitialOnly}
+use Rattle.spectra.specs.Trees.{Means}
+use Rattle.spectra.proofs.Forms.{means_initial}
+use Rattle.spectra.specs.Reading.{Reads, IsUnsupported}
+use Rattle.spectra.specs.Verdict.{IsVerdict, IsVerdictOn}
+
+pub verdict_from : (text : List ℕ) (s : Specification) (v : Verdict) → Reads text s → IsVerdictOn s v → IsVerdict text v
+verdict_from text s Realizable reads on = (s, reads, on.0, on.1)
+verdict_from text s Unrealizable reads on = (s, reads, on.0, on.1)
+verdict_from text s Unsupported reads on = absurd on
+verdict_from text s TooManyStates reads on = (s, reads, on)
+
+-- a text without tokens means nothing
+pub no_tokens : (text : List ℕ) → ((tokens : List Token) → AreTokens text tokens → ⊥) → IsUnsupported text
+no_tokens text none s reads = none reads.tokens reads.lexed
+
+-- nor does one whose tokens have no tree
+pub no_tree : (text : List ℕ) (tokens : List Token) → ((others : List Token) → AreTokens text others → others ≡ tokens) →
+    ((tree : TreeData) → IsText text tokens tree → ⊥) → IsUnsupported text
+no_tree text tokens only none s reads =
+    none reads.tree (subst (λ (ts : List Token). IsText text ts reads.tree) (only reads.tokens reads.lexed) reads.parsed)
+
+-- nor does one whose tree means nothing
+pub no_meaning : (text : List ℕ) (tokens : List Token) (tree : TreeData) → ((others : List Token) → AreTokens text others → others ≡ tokens) →
+    ((other : TreeData) → IsText text tokens other → other ≡ tree) → ((s : Specification) → Means tree s → ⊥) → IsUnsupported text
+no_meaning text tokens tree only_tokens only_tree none s reads =
+    let parsed = subst (λ (ts : List Token). IsText text ts reads.tree) (only_tokens reads.tokens reads.lexed) reads.parsed in
+    none s (subst (λ (t : TreeData). Means t s) (only_tree reads.tree parsed) reads.means)
+
+pub ruleset refusals = (no_tokens, no_tree, no_meaning)
+
+-- a text that means something means what first moves decide
+pub reads_initial : (text : List ℕ) (s : Specification) → Reads text s → IsInitialOnly s
+reads_initial text s reads = means_initial reads.tree s reads.means

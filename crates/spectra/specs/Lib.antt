@@ -1,0 +1,7 @@
+pub mod First
+pub mod Trees
+pub mod Names
+pub mod Status
+pub mod Reading
+pub mod Verdict
+pub mod Top

@@ -1,0 +1,123 @@
+-- What the tree of a text means: its specification. A tree with anything that is not built yet means none.
+use Rattle.std.specs.Prelude.{◌≡◌, ℕ, zero, suc, Bool, true, false, not, ◌||◌, List, [], ◌∷◌, ◌++◌, Option, Some, None, option_map, map, position}
+use Rattle.std.specs.List.{list_any, list_all}
+use Rattle.std.specs.Str.{bytes_eq}
+use Rattle.spec_model.specs.declared.value.Owner.{Owner}
+use Rattle.spec_model.specs.declared.value.Owner.TheVariants.{Env, Sys}
+use Rattle.spec_model.specs.declared.value.Value.TheVariants as value
+use Rattle.spec_model.specs.declared.spec.Role.{Role}
+use Rattle.spec_model.specs.Values.{TruthValues}
+use Rattle.spec_model.specs.Syntax.{Formula, Constant, Variable, Negation, Conjunction, Disjunction, formulas, Content, Initial, Statement, VariableData, Specification}
+use Rattle.spec_model.specs.Moves.{is_assumption, reads_present_output}
+use Rattle.spectra_parser.specs.declared.tree.OwnerWord.{OwnerWord}
+use Rattle.spectra_parser.specs.declared.tree.OwnerWord.TheVariants as owners
+use Rattle.spectra_parser.specs.declared.tree.PrefixWord.{PrefixWord}
+use Rattle.spectra_parser.specs.declared.tree.PrefixWord.TheVariants.{Not, Prev, Once, Historically}
+use Rattle.spectra_parser.specs.Data.{NameData, Expression, Form, expression, Expressions, TypeShape, BodyData, ItemData, TreeData}
+
+-- one more before several, where all of them mean something
+abbrev pub prepend : {X : Type 0} → Option X → Option (List X) → Option (List X)
+prepend (Some x) (Some xs) = Some (x ∷ xs)
+prepend (Some x) None = None
+prepend None xs = None
+
+-- several before what more there are, where all of them mean something
+abbrev pub extended : {X : Type 0} → List X → Option (List X) → Option (List X)
+extended xs rest = option_map (λ ys. xs ++ ys) rest
+
+-- ---- variables
+
+abbrev pub owner_of : OwnerWord → Owner
+owner_of owners.Env = Env
+owner_of owners.Sys = Sys
+owner_of owners.Aux = Sys
+
+abbrev pub variable_of : OwnerWord → (name : List ℕ) → TypeShape → Option VariableData
+variable_of word name TypeShape.Boolean = Some (record { name = name; owner = owner_of word; domain = TruthValues })
+variable_of word name _ = None
+
+-- the declared variables, in text order
+abbrev pub variables_of : List ItemData → Option (List VariableData)
+variables_of [] = Some []
+variables_of (ItemData.Variable v ∷ items) = prepend (variable_of v.owner v.name.text v.domain.form) (variables_of items)
+variables_of (ItemData.Statement l ∷ items) = variables_of items
+variables_of (_ ∷ items) = None
+
+-- no text stands twice in the list
+abbrev pub AreDifferent : List (List ℕ) → Type 0
+AreDifferent [] = Unit {0}
+AreDifferent (name ∷ names) = (list_any (bytes_eq name) names ≡ false) × AreDifferent names
+
+-- ---- expressions over the names of the variables
+
+-- a variable's number is its place among the names
+abbrev pub place_of : List (List ℕ) → List ℕ → Option ℕ
+place_of names name = position (bytes_eq name) names
+
+abbrev pub prefixed : PrefixWord → Option Formula → Option Formula
+prefixed Not e = option_map (λ f. Negation f) e
+prefixed Prev e = None
+prefixed Once e = None
+prefixed Historically e = None
+
+abbrev mutual
+  pub formula_of : List (List ℕ) → Expression → Option Formula
+  formula_of names (expression first at form) = form_means names form
+
+  pub form_means : List (List ℕ) → Form → Option Formula
+  form_means names Form.True = Some (Constant (value.Bool true))
+  form_means names Form.False = Some (Constant (value.Bool false))
+  form_means names (Form.Number negative digits) = None
+  form_means names (Form.Read name) = option_map (λ k. Variable k) (place_of names name.text)
+  form_means names (Form.Call name es) = None
+  form_means names (Form.Next e) = None
+  form_means names (Form.Prefix word e) = prefixed word (formula_of names e)
+  form_means names (Form.Binary word a b) = None
+  form_means names (Form.Mod e at digits) = None
+  form_means names (Form.And es ops) = option_map (λ fs. Conjunction (formulas fs)) (formulas_of names es)
+  form_means names (Form.Or es ops) = option_map (λ fs. Disjunction (formulas fs)) (formulas_of names es)
+
+  pub formulas_of : List (List ℕ) → Expressions → Option (List Formula)
+  formulas_of names Expressions.none = Some []
+  formulas_of names (Expressions.one_more e es) = prepend (formula_of names e) (formulas_of names es)
+
+-- ---- lines
+
+abbrev pub content_of : List (List ℕ) → BodyData → Option Content
+content_of names (BodyData.Initial e) = option_map (λ f. Initial f) (formula_of names e)
+content_of names _ = None
+
+-- the line with this number; a line with a name is not built yet
+abbrev pub line_of : List (List ℕ) → ℕ → Role → Option NameData → BodyData → Option Statement
+line_of names number role (Some name) body = None
+line_of names number role None body = option_map (λ c. record { number = number; name = None; role = role; content = c }) (content_of names body)
+
+-- the lines, numbered from here on in text order
+abbrev pub lines_of : List (List ℕ) → ℕ → List ItemData → Option (List Statement)
+lines_of names number [] = Some []
+lines_of names number (ItemData.Variable v ∷ items) = lines_of names number items
+lines_of names number (ItemData.Statement l ∷ items) = prepend (line_of names number l.role l.name l.body) (lines_of names (suc number) items)
+lines_of names number (_ ∷ items) = None
+
+-- whether the line, if it is an initial assumption, reads no variable of the system
+abbrev pub reads_inputs : Specification → Role → Content → Bool
+reads_inputs s role (Initial e) = not (is_assumption role) || not (reads_present_output s e)
+reads_inputs s role _ = true
+
+abbrev pub names_of : Specification → List (List ℕ)
+names_of s = map (λ v. v.name) s.variables
+
+-- the tree has these variables, each name once, and these lines, and nothing else
+pub record IsReadFrom (tree : TreeData) (s : Specification) : Type 0 where
+  pub no_imports : tree.imports ≡ []
+  pub variables : variables_of tree.items ≡ Some s.variables
+  pub different : AreDifferent (names_of s)
+  pub lines : lines_of (names_of s) 1 tree.items ≡ Some s.lines
+  pub no_names : s.names ≡ []
+  pub no_patterns : s.patterns ≡ []
+  pub no_triggers : s.triggers ≡ []
+
+-- the tree means this specification
+pub record Means (tree : TreeData) (s : Specification) : Type 0 where
+  pub read : IsReadFrom tree s
+  pub inputs : list_all (λ l. reads_inputs s l.role l.content) s.lines ≡ true

@@ -1,0 +1,48 @@
+//! The program `spectra`: from the words of the command line to a verdict line and a status.
+//!
+//! `synth FILE` reads a specification of Boolean variables and initial lines, and says whether it is realizable. The
+//! verdict is decided by the first moves, which are listed.
+//!
+//! Contract: `top::spectra`. Path: words and bytes → tokens → trees → specification → verdict → **line and status**.
+#![tactic(auto)]
+
+mod answer;
+mod first;
+mod names;
+mod reading;
+mod resolve;
+mod status;
+mod top;
+mod words;
+
+use sp_outside::{OutOfMemory, RealShelf, RealSink, RealSource};
+use status::Status;
+use std::env;
+use std::io::ErrorKind;
+use std::process::ExitCode;
+use std::rt::Env;
+use top::spectra;
+
+fn main(rt: HostRuntime) -> ExitCode {
+    let alloc = rt.alloc();
+    let mut shelf = RealShelf::make(rt);
+    let mut input = RealSource::make(rt.stdin());
+    let mut output = RealSink::make(rt.stdout());
+    let status = match words_of(&rt) {
+        Ok(words) => spectra(alloc, &words, &mut shelf, &mut input, &mut output),
+        Err(_) => Status::Memory,
+    };
+    ExitCode::from(status.number())
+}
+
+// The words of the command line. Words that aren't text are no command, as an empty list is.
+fn words_of(rt: &(impl Env + AllocGlobal)) -> Result<Vec<String>, OutOfMemory> {
+    match env::args(rt) {
+        Ok(words) => words.collect(rt.alloc()),
+        Err(error) if error.kind() == ErrorKind::OutOfMemory => Err(OutOfMemory),
+        Err(_) => Ok(Vec::new(rt.alloc())),
+    }
+}
+
+#[cfg(test)]
+mod tests;

@@ -1,0 +1,108 @@
+//! From a text to its verdict.
+
+ghost use Rattle.std.specs.Prelude.{◌≡◌, List, IfOk, IsErrOf};
+ghost use Rattle.spec_model.specs.Views.{spec_data};
+ghost use Rattle.spectra_lexer.specs.Tokens.{AreTokens};
+ghost use Rattle.spectra_parser.specs.Data.{TreeData};
+ghost use Rattle.spectra_parser.specs.Views.{tree_data};
+ghost use Rattle.spectra_parser.specs.Texts.{IsText};
+ghost use Rattle.spectra.specs.First.{IsInitialOnly};
+ghost use Rattle.spectra.specs.Reading.{Reads, IsUnsupported};
+ghost use Rattle.spectra.specs.Verdict.{IsVerdict, IsVerdictOn};
+
+use crate::first::answers_all;
+use crate::resolve::{ResolveFault, resolve};
+use sp_outside::OutOfMemory;
+use spec_model::spec::Spec;
+use spectra_lexer::{LexFault, Token, lex};
+use spectra_parser::{SyntaxFault, Tree, parse};
+use std::alloc::Global;
+
+/// The greatest number of variables of a specification, as long as its first moves are listed.
+const MAX_VARIABLES: usize = 10;
+
+/// What is found of a text.
+#[derive(Clone, Copy, Debug, PartialEq, Eq)]
+pub enum Verdict {
+    /// It means a specification that the system wins, with K = 2.
+    Realizable,
+    /// It means a specification that the environment wins, with N = 0 and M = 1.
+    Unrealizable,
+    /// It isn't of the form that is built so far.
+    Unsupported,
+    /// It means a specification with too many variables.
+    TooManyStates,
+}
+
+/// The verdict on a text.
+#[tactic(auto, using(crate::proofs::Readings::verdict_from))]
+pub fn verdict_of(alloc: Global, text: &[u8]) -> Result<Verdict, OutOfMemory>
+    ensures { IfOk result (λ v. IsVerdict text.now v) }
+{
+    match read(alloc, text) {
+        Ok(spec) => verdict_on(alloc, &spec),
+        Err(ResolveFault::Unsupported) => Ok(Verdict::Unsupported),
+        Err(ResolveFault::Memory) => Err(OutOfMemory),
+    }
+}
+
+// The verdict on a specification that first moves decide.
+fn verdict_on(alloc: Global, spec: &Spec) -> Result<Verdict, OutOfMemory>
+    requires initial { IsInitialOnly (spec_data spec.now) }
+    ensures { IfOk result (λ v. IsVerdictOn (spec_data spec.now) v) }
+{
+    if spec.vars.len() > MAX_VARIABLES {
+        return Ok(Verdict::TooManyStates);
+    }
+    let all = answers_all(alloc, spec)?;
+    if all {
+        Ok(Verdict::Realizable)
+    } else {
+        Ok(Verdict::Unrealizable)
+    }
+}
+
+// The tokens of a text.
+fn tokens_of(alloc: Global, text: &[u8]) -> Result<Vec<Token>, ResolveFault>
+    ensures tokens { IfOk result (λ tokens. AreTokens text.now tokens.items) }
+    ensures only { IfOk result (λ tokens. (others : List Token) → AreTokens text.now others → others ≡ tokens.items) }
+    ensures unsupported { IsErrOf result ResolveFault.Unsupported → (tokens : List Token) → ¬ (AreTokens text.now tokens) }
+{
+    match lex(alloc, text) {
+        Ok(tokens) => Ok(tokens),
+        Err(LexFault::Unsupported) => Err(ResolveFault::Unsupported),
+        Err(LexFault::Memory) => Err(ResolveFault::Memory),
+        Err(LexFault::NotUtf8 { line: _, column: _ }) => unreachable!(),
+        Err(LexFault::BadCharacter { line: _, column: _ }) => unreachable!(),
+        Err(LexFault::TooLong) => unreachable!(),
+    }
+}
+
+// The tree of a text's tokens.
+fn tree_of(alloc: Global, text: &[u8], tokens: &[Token]) -> Result<Tree, ResolveFault>
+    requires lexed { AreTokens text.now tokens.now }
+    ensures tree { IfOk result (λ tree. IsText text.now tokens.now (tree_data tree)) }
+    ensures only { IfOk result (λ tree. (other : TreeData) → IsText text.now tokens.now other → other ≡ tree_data tree) }
+    ensures unsupported { IsErrOf result ResolveFault.Unsupported → (tree : TreeData) → ¬ (IsText text.now tokens.now tree) }
+{
+    match parse(alloc, text, tokens) {
+        Ok(tree) => Ok(tree),
+        Err(SyntaxFault::Unsupported(_)) => Err(ResolveFault::Unsupported),
+        Err(SyntaxFault::Memory) => Err(ResolveFault::Memory),
+        Err(SyntaxFault::Unexpected(_)) => unreachable!(),
+        Err(SyntaxFault::TooDeep(_)) => unreachable!(),
+        Err(SyntaxFault::Parentheses(_)) => unreachable!(),
+    }
+}
+
+// The specification that a text means.
+#[tactic(auto, using(crate::proofs::Readings::refusals))]
+fn read(alloc: Global, text: &[u8]) -> Result<Spec, ResolveFault>
+    ensures reads { IfOk result (λ s. Reads text.now (spec_data s)) }
+    ensures unsupported { IsErrOf result ResolveFault.Unsupported → IsUnsupported text.now }
+{
+    let tokens = tokens_of(alloc, text)?;
+    let tree = tree_of(alloc, text, &tokens)?;
+    let spec = resolve(alloc, &tree)?;
+    Ok(spec)
+}

@@ -1,0 +1,271 @@
+//! Whole runs over files, input and output in memory. Lines and statuses are worked out by hand from the rules of
+//! reading and of first moves.
+
+use crate::top::spectra;
+use sp_outside::{Failed, MemoryShelf, MemorySink, MemorySource, Sink};
+use std::alloc::Global;
+use std::test::Fail;
+
+/// A sink that takes one byte at each call.
+#[derive(Drop)]
+struct ByteSink {
+    inner: MemorySink,
+}
+
+impl Sink for ByteSink {
+    ghost written = { λ _. None };
+
+    ghost use Rattle.std.specs.Prelude.{None};
+    ghost use Rattle.sp_outside.specs.Memory.{sink_plan};
+
+    ghost faults = { λ s. (sink_plan s.inner).faults };
+
+    fn write(&mut self, piece: &[u8]) -> Result<usize, Failed> {
+        self.inner.write(&piece[..piece.len().min(1)])
+    }
+}
+
+// The words are cut at spaces.
+fn words_of(alloc: Global, line: &str) -> Result<Vec<String>, Fail> {
+    let mut words = Vec::new(alloc);
+    for word in line.split(' ') {
+        words.push(String::from_str(alloc, word)?)?;
+    }
+    Ok(words)
+}
+
+#[test]
+fn each_text_has_its_line_and_status(rt: HostRuntime) -> Result<(), Fail> {
+    let alloc = rt.alloc();
+    // the statements after `spec X`, the line, and the status
+    let cases: [(&str, &str, u8); 22] = [
+        (
+            "env boolean a; sys boolean g; gar ini a & g;",
+            "unrealizable N=0 M=1\n",
+            1,
+        ),
+        (
+            "env boolean a; sys boolean g; gar ini g;",
+            "realizable K=2\n",
+            0,
+        ),
+        (
+            "env boolean a; asm ini a & !a; gar ini false;",
+            "realizable K=2\n",
+            0,
+        ),
+        ("", "realizable K=2\n", 0),
+        ("gar ini false;", "unrealizable N=0 M=1\n", 1),
+        // Only the input with a is legal, and it has an answer.
+        (
+            "env boolean a; sys boolean g; asm ini a; gar ini a & g;",
+            "realizable K=2\n",
+            0,
+        ),
+        // The system can't make the input true.
+        (
+            "env boolean a; sys boolean g; gar ini g; gar ini a | !g;",
+            "unrealizable N=0 M=1\n",
+            1,
+        ),
+        // `&` binds tighter than `|`: the line is true where b is.
+        (
+            "env boolean a; sys boolean b; gar ini b | a & !a;",
+            "realizable K=2\n",
+            0,
+        ),
+        (
+            "env boolean a; sys boolean b; gar ini (b | a) & !a;",
+            "unrealizable N=0 M=1\n",
+            1,
+        ),
+        // A variable may be declared after its use.
+        ("gar ini g; sys boolean g;", "realizable K=2\n", 0),
+        (
+            "sys boolean a; sys boolean b; sys boolean c; sys boolean d; sys boolean e; env boolean f; env boolean h; env boolean i; env boolean j; env boolean k; gar ini a & b;",
+            "realizable K=2\n",
+            0,
+        ),
+        (
+            "sys boolean a; sys boolean b; sys boolean c; sys boolean d; sys boolean e; env boolean f; env boolean h; env boolean i; env boolean j; env boolean k; env boolean l;",
+            "t.spectra:1:1: fault 24 TooManyStates\n",
+            3,
+        ),
+        (
+            "sys Int(0..3) x;",
+            "t.spectra:1:1: fault 23 Unsupported\n",
+            3,
+        ),
+        (
+            "sys boolean g; gar alwEv g;",
+            "t.spectra:1:1: fault 23 Unsupported\n",
+            3,
+        ),
+        (
+            "sys boolean g; gar ini g",
+            "t.spectra:1:1: fault 23 Unsupported\n",
+            3,
+        ),
+        (
+            "sys boolean g; sys boolean g;",
+            "t.spectra:1:1: fault 23 Unsupported\n",
+            3,
+        ),
+        (
+            "env boolean g; sys boolean g;",
+            "t.spectra:1:1: fault 23 Unsupported\n",
+            3,
+        ),
+        ("gar ini g;", "t.spectra:1:1: fault 23 Unsupported\n", 3),
+        (
+            "sys boolean g; asm ini g;",
+            "t.spectra:1:1: fault 23 Unsupported\n",
+            3,
+        ),
+        (
+            "sys boolean true;",
+            "t.spectra:1:1: fault 23 Unsupported\n",
+            3,
+        ),
+        (
+            "sys boolean g; // a comment",
+            "t.spectra:1:1: fault 23 Unsupported\n",
+            3,
+        ),
+        ("sys boolean g; gar ini !!(g);", "realizable K=2\n", 0),
+    ];
+    let words = words_of(alloc, "spectra synth t.spectra")?;
+    for (statements, line, number) in cases {
+        let text = format!(in alloc; "spec X\n{statements}\n")?;
+        let mut shelf = MemoryShelf::make(alloc, &[])?;
+        shelf.put("t.spectra", text.as_bytes())?;
+        let mut input = MemorySource::make(alloc, b"", &[])?;
+        let mut output = MemorySink::make(alloc, 64, &[])?;
+        let status = spectra(alloc, &words, &mut shelf, &mut input, &mut output);
+        assert_eq!(rt; output.written(), line.as_bytes(), "at {statements}");
+        assert_eq!(rt; status.number(), number, "at {statements}");
+    }
+    Ok(())
+}
+
+#[test]
+fn each_fault_has_its_line_and_status(rt: HostRuntime) -> Result<(), Fail> {
+    let alloc = rt.alloc();
+    // the words, the calls of the shelf and of the sink that fail, what is written, and the status
+    let cases: [(&str, &[u64], &[u64], &str, u8); 11] = [
+        ("spectra synth t.spectra", &[], &[], "realizable K=2\n", 0),
+        (
+            "spectra synth none.spectra",
+            &[],
+            &[],
+            "no such file: none.spectra\n",
+            11,
+        ),
+        (
+            "spectra synth",
+            &[],
+            &[],
+            "usage: spectra COMMAND FILE [--nodes N]\n",
+            2,
+        ),
+        (
+            "spectra",
+            &[],
+            &[],
+            "usage: spectra COMMAND FILE [--nodes N]\n",
+            2,
+        ),
+        (
+            "spectra run t.spectra",
+            &[],
+            &[],
+            "usage: spectra COMMAND FILE [--nodes N]\n",
+            2,
+        ),
+        (
+            "spectra synth -t",
+            &[],
+            &[],
+            "usage: spectra COMMAND FILE [--nodes N]\n",
+            2,
+        ),
+        (
+            "spectra synth t.spectra more",
+            &[],
+            &[],
+            "usage: spectra COMMAND FILE [--nodes N]\n",
+            2,
+        ),
+        (
+            "spectra synth t.spectra",
+            &[1],
+            &[],
+            "file fault: t.spectra\n",
+            7,
+        ),
+        (
+            "spectra synth t.spectra",
+            &[2],
+            &[],
+            "file fault: t.spectra\n",
+            7,
+        ),
+        ("spectra synth t.spectra", &[], &[1], "", 9),
+        ("spectra synth", &[], &[1], "", 9),
+    ];
+    for (line, shelf_fails, sink_fails, text, number) in cases {
+        let words = words_of(alloc, line)?;
+        let mut shelf = MemoryShelf::make(alloc, shelf_fails)?;
+        shelf.put("t.spectra", b"spec X")?;
+        let mut input = MemorySource::make(alloc, b"", &[])?;
+        let mut output = MemorySink::make(alloc, 64, sink_fails)?;
+        let status = spectra(alloc, &words, &mut shelf, &mut input, &mut output);
+        assert_eq!(rt; output.written(), text.as_bytes(), "at {line}");
+        assert_eq!(rt; status.number(), number, "at {line}");
+    }
+    Ok(())
+}
+
+#[test]
+fn a_sink_that_takes_one_byte_at_a_time_gets_the_whole_line(rt: HostRuntime) -> Result<(), Fail> {
+    let alloc = rt.alloc();
+    let words = words_of(alloc, "spectra synth t.spectra")?;
+    let mut shelf = MemoryShelf::make(alloc, &[])?;
+    shelf.put("t.spectra", b"spec X gar ini false;")?;
+    let mut input = MemorySource::make(alloc, b"", &[])?;
+    let mut output = ByteSink {
+        inner: MemorySink::make(alloc, 64, &[])?,
+    };
+    let status = spectra(alloc, &words, &mut shelf, &mut input, &mut output);
+    assert_eq!(rt;
+        output.inner.written(),
+        b"unrealizable N=0 M=1\n".as_slice()
+    );
+    assert_eq!(rt; status.number(), 1);
+    // The seventh call of this sink fails: a front of the line is written.
+    let mut cut = ByteSink {
+        inner: MemorySink::make(alloc, 64, &[7])?,
+    };
+    let status = spectra(alloc, &words, &mut shelf, &mut input, &mut cut);
+    assert_eq!(rt; cut.inner.written(), b"unreal".as_slice());
+    assert_eq!(rt; status.number(), 9);
+    Ok(())
+}
+
+#[test]
+fn the_longest_text_is_read_and_a_longer_one_is_not(rt: HostRuntime) -> Result<(), Fail> {
+    let alloc = rt.alloc();
+    let words = words_of(alloc, "spectra synth t.spectra")?;
+    // the number of blanks behind the header, and the status
+    for (blanks, number) in [(1_048_570usize, 0u8), (1_048_571, 3)] {
+        let mut text = vec![in alloc; b' '; blanks]?;
+        text.extend_from_slice(b"spec X")?;
+        let mut shelf = MemoryShelf::make(alloc, &[])?;
+        shelf.put("t.spectra", &text)?;
+        let mut input = MemorySource::make(alloc, b"", &[])?;
+        let mut output = MemorySink::make(alloc, 64, &[])?;
+        let status = spectra(alloc, &words, &mut shelf, &mut input, &mut output);
+        assert_eq!(rt; status.number(), number, "at {blanks}");
+    }
+    Ok(())
+}

@@ -1,0 +1,42 @@
+-- Which bytes make blanks, signs and words, and which words are reserved.
+use Rattle.std.specs.Prelude.{ℕ, ◌==◌, ◌&&◌, ◌||◌, nat_le, nat_eq, not, Bool, true, false, List, [], ◌∷◌}
+use Rattle.std.specs.List.{list_any, list_all}
+use Rattle.std.specs.Cmp.Lexicographic.{pointwise}
+use Rattle.spectra_lexer.specs.declared.words.TheConstants.{RESERVED}
+
+-- space, tab, carriage return or line feed
+abbrev pub is_blank : ℕ → Bool
+is_blank c = c == 32 || c == 9 || c == 13 || c == 10
+
+-- ; ( ) ! & or |
+abbrev pub is_sign : ℕ → Bool
+is_sign c = c == 59 || c == 40 || c == 41 || c == 33 || c == 38 || c == 124
+
+abbrev pub is_digit : ℕ → Bool
+is_digit c = nat_le 48 c && nat_le c 57
+
+-- an ASCII letter or _
+abbrev pub is_letter : ℕ → Bool
+is_letter c = nat_le 97 c && nat_le c 122 || nat_le 65 c && nat_le c 90 || c == 95
+
+-- what may stand in a word
+abbrev pub is_part : ℕ → Bool
+is_part c = is_letter c || is_digit c
+
+-- a run of letters and digits that doesn't begin with a digit
+abbrev pub is_word : List ℕ → Bool
+is_word [] = false
+is_word (c ∷ cs) = is_letter c && list_all is_part cs
+
+-- what would make no word before it longer
+abbrev pub is_apart : List ℕ → Bool
+is_apart [] = true
+is_apart (c ∷ cs) = not (is_part c)
+
+-- whether two texts are the same
+abbrev pub same_text : List ℕ → List ℕ → Bool
+same_text = pointwise nat_eq
+
+-- a word that is no name
+unfoldable pub is_reserved : List ℕ → Bool
+is_reserved word = list_any (λ r. same_text r.now word) RESERVED

@@ -1,0 +1,28 @@
+//! A token and its kind.
+
+/// What a token is.
+#[derive(Clone, Copy, Debug, PartialEq, Eq)]
+pub enum Kind {
+    /// A reserved word.
+    Word,
+    /// A word that isn't reserved.
+    Name,
+    /// A run of digits. There are none yet.
+    Number,
+    /// A quoted text. There are none yet.
+    Text,
+    /// A sign.
+    Sign,
+    /// The end of the text, one past its last character.
+    Finish,
+}
+
+/// A token: its kind, its slice `from..to` of the text in bytes, and the place of its first character, from 1:1.
+#[derive(Clone, Copy, Debug, PartialEq, Eq)]
+pub struct Token {
+    pub kind: Kind,
+    pub from: u32,
+    pub to: u32,
+    pub line: u32,
+    pub column: u32,
+}

@@ -1,0 +1,132 @@
+//! Which bytes make blanks, signs and words, and which words are reserved.
+
+ghost use Rattle.std.specs.Prelude.{◌≡◌, ◌≤◌, true, length, take, drop};
+ghost use Rattle.std.specs.List.{list_all, list_any};
+ghost use Rattle.spectra_lexer.specs.Words.{is_blank as blank_test, is_sign as sign_test, is_letter as letter_test, is_part as part_test, is_apart, same_text, is_reserved as reserved_test};
+ghost use Rattle.spectra_lexer.specs.Tokens.{kind_of as kind_of_word};
+
+use crate::token::Kind;
+
+/// The words that are no names.
+pub const RESERVED: [&str; 47] = [
+    "spec",
+    "module",
+    "import",
+    "env",
+    "sys",
+    "aux",
+    "boolean",
+    "Int",
+    "type",
+    "define",
+    "predicate",
+    "pattern",
+    "var",
+    "monitor",
+    "asm",
+    "assumption",
+    "gar",
+    "guarantee",
+    "ini",
+    "initially",
+    "alw",
+    "always",
+    "G",
+    "trans",
+    "alwEv",
+    "alwaysEventually",
+    "GF",
+    "trig",
+    "next",
+    "true",
+    "false",
+    "not",
+    "and",
+    "or",
+    "implies",
+    "iff",
+    "mod",
+    "PREV",
+    "Y",
+    "ONCE",
+    "O",
+    "HISTORICALLY",
+    "H",
+    "SINCE",
+    "S",
+    "TRIGGERED",
+    "T",
+];
+
+/// Whether a byte only separates tokens.
+pub fn is_blank(byte: u8) -> bool
+    ensures { result ≡ blank_test byte }
+{
+    byte == b' ' || byte == b'\t' || byte == b'\r' || byte == b'\n'
+}
+
+/// Whether a byte is a sign.
+pub fn is_sign(byte: u8) -> bool
+    ensures { result ≡ sign_test byte }
+{
+    byte == b';' || byte == b'(' || byte == b')' || byte == b'!' || byte == b'&' || byte == b'|'
+}
+
+/// Whether a word may begin with a byte.
+pub fn is_letter(byte: u8) -> bool
+    ensures { result ≡ letter_test byte }
+{
+    b'a' <= byte && byte <= b'z' || b'A' <= byte && byte <= b'Z' || byte == b'_'
+}
+
+/// Whether a word may go on with a byte.
+pub fn is_part(byte: u8) -> bool
+    ensures { result ≡ part_test byte }
+{
+    is_letter(byte) || b'0' <= byte && byte <= b'9'
+}
+
+/// How many bytes at the front may stand in a word.
+pub fn count_parts(text: &[u8]) -> usize
+    ensures within { result ≤ length text.now }
+    ensures parts { list_all part_test (take result text.now) ≡ true }
+    ensures apart { is_apart (drop result text.now) ≡ true }
+{
+    for (i, &byte) in text.iter().enumerate() {
+        if !is_part(byte) {
+            return i;
+        }
+    }
+    text.len()
+}
+
+/// Whether a word is one of these.
+fn is_among(words: &[&str], word: &[u8]) -> bool
+    ensures { result ≡ list_any (λ w. same_text w.now word.now) words.now }
+{
+    for w in words {
+        if w.as_bytes() == word {
+            return true;
+        }
+    }
+    false
+}
+
+/// Whether a word is no name.
+#[tactic(auto, unfolding(crate::specs::Words::is_reserved))]
+fn is_reserved(word: &[u8]) -> bool
+    ensures { result ≡ reserved_test word.now }
+{
+    is_among(&RESERVED, word)
+}
+
+/// A reserved word, or a name.
+pub fn kind_of(word: &[u8]) -> Kind
+    ensures { result ≡ kind_of_word word.now }
+{
+    if is_reserved(word) {
+        Kind::Word
+    } else {
+        Kind::Name
+    }
+}

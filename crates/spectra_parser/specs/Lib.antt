@@ -1,0 +1,9 @@
+pub mod Data
+pub mod Views
+pub mod Lexemes
+pub mod Grammar
+pub mod Texts
+pub mod Tests
+pub mod Reading
+pub mod Outcomes
+pub mod Further

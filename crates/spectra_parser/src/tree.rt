@@ -1,0 +1,224 @@
+//! The trees of the grammar.
+//!
+//! The `at` of an item, a part or a type is the place of its first token. A name keeps its text and its place.
+
+use spec_model::spec::Role;
+
+/// The place of a character, its line and column from 1.
+#[derive(Clone, Copy, Debug, PartialEq, Eq)]
+pub struct Place {
+    pub line: u32,
+    pub column: u32,
+}
+
+/// A name as it is written, and where. An import's name is its quoted text, at the place of the word `import`.
+#[derive(Debug, Drop)]
+pub struct Name {
+    pub text: String,
+    pub line: u32,
+    pub column: u32,
+}
+
+/// A whole text: the name behind `spec` or `module`, the imports and the items in text order.
+#[derive(Debug, Drop)]
+pub struct Tree {
+    pub header: Name,
+    pub imports: Vec<Name>,
+    pub items: Vec<Item>,
+}
+
+/// One production of `item`.
+#[derive(Debug, Drop)]
+pub enum Item {
+    Variable(VarItem),
+    Alias(TypeItem),
+    Define(DefineItem),
+    Predicate(PredicateItem),
+    Pattern(PatternItem),
+    Monitor(MonitorItem),
+    Statement(LineItem),
+}
+
+/// The first word of a declaration of a variable.
+#[derive(Clone, Copy, Debug, PartialEq, Eq)]
+pub enum OwnerWord {
+    Env,
+    Sys,
+    Aux,
+}
+
+/// The declaration of a variable.
+#[derive(Debug, Drop)]
+pub struct VarItem {
+    pub at: Place,
+    pub owner: OwnerWord,
+    pub domain: TypeTree,
+    pub name: Name,
+}
+
+/// A name for a type.
+#[derive(Debug, Drop)]
+pub struct TypeItem {
+    pub at: Place,
+    pub name: Name,
+    pub body: TypeTree,
+}
+
+/// The names behind one `define`, with what they stand for.
+#[derive(Debug, Drop)]
+pub struct DefineItem {
+    pub at: Place,
+    pub bodies: Vec<(Name, ExprTree)>,
+}
+
+/// A predicate with its parameters.
+#[derive(Debug, Drop)]
+pub struct PredicateItem {
+    pub at: Place,
+    pub name: Name,
+    pub params: Vec<(TypeTree, Name)>,
+    pub body: ExprTree,
+}
+
+/// A pattern with its parameters, own variables and lines.
+#[derive(Debug, Drop)]
+pub struct PatternItem {
+    pub at: Place,
+    pub name: Name,
+    pub params: Vec<Name>,
+    pub parts: Vec<Part>,
+}
+
+/// A monitor: a variable with lines of its own.
+#[derive(Debug, Drop)]
+pub struct MonitorItem {
+    pub at: Place,
+    pub domain: TypeTree,
+    pub name: Name,
+    pub parts: Vec<Part>,
+}
+
+/// One line between the braces of a pattern or a monitor.
+#[derive(Debug, Drop)]
+pub struct Part {
+    pub at: Place,
+    pub form: PartForm,
+}
+
+/// An own variable, or a line by its word.
+#[derive(Debug, Drop)]
+pub enum PartForm {
+    Own(TypeTree, Name),
+    Initial(ExprTree),
+    Always(ExprTree),
+    Recurring(ExprTree),
+}
+
+/// An assumption or a guarantee, with its name where it has one.
+#[derive(Debug, Drop)]
+pub struct LineItem {
+    pub at: Place,
+    pub role: Role,
+    pub name: Option<Name>,
+    pub body: BodyTree,
+}
+
+/// What a line says. The place in `Trigger` is that of the word `trig`.
+#[derive(Debug, Drop)]
+pub enum BodyTree {
+    Initial(ExprTree),
+    Always(ExprTree),
+    Recurring(ExprTree),
+    Trigger(Place, RegexTree, RegexTree),
+    Call(Name, Vec<ExprTree>),
+}
+
+/// A type.
+#[derive(Debug, Drop)]
+pub struct TypeTree {
+    pub at: Place,
+    pub form: TypeForm,
+}
+
+/// Whole numbers between two bounds, a list of names, or a name for a type.
+#[derive(Debug, Drop)]
+pub enum TypeForm {
+    Boolean,
+    Range(ExprTree, ExprTree),
+    Names(Vec<Name>),
+    Named(Name),
+}
+
+/// An expression. `first` is the place of its first token, opening parentheses included. `at` is the place of its
+/// operator (of `And` and `Or` the first one), or of the name, word or number that it is. Parentheses make no node.
+#[cycle(tree)]
+#[derive(Debug, Drop)]
+pub struct ExprTree {
+    pub first: Place,
+    pub at: Place,
+    pub form: ExprForm,
+}
+
+/// An operator before its operand.
+#[derive(Clone, Copy, Debug, PartialEq, Eq)]
+pub enum PrefixWord {
+    Not,
+    Prev,
+    Once,
+    Historically,
+}
+
+/// An operator between two operands.
+#[derive(Clone, Copy, Debug, PartialEq, Eq)]
+pub enum BinaryWord {
+    Implies,
+    Iff,
+    Since,
+    Triggered,
+    Eq,
+    Ne,
+    Lt,
+    Le,
+    Gt,
+    Ge,
+    Add,
+    Sub,
+    Mul,
+}
+
+/// What an expression is made of. A number is whether `-` stands before it, and its digits as written. The place in
+/// `Mod` is that of its number. `And` and `Or` have all their operands, and the places of the operators between them.
+#[cycle(tree)]
+#[derive(Debug, Drop)]
+pub enum ExprForm {
+    True,
+    False,
+    Number(bool, String),
+    Read(Name),
+    Call(Name, Vec<ExprTree>),
+    Next(Box<ExprTree>),
+    Prefix(PrefixWord, Box<ExprTree>),
+    Binary(BinaryWord, Box<ExprTree>, Box<ExprTree>),
+    Mod(Box<ExprTree>, Place, String),
+    And(Vec<ExprTree>, Vec<Place>),
+    Or(Vec<ExprTree>, Vec<Place>),
+}
+
+/// A regular expression over positions. `Cat` and `Alt` have all their parts.
+#[derive(Debug, Drop)]
+pub enum RegexTree {
+    Atom(Box<ExprTree>),
+    Cat(Vec<RegexTree>),
+    Alt(Vec<RegexTree>),
+    Repeat(Box<RegexTree>, RepeatTree),
+}
+
+/// How often a part is repeated, with numbers as written.
+#[derive(Debug, Drop)]
+pub enum RepeatTree {
+    Star,
+    Plus,
+    Optional,
+    Exactly(String),
+    Between(String, String),
+}
