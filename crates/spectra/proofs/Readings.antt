@@ -8,7 +8,10 @@ use Rattle.spectra_parser.specs.Texts.{IsText}
 use Rattle.spectra.specs.declared.reading.Verdict.{Verdict}
 use Rattle.spectra.specs.declared.reading.Verdict.TheVariants.{Realizable, Unrealizable, Unsupported, TooManyStates}
 use Rattle.spectra.specs.First.{IsInitialOnly}
-use Rattle.spectra.specs.Trees.{Means}
+use Rattle.spectra_lexer.proofs.Pieces.{one_list_of_tokens}
+use Rattle.spectra_parser.proofs.Whole.{one_text}
+use Rattle.spectra.specs.Trees.{Means, IsReadFrom}
+use Rattle.spectra.proofs.Extending.{read_once}
 use Rattle.spectra.proofs.Forms.{means_initial}
 use Rattle.spectra.specs.Reading.{Reads, IsUnsupported}
 use Rattle.spectra.specs.Verdict.{IsVerdict, IsVerdictOn}
@@ -41,3 +44,11 @@ pub ruleset refusals = (no_tokens, no_tree, no_meaning)
 -- a text that means something means what first moves decide
 pub reads_initial : (text : List ℕ) (s : Specification) → Reads text s → IsInitialOnly s
 reads_initial text s reads = means_initial reads.tree s reads.means
+
+-- no text means two specifications
+pub one_meaning : (text : List ℕ) (s s' : Specification) → Reads text s → Reads text s' → s ≡ s'
+one_meaning text s s' reads reads' =
+    let same_tokens = one_list_of_tokens text reads.tokens reads'.tokens reads.lexed reads'.lexed in
+    let parsed = subst (λ (ts : List Token). IsText text ts reads.tree) same_tokens reads.parsed in
+    let same_tree = one_text text reads'.tokens reads.tree reads'.tree parsed reads'.parsed in
+    read_once reads'.tree s' s reads'.means.read (subst (λ (t : TreeData). IsReadFrom t s) same_tree reads.means.read)

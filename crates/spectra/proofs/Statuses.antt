@@ -1,5 +1,5 @@
 -- Which status the answer has, by what is asked and told.
-use Rattle.std.proofs.Common.{◌≡◌, ◌⊎◌, ℕ, List, Option, Some, None, inl, inr, refl, sym, ap, subst, ◌∙◌}
+use Rattle.std.proofs.Common.{◌≡◌, ◌⊎◌, ℕ, List, Option, Some, None, inl, inr, refl, length, ap, subst, arith}
 use Rattle.spec_model.specs.Syntax.{Specification}
 use Rattle.spec_model.specs.Commands.{AskVerdict}
 use Rattle.spec_model.specs.Verdicts.{SystemWins, EnvironmentWins}
@@ -7,7 +7,8 @@ use Rattle.sp_outside.specs.Files.{Files, told_file, HasFile, HasNoFile}
 use Rattle.spectra.specs.declared.status.Status.{Status}
 use Rattle.spectra.specs.declared.status.Status.TheVariants.{Done, Other, Words, Refused, Assumption, Budget, BadLine, ShelfFault, InputFault, OutputFault, Memory, NoFile, Limit}
 use Rattle.spectra.specs.Status.{IsUnlessFault}
-use Rattle.spectra.specs.Reading.{IsUnsupported, MeansOne}
+use Rattle.spectra.specs.Reading.{Reads, IsRefused, MeansOne}
+use Rattle.spectra.proofs.Readings.{one_meaning}
 use Rattle.spectra.specs.Top.{IsFileAnswer, Answers}
 
 -- words ask for one file alone
@@ -15,12 +16,14 @@ one_file : (words : List (List ℕ)) (name other : List ℕ) → AskVerdict word
 one_file words name other asks asks' = let a = asks.file_is in let b = asks'.file_is in cc
 
 -- a text that is refused has no verdict
-no_verdict : (text : List ℕ) (P : Specification → Type 0) (told : Option (Option (List ℕ))) → told ≡ Some (Some text) → IsUnsupported text → HasFile told (λ text. MeansOne text P) → ⊥
-no_verdict text P told is refused has =
-    let means = subst (λ (o : Option (Option (List ℕ))). HasFile o (λ text. MeansOne text P)) is has in
-    refused means.0 means.1
+refuted : (text : List ℕ) (P : Specification → Type 0) → IsRefused text → MeansOne text P → ⊥
+refuted text P (inl none) means = none means.0 means.1
+refuted text P (inr many) means = let same = one_meaning text many.0 means.0 many.1 means.1 in let e = ap (λ (s : Specification). length s.variables) same in let few = means.2 in let more = many.2 in omega arith
 
-module _ (name text : List ℕ) (rose : Type 0) (refused : IsUnsupported text) where
+no_verdict : (text : List ℕ) (P : Specification → Type 0) (told : Option (Option (List ℕ))) → told ≡ Some (Some text) → IsRefused text → HasFile told (λ text. MeansOne text P) → ⊥
+no_verdict text P told is refused has = refuted text P refused (subst (λ (o : Option (Option (List ℕ))). HasFile o (λ text. MeansOne text P)) is has)
+
+module _ (name text : List ℕ) (rose : Type 0) (refused : IsRefused text) where
   told_status : (told : Option (Option (List ℕ))) (line : List ℕ) (status : Status) → told ≡ Some (Some text) → IsFileAnswer name told rose line status → IsUnlessFault Refused status
   told_status told line Done is answer = absurd (no_verdict text (λ s. SystemWins s 2) told is refused answer.0)
   told_status told line Other is answer = absurd (no_verdict text (λ s. EnvironmentWins s 0 1) told is refused answer.0)
@@ -37,7 +40,7 @@ module _ (name text : List ℕ) (rose : Type 0) (refused : IsUnsupported text) w
   told_status told line Limit is answer = absurd answer
 
 -- the status of the answer to words that ask for a file whose text is refused
-module _ (words : List (List ℕ)) (holds : Option Files) (rose : Type 0) (line name text : List ℕ) (asks : AskVerdict words name) (told : told_file holds name ≡ Some (Some text)) (refused : IsUnsupported text) where
+module _ (words : List (List ℕ)) (holds : Option Files) (rose : Type 0) (line name text : List ℕ) (asks : AskVerdict words name) (told : told_file holds name ≡ Some (Some text)) (refused : IsRefused text) where
   of_file : (status : Status) → (other : List ℕ) × AskVerdict words other × IsFileAnswer other (told_file holds other) rose line status → IsUnlessFault Refused status
   of_file status answer =
       let same = one_file words name answer.0 asks answer.1 in

@@ -5,7 +5,7 @@ ghost use Rattle.sp_outside.specs.Causes.{Rose};
 ghost use Rattle.sp_outside.specs.Files.{told_file};
 ghost use Rattle.spec_model.specs.Commands.{AskVerdict, AskNothing};
 ghost use Rattle.spectra.specs.Status.{IsUnlessCut, IsUnlessFault};
-ghost use Rattle.spectra.specs.Reading.{IsUnsupported};
+ghost use Rattle.spectra.specs.Reading.{IsRefused};
 ghost use Rattle.spectra.specs.Top.{Writes};
 
 use crate::answer::answer_words;
@@ -34,7 +34,7 @@ pub fn spectra<F: Shelf, I: Source, O: Sink>(
     ensures no_file { (name : List ℕ) → AskVerdict (map string_bytes words.now) name →
         told_file (F.holds shelf.old) name ≡ Some None → IsUnlessFault Status.NoFile result }
     ensures refused { (name text : List ℕ) → AskVerdict (map string_bytes words.now) name →
-        told_file (F.holds shelf.old) name ≡ Some (Some text) → IsUnsupported text → IsUnlessFault Status.Refused result }
+        told_file (F.holds shelf.old) name ≡ Some (Some text) → IsRefused text → IsUnlessFault Status.Refused result }
 
     ensures shelf_fault { result ≡ Status.ShelfFault → Rose (F.faults shelf.old) (F.faults shelf.new) }
     ensures output_fault { result ≡ Status.OutputFault → Rose (O.faults output.old) (O.faults output.new) }

@@ -4,3 +4,7 @@ pub mod Forms
 pub mod Items
 pub mod Counts
 pub mod Spelling
+pub mod TokenTests
+pub mod Sound
+pub mod Complete
+pub mod Whole
