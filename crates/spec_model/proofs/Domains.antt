@@ -1,5 +1,5 @@
 -- Which values a domain has.
-use Rattle.std.proofs.Common.{◌≡◌, ℕ, zero, suc, ◌+◌, ℤ, pos, ◌+ℤ◌, ◌-ℤ◌, ◌≤ℤ◌, ◌<ℤ◌, Bool, true, false, ◌&&◌, ◌||◌, ◌==◌, List, [], ◌∷◌, map, refl, sym, ◌∙◌, ap, arith, int_le, int_lt, nat_abs, cond}
+use Rattle.std.proofs.Common.{◌≡◌, ℕ, zero, suc, ◌+◌, ℤ, pos, ◌+ℤ◌, ◌-ℤ◌, ◌≤ℤ◌, ◌<ℤ◌, Bool, true, false, ◌&&◌, ◌||◌, ◌==◌, List, [], ◌∷◌, map, refl, sym, ◌∙◌, ap, arith, int_le, nat_abs, cond}
 use Rattle.std.proofs.Common.{inl, inr, ◌⊎◌, ◌≤◌, length, drop}
 use Rattle.std.proofs.lemmas.Bool.{and_parts, and_from, or_cases, or_left, or_right, false≢true}
 use Rattle.std.proofs.lemmas.Bool.Decides.{nat_tests, Decides-int_eq, same_from_decides}
@@ -9,7 +9,7 @@ use Rattle.std.specs.List.{list_any}
 use Rattle.std.specs.Ordering.{int_eq}
 use Rattle.spec_model.specs.declared.value.Value.{Value}
 use Rattle.spec_model.specs.declared.value.Value.TheVariants as value
-use Rattle.spec_model.specs.Values.{same_value, is_assignment, rising_from, values_of, WholeNumbers, Enumeration}
+use Rattle.spec_model.specs.Values.{same_value, is_assignment, rising_from, values_of, WholeNumbers}
 
 -- a value that is no whole number is in no range
 pub none_rising : (v : Value) → ((z : ℤ) → same_value v (value.Int z) ≡ false) → (n : ℕ) (lo : ℤ) → list_any (same_value v) (rising_from lo n) ≡ false

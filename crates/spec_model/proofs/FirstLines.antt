@@ -1,5 +1,5 @@
 -- The first line of a list that passes a test.
-use Rattle.std.proofs.Common.{◌≡◌, ℕ, ◌<◌, ◌≤◌, Bool, true, false, List, [], ◌∷◌, Some, None, option_map, find, cond, refl, ap, arith, inl, inr, ◌⊎◌, Contains, All}
+use Rattle.std.proofs.Common.{◌≡◌, ℕ, ◌<◌, ◌≤◌, Bool, true, false, List, [], ◌∷◌, Some, option_map, find, cond, refl, ap, arith, inl, inr, ◌⊎◌, Contains, All}
 use Rattle.std.proofs.lemmas.List.Elements.{Contains-append_cases, Contains-push_cases, All-contains}
 use Rattle.spec_model.specs.Syntax.{Statement, Specification}
 use Rattle.spec_model.specs.Laws.{NumbersRise, FirstIsLeast}

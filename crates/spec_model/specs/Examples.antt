@@ -1,12 +1,11 @@
 -- Small specifications that the tests of src/judge.rt make.
 use Rattle.std.specs.Prelude.{ℕ, false, List, [], ◌∷◌, None, codes}
-use Rattle.spec_model.specs.declared.value.Owner.{Owner}
 use Rattle.spec_model.specs.declared.value.Owner.TheVariants.{Env, Sys}
 use Rattle.spec_model.specs.declared.spec.Role.{Role}
 use Rattle.spec_model.specs.declared.spec.Role.TheVariants.{Assumption, Guarantee}
 use Rattle.spec_model.specs.declared.value.Value.TheVariants as value
 use Rattle.spec_model.specs.Values.{TruthValues}
-use Rattle.spec_model.specs.Syntax.{Constant, Variable, NextOf, Implication, Equivalence, VariableData, Content, Initial, Safety, Statement, Specification}
+use Rattle.spec_model.specs.Syntax.{Constant, Variable, NextOf, Implication, Equivalence, Content, Initial, Safety, Statement, Specification}
 
 abbrev pub line : ℕ → Role → Content → Statement
 line n r c = record { number = n; name = None; role = r; content = c }

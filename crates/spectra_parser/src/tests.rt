@@ -1,7 +1,9 @@
 //! Texts with their trees, and texts that have none.
 
 use super::*;
-use crate::tree::{BodyTree, ExprForm, ExprTree, Item, LineItem, OwnerWord, PrefixWord, TypeForm, VarItem};
+use crate::tree::{
+    BodyTree, ExprForm, ExprTree, Item, LineItem, OwnerWord, PrefixWord, TypeForm, VarItem,
+};
 use spec_model::spec::Role;
 use spectra_lexer::{LexFault, lex};
 use std::alloc::Global;
@@ -27,7 +29,9 @@ fn is_name(name: &Name, text: &str, line: u32, column: u32) -> bool {
 fn reads(tree: &ExprTree, text: &str, line: u32, column: u32) -> bool {
     match &tree.form {
         ExprForm::Read(name) => {
-            is_name(name, text, line, column) && tree.first == place(line, column) && tree.at == place(line, column)
+            is_name(name, text, line, column)
+                && tree.first == place(line, column)
+                && tree.at == place(line, column)
         }
         _ => false,
     }
@@ -60,15 +64,22 @@ fn a_declaration_has_its_owner_its_type_and_its_name(rt: HostRuntime) -> Result<
 
 fn formula(item: &Item, role: Role) -> Option<&ExprTree> {
     match item {
-        Item::Statement(LineItem { role: found, body: BodyTree::Initial(formula), .. }) if *found == role => Some(formula),
+        Item::Statement(
+            LineItem {
+                role: found,
+                body: BodyTree::Initial(formula),
+                ..
+            },
+        ) if *found == role => Some(formula),
         _ => None,
     }
 }
 
-// gar ini !a | (b) & true;
-//         ^9 ^12^14  ^18^20
+// `!` is at column 16, `a` at 17, `|` at 19, `(` at 21, `b` at 22, `&` at 25.
 #[test]
-fn conjunctions_stand_below_disjunctions_and_places_are_those_of_the_operators(rt: HostRuntime) -> Result<(), Fail> {
+fn conjunctions_stand_below_disjunctions_and_places_are_those_of_the_operators(
+    rt: HostRuntime,
+) -> Result<(), Fail> {
     let tree = read(rt.alloc(), b"spec X gar ini !a | (b) & true;")?;
     assert_eq!(rt; tree.items.len(), 1);
     let found = formula(&tree.items[0], Role::Guarantee).ok_or("no line")?;
@@ -104,7 +115,10 @@ fn operands_of_one_chain_stand_beside_one_another(rt: HostRuntime) -> Result<(),
     let ExprForm::And(operands, operators) = &found.form else {
         return Err("no conjunction".into());
     };
-    assert_eq!(rt; operators.as_slice(), [place(1, 18), place(1, 22)].as_slice());
+    assert_eq!(rt;
+        operators.as_slice(),
+        [place(1, 18), place(1, 22)].as_slice()
+    );
     assert_eq!(rt; operands.len(), 3);
     assert!(rt; reads(&operands[0], "a", 1, 16));
     assert!(rt; reads(&operands[1], "b", 1, 20));
@@ -137,7 +151,10 @@ fn texts_of_no_form_are_refused(rt: HostRuntime) {
         b"spec X gar ini a -> b;",
     ];
     for text in cases {
-        assert!(rt; matches!(read(rt.alloc(), text), Err(SyntaxFault::Unsupported(0))), "{text:?}");
+        assert!(rt;
+            matches!(read(rt.alloc(), text), Err(SyntaxFault::Unsupported(0))),
+            "{text:?}"
+        );
     }
 }
 
@@ -168,7 +185,11 @@ fn an_expression_may_open_128_levels(rt: HostRuntime) -> Result<(), Fail> {
     ];
     for (open, count, close, is_read) in cases {
         let text = nested(rt.alloc(), open, count, close)?;
-        assert_eq!(rt; read(rt.alloc(), &text).is_ok(), is_read, "{count} times {open:?}");
+        assert_eq!(rt;
+            read(rt.alloc(), &text).is_ok(),
+            is_read,
+            "{count} times {open:?}"
+        );
     }
     Ok(())
 }

@@ -1,7 +1,4 @@
-use Rattle.std.proofs.Common.{sym, ap, ◌∙◌}
-use Rattle.std.specs.List.{list_any}
-use Rattle.spec_model.specs.Values.{same_value, values_of}
-use Rattle.spec_model.specs.Views.{domain_data}
+use Rattle.std.proofs.Common.{sym, ◌∙◌}
 use Rattle.spec_model.proofs.Domains.{none_in_range, none_named, named, no_number, no_name}
 use Rattle.spec_model.proofs.judge.has_value.Goals as goal
 

@@ -1,9 +1,5 @@
-use Rattle.std.proofs.Common.{◌≡◌, [], drop, sym, ◌∙◌, ap, map}
+use Rattle.std.proofs.Common.{sym, ◌∙◌}
 use Rattle.std.proofs.lemmas.List.{drop_all}
-use Rattle.spec_model.specs.declared.value.Var.{Var}
-use Rattle.spec_model.specs.Views.{variable_data}
-use Rattle.spec_model.specs.Moves.{is_of, domains_of}
-use Rattle.spec_model.specs.Values.{is_assignment}
 use Rattle.spec_model.proofs.Domains.{no_more}
 use Rattle.spec_model.proofs.judge.is_assignment.Goals as goal
 

@@ -1,5 +1,5 @@
 use Rattle.std.proofs.Common.{arith}
-use Rattle.std.proofs.lemmas.Int.{ints, to_z-of_z}
+use Rattle.std.proofs.lemmas.Int.{to_z-of_z}
 use Rattle.spec_model.proofs.Domains.{within}
 use Rattle.spec_model.proofs.judge.is_within.Goals as goal
 
