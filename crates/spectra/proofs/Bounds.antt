@@ -1,5 +1,5 @@
 -- The numbers of a specification that first moves decide are within the bounds that its size gives.
-use Rattle.std.proofs.Common.{◌≡◌, ℕ, zero, suc, ◌+◌, ◌*◌, ◌^◌, ◌≤◌, List, [], ◌∷◌, length, map, max, true, false, refl, sym, ap, subst, arith, lit≤}
+use Rattle.std.proofs.Common.{◌≡◌, ℕ, zero, suc, ◌*◌, ◌^◌, ◌≤◌, List, [], ◌∷◌, length, map, max, true, false, sym, subst, arith, lit≤}
 use Rattle.std.proofs.Math.Nat.{pow-suc}
 use Rattle.std.specs.List.{AllByRecursion}
 use Rattle.spec_model.specs.Values.{DomainData, TruthValues}

@@ -1,5 +1,5 @@
 -- What initial lines without numbers say can be computed at every position.
-use Rattle.std.proofs.Common.{ℕ, zero, suc, List, [], ◌∷◌, Some, None, Option}
+use Rattle.std.proofs.Common.{ℕ, List, [], ◌∷◌, Some, None, Option}
 use Rattle.std.specs.List.{AllByRecursion}
 use Rattle.spec_model.specs.Syntax.{Formula, Constant, Variable, NextOf, Negation, Conjunction, Disjunction, Implication, Equivalence, Comparison, Sum, Difference, Product, Remainder, PastOf, Entry, Formulas, Statement, Content, Initial, Safety, Recurring, PatternUse, TriggerUse, Specification}
 use Rattle.spec_model.specs.Meaning.{Reading}

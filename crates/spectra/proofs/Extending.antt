@@ -1,10 +1,10 @@
 -- Several meanings, and one more.
-use Rattle.std.proofs.Common.{◌≡◌, ℕ, List, [], ◌∷◌, ◌++◌, Option, Some, None, option_map, true, false, map, refl, sym, ap, subst, ◌∙◌, append_assoc}
+use Rattle.std.proofs.Common.{◌≡◌, ℕ, List, [], ◌∷◌, ◌++◌, Option, Some, None, true, false, map, refl, sym, ap, subst, ◌∙◌, append_assoc}
 use Rattle.std.specs.List.{list_all}
 use Rattle.std.proofs.lemmas.Bool.{false≢true}
 use Rattle.spec_model.specs.Syntax.{VariableData, PatternData, TriggerData, Statement, Specification}
 use Rattle.spectra_parser.specs.Data.{TreeData}
-use Rattle.spectra.specs.Trees.{prepend, extended, variables_of, lines_of, names_of, reads_inputs, IsReadFrom, Means}
+use Rattle.spectra.specs.Trees.{prepend, extended, names_of, reads_inputs, IsReadFrom, Means}
 
 pub extended_more : {X : Type 0} (xs : List X) (x : X) (rest : Option (List X)) → extended xs (prepend (Some x) rest) ≡ extended (xs ++ x ∷ []) rest
 extended_more xs x None = refl

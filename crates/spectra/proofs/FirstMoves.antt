@@ -1,18 +1,18 @@
 -- A specification all of whose lines are initial is decided by its first moves.
-use Rattle.std.proofs.Common.{◌≡◌, ℕ, zero, suc, ◌+◌, ◌*◌, ◌^◌, ◌<◌, ◌≤◌, Bool, true, false, not, ◌&&◌, ◌||◌, List, [], ◌∷◌, ◌++◌, length, map, flat_map, filter, Some, None, is_none, option_map, find, cond, max, length-append, refl, sym, ap, subst, ◌∙◌, arith, inl, inr, ◌⊎◌, IsTrue, Contains}
+use Rattle.std.proofs.Common.{◌≡◌, ℕ, zero, suc, Bool, true, false, not, ◌&&◌, ◌||◌, List, [], ◌∷◌, length, map, flat_map, None, is_none, find, cond, length-append, refl, sym, subst, ◌∙◌, arith, inl, inr, IsTrue, Contains}
 use Rattle.std.specs.List.{list_all, list_any, AllByRecursion}
-use Rattle.std.proofs.lemmas.Bool.{and_parts, and_from, or_cases, or_parts, false≢true}
+use Rattle.std.proofs.lemmas.Bool.{and_parts, or_cases, or_parts, false≢true}
 use Rattle.spec_model.specs.declared.spec.Role.{Role}
 use Rattle.spec_model.specs.declared.value.Owner.{Owner}
 use Rattle.spec_model.specs.declared.value.Value.TheVariants as value
 use Rattle.spec_model.specs.Values.{Assignment, DomainData, TruthValues, is_assignment, assignments_of}
-use Rattle.spec_model.specs.Syntax.{Formula, VariableData, Statement, Content, Initial, Safety, Recurring, PatternUse, TriggerUse, Specification}
-use Rattle.spec_model.specs.Rules.{Run, after, after_input}
+use Rattle.spec_model.specs.Syntax.{VariableData, Statement, Content, Initial, Safety, Recurring, PatternUse, TriggerUse, Specification}
+use Rattle.spec_model.specs.Rules.{Run, after}
 use Rattle.spec_model.specs.Moves.{is_env, domains_of, is_assumption, is_guarantee, output_breaks, broken_by_output, broken_guarantee, broken_assumption, legal_input, legal_output, input_domains, output_domains, goals_of, labelled, recurrences, rules_of}
-use Rattle.spec_model.specs.Realizable.{Rounds, Kept, Wins, IsRealizable}
-use Rattle.spec_model.specs.Unrealizable.{NoteData, Beaten, Beats, IsUnrealizable}
+use Rattle.spec_model.specs.Realizable.{Kept, Wins, IsRealizable}
+use Rattle.spec_model.specs.Unrealizable.{Beats, IsUnrealizable}
 use Rattle.spec_model.proofs.AllStates.{Every, at_assignment}
-use Rattle.spectra.specs.First.{IsPropositional, IsInitialLine, IsInitialOnly, has_reply, answers_all}
+use Rattle.spectra.specs.First.{IsInitialLine, IsInitialOnly, has_reply, answers_all}
 
 -- ---- tests of each element
 

@@ -1,9 +1,9 @@
 -- What a tree means has Boolean variables and initial lines alone.
-use Rattle.std.proofs.Common.{◌≡◌, ℕ, List, [], ◌∷◌, Option, Some, None, option_map, IfSome, map, refl, suc, subst}
+use Rattle.std.proofs.Common.{◌≡◌, ℕ, List, [], ◌∷◌, Option, Some, None, option_map, IfSome, refl, suc, subst}
 use Rattle.std.specs.List.{AllByRecursion}
 use Rattle.spec_model.specs.declared.spec.Role.{Role}
 use Rattle.spec_model.specs.Values.{TruthValues}
-use Rattle.spec_model.specs.Syntax.{Formula, Variable, Negation, Conjunction, Disjunction, formulas, Content, Initial, Statement, VariableData, Specification}
+use Rattle.spec_model.specs.Syntax.{Formula, Variable, Conjunction, Disjunction, formulas, Content, Initial, Statement, VariableData, Specification}
 use Rattle.spectra_parser.specs.declared.tree.OwnerWord.{OwnerWord}
 use Rattle.spectra_parser.specs.declared.tree.PrefixWord.{PrefixWord}
 use Rattle.spectra_parser.specs.declared.tree.PrefixWord.TheVariants.{Not, Prev, Once, Historically}

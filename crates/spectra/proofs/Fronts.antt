@@ -1,5 +1,5 @@
 -- What was read of a file answers for the file: one byte more than a text may have is read, if it is there.
-use Rattle.std.proofs.Common.{◌≡◌, ℕ, ◌+◌, ◌<◌, ◌≤◌, List, length, take, Option, Some, None, ap, sym, subst, ◌∙◌, arith, inl, inr, ◌⊎◌, length-take}
+use Rattle.std.proofs.Common.{◌≡◌, ℕ, ◌+◌, ◌<◌, List, length, take, Option, Some, None, ap, sym, subst, ◌∙◌, arith, inl, inr, ◌⊎◌, length-take}
 use Rattle.std.proofs.lemmas.List.{take_all}
 use Rattle.std.proofs.lemmas.Bool.{cases_lt}
 use Rattle.spec_model.specs.Syntax.{Specification}
@@ -7,7 +7,7 @@ use Rattle.sp_outside.specs.Files.{HasFile, IsFrontOf}
 use Rattle.spectra_lexer.specs.declared.lexing.TheConstants.{MAX_BYTES}
 use Rattle.spectra.specs.declared.status.Status.{Status}
 use Rattle.spectra.specs.declared.status.Status.TheVariants.{Done, Other, Words, Refused, Assumption, Budget, BadLine, ShelfFault, InputFault, OutputFault, Memory, NoFile, Limit}
-use Rattle.spectra.specs.Reading.{Reads, IsUnsupported, HasTooManyStates, MeansOne}
+use Rattle.spectra.specs.Reading.{Reads, IsUnsupported, HasTooManyStates}
 use Rattle.spectra.specs.Top.{IsTextAnswer, IsFileAnswer}
 
 -- a text that is too long means nothing

@@ -1,6 +1,6 @@
 -- Names by their bytes, in a table of texts and in a list.
-use Rattle.std.proofs.Common.{◌≡◌, ℕ, ◌+◌, Bool, true, false, not, ◌||◌, List, [], ◌∷◌, ◌++◌, length, map, position, cond, string_bytes, String, refl, sym, ap, ◌∙◌, inl, inr}
-use Rattle.std.specs.List.{list_any, prefix_len, position_or_len}
+use Rattle.std.proofs.Common.{◌≡◌, ℕ, Bool, true, false, not, ◌||◌, List, [], ◌∷◌, ◌++◌, map, position, refl, sym, ap, ◌∙◌, inl, inr}
+use Rattle.std.specs.List.{list_any, prefix_len}
 use Rattle.std.specs.Str.{bytes_eq}
 use Rattle.std.proofs.lemmas.List.{length-map}
 use Rattle.std.proofs.lemmas.List.Folds.{list_any-append}

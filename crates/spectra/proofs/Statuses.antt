@@ -1,5 +1,5 @@
 -- Which status the answer has, by what is asked and told.
-use Rattle.std.proofs.Common.{◌≡◌, ◌⊎◌, ℕ, List, Option, Some, None, inl, inr, refl, length, ap, subst, arith}
+use Rattle.std.proofs.Common.{◌≡◌, ℕ, List, Option, Some, inl, inr, refl, length, ap, subst, arith}
 use Rattle.spec_model.specs.Syntax.{Specification}
 use Rattle.spec_model.specs.Commands.{AskVerdict}
 use Rattle.spec_model.specs.Verdicts.{SystemWins, EnvironmentWins}
@@ -7,7 +7,7 @@ use Rattle.sp_outside.specs.Files.{Files, told_file, HasFile, HasNoFile}
 use Rattle.spectra.specs.declared.status.Status.{Status}
 use Rattle.spectra.specs.declared.status.Status.TheVariants.{Done, Other, Words, Refused, Assumption, Budget, BadLine, ShelfFault, InputFault, OutputFault, Memory, NoFile, Limit}
 use Rattle.spectra.specs.Status.{IsUnlessFault}
-use Rattle.spectra.specs.Reading.{Reads, IsRefused, MeansOne}
+use Rattle.spectra.specs.Reading.{IsRefused, MeansOne}
 use Rattle.spectra.proofs.Readings.{one_meaning}
 use Rattle.spectra.specs.Top.{IsFileAnswer, Answers}
 

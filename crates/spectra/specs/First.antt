@@ -1,5 +1,5 @@
 -- First moves: what decides a specification all of whose lines are initial.
-use Rattle.std.specs.Prelude.{◌≡◌, ℕ, Bool, not, ◌||◌, List, [], ◌∷◌}
+use Rattle.std.specs.Prelude.{◌≡◌, Bool, not, ◌||◌, []}
 use Rattle.std.specs.List.{list_all, list_any, AllByRecursion}
 use Rattle.spec_model.specs.Values.{Assignment, TruthValues, assignments_of}
 use Rattle.spec_model.specs.Syntax.{Formula, Constant, Variable, NextOf, Negation, Conjunction, Disjunction, Implication, Equivalence, Comparison, Sum, Difference, Product, Remainder, PastOf, Entry, Formulas, Content, Initial, Safety, Recurring, PatternUse, TriggerUse, Specification}
