@@ -5,14 +5,13 @@ use Rattle.std.specs.Str.{IsAscii}
 use Rattle.std.proofs.lemmas.Bool.{and_parts}
 use Rattle.std.proofs.lemmas.Bool.Decides.{nat_tests}
 use Rattle.std.proofs.lemmas.Str.Ascii.{IsAscii-nil, IsAscii-cons}
-use Rattle.std.proofs.lemmas.List.{take-append-le}
 use Rattle.std.proofs.Math.Seq.{drop-append_seam, take-append_seam}
 use Rattle.spectra_lexer.specs.declared.spot.Spot.{Spot}
 use Rattle.spectra_lexer.specs.declared.token.Kind.{Kind}
 use Rattle.spectra_lexer.specs.declared.token.Kind.TheVariants.{Sign, Finish}
 use Rattle.spectra_lexer.specs.declared.token.Token.{Token}
-use Rattle.spectra_lexer.specs.Words.{is_sign, is_part, is_word}
-use Rattle.spectra_lexer.specs.Tokens.{Lexes, blank, sign, word, finish, start, behind, further, token_at, kind_of, AreTokens}
+use Rattle.spectra_lexer.specs.Words.{is_sign, is_part}
+use Rattle.spectra_lexer.specs.Tokens.{Lexes, blank, sign, word, finish, behind, further, token_at, kind_of, AreTokens}
 use Rattle.spectra_lexer.specs.Slices.{IsSlice, AreSlices}
 use Rattle.spectra_lexer.proofs.Characters.{word_parts}
 

@@ -10,7 +10,7 @@ use Rattle.spectra_lexer.specs.Words.{is_blank, is_sign, is_letter, is_part, is_
 use Rattle.spectra_lexer.proofs.Characters.{part_is_not_apart}
 use Rattle.spectra_lexer.specs.Tokens.{Lexes, blank, sign, word, finish, behind, further, token_at, kind_of}
 use Rattle.spectra_lexer.specs.Progress.{Leads}
-use Rattle.spectra_lexer.proofs.Pieces.{at_blank, at_sign, at_word, at_end}
+use Rattle.spectra_lexer.proofs.Pieces.{at_blank, at_sign, at_word}
 
 pub stays : (at : Spot) (text : List ℕ) (old : List Token) → Leads at text old at text old
 stays at text old = record { found = λ ts d. (ts, d, refl); only = λ us d. (us, d, refl) }

@@ -1,5 +1,5 @@
 -- The tokens of a text, by cases on the text.
-use Rattle.std.specs.Prelude.{ℕ, ◌≡◌, ◌+◌, ◌≤◌, ◌==◌, true, List, [], ◌∷◌, ◌++◌, length, drop, if◌then◌else◌}
+use Rattle.std.specs.Prelude.{ℕ, ◌≡◌, ◌+◌, ◌≤◌, ◌==◌, true, List, [], ◌∷◌, ◌++◌, length, if◌then◌else◌}
 use Rattle.spectra_lexer.specs.declared.lexing.TheConstants.{MAX_BYTES}
 use Rattle.spectra_lexer.specs.declared.spot.Spot.{Spot}
 use Rattle.spectra_lexer.specs.declared.token.Kind.{Kind}

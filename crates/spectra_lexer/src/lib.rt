@@ -16,9 +16,7 @@ mod words;
 pub use fault::LexFault;
 pub use laws::{no_text_has_two_lists_of_tokens, tokens_are_slices};
 pub use lexing::{MAX_BYTES, lex};
-pub use spot::Spot;
 pub use token::{Kind, Token};
-pub use words::RESERVED;
 
 #[cfg(test)]
 mod tests;

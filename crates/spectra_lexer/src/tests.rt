@@ -1,6 +1,7 @@
 //! Texts with their tokens, and texts that have none.
 
 use super::*;
+use std::alloc::{AllocError, Global};
 use std::test::Fail;
 
 const fn token(kind: Kind, from: u32, to: u32, line: u32, column: u32) -> Token {
@@ -78,16 +79,23 @@ fn other_characters_are_refused(rt: HostRuntime) {
     }
 }
 
+fn blanks(alloc: Global, count: usize) -> Result<Vec<u8>, AllocError> {
+    let mut text = Vec::new(alloc);
+    for _ in 0..count {
+        text.push(b' ')?;
+    }
+    Ok(text)
+}
+
 #[test]
 fn a_text_of_the_greatest_length_is_read_and_a_longer_one_refused(
     rt: HostRuntime,
 ) -> Result<(), Fail> {
-    let text: Vec<u8> = vec![in rt.alloc(); b' '; MAX_BYTES + 1]?;
-    let tokens = lex(rt.alloc(), &text[..MAX_BYTES])?;
-    assert_eq!(rt;
-        tokens.as_slice(),
-        [token(Kind::Finish, 1_048_576, 1_048_576, 1, 1_048_577)].as_slice()
-    );
-    assert!(rt; matches!(lex(rt.alloc(), &text), Err(LexFault::Unsupported)));
+    let text = blanks(rt.alloc(), MAX_BYTES)?;
+    let tokens = lex(rt.alloc(), &text)?;
+    let expected = [token(Kind::Finish, 1_048_576, 1_048_576, 1, 1_048_577)];
+    assert_eq!(rt; tokens.as_slice(), expected.as_slice());
+    let longer = blanks(rt.alloc(), MAX_BYTES + 1)?;
+    assert!(rt; matches!(lex(rt.alloc(), &longer), Err(LexFault::Unsupported)));
     Ok(())
 }

@@ -1,13 +1,13 @@
 -- What is of the grammar is read.
-use Rattle.std.proofs.Common.{◌≡◌, ℕ, zero, suc, ◌+◌, ◌<◌, ◌≤◌, true, false, List, [], ◌∷◌, length, Option, Some, None, refl, sym, ap, ◌∙◌, codes, arith}
+use Rattle.std.proofs.Common.{◌≡◌, ℕ, zero, suc, ◌<◌, ◌≤◌, true, false, List, [], ◌∷◌, length, Some, None, refl, sym, ap, ◌∙◌, codes, arith}
 use Rattle.spectra_parser.specs.declared.tree.Place.{Place}
 use Rattle.spectra_lexer.specs.declared.token.Kind.TheVariants as kinds
 use Rattle.spectra_lexer.specs.Words.{same_text}
 use Rattle.spectra_parser.specs.Data.{Expression, Form, Expressions, TypeData, BodyData, ItemData, TreeData}
-use Rattle.spectra_parser.specs.Lexemes.{Lexeme, name_of}
+use Rattle.spectra_parser.specs.Lexemes.{Lexeme}
 use Rattle.spectra_parser.specs.Grammar.{IsSign, joined, Expr, Disj, Conjs, Conj, Cmps, Cmp, Prefixed, Prim, IsType, Body, IsItem, Items, Text}
 use Rattle.spectra_parser.specs.Tests.{word_test, sign_test, name_test, end_test, of_finish}
-use Rattle.spectra_parser.specs.Reading.{◌>>=◌, Reader, expect, others, several_over, cmp_at, conj_at, expr_at, inner_at, operand_at, type_at, body_at, vardecl_at, line_at, item_at, items_at, text_at}
+use Rattle.spectra_parser.specs.Reading.{Reader, expect, others, several_over, cmp_at, conj_at, expr_at, inner_at, type_at, body_at, vardecl_at, line_at, item_at, items_at, text_at}
 use Rattle.spectra_parser.proofs.Chains.{others_end}
 use Rattle.spectra_parser.proofs.Sound.{some_is}
 use Rattle.spectra_parser.proofs.Steps.{cmp_prefixed, cmp_prim, prefixed_reads, closed_reads, prim_true, prim_false, prim_name, prim_open}

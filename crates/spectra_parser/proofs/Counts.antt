@@ -9,7 +9,7 @@ use Rattle.spectra_parser.specs.declared.tree.Name.{Name}
 use Rattle.spectra_parser.specs.declared.tree.ExprTree.{ExprTree}
 use Rattle.spectra_parser.specs.declared.tree.ExprForm.{the_lemmas}
 use Rattle.spectra_parser.specs.declared.tree.ExprForm.TheVariants as forms
-use Rattle.spectra_parser.specs.Data.{Expression, Form, Expressions, expressions}
+use Rattle.spectra_parser.specs.Data.{Expression, Form, expressions}
 use Rattle.spectra_parser.specs.Views.{name_data, expr_data, form_data}
 use Rattle.spectra_parser.specs.Texts.{nodes, below, all_nodes}
 use Rattle.spectra_parser.proofs.Forms.{form_and, form_or}

@@ -1,6 +1,5 @@
 -- What is read is of the grammar.
 use Rattle.std.proofs.Common.{◌≡◌, ℕ, zero, suc, Bool, true, false, cond, List, [], ◌∷◌, length, Option, Some, None, refl, sym, ap, subst, ◌∙◌, ◌⊎◌, inl, inr, codes}
-use Rattle.std.proofs.lemmas.Bool.{cases_Bool}
 use Rattle.std.specs.Option.{option_map_or}
 use Rattle.spec_model.specs.declared.spec.Role.{Role}
 use Rattle.spectra_parser.specs.declared.tree.Place.{Place}
@@ -9,10 +8,10 @@ use Rattle.spectra_parser.specs.declared.tree.PrefixWord.{PrefixWord}
 use Rattle.spectra_parser.specs.Data.{Expression, Form, Expressions, TypeData, TypeShape, BodyData, ItemData, TreeData}
 use Rattle.spectra_parser.specs.Lexemes.{Lexeme, name_of}
 use Rattle.spectra_parser.specs.Grammar.{IsWord, IsSign, IsName, IsPrefix, IsRole, IsOwner, leaf, applied, opened, joined, levels, Expr, Disj, Conjs, Conj, Cmps, Cmp, Prefixed, Prim, IsType, Body, IsItem, Items, Text}
-use Rattle.spectra_parser.specs.Tests.{word_test, sign_test, name_test, end_test, of_finish, prefix_word, owner_word, role_word}
-use Rattle.spectra_parser.specs.Reading.{◌>>=◌, Reader, Others, expect, nothing, closed_over, prim_over, prefixed_over, others, several_over, cmp_at, conj_at, expr_at, operand_at, inner_at, type_at, body_at, vardecl_at, line_at, item_at, items_at, text_at}
+use Rattle.spectra_parser.specs.Tests.{word_test, sign_test, name_test, end_test, prefix_word, owner_word, role_word}
+use Rattle.spectra_parser.specs.Reading.{◌>>=◌, Reader, Others, expect, closed_over, prim_over, prefixed_over, others, several_over, cmp_at, conj_at, expr_at, operand_at, inner_at, type_at, body_at, vardecl_at, line_at, item_at, items_at, text_at}
 use Rattle.spectra_parser.proofs.Chains.{expected}
-use Rattle.spectra_parser.proofs.Steps.{cmp_nil, cmp_prefixed, cmp_prim, prim_nil}
+use Rattle.spectra_parser.proofs.Steps.{cmp_nil, cmp_prefixed, cmp_prim}
 use Rattle.spectra_parser.proofs.TokenTests.{word_is, sign_is, name_is, prefix_is, owner_is, role_is, is_finish_kind}
 
 -- ---- options

@@ -1,5 +1,5 @@
 -- One step of reading at a time: what a production reads at the front of the tokens.
-use Rattle.std.proofs.Common.{◌≡◌, ℕ, zero, suc, ◌-◌, ◌<◌, Bool, true, false, cond, List, [], ◌∷◌, length, Option, Some, None, refl, sym, ap, ◌∙◌, codes, arith}
+use Rattle.std.proofs.Common.{◌≡◌, ℕ, zero, suc, ◌-◌, ◌<◌, Bool, true, false, cond, List, [], ◌∷◌, length, Option, Some, None, refl, sym, ap, codes, arith}
 use Rattle.spectra_parser.specs.declared.fault.SyntaxFault.{SyntaxFault}
 use Rattle.spectra_parser.specs.declared.fault.SyntaxFault.TheVariants as faults
 use Rattle.spectra_parser.specs.declared.tree.PrefixWord.{PrefixWord}
@@ -9,7 +9,7 @@ use Rattle.spectra_parser.specs.Data.{Expression, Form}
 use Rattle.spectra_parser.specs.Lexemes.{Lexeme, name_of}
 use Rattle.spectra_parser.specs.Grammar.{leaf, applied, opened}
 use Rattle.spectra_parser.specs.Tests.{word_test, sign_test, name_test, prefix_word}
-use Rattle.spectra_parser.specs.Reading.{◌>>=◌, Reader, expect, nothing, closed_over, prim_over, prefixed_over, cmp_over, cmp_at, expr_at, operand_at, inner_at}
+use Rattle.spectra_parser.specs.Reading.{Reader, expect, nothing, closed_over, prim_over, prefixed_over, cmp_over, cmp_at, expr_at, operand_at, inner_at}
 use Rattle.spectra_parser.specs.Outcomes.{Fails, lexeme_of, lexemes_of}
 
 -- ---- operands

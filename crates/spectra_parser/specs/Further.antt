@@ -1,8 +1,7 @@
 -- What is read behind a first part and an operator.
-use Rattle.std.specs.Prelude.{ℕ, ◌≡◌, List, [], ◌∷◌, length, Option, Some}
+use Rattle.std.specs.Prelude.{ℕ, List, ◌∷◌, length, Some}
 use Rattle.spectra_parser.specs.declared.tree.Place.{Place}
 use Rattle.spectra_parser.specs.Data.{Expression, Form, Expressions}
-use Rattle.spectra_parser.specs.Lexemes.{Lexeme}
 use Rattle.spectra_parser.specs.Grammar.{joined}
 use Rattle.spectra_parser.specs.Reading.{◌>>=◌, Reader, others}
 

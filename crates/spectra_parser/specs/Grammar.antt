@@ -1,6 +1,6 @@
 -- The grammar: for each nonterminal a relation between the tokens from a place on, those behind what was read, and the
 -- tree, with one constructor for each production. An expression's number says how many levels may still be opened.
-use Rattle.std.specs.Prelude.{ℕ, zero, suc, ◌≡◌, List, [], ◌∷◌, codes, None}
+use Rattle.std.specs.Prelude.{ℕ, suc, ◌≡◌, List, [], ◌∷◌, codes, None}
 use Rattle.spec_model.specs.declared.spec.Role.{Role}
 use Rattle.spec_model.specs.declared.spec.Role.TheVariants.{Assumption, Guarantee}
 use Rattle.spectra_lexer.specs.declared.token.Kind.TheVariants as kinds
@@ -9,7 +9,7 @@ use Rattle.spectra_parser.specs.declared.tree.OwnerWord.{OwnerWord}
 use Rattle.spectra_parser.specs.declared.tree.OwnerWord.TheVariants.{Env, Sys}
 use Rattle.spectra_parser.specs.declared.tree.PrefixWord.{PrefixWord}
 use Rattle.spectra_parser.specs.declared.tree.PrefixWord.TheVariants.{Not}
-use Rattle.spectra_parser.specs.Data.{NameData, Expression, Form, expression, Expressions, expressions, first_of, TypeData, TypeShape, BodyData, ItemData, TreeData}
+use Rattle.spectra_parser.specs.Data.{Expression, Form, expression, Expressions, expressions, first_of, TypeData, TypeShape, BodyData, ItemData, TreeData}
 use Rattle.spectra_parser.specs.Lexemes.{Lexeme, name_of}
 
 -- ---- tokens

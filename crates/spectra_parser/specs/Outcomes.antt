@@ -1,5 +1,5 @@
 -- What a reading function of the program answered, beside what reading gives.
-use Rattle.std.specs.Prelude.{ℕ, ◌≡◌, ◌<◌, ◌+◌, List, map, length, Option, Some, None, option_map, Result, Ok, Err}
+use Rattle.std.specs.Prelude.{ℕ, ◌≡◌, ◌<◌, ◌+◌, List, map, Option, Some, None, option_map, Result, Ok, Err}
 use Rattle.spectra_parser.specs.declared.fault.SyntaxFault.{SyntaxFault}
 use Rattle.spectra_parser.specs.declared.fault.SyntaxFault.TheVariants as faults
 use Rattle.spectra_parser.specs.declared.lexeme.Spelled.{Spelled}

@@ -1,11 +1,11 @@
 -- Reading from left to right, as the program does: what is read at the front of the tokens, and the tokens behind it.
-use Rattle.std.specs.Prelude.{ℕ, zero, suc, ◌≡◌, Bool, List, [], ◌∷◌, length, codes, Option, Some, None, option_and_then, if◌then◌else◌}
+use Rattle.std.specs.Prelude.{ℕ, zero, suc, Bool, List, [], ◌∷◌, length, codes, Option, Some, None, option_and_then, if◌then◌else◌}
 use Rattle.std.specs.Option.{option_map_or}
 use Rattle.spec_model.specs.declared.spec.Role.{Role}
 use Rattle.spectra_parser.specs.declared.tree.Place.{Place}
 use Rattle.spectra_parser.specs.declared.tree.OwnerWord.{OwnerWord}
 use Rattle.spectra_parser.specs.declared.tree.PrefixWord.{PrefixWord}
-use Rattle.spectra_parser.specs.Data.{NameData, Expression, Form, Expressions, TypeData, TypeShape, BodyData, ItemData, TreeData}
+use Rattle.spectra_parser.specs.Data.{Expression, Form, Expressions, TypeData, TypeShape, BodyData, ItemData, TreeData}
 use Rattle.spectra_parser.specs.Lexemes.{Lexeme, name_of}
 use Rattle.spectra_parser.specs.Grammar.{leaf, applied, opened, joined, levels}
 use Rattle.spectra_parser.specs.Tests.{word_test, sign_test, name_test, end_test, prefix_word, owner_word, role_word}

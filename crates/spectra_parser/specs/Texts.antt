@@ -1,5 +1,5 @@
 -- What a text's tree is, and the limits of the form.
-use Rattle.std.specs.Prelude.{ℕ, ◌+◌, ◌≤◌, List, [], ◌∷◌, ◌++◌, sum_by}
+use Rattle.std.specs.Prelude.{ℕ, ◌+◌, ◌≤◌, List, ◌++◌, sum_by}
 use Rattle.spectra_lexer.specs.declared.token.Token.{Token}
 use Rattle.spectra_parser.specs.declared.limits.TheConstants.{MAX_LINES, MAX_NODES}
 use Rattle.spectra_parser.specs.declared.fault.SyntaxFault.{SyntaxFault}

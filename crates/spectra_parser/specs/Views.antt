@@ -1,5 +1,5 @@
 -- The plain data that the program's trees stand for.
-use Rattle.std.specs.Prelude.{List, map, string_bytes, option_map}
+use Rattle.std.specs.Prelude.{map, string_bytes, option_map}
 use Rattle.spectra_parser.specs.declared.tree.Name.{Name}
 use Rattle.spectra_parser.specs.declared.tree.ExprTree.{ExprTree}
 use Rattle.spectra_parser.specs.declared.tree.ExprForm.{ExprForm, fold-ExprForm}

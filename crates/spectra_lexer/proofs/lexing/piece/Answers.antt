@@ -1,6 +1,5 @@
-use Rattle.std.proofs.Common.{sym, ◌∙◌, ◌≡◌, true, false, subst}
+use Rattle.std.proofs.Common.{sym, ◌∙◌}
 use Rattle.std.proofs.lemmas.Bool.{both_ways}
-use Rattle.spectra_lexer.specs.Tokens.{Lexes}
 use Rattle.spectra_lexer.specs.Words.{is_blank, is_sign, is_letter}
 use Rattle.spectra_lexer.proofs.Pieces.{at_stranger}
 use Rattle.spectra_lexer.proofs.Steps.{over_blank, over_sign}

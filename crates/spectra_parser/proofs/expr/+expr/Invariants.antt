@@ -1,4 +1,4 @@
-use Rattle.std.proofs.Common.{◌≡◌, ℕ, ◌+◌, ◌*◌, ◌≤◌, List, [], ◌∷◌, length, map, codes}
+use Rattle.std.proofs.Common.{◌≡◌, ℕ, ◌+◌, ◌*◌, ◌≤◌, [], ◌∷◌, length, map, codes}
 use Rattle.spectra_parser.specs.Views.{expr_data}
 use Rattle.spectra_parser.specs.Reading.{cmp_at, conj_at, others}
 use Rattle.spectra_parser.specs.Outcomes.{lexemes_of}

@@ -1,4 +1,4 @@
-use Rattle.std.proofs.Common.{rules, ℕ, ◌-◌, List, take, drop, Result, Ok, Err}
+use Rattle.std.proofs.Common.{rules, ◌-◌, take, drop, Result, Ok, Err}
 use Rattle.std.specs.Prelude.{IsOk, MatchResult}
 use Rattle.std.proofs.lemmas.Str.{IsUtf8-from_ascii}
 use Rattle.spectra_parser.proofs.lexeme.spell.Goals as goal

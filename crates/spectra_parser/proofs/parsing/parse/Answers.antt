@@ -1,9 +1,8 @@
 use Rattle.std.specs.Prelude.{IsErrOf, IsTrue}
-use Rattle.std.proofs.Common.{◌≡◌, ℕ, Bool, true, false, refl, Result, Ok, Err, Some, None, Option, sym, ap, subst, ◌∙◌, rules}
+use Rattle.std.proofs.Common.{◌≡◌, ℕ, Bool, true, false, refl, Result, Err, None, Option, sym, ap, subst, ◌∙◌, rules}
 use Rattle.std.proofs.lemmas.Result.{err_from_is_err_and}
 use Rattle.spectra_parser.specs.declared.fault.SyntaxFault.{SyntaxFault}
 use Rattle.spectra_parser.specs.declared.fault.SyntaxFault.TheVariants as faults
-use Rattle.spectra_parser.specs.Data.{TreeData}
 use Rattle.spectra_parser.specs.Views.{tree_data}
 use Rattle.spectra_parser.specs.Texts.{IsWithinLimits}
 use Rattle.spectra_parser.specs.Outcomes.{Fails, lexemes_of}
