@@ -1,8 +1,7 @@
 -- Which bytes make blanks, signs and words, and which words are reserved.
-use Rattle.std.specs.Prelude.{ℕ, ◌==◌, ◌&&◌, ◌||◌, nat_le, nat_eq, not, Bool, true, false, List, [], ◌∷◌}
+use Rattle.std.specs.Prelude.{ℕ, ◌==◌, ◌&&◌, ◌||◌, nat_le, nat_eq, not, Bool, true, false, List, [], ◌∷◌, codes}
 use Rattle.std.specs.List.{list_any, list_all}
 use Rattle.std.specs.Cmp.Lexicographic.{pointwise}
-use Rattle.spectra_lexer.specs.declared.words.TheConstants.{RESERVED}
 
 -- space, tab, carriage return or line feed
 abbrev pub is_blank : ℕ → Bool
@@ -37,6 +36,18 @@ is_apart (c ∷ cs) = not (is_part c)
 abbrev pub same_text : List ℕ → List ℕ → Bool
 same_text = pointwise nat_eq
 
+-- the words that are no names
+abbrev pub reserved_words : List (List ℕ)
+reserved_words =
+    codes "spec" ∷ codes "module" ∷ codes "import" ∷ codes "env" ∷ codes "sys" ∷ codes "aux" ∷
+    codes "boolean" ∷ codes "Int" ∷ codes "type" ∷ codes "define" ∷ codes "predicate" ∷ codes "pattern" ∷
+    codes "var" ∷ codes "monitor" ∷ codes "asm" ∷ codes "assumption" ∷ codes "gar" ∷ codes "guarantee" ∷
+    codes "ini" ∷ codes "initially" ∷ codes "alw" ∷ codes "always" ∷ codes "G" ∷ codes "trans" ∷
+    codes "alwEv" ∷ codes "alwaysEventually" ∷ codes "GF" ∷ codes "trig" ∷ codes "next" ∷ codes "true" ∷
+    codes "false" ∷ codes "not" ∷ codes "and" ∷ codes "or" ∷ codes "implies" ∷ codes "iff" ∷
+    codes "mod" ∷ codes "PREV" ∷ codes "Y" ∷ codes "ONCE" ∷ codes "O" ∷ codes "HISTORICALLY" ∷
+    codes "H" ∷ codes "SINCE" ∷ codes "S" ∷ codes "TRIGGERED" ∷ codes "T" ∷ []
+
 -- a word that is no name
 unfoldable pub is_reserved : List ℕ → Bool
-is_reserved word = list_any (λ r. same_text r.now word) RESERVED
+is_reserved word = list_any (λ r. same_text r word) reserved_words

@@ -1,6 +1,6 @@
 //! Which bytes make blanks, signs and words, and which words are reserved.
 
-ghost use Rattle.std.specs.Prelude.{◌≡◌, ◌≤◌, true, length, take, drop};
+ghost use Rattle.std.specs.Prelude.{◌≡◌, ◌≤◌, true, length, map, take, drop};
 ghost use Rattle.std.specs.List.{list_all, list_any};
 ghost use Rattle.spectra_lexer.specs.Words.{is_blank as blank_test, is_sign as sign_test, is_letter as letter_test, is_part as part_test, is_apart, same_text, is_reserved as reserved_test};
 ghost use Rattle.spectra_lexer.specs.Tokens.{kind_of as kind_of_word};
@@ -102,7 +102,7 @@ pub fn count_parts(text: &[u8]) -> usize
 
 /// Whether a word is one of these.
 fn is_among(words: &[&str], word: &[u8]) -> bool
-    ensures { result ≡ list_any (λ w. same_text w.now word.now) words.now }
+    ensures { result ≡ list_any (λ w. same_text w word.now) (map (λ w. w.now) words.now) }
 {
     for w in words {
         if w.as_bytes() == word {
