@@ -1,0 +1,123 @@
+ghost use Rattle.std.specs.Prelude.{◌≡◌, ◌<◌, ◌≤◌, ◌↔◌, ◌⊎◌, List, length, IfOk, IfSome, vec_len, vec_capacity};
+ghost use Rattle.bdd_cache.specs.declared.answers.TheConstants.{FIRST};
+ghost use Rattle.bdd_cache.specs.Kept.{AllSwept};
+ghost use Rattle.bdd_cache.specs.declared.answer.Answer.{Answer};
+
+use crate::OutOfMemory;
+use crate::answer::{Answer, NONE, has_live_nodes};
+use std::alloc::Global;
+use std::marker::Model;
+
+/// The cells of a new table. The numbers of cells are powers of two.
+const FIRST: usize = 4096;
+/// The cells that memory is taken for. What isn't used isn't touched.
+const MOST: usize = 1 << 20;
+
+/// Answers, each in the cell that its key leads to.
+#[derive(Drop)]
+pub struct Answers {
+    cells: Vec<Answer>,
+    /// How many answers may still be put before the table grows.
+    room: usize,
+}
+
+impl Model for Answers {
+    ghost Value = { List Answer };
+
+    ghost view = { λ answers. answers.cells.items };
+
+    ghost invariant = { λ answers. (0 < vec_len answers.cells) × (FIRST ≤ vec_capacity answers.cells) };
+}
+
+/// A number that the key is mixed into, by odd factors near the golden ratio's multiples (Knuth, multiplicative hashing).
+fn mixed(op: u32, a: u32, b: u32, c: u32) -> usize {
+    let low = u64::from(a) | (u64::from(b) << 32);
+    let high = u64::from(c) | (u64::from(op) << 32);
+    let sum = low
+        .wrapping_mul(0x9e37_79b9_7f4a_7c15)
+        .wrapping_add(high)
+        .wrapping_mul(0xd6e8_feb8_6659_fd93);
+    (sum ^ (sum >> 32)) as usize
+}
+
+/// Empties each cell whose answer has a node that isn't live.
+fn sweep(cells: &mut Vec<Answer>, live: &[bool])
+    ensures size { vec_len cells.new ≡ vec_len cells.old }
+    ensures capacity { vec_capacity cells.new ≡ vec_capacity cells.old }
+    ensures swept { AllSwept live.now cells.old.items cells.new.items NONE }
+{
+    for i in 0..cells.len() {
+        if !has_live_nodes(live, cells[i]) {
+            cells[i] = NONE;
+        }
+    }
+}
+
+impl Answers {
+    ghost use Rattle.bdd_cache.specs.Kept.{IsKept, HasLiveNodes};
+
+    /// A table without answers. It is the one call that takes memory.
+    pub fn make(alloc: Global) -> Result<Answers, OutOfMemory>
+        ensures empty { IfOk result (λ answers. (answer : Answer) → ¬ IsKept answers answer) }
+    {
+        let mut cells = Vec::with_capacity(alloc, MOST)?;
+        cells.resize(FIRST, NONE)?;
+        Ok(Answers { cells, room: FIRST })
+    }
+
+    /// The answer of operation `op` on `a`, `b` and `c`, if the table has it.
+    pub fn get(&self, op: u32, a: u32, b: u32, c: u32) -> Option<u32>
+        ensures kept { IfSome result (λ r. IsKept self.now (record { op = op; a = a; b = b; c = c; r = r })) }
+    {
+        let cell = self.cells[self.place(op, a, b, c)];
+        let is_it = cell.op == op && cell.a == a && cell.b == b && cell.c == c && op != 0;
+        if is_it { Some(cell.r) } else { None }
+    }
+
+    /// Keeps an answer, in the place of at most one other. Operations have numbers from 1 on.
+    pub fn put(&mut self, op: u32, a: u32, b: u32, c: u32, r: u32)
+        ensures added { 0 < op → IsKept self.new (record { op = op; a = a; b = b; c = c; r = r }) }
+        ensures others { (answer : Answer) → IsKept self.new answer → (answer ≡ record { op = op; a = a; b = b; c = c; r = r }) ⊎ IsKept self.old answer }
+    {
+        if self.room == 0 {
+            self.grow();
+        }
+        self.room = self.room.saturating_sub(1);
+        let place = self.place(op, a, b, c);
+        self.cells[place] = Answer { op, a, b, c, r };
+    }
+
+    /// Removes each answer with a node that isn't live: its flag is false, or there is none.
+    pub fn keep_only(&mut self, live: &[bool])
+        ensures { (answer : Answer) → IsKept self.new answer ↔ (IsKept self.old answer × HasLiveNodes live.now answer) }
+    {
+        sweep(&mut self.cells, live);
+    }
+
+    /// Removes all answers.
+    pub fn clear(&mut self)
+        ensures { (answer : Answer) → ¬ IsKept self.new answer }
+    {
+        self.cells.clear();
+        let _ = self.cells.resize(FIRST, NONE);
+        self.room = FIRST;
+    }
+
+    /// The cell that a key leads to.
+    fn place(&self, op: u32, a: u32, b: u32, c: u32) -> usize
+        ensures { result < length self.now }
+    {
+        mixed(op, a, b, c) & (self.cells.len() - 1)
+    }
+
+    /// Writes the cells a second time behind themselves, within the memory that was taken: one more bit of a key's
+    /// number leads to one of the two cells that hold what its cell held.
+    fn grow(&mut self)
+        ensures { (answer : Answer) → IsKept self.new answer ↔ IsKept self.old answer }
+    {
+        self.room = self.cells.len();
+        if self.cells.len() < MOST {
+            let _ = self.cells.extend_from_within(..);
+        }
+    }
+}

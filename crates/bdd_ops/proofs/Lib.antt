@@ -1,0 +1,13 @@
+pub mod FunctionLemmas
+pub mod DiagramLemmas
+pub mod StepLemmas
+pub mod ChoiceLemmas
+pub mod JoinLemmas
+pub mod OverLemmas
+pub mod QuantifiedLemmas
+pub mod RelatedLemmas
+pub mod CallLemmas
+pub mod ListLemmas
+pub mod ListCallLemmas
+pub mod ShiftLemmas
+pub mod PathLemmas

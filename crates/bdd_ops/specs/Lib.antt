@@ -1,0 +1,5 @@
+pub mod Functions
+pub mod Contents
+pub mod Steps
+pub mod Calls
+pub mod Paths

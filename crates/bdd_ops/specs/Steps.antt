@@ -1,0 +1,126 @@
+-- What one step of an operation gives and leaves.
+use Rattle.std.specs.Prelude.{◌≡◌, ◌<◌, ◌⊎◌, ℕ, true, false, List, length, slice_index_or, if◌then◌else◌}
+use Rattle.spec_model.specs.Diagrams.{Diagram, constant, branch, Function, value, ite, shifted, IsPartOf, Reads}
+use Rattle.bdd_store.specs.State.{IsEdge, diagram_of, KeepsEdges, SameRoots}
+use Rattle.bdd_ops.specs.Functions.{split, IgnoresTo, Join, joined, joined_over, join_of, is_among}
+use Rattle.bdd_ops.specs.Contents.{Contents, function_at}
+
+-- the diagram's level, and for a constant the number of levels
+abbrev pub level_of : ℕ → Diagram → ℕ
+level_of levels (constant b) = levels
+level_of levels (branch level low high) = level
+
+abbrev pub level_at : Contents → ℕ → ℕ
+level_at c n = level_of c.state.table.levels (diagram_of c.state n)
+
+-- nothing is freed, kept roots and lists stay, and each new node is one that the operation may make
+pub record Grows (old new : Contents) (MayMake : Diagram → Type 0) : Type 0 where
+  pub lists : new.lists ≡ old.lists
+  pub keeps : KeepsEdges old.state new.state
+  pub roots : SameRoots old.state new.state
+  pub made : (n : ℕ) → IsEdge new.state n → IsEdge old.state n ⊎ MayMake (diagram_of new.state n)
+
+-- the two parts of a node at a level: each is a part of its diagram, of later levels
+pub record IsSplitAt (c : Contents) (level n low high : ℕ) : Type 0 where
+  pub low_live : IsEdge c.state low
+  pub high_live : IsEdge c.state high
+  pub low_after : level < level_at c low
+  pub high_after : level < level_at c high
+  pub low_ignores : IgnoresTo level (function_at c low)
+  pub high_ignores : IgnoresTo level (function_at c high)
+  pub low_reads : (x : ℕ) → Reads x (diagram_of c.state low) → level < x
+  pub high_reads : (x : ℕ) → Reads x (diagram_of c.state high) → level < x
+  pub low_part : IsPartOf (diagram_of c.state low) (diagram_of c.state n)
+  pub high_part : IsPartOf (diagram_of c.state high) (diagram_of c.state n)
+  pub function : function_at c n ≡ split level (function_at c low) (function_at c high)
+
+-- the diagram is the choice between parts of these three
+pub record IsChoiceOfParts (a b c made : Diagram) : Type 0 where
+  pub x : Diagram
+  pub y : Diagram
+  pub z : Diagram
+  pub x_part : IsPartOf x a
+  pub y_part : IsPartOf y b
+  pub z_part : IsPartOf z c
+  pub is_choice : value made ≡ ite (value x) (value y) (value z)
+
+-- the node is live and is the choice between the three
+pub record IsChoice (new : Contents) (f g h : Function) (n : ℕ) : Type 0 where
+  pub live : IsEdge new.state n
+  pub function : function_at new n ≡ ite f g h
+
+-- the table, the kept roots and the lists stay
+pub record SameNodes (old new : Contents) : Type 0 where
+  pub table : new.state.table ≡ old.state.table
+  pub kept : new.state.kept ≡ old.state.kept
+  pub lists : new.lists ≡ old.lists
+
+-- the node is live and is split at the level into these two functions
+pub record IsSplit (new : Contents) (level : ℕ) (low high : Function) (n : ℕ) : Type 0 where
+  pub live : IsEdge new.state n
+  pub function : function_at new n ≡ split level low high
+
+-- the diagram joins parts of these two
+pub record IsJoinOfParts (join : Join) (a b made : Diagram) : Type 0 where
+  pub x : Diagram
+  pub y : Diagram
+  pub x_part : IsPartOf x a
+  pub y_part : IsPartOf y b
+  pub is_join : value made ≡ joined join (value x) (value y)
+
+-- the node is live and has this function
+pub record HasFunction (new : Contents) (f : Function) (n : ℕ) : Type 0 where
+  pub live : IsEdge new.state n
+  pub function : function_at new n ≡ f
+
+-- the diagram joins parts of two results
+pub record JoinsResults (join : Join) (IsResult : Diagram → Type 0) (made : Diagram) : Type 0 where
+  pub first : Diagram
+  pub second : Diagram
+  pub first_is : IsResult first
+  pub second_is : IsResult second
+  pub joins : IsJoinOfParts join first second made
+
+-- the diagram is a result, or joins parts of two
+abbrev pub IsUnfinished : Join → (Diagram → Type 0) → Diagram → Type 0
+IsUnfinished join IsResult made = IsResult made ⊎ JoinsResults join IsResult made
+
+-- the diagram is a part's function after these levels are quantified
+pub record IsQuantifiedPart (join : Join) (levels : List ℕ) (a made : Diagram) : Type 0 where
+  pub x : Diagram
+  pub x_part : IsPartOf x a
+  pub is_quantified : value made ≡ joined_over join levels (value x)
+
+-- both functions joined where the level is among these, and else split at it
+abbrev pub joined_or_split : Join → List ℕ → ℕ → Function → Function → Function
+joined_or_split join levels level low high = if is_among level levels then joined join low high else split level low high
+
+-- the diagram joins parts of both, or is that function
+abbrev pub JoinsOrSplits : Join → List ℕ → ℕ → Diagram → Diagram → Diagram → Type 0
+JoinsOrSplits join levels level low high made = IsJoinOfParts join low high made ⊎ (value made ≡ joined_or_split join levels level (value low) (value high))
+
+-- the diagram is "some make both true" of parts
+pub record IsRelatedPart (levels : List ℕ) (a b made : Diagram) : Type 0 where
+  pub x : Diagram
+  pub y : Diagram
+  pub x_part : IsPartOf x a
+  pub y_part : IsPartOf y b
+  pub is_related : value made ≡ joined_over (join_of false) levels (joined (join_of true) (value x) (value y))
+
+-- the node is the conjunction of two, and its parts are conjunctions of theirs
+pub record IsConjunctionAt (c : Contents) (a b n : ℕ) : Type 0 where
+  pub live : IsEdge c.state n
+  pub function : function_at c n ≡ joined (join_of true) (function_at c a) (function_at c b)
+  pub parts : (x : Diagram) → IsPartOf x (diagram_of c.state n) → IsJoinOfParts (join_of true) (diagram_of c.state a) (diagram_of c.state b) x
+
+-- the diagram is a part's, with its levels moved
+pub record IsShiftedPart (to : List ℕ) (a made : Diagram) : Type 0 where
+  pub x : Diagram
+  pub x_part : IsPartOf x a
+  pub is_shifted : value made ≡ shifted to (value x)
+
+-- the list gives each level that the diagram reads a level, and rises over them
+pub record IsShift (levels : ℕ) (to : List ℕ) (d : Diagram) : Type 0 where
+  pub known : (x : ℕ) → Reads x d → x < length to
+  pub below : (x : ℕ) → Reads x d → slice_index_or to x x < levels
+  pub rising : (x y : ℕ) → Reads x d → Reads y d → x < y → slice_index_or to x x < slice_index_or to y y

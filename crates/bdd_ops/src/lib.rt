@@ -1,0 +1,31 @@
+//! Operations on reduced diagrams: choices, quantifiers over levels, and looking at a diagram.
+//!
+//! Each operation is one step over edges: what is known at once, what is remembered, the parts at the least level, and
+//! the node that joins their answers (Bryant 1986, operations). An answer is remembered under the operation's number;
+//! an operation over a list of levels has a number for each list, so answers about other lists are other answers.
+//!
+//! Contract: an operation's root means its operation and a refusal leaves what is kept (`GivesRoot`), and `Full` comes
+//! only where the store then holds exactly its budget, of nodes that were there and of unfinished results
+//! (`IsFilled`). Path: store → **operations** → formulas, regions.
+#![tactic(auto)]
+
+mod calls;
+mod choice;
+mod diagrams;
+mod joins;
+mod level_list;
+mod look;
+mod paths;
+mod quantify;
+mod relate;
+mod shift;
+
+pub use bdd_store::{Root, StoreFault};
+pub use diagrams::Diagrams;
+/// Memory ran out.
+pub use std::alloc::AllocError as OutOfMemory;
+
+#[cfg(test)]
+mod table_tests;
+#[cfg(test)]
+mod tests;

@@ -1,0 +1,93 @@
+-- What contracts see of a store: its nodes, the roots that are kept, and the answers that it remembers.
+use Rattle.std.specs.Prelude.{◌≡◌, ◌≢◌, ◌==◌, ◌<◌, ◌≤◌, ◌+◌, ℕ, List, slice_index, if◌then◌else◌}
+use Rattle.spec_model.specs.Diagrams.{Diagram, constant, branch, value, IsReduced, IsLater, IsWithin, IsPartOf}
+use Rattle.node_table.specs.Table.{Table, IsLive, diagram_at, count_of, IsSound}
+use Rattle.bdd_cache.specs.declared.answer.Answer.{Answer}
+use Rattle.bdd_cache.specs.Kept.{IsKept}
+
+-- the nodes, how many roots are kept at each place, and the answers
+pub record State : Type 0 where
+  pub table : Table
+  pub kept : List ℕ
+  pub answers : List Answer
+
+-- a live node
+abbrev pub IsEdge : State → ℕ → Type 0
+IsEdge s n = IsLive s.table n
+
+-- the diagram that a node stands for
+abbrev pub diagram_of : State → ℕ → Diagram
+diagram_of s n = diagram_at s.table n
+
+-- how many roots are kept at a node
+abbrev pub roots_at : State → ℕ → ℕ
+roots_at s n = slice_index s.kept n
+
+-- a root is kept at the node
+abbrev pub IsRoot : State → ℕ → Type 0
+IsRoot s n = 0 < roots_at s n
+
+-- a live node stands for the diagram
+abbrev pub HasDiagram : State → Diagram → Type 0
+HasDiagram s d = (n : ℕ) × IsEdge s n × (diagram_of s n ≡ d)
+
+-- the store holds its budget of nodes
+abbrev pub IsFull : State → Type 0
+IsFull s = count_of s.table ≡ s.table.budget
+
+-- the answer is remembered
+abbrev pub HasAnswer : State → Answer → Type 0
+HasAnswer s a = IsKept s.answers a
+
+-- roots and answers are of live nodes, which stand for reduced diagrams, and one node stands for each function
+pub record IsStore (s : State) : Type 0 where
+  pub sound : IsSound s.table
+  pub roots_live : (n : ℕ) → IsRoot s n → IsEdge s n
+  pub answers_live : (a : Answer) → HasAnswer s a → IsEdge s a.a × IsEdge s a.b × IsEdge s a.c × IsEdge s a.r
+  pub reduced : (n : ℕ) → IsEdge s n → IsReduced (diagram_of s n)
+  pub within : (n : ℕ) → IsEdge s n → IsWithin s.table.levels (diagram_of s n)
+  pub one : (n m : ℕ) → IsEdge s n → IsEdge s m → value (diagram_of s n) ≡ value (diagram_of s m) → n ≡ m
+
+-- what is live stays, and stands for what it stood for
+pub record KeepsEdges (old new : State) : Type 0 where
+  pub levels : new.table.levels ≡ old.table.levels
+  pub budget : new.table.budget ≡ old.table.budget
+  pub live : (n : ℕ) → IsEdge old n → IsEdge new n
+  pub meaning : (n : ℕ) → IsEdge old n → diagram_of new n ≡ diagram_of old n
+
+-- each node has as many roots as before
+abbrev pub SameRoots : State → State → Type 0
+SameRoots old new = (n : ℕ) → roots_at new n ≡ roots_at old n
+
+-- one more root is kept at the node
+abbrev pub AddsRoot : State → State → ℕ → Type 0
+AddsRoot old new root = (n : ℕ) → roots_at new n ≡ roots_at old n + (if n == root then 1 else 0)
+
+-- the node's diagram is a part of a kept root's
+abbrev pub IsReached : State → ℕ → Type 0
+IsReached s n = (r : ℕ) × IsRoot s r × IsEdge s n × IsPartOf (diagram_of s n) (diagram_of s r)
+
+-- the node is a constant
+pub record IsConstant (s : State) (n : ℕ) : Type 0 where
+  pub outer : n < 2
+  pub meaning : diagram_of s n ≡ constant (n == 1)
+
+-- the node has this level and these parts, two different live nodes of later levels
+pub record HasParts (s : State) (n level low high : ℕ) : Type 0 where
+  pub inner : 2 ≤ n
+  pub below : level < s.table.levels
+  pub low_live : IsEdge s low
+  pub high_live : IsEdge s high
+  pub unlike : low ≢ high
+  pub meaning : diagram_of s n ≡ branch level (diagram_of s low) (diagram_of s high)
+  pub low_later : IsLater level (diagram_of s low)
+  pub high_later : IsLater level (diagram_of s high)
+
+-- a new store: the constants, no root and no answer
+pub record IsNewStore (s : State) (levels budget : ℕ) : Type 0 where
+  pub store : IsStore s
+  pub has_levels : s.table.levels ≡ levels
+  pub has_budget : s.table.budget ≡ budget
+  pub count : count_of s.table ≡ 2
+  pub no_root : (n : ℕ) → roots_at s n ≡ 0
+  pub no_answer : (a : Answer) → HasAnswer s a → ⊥

@@ -1,0 +1,25 @@
+//! Shared reduced diagrams with roots: what is kept stays, and what no root reaches can be reclaimed.
+//!
+//! A store holds the nodes of reduced diagrams, one for each function (Bryant 1986), counts the roots that are kept,
+//! and remembers answers to operations. The operations work on edges, which are nodes that the next reclaiming may
+//! free, and give out roots.
+//!
+//! Contract: two live nodes are equal exactly where their functions are (`IsStore`); `Store::reclaim` leaves exactly
+//! the constants and what kept roots reach; `Store::node` answers `Full` exactly where a new node is wanted and the
+//! store holds its budget. Path: nodes, answers → **store** → operations.
+#![tactic(auto)]
+
+mod edge;
+mod fault;
+mod root;
+mod store;
+
+pub use edge::Edge;
+pub use fault::StoreFault;
+pub use root::Root;
+pub use store::Store;
+/// Memory ran out.
+pub use std::alloc::AllocError as OutOfMemory;
+
+#[cfg(test)]
+mod tests;

@@ -1,0 +1,234 @@
+ghost use Rattle.std.specs.Prelude.{◌≡◌, ◌≢◌, ◌<◌, ◌≤◌, ◌↔◌, ◌⊎◌, ◌+◌, ◌==◌, ℕ, List, length, IfOk, IfSome, OnErr, MatchOption, sum, [], if◌then◌else◌, true, false, Ok, Err};
+ghost use Rattle.spec_model.specs.Diagrams.{Diagram, constant, branch, value, Bits, IsLater};
+ghost use Rattle.node_table.specs.Table.{count_of, Table};
+ghost use Rattle.bdd_cache.specs.declared.answer.Answer.{Answer};
+ghost use Rattle.bdd_store.specs.State.{State, IsStore, IsEdge, IsRoot, diagram_of, HasDiagram, IsFull, HasAnswer, KeepsEdges, SameRoots, AddsRoot, IsReached, IsConstant, HasParts, IsNewStore, roots_at};
+
+use crate::OutOfMemory;
+use crate::edge::Edge;
+use crate::fault::StoreFault;
+use crate::root::{Root, add_root, mark_kept, take_root};
+use bdd_cache::Answers;
+use node_table::{NodeFault, Nodes};
+use std::alloc::Global;
+use std::marker::Model;
+
+/// Nodes, the roots that are kept, and answers to operations.
+#[derive(Drop)]
+pub struct Store {
+    nodes: Nodes,
+    answers: Answers,
+    /// How many roots are kept at each place.
+    kept: Vec<u32>,
+    /// How many are kept in all.
+    roots: usize,
+}
+
+impl Model for Store {
+    ghost use Rattle.bdd_store.specs.State.{State};
+    ghost use Rattle.bdd_store.specs.Kept.{IsWhole};
+
+    ghost Value = { State };
+
+    ghost view = { λ s. record { table = s.nodes; kept = s.kept.items; answers = s.answers } };
+
+    ghost invariant = { λ s. IsWhole (record { table = s.nodes; kept = s.kept.items; answers = s.answers }) s.roots };
+}
+
+impl Store {
+    /// A store over `levels` levels with at most `budget` nodes, the two constants among them.
+    pub fn make(alloc: Global, levels: u32, budget: u32) -> Result<Store, OutOfMemory>
+        requires { 2 ≤ budget }
+        ensures { IfOk result (λ s. IsNewStore s levels budget) }
+    {
+        let nodes = Nodes::make(alloc, levels, budget)?;
+        let answers = Answers::make(alloc)?;
+        Ok(Store {
+            nodes,
+            answers,
+            kept: Vec::new(alloc),
+            roots: 0,
+        })
+    }
+
+    /// The diagram that is true where the level's bit is. `Full`: there is no such node, and the store holds its budget.
+    /// `Memory`: none was given.
+    pub fn var(&mut self, level: u32) -> Result<Root, StoreFault>
+        requires { level < self.old.table.levels }
+        ensures meaning { IfOk result (λ r. diagram_of self.new r ≡ branch level (constant false) (constant true)) }
+        ensures added { IfOk result (λ r. AddsRoot self.old self.new r) }
+        ensures kept { IfOk result (λ r. IsRoot self.new r) }
+        ensures keeps { KeepsEdges self.old self.new }
+        ensures answers { self.new.answers ≡ self.old.answers }
+        ensures full { (result ≡ Err StoreFault.Full) ↔ ((HasDiagram self.old (branch level (constant false) (constant true)) → ⊥) × IsFull self.old) }
+        ensures refused { OnErr result (SameRoots self.old self.new) }
+        ensures sound { IsStore self.new }
+    {
+        let e = self.node(level, self.fixed(false), self.fixed(true))?;
+        Ok(self.hold(e)?)
+    }
+
+    /// A second root of the same diagram.
+    pub fn keep(&mut self, root: &Root) -> Result<Root, StoreFault>
+        requires { IsRoot self.old root.now }
+        ensures same_root { IfOk result (λ r. (r ≡ root.now) × AddsRoot self.old self.new r) }
+        ensures kept { IfOk result (λ r. IsRoot self.new r) }
+        ensures table { (self.new.table ≡ self.old.table) × (self.new.answers ≡ self.old.answers) }
+        ensures full { result ≡ Err StoreFault.Full → ⊥ }
+        ensures refused { OnErr result (SameRoots self.old self.new) }
+        ensures sound { IsStore self.new }
+    {
+        let e = self.edge(root);
+        Ok(self.hold(e)?)
+    }
+
+    /// Gives a root back. Its nodes stay until they are reclaimed.
+    pub fn release(&mut self, root: Root)
+        requires { IsRoot self.old root }
+        ensures released { AddsRoot self.new self.old root }
+        ensures table { (self.new.table ≡ self.old.table) × (self.new.answers ≡ self.old.answers) }
+        ensures sound { IsStore self.new }
+    {
+        let Root { node } = root;
+        take_root(&mut self.kept, &mut self.roots, node);
+    }
+
+    /// Frees each node other than the constants that no kept root reaches, and the answers about it.
+    pub fn reclaim(&mut self)
+        ensures live { (n : ℕ) → IsEdge self.new n ↔ ((n < 2) ⊎ IsReached self.old n) }
+        ensures meaning { (n : ℕ) → IsEdge self.new n → diagram_of self.new n ≡ diagram_of self.old n }
+        ensures roots { SameRoots self.old self.new }
+        ensures answers { (a : Answer) → HasAnswer self.new a → HasAnswer self.old a }
+        ensures bounds { (self.new.table.levels ≡ self.old.table.levels) × (self.new.table.budget ≡ self.old.table.budget) }
+        ensures sound { IsStore self.new }
+    {
+        mark_kept(&mut self.nodes, &self.kept);
+        self.nodes.sweep();
+        self.answers.keep_only(self.nodes.live());
+    }
+
+    /// How many nodes the store holds, the constants among them.
+    pub fn nodes(&self) -> u32
+        ensures { result ≡ count_of self.now.table }
+    {
+        self.nodes.count()
+    }
+
+    /// How many roots are kept.
+    pub fn roots(&self) -> usize
+        ensures { result ≡ sum self.now.kept }
+    {
+        self.roots
+    }
+
+    /// The root's node.
+    pub fn edge(&self, root: &Root) -> Edge
+        requires { IsRoot self.now root.now }
+        ensures value { result.0 ≡ root.now }
+        ensures live { IsEdge self.now result.0 }
+        ensures sound { IsStore self.now }
+    {
+        let _ = &self.nodes;
+        Edge(root.node)
+    }
+
+    /// A constant's node.
+    pub fn fixed(&self, value: bool) -> Edge
+        ensures value { result.0 ≡ (if value then 1 else 0) }
+        ensures live { IsEdge self.now result.0 }
+        ensures meaning { diagram_of self.now result.0 ≡ constant value }
+        ensures sound { IsStore self.now }
+    {
+        let _ = &self.nodes;
+        Edge(u32::from(value))
+    }
+
+    /// Level, low part and high part of a node, and `None` for a constant.
+    pub fn parts(&self, e: Edge) -> Option<(u32, Edge, Edge)>
+        requires { IsEdge self.now e.0 }
+        ensures parts { MatchOption result (IsConstant self.now e.0) (λ p. HasParts self.now e.0 p.0 p.1.0 p.2.0) }
+        ensures sound { IsStore self.now }
+    {
+        let (level, low, high) = self.nodes.parts(e.0)?;
+        Some((level, Edge(low), Edge(high)))
+    }
+
+    /// The node of a level and two parts, and the part itself where both are one (Bryant 1986, canonical form). It
+    /// frees nothing. `Full`: a new node is wanted, and the store holds its budget. `Memory`: none was given.
+    pub fn node(&mut self, level: u32, low: Edge, high: Edge) -> Result<Edge, StoreFault>
+        requires below { level < self.old.table.levels }
+        requires low_live { IsEdge self.old low.0 }
+        requires high_live { IsEdge self.old high.0 }
+        requires low_later { IsLater level (diagram_of self.old low.0) }
+        requires high_later { IsLater level (diagram_of self.old high.0) }
+        ensures live { IfOk result (λ e. IsEdge self.new e.0) }
+        ensures same { low.0 ≡ high.0 → result ≡ Ok low }
+        ensures branch { low.0 ≢ high.0 → IfOk result (λ e. diagram_of self.new e.0 ≡ branch level (diagram_of self.old low.0) (diagram_of self.old high.0)) }
+        ensures value { IfOk result (λ e. (s : Bits) → value (diagram_of self.new e.0) s ≡ (if s level then value (diagram_of self.old high.0) s else value (diagram_of self.old low.0) s)) }
+        ensures later { IfOk result (λ e. (l : ℕ) → l < level → IsLater l (diagram_of self.new e.0)) }
+        ensures keeps { KeepsEdges self.old self.new }
+        ensures roots { SameRoots self.old self.new }
+        ensures answers { self.new.answers ≡ self.old.answers }
+        ensures full { (result ≡ Err StoreFault.Full) ↔ ((low.0 ≢ high.0) × (HasDiagram self.old (branch level (diagram_of self.old low.0) (diagram_of self.old high.0)) → ⊥) × IsFull self.old) }
+        ensures only { OnErr result (self.new ≡ self.old) }
+        ensures added { IfOk result (λ e. (n : ℕ) → IsEdge self.new n → (n ≡ e.0) ⊎ IsEdge self.old n) }
+        ensures sound { IsStore self.new }
+    {
+        let _ = &self.nodes;
+        if low == high {
+            return Ok(low);
+        }
+        match self.nodes.find_or_add(level, low.0, high.0) {
+            Ok(n) => Ok(Edge(n)),
+            Err(NodeFault::Full) => Err(StoreFault::Full),
+            Err(NodeFault::Memory) => Err(StoreFault::Memory),
+        }
+    }
+
+    /// A kept root at the node.
+    pub fn hold(&mut self, e: Edge) -> Result<Root, OutOfMemory>
+        requires { IsEdge self.old e.0 }
+        ensures held { IfOk result (λ r. (r ≡ e.0) × AddsRoot self.old self.new r) }
+        ensures kept { IfOk result (λ r. IsRoot self.new r) }
+        ensures table { (self.new.table ≡ self.old.table) × (self.new.answers ≡ self.old.answers) }
+        ensures refused { OnErr result (SameRoots self.old self.new) }
+        ensures sound { IsStore self.new }
+    {
+        add_root(&mut self.kept, &mut self.roots, e.0)?;
+        Ok(Root { node: e.0 })
+    }
+
+    /// An answer that was remembered since the last `forget`, if it is still there.
+    pub fn recall(&self, op: u32, a: Edge, b: Edge, c: Edge) -> Option<Edge>
+        requires a_live { IsEdge self.now a.0 }
+        requires b_live { IsEdge self.now b.0 }
+        requires c_live { IsEdge self.now c.0 }
+        ensures kept { IfSome result (λ r. HasAnswer self.now (record { op = op; a = a.0; b = b.0; c = c.0; r = r.0 })) }
+        ensures live { IfSome result (λ r. IsEdge self.now r.0) }
+        ensures sound { IsStore self.now }
+    {
+        self.answers.get(op, a.0, b.0, c.0).map(Edge)
+    }
+
+    /// Keeps the answer `r` of operation `op`, a number from 1 on, in the place of at most one other.
+    pub fn remember(&mut self, op: u32, a: Edge, b: Edge, c: Edge, r: Edge)
+        requires a_live { IsEdge self.old a.0 }
+        requires b_live { IsEdge self.old b.0 }
+        requires c_live { IsEdge self.old c.0 }
+        requires r_live { IsEdge self.old r.0 }
+        ensures others { (x : Answer) → HasAnswer self.new x → (x ≡ record { op = op; a = a.0; b = b.0; c = c.0; r = r.0 }) ⊎ HasAnswer self.old x }
+        ensures table { (self.new.table ≡ self.old.table) × (self.new.kept ≡ self.old.kept) }
+        ensures sound { IsStore self.new }
+    {
+        self.answers.put(op, a.0, b.0, c.0, r.0);
+    }
+
+    /// Removes all answers.
+    pub fn forget(&mut self)
+        ensures forgotten { (x : Answer) → HasAnswer self.new x → ⊥ }
+        ensures table { (self.new.table ≡ self.old.table) × (self.new.kept ≡ self.old.kept) }
+        ensures sound { IsStore self.new }
+    {
+        self.answers.clear();
+    }
+}

@@ -1,0 +1,5 @@
+pub mod Slots
+pub mod Meaning
+pub mod Marking
+pub mod Sweeping
+pub mod Adding

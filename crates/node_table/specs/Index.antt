@@ -1,0 +1,95 @@
+-- The unique table's index: where a node's number stands among the slots. No public clause cites this file.
+use Rattle.std.specs.Prelude.{◌≡◌, ◌≢◌, ◌+◌, ◌-◌, ◌*◌, ◌/◌, ◌%◌, ◌^◌, ◌<◌, ◌≤◌, ◌⊎◌, ◌==◌, ℕ, Bool, false, not, if◌then◌else◌, List, length, slice_index, slice_index_or, count_by, bit_and, IsTrue}
+use Rattle.std.specs.Prelude.{nat_lt}
+use Rattle.node_table.specs.declared.node.Node.{Node}
+use Rattle.node_table.specs.Table.{Table, no_node, IsSound, count_of}
+
+-- a node's number, by odd factors near the golden ratio's multiples (Knuth, multiplicative hashing)
+abbrev pub mixed : Node → ℕ
+mixed node = ((node.low * 0x9e3779b97f4a7c15 % 2 ^ 64 + node.high * 0xd6e8feb86659fd93 % 2 ^ 64) % 2 ^ 64 + node.level * 0xa0761d6478bd642f % 2 ^ 64) % 2 ^ 64
+
+-- the slot where the search for a node begins
+abbrev pub start_of : Node → ℕ → ℕ
+start_of node size = bit_and (mixed node / 2 ^ 32) (size - 1)
+
+-- the slot that is so many steps behind another, the first following the last
+abbrev pub slot_after : ℕ → ℕ → ℕ → ℕ
+slot_after size start steps = if nat_lt (start + steps) size then start + steps else start + steps - size
+
+-- the slot of the search's steps
+abbrev pub slot_for : List ℕ → Node → ℕ → ℕ
+slot_for slots node steps = slot_after (length slots) (start_of node (length slots)) steps
+
+-- what stands in the slot of the search's steps
+abbrev pub named_at : List ℕ → Node → ℕ → ℕ
+named_at slots node steps = slice_index slots (slot_for slots node steps)
+
+-- how many slots name a node
+abbrev pub used : List ℕ → ℕ
+used slots = count_by (λ n. not (n == 0)) slots
+
+abbrev pub node_of : List Node → ℕ → Node
+node_of nodes n = slice_index_or nodes n no_node
+
+-- the search for a node ends at the slot: each slot before it names another node, and it is empty or names that node
+pub record EndsAt (slots : List ℕ) (nodes : List Node) (node : Node) (at : ℕ) : Type 0 where
+  pub steps : ℕ
+  pub within : steps < length slots
+  pub place : at ≡ slot_for slots node steps
+  pub passed : (d : ℕ) → d < steps → (named_at slots node d ≢ 0) × (node_of nodes (named_at slots node d) ≢ node)
+  pub ends : (slice_index slots at ≡ 0) ⊎ ((slice_index slots at ≢ 0) × (node_of nodes (slice_index slots at) ≡ node))
+
+-- the search for a node's own triple meets its number before an empty slot
+pub record IsNamed (slots : List ℕ) (nodes : List Node) (n : ℕ) : Type 0 where
+  pub steps : ℕ
+  pub within : steps < length slots
+  pub named : named_at slots (node_of nodes n) steps ≡ n
+  pub passed : (d : ℕ) → d < steps → named_at slots (node_of nodes n) d ≢ 0
+
+-- exactly these nodes are named
+pub record IsIndex (slots : List ℕ) (nodes : List Node) (listed : ℕ → Type 0) : Type 0 where
+  pub named : (n : ℕ) → listed n → IsNamed slots nodes n
+  pub lists : (k : ℕ) → slice_index slots k ≢ 0 → listed (slice_index slots k)
+
+-- the live nodes below a number, without the constants
+abbrev pub LiveBelow : List Bool → ℕ → ℕ → Type 0
+LiveBelow live end n = (2 ≤ n) × (n < end) × IsTrue (slice_index_or live n false)
+
+abbrev pub IsIndexOf : List ℕ → List Node → List Bool → Type 0
+IsIndexOf slots nodes live = IsIndex slots nodes (LiveBelow live (length nodes))
+
+-- the columns and the index fit: the places below `free` are live, and fewer slots are used than there are
+pub record IsKept (t : Table) (slots : List ℕ) (count free : ℕ) : Type 0 where
+  pub sound : IsSound t
+  pub counted : count ≡ count_of t
+  pub small : length t.nodes ≤ t.budget
+  pub index : IsIndexOf slots t.nodes t.live
+  pub names : used slots + 2 ≡ count
+  pub room : count ≤ length slots
+  pub taken : (n : ℕ) → n < free → IsTrue (slice_index_or t.live n false)
+  pub free_within : free ≤ length t.nodes
+
+-- each node has a flag, and the constants are live
+pub record IsFlagged (nodes : List Node) (live : List Bool) : Type 0 where
+  pub same_length : length live ≡ length nodes
+  pub constants : 2 ≤ length nodes
+  pub false_live : IsTrue (slice_index_or live 0 false)
+  pub true_live : IsTrue (slice_index_or live 1 false)
+
+-- no two live nodes other than the constants are alike
+abbrev pub IsApart : List Node → List Bool → Type 0
+IsApart nodes live = (n m : ℕ) → 2 ≤ n → 2 ≤ m → IsTrue (slice_index_or live n false) → IsTrue (slice_index_or live m false) → node_of nodes n ≡ node_of nodes m → n ≡ m
+
+-- the columns after a node came at a free place
+pub record Settles (nodes nodes' : List Node) (live live' marked marked' : List Bool) (n : ℕ) (node : Node) : Type 0 where
+  pub no_shorter : length nodes ≤ length nodes'
+  pub within : n < length nodes'
+  pub no_longer : (length nodes' ≡ length nodes) ⊎ ((n ≡ length nodes) × (length nodes' ≡ n + 1))
+  pub flags : length live' ≡ length nodes'
+  pub marks : length marked' ≡ length nodes'
+  pub here : node_of nodes' n ≡ node
+  pub live_here : IsTrue (slice_index_or live' n false)
+  pub others : (k : ℕ) → k ≢ n → node_of nodes' k ≡ node_of nodes k
+  pub other_flags : (k : ℕ) → k ≢ n → slice_index_or live' k false ≡ slice_index_or live k false
+  pub other_marks : (k : ℕ) → slice_index_or marked' k false ≡ slice_index_or marked k false
+  pub count : count_by (λ b. b) live' ≡ count_by (λ b. b) live + 1

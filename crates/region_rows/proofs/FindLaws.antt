@@ -1,0 +1,268 @@
+-- What is found first among listed moves.
+use Rattle.std.proofs.Common.{◌≡◌, ℕ, zero, suc, ◌+◌, ◌<◌, ◌≤◌, Bool, true, false, ◌&&◌, if◌then◌else◌, List, [], ◌∷◌, ◌++◌, length, map, count_by, length-append, take, drop, Option, Some, None, slice_get, get_or, find, refl, sym, ◌∙◌, ap, arith}
+use Rattle.std.specs.List.{list_any}
+use Rattle.std.proofs.lemmas.Bool.{and_parts, false≢true}
+use Rattle.spec_model.specs.declared.value.Value.{Value}
+use Rattle.spec_model.specs.Values.{Assignment, DomainData, is_assignment, same_value, values_of}
+use Rattle.spec_model.specs.declared.value.Owner.{Owner}
+use Rattle.spec_model.specs.Syntax.{VariableData}
+use Rattle.spec_model.specs.Moves.{is_env, domains_of}
+use Rattle.spec_model.specs.Games.{GameData, HiddenData, State, listed, inputs_of, outputs_of}
+use Rattle.spec_model.specs.Steps.{Before, is_state, is_input, is_output, are_hidden_values, legal_input, legal_output, reached}
+use Rattle.spec_model.specs.Sets.{StateSet, output_into, input_into}
+use Rattle.spec_model.proofs.AllStates.{Every}
+use Rattle.spec_model.proofs.Listed.{every_weaker, inputs_fit, outputs_fit}
+use Rattle.regions.specs.declared.types.When.{When}
+use Rattle.regions.specs.declared.types.When.TheVariants.{First, Later}
+use Rattle.regions.specs.Rules.{is_time, outputs_into, inputs_into, AreBefore}
+use Rattle.region_rows.specs.declared.row.Row.{Row}
+use Rattle.region_rows.specs.Rows.{bit_of}
+use Rattle.region_rows.specs.Numbers.{same_values, place_in, as_values, number_of_state}
+use Rattle.region_rows.specs.Slots.{marked}
+use Rattle.region_rows.specs.Tables.{answers_of, moves_of}
+use Rattle.region_rows.specs.Into.{leads, environment_into, first_place}
+use Rattle.region_rows.specs.Finds.{LeadsToStates, output_test, input_test}
+use Rattle.region_rows.proofs.ChoicePlaces.{same_values-true, place_below, assignment_among, length-values}
+use Rattle.region_rows.proofs.StateNumbers.{map-get}
+use Rattle.region_rows.proofs.Typed.{count-cons}
+use Rattle.region_rows.proofs.IntoLaws.{leads_is, environment_of}
+
+-- ---- lists
+
+pub get-map-at : {V X : Type 0} (items : V → X) (vs : List V) (k : ℕ) (v : V) → k < length vs → v ≡ get_or vs k v → slice_get (map items vs) k ≡ Some (items v)
+get-map-at items [] k v h is = absurd (omega arith)
+get-map-at items (w ∷ vs) zero v h is = ap (λ z. Some (items z)) (sym is)
+get-map-at items (w ∷ vs) (suc k) v h is = get-map-at items vs k v (omega arith) is
+
+pub find-first : {X : Type 0} (p : X → Bool) (xs : List X) → find p xs ≡ slice_get xs (first_place p xs)
+find-first p [] = refl
+find-first p (x ∷ xs) = at (p x) (find-first p xs)
+  where
+    at : (b : Bool) → find p xs ≡ slice_get xs (first_place p xs) → (if b then Some x else find p xs) ≡ slice_get (x ∷ xs) (if b then 0 else suc (first_place p xs))
+    at true e = refl
+    at false e = e
+
+pub find-same : {X : Type 0} (p q : X → Bool) (xs : List X) → Every (λ x. p x ≡ q x) xs → find p xs ≡ find q xs
+find-same p q [] all = refl
+find-same p q (x ∷ xs) all = ap (λ b. if b then Some x else find p xs) all.0 ∙ ap (λ r. if q x then Some x else r) (find-same p q xs all.1)
+
+every_of : {X : Type 0} {P : X → Type 0} → ((x : X) → P x) → (xs : List X) → Every P xs
+every_of all [] = tt
+every_of all (x ∷ xs) = (all x, every_of all xs)
+
+pub find-none : {X : Type 0} (p : X → Bool) (xs : List X) → ((x : X) → p x ≡ false) → find p xs ≡ None
+find-none p [] none = refl
+find-none p (x ∷ xs) none = ap (λ b. if b then Some x else find p xs) (none x) ∙ find-none p xs none
+
+first_place-map : {X Y : Type 0} (p : Y → Bool) (f : X → Y) (xs : List X) → first_place p (map f xs) ≡ first_place (λ x. p (f x)) xs
+first_place-map p f [] = refl
+first_place-map p f (x ∷ xs) = ap (λ n. if p (f x) then 0 else suc n) (first_place-map p f xs)
+
+first_place-same : {X : Type 0} (p q : X → Bool) (xs : List X) → Every (λ x. p x ≡ q x) xs → first_place p xs ≡ first_place q xs
+first_place-same p q [] all = refl
+first_place-same p q (x ∷ xs) all = ap (λ b. if b then 0 else suc (first_place p xs)) all.0 ∙ ap (λ n. if q x then 0 else suc n) (first_place-same p q xs all.1)
+
+pub take-left : {A : Type 0} (xs ys : List A) (n : ℕ) → n ≡ length xs → take n (xs ++ ys) ≡ xs
+take-left [] ys zero e = refl
+take-left [] ys (suc n) e = absurd (omega (arith, e))
+take-left (x ∷ xs) ys zero e = absurd (omega (arith, e))
+take-left (x ∷ xs) ys (suc n) e = ap (λ r. x ∷ r) (take-left xs ys n (omega (arith, e)))
+
+pub drop-left : {A : Type 0} (xs ys : List A) (n : ℕ) → n ≡ length xs → drop n (xs ++ ys) ≡ ys
+drop-left [] ys zero e = refl
+drop-left [] ys (suc n) e = absurd (omega (arith, e))
+drop-left (x ∷ xs) ys zero e = absurd (omega (arith, e))
+drop-left (x ∷ xs) ys (suc n) e = drop-left xs ys n (omega (arith, e))
+
+-- ---- lengths
+
+pub length-fits : (ds : List DomainData) (vs : Assignment) → is_assignment ds vs ≡ true → length vs ≡ length ds
+length-fits [] [] e = refl
+length-fits [] (v ∷ vs) e = absurd (false≢true e)
+length-fits (d ∷ ds) [] e = absurd (false≢true e)
+length-fits (d ∷ ds) (v ∷ vs) e = ap suc (length-fits ds vs (and_parts (list_any (same_value v) (values_of d)) (is_assignment ds vs) e).1)
+
+pub length-hidden-fits : (hs : List HiddenData) (vs : List ℕ) → are_hidden_values hs vs ≡ true → length vs ≡ length hs
+length-hidden-fits [] [] e = refl
+length-hidden-fits [] (v ∷ vs) e = absurd (false≢true e)
+length-hidden-fits (h ∷ hs) [] e = absurd (false≢true e)
+length-hidden-fits (h ∷ hs) (v ∷ vs) e = ap suc (length-hidden-fits hs vs (and_parts _ (are_hidden_values hs vs) e).1)
+
+pub length-domains : (test : Owner → Bool) (vs : List VariableData) → length (domains_of test vs) ≡ count_by (λ v. test v.owner) vs
+length-domains test [] = refl
+length-domains test (v ∷ vs) = at (test v.owner) (length-domains test vs) ∙ sym (count-cons (λ v. test v.owner) v vs)
+  where
+    at : (b : Bool) → length (domains_of test vs) ≡ count_by (λ v. test v.owner) vs → length (if b then v.domain ∷ domains_of test vs else domains_of test vs) ≡ (if b then suc (count_by (λ v. test v.owner) vs) else count_by (λ v. test v.owner) vs)
+    at true e = ap suc e
+    at false e = e
+
+-- the parts of a state's values
+pub record Parts (g : GameData) (s : State) (values : List Value) : Type 0 where
+  pub tables : length g.hidden ≤ length values
+  pub hidden : take (length g.hidden) values ≡ as_values s.hidden
+  pub moves : drop (length g.hidden) values ≡ s.position.input ++ s.position.output
+  pub inputs : length s.position.input ≡ count_by (λ v. is_env v.owner) g.variables
+  pub fit : are_hidden_values g.hidden s.hidden ≡ true
+  pub input : is_input g s.position.input ≡ true
+  pub output : is_output g s.position.output ≡ true
+
+pub parts_of : (g : GameData) (s : State) (values : List Value) → is_state g s ≡ true → listed s ≡ values → Parts g s values
+parts_of g s values here is =
+    let fit = and_parts (are_hidden_values g.hidden s.hidden) _ here in
+    let moves = and_parts (is_input g s.position.input) (is_output g s.position.output) fit.1 in
+    let long : length g.hidden ≡ length (as_values s.hidden) = sym (length-values s.hidden ∙ length-hidden-fits g.hidden s.hidden fit.0) in
+    let total : length values ≡ length (as_values s.hidden) + length (s.position.input ++ s.position.output) = ap length (sym is) ∙ length-append (as_values s.hidden) (s.position.input ++ s.position.output) in
+    record {
+      tables = omega (arith, long, total);
+      hidden = ap (take (length g.hidden)) (sym is) ∙ take-left (as_values s.hidden) (s.position.input ++ s.position.output) (length g.hidden) long;
+      moves = ap (drop (length g.hidden)) (sym is) ∙ drop-left (as_values s.hidden) (s.position.input ++ s.position.output) (length g.hidden) long;
+      inputs = length-fits (domains_of is_env g.variables) s.position.input moves.0 ∙ length-domains is_env g.variables;
+      fit = fit.0;
+      input = moves.0;
+      output = moves.1;
+    }
+
+-- ---- places
+
+pub placed : (cs : List (List Value)) (c d : List Value) (i : ℕ) → place_in cs c ≡ i → slice_get cs i ≡ Some d → d ≡ c
+placed [] c d i e h = cc (h)
+placed (x ∷ cs) c d i e h = at (same_values x c) refl i e h (λ j e h. placed cs c d j e h)
+  where
+    at : (b : Bool) → same_values x c ≡ b → (i : ℕ) → (if b then 0 else suc (place_in cs c)) ≡ i → slice_get (x ∷ cs) i ≡ Some d → ((j : ℕ) → place_in cs c ≡ j → slice_get cs j ≡ Some d → d ≡ c) → d ≡ c
+    at true is zero e h more = let one : x ≡ d = cc (h) in sym one ∙ same_values-true x c is
+    at true is (suc j) e h more = absurd (omega (arith, e))
+    at false is zero e h more = absurd (omega (arith, e))
+    at false is (suc j) e h more = more j (omega (arith, e)) h
+
+-- ---- the first output
+
+module _ (g : GameData) (b : Before) (t : Row) (leads_there : LeadsToStates g b) where
+  pub output_found : (x : Assignment) → is_input g x ≡ true → legal_input g b x ≡ true → slice_get (outputs_of g) (first_place (leads (bit_of t)) (answers_of g b x)) ≡ find (output_test g (marked g t) b x) (outputs_of g)
+  output_found x ex legal =
+      ap (slice_get (outputs_of g)) (first_place-map (leads (bit_of t)) (λ y. if legal_output g b x y then Some (number_of_state g (reached g b x y)) else None) (outputs_of g)
+      ∙ first_place-same _ (output_test g (marked g t) b x) (outputs_of g) (every_weaker (λ y. is_output g y ≡ true) _ (λ y ey.
+      leads_is g b t leads_there x y ex ey
+      ∙ (ap (λ c. c && output_into g (marked g t) b x y) (sym ey)
+      ∙ (ap (λ c. c && (is_output g y && output_into g (marked g t) b x y)) (sym legal)
+      ∙ ap (λ c. c && (legal_input g b x && (is_output g y && output_into g (marked g t) b x y))) (sym ex)))) (outputs_of g) (outputs_fit g)))
+      ∙ sym (find-first (output_test g (marked g t) b x) (outputs_of g))
+
+  pub illegal_none : (x : Assignment) → legal_input g b x ≡ false → find (output_test g (marked g t) b x) (outputs_of g) ≡ None
+  illegal_none x illegal = find-none (output_test g (marked g t) b x) (outputs_of g) (λ y. ap (λ c. is_input g x && (c && (is_output g y && output_into g (marked g t) b x y))) illegal ∙ and-false (is_input g x))
+    where
+      and-false : (c : Bool) → (c && false) ≡ false
+      and-false true = refl
+      and-false false = refl
+
+  pub no_input_none : (x : Assignment) → is_input g x ≡ false → find (output_test g (marked g t) b x) (outputs_of g) ≡ None
+  no_input_none x none = find-none (output_test g (marked g t) b x) (outputs_of g) (λ y. ap (λ c. c && (legal_input g b x && (is_output g y && output_into g (marked g t) b x y))) none)
+
+  pub input_found : slice_get (inputs_of g) (first_place (environment_into (bit_of t)) (moves_of g b)) ≡ find (input_test g (marked g t) b) (inputs_of g)
+  input_found =
+      ap (slice_get (inputs_of g)) (first_place-map (environment_into (bit_of t)) (λ x. if legal_input g b x then Some (answers_of g b x) else None) (inputs_of g)
+      ∙ first_place-same _ (input_test g (marked g t) b) (inputs_of g) (every_weaker (λ x. is_input g x ≡ true) _ (λ x ex.
+      environment_of g b t leads_there x ex ∙ ap (λ c. c && input_into g (marked g t) b x) (sym ex)) (inputs_of g) (inputs_fit g)))
+      ∙ sym (find-first (input_test g (marked g t) b) (inputs_of g))
+
+-- a legal input's answers in the table, or none
+pub row_at : (g : GameData) (b : Before) (ms : List (Option (List (Option ℕ)))) → ms ≡ moves_of g b → (i : ℕ) (m : Option (List (Option ℕ))) → slice_get ms i ≡ Some m →
+    (x : Assignment) × (slice_get (inputs_of g) i ≡ Some x) × ((if legal_input g b x then Some (answers_of g b x) else None) ≡ m)
+row_at g b ms e i m h = map-get (λ x. if legal_input g b x then Some (answers_of g b x) else None) (inputs_of g) i m (ap (λ l. slice_get l i) (sym e) ∙ h)
+
+pub legal_row : (g : GameData) (b : Before) (x : Assignment) (answers : List (Option ℕ)) → (if legal_input g b x then Some (answers_of g b x) else None) ≡ Some answers → (legal_input g b x ≡ true) × (answers_of g b x ≡ answers)
+legal_row g b x answers e = at (legal_input g b x) refl e
+  where
+    at : (c : Bool) → legal_input g b x ≡ c → (if c then Some (answers_of g b x) else None) ≡ Some answers → (legal_input g b x ≡ true) × (answers_of g b x ≡ answers)
+    at true is e = (is, cc (e))
+    at false is e = cc (e)
+
+pub illegal_row : (g : GameData) (b : Before) (x : Assignment) → (if legal_input g b x then Some (answers_of g b x) else None) ≡ None → legal_input g b x ≡ false
+illegal_row g b x e = at (legal_input g b x) refl e
+  where
+    at : (c : Bool) → legal_input g b x ≡ c → (if c then Some (answers_of g b x) else None) ≡ None → legal_input g b x ≡ false
+    at true is e = cc (e)
+    at false is e = is
+
+-- an input that isn't among the listed ones is none
+pub past_inputs : (g : GameData) (x : Assignment) → length (inputs_of g) ≤ place_in (inputs_of g) x → is_input g x ≡ false
+past_inputs g x past = at (is_input g x) refl
+  where
+    at : (c : Bool) → is_input g x ≡ c → is_input g x ≡ false
+    at false e = e
+    at true e = let below = place_below (inputs_of g) x (assignment_among (domains_of is_env g.variables) x e) in absurd (omega (arith, below, past))
+
+-- ---- by time
+
+module _ (g : GameData) (x : Assignment) where
+  later_none : (t : StateSet) → find (outputs_into g Later t None x) (outputs_of g) ≡ None
+  later_none t = find-none (outputs_into g Later t None x) (outputs_of g) (λ y. refl)
+
+  first_none : (t : StateSet) (s : State) → find (outputs_into g First t (Some s) x) (outputs_of g) ≡ None
+  first_none t s = find-none (outputs_into g First t (Some s) x) (outputs_of g) (λ y. refl)
+
+  -- moves that were kept at the first move
+  pub when_first : (a t : StateSet) (when : When) (b : Before) → outputs_into g First a ≡ outputs_into g when t → is_time g when b ≡ true → find (outputs_into g when t b x) (outputs_of g) ≡ find (output_test g a None x) (outputs_of g)
+  when_first a t First None e time = ap (λ f. find (f None x) (outputs_of g)) (sym e)
+  when_first a t First (Some s) e time = absurd (false≢true time)
+  when_first a t Later None e time = absurd (false≢true time)
+  when_first a t Later (Some s) e time =
+      ap (λ f. find (f (Some s) x) (outputs_of g)) (sym e) ∙ (first_none a s ∙ (sym (later_none t) ∙ ap (λ f. find (f None x) (outputs_of g)) (sym e)))
+
+  -- and those that were kept for later ones
+  pub when_later : (a t : StateSet) (s : State) → outputs_into g Later a ≡ outputs_into g Later t → is_state g s ≡ true → find (outputs_into g Later t (Some s) x) (outputs_of g) ≡ find (output_test g a (Some s) x) (outputs_of g)
+  when_later a t s e here = ap (λ f. find (f (Some s) x) (outputs_of g)) (sym e) ∙ find-same _ (output_test g a (Some s) x) (outputs_of g) (every_of (λ y. ap (λ c. c && output_test g a (Some s) x y) here) (outputs_of g))
+
+  pub when_nowhere : (a t : StateSet) → outputs_into g Later a ≡ outputs_into g First t → (s : State) → is_state g s ≡ true → find (output_test g a (Some s) x) (outputs_of g) ≡ None
+  when_nowhere a t e s here = sym (find-same (outputs_into g Later a (Some s) x) (output_test g a (Some s) x) (outputs_of g) (every_of (λ y. ap (λ c. c && output_test g a (Some s) x y) here) (outputs_of g))) ∙ (ap (λ f. find (f (Some s) x) (outputs_of g)) e ∙ first_none t s)
+
+  pub first_nowhere : (a t : StateSet) → outputs_into g Later a ≡ outputs_into g First t → find (outputs_into g First t None x) (outputs_of g) ≡ None
+  first_nowhere a t e = ap (λ f. find (f None x) (outputs_of g)) (sym e) ∙ later_none a
+
+module _ (g : GameData) where
+  later_in_none : (t : StateSet) → find (inputs_into g Later t None) (inputs_of g) ≡ None
+  later_in_none t = find-none (inputs_into g Later t None) (inputs_of g) (λ x. refl)
+
+  first_in_none : (t : StateSet) (s : State) → find (inputs_into g First t (Some s)) (inputs_of g) ≡ None
+  first_in_none t s = find-none (inputs_into g First t (Some s)) (inputs_of g) (λ x. refl)
+
+  pub when_first_in : (a t : StateSet) (when : When) (b : Before) → inputs_into g First a ≡ inputs_into g when t → is_time g when b ≡ true → find (inputs_into g when t b) (inputs_of g) ≡ find (input_test g a None) (inputs_of g)
+  when_first_in a t First None e time = ap (λ f. find (f None) (inputs_of g)) (sym e)
+  when_first_in a t First (Some s) e time = absurd (false≢true time)
+  when_first_in a t Later None e time = absurd (false≢true time)
+  when_first_in a t Later (Some s) e time =
+      ap (λ f. find (f (Some s)) (inputs_of g)) (sym e) ∙ (first_in_none a s ∙ (sym (later_in_none t) ∙ ap (λ f. find (f None) (inputs_of g)) (sym e)))
+
+  pub when_later_in : (a t : StateSet) (s : State) → inputs_into g Later a ≡ inputs_into g Later t → is_state g s ≡ true → find (inputs_into g Later t (Some s)) (inputs_of g) ≡ find (input_test g a (Some s)) (inputs_of g)
+  when_later_in a t s e here = ap (λ f. find (f (Some s)) (inputs_of g)) (sym e) ∙ find-same _ (input_test g a (Some s)) (inputs_of g) (every_of (λ x. ap (λ c. c && input_test g a (Some s) x) here) (inputs_of g))
+
+  pub when_nowhere_in : (a t : StateSet) → inputs_into g Later a ≡ inputs_into g First t → (s : State) → is_state g s ≡ true → find (input_test g a (Some s)) (inputs_of g) ≡ None
+  when_nowhere_in a t e s here = sym (find-same (inputs_into g Later a (Some s)) (input_test g a (Some s)) (inputs_of g) (every_of (λ x. ap (λ c. c && input_test g a (Some s) x) here) (inputs_of g))) ∙ (ap (λ f. find (f (Some s)) (inputs_of g)) e ∙ first_in_none t s)
+
+  pub first_nowhere_in : (a t : StateSet) → inputs_into g Later a ≡ inputs_into g First t → find (inputs_into g First t None) (inputs_of g) ≡ None
+  first_nowhere_in a t e = ap (λ f. find (f None) (inputs_of g)) (sym e) ∙ later_in_none a
+
+-- the default of a place that is there doesn't matter
+pub get-default : {X : Type 0} (xs : List X) (i : ℕ) (d e : X) → i < length xs → get_or xs i d ≡ get_or xs i e
+get-default [] i d e h = absurd (omega arith)
+get-default (x ∷ xs) zero d e h = refl
+get-default (x ∷ xs) (suc i) d e h = get-default xs i d e (omega arith)
+
+-- a place that holds what is found after a state, and nothing where nothing is found after any, holds what is found in time
+module _ (g : GameData) (values : List Value) (a t : StateSet) (k : ℕ) where
+  pub output_in_time : (x : Assignment) (when : When) (b : Before) → outputs_into g Later a ≡ outputs_into g when t → AreBefore g when b values →
+      ((s : State) → is_state g s ≡ true → listed s ≡ values → slice_get (outputs_of g) k ≡ find (output_test g a (Some s) x) (outputs_of g)) →
+      (((s : State) → is_state g s ≡ true → find (output_test g a (Some s) x) (outputs_of g) ≡ None) → slice_get (outputs_of g) k ≡ None) →
+      find (outputs_into g when t b x) (outputs_of g) ≡ slice_get (outputs_of g) k
+  output_in_time x Later (Some s) e before after_it nowhere = when_later g x a t s e before.time ∙ sym (after_it s before.time before.listed)
+  output_in_time x First None e before after_it nowhere = first_nowhere g x a t e ∙ sym (nowhere (when_nowhere g x a t e))
+  output_in_time x First (Some s) e before after_it nowhere = absurd (false≢true before.time)
+  output_in_time x Later None e before after_it nowhere = absurd (false≢true before.time)
+
+  pub input_in_time : (when : When) (b : Before) → inputs_into g Later a ≡ inputs_into g when t → AreBefore g when b values →
+      ((s : State) → is_state g s ≡ true → listed s ≡ values → slice_get (inputs_of g) k ≡ find (input_test g a (Some s)) (inputs_of g)) →
+      (((s : State) → is_state g s ≡ true → find (input_test g a (Some s)) (inputs_of g) ≡ None) → slice_get (inputs_of g) k ≡ None) →
+      find (inputs_into g when t b) (inputs_of g) ≡ slice_get (inputs_of g) k
+  input_in_time Later (Some s) e before after_it nowhere = when_later_in g a t s e before.time ∙ sym (after_it s before.time before.listed)
+  input_in_time First None e before after_it nowhere = first_nowhere_in g a t e ∙ sym (nowhere (when_nowhere_in g a t e))
+  input_in_time First (Some s) e before after_it nowhere = absurd (false≢true before.time)
+  input_in_time Later None e before after_it nowhere = absurd (false≢true before.time)

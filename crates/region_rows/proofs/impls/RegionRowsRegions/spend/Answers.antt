@@ -1,0 +1,9 @@
+use Rattle.spec_model.specs.GameViews.{game_data}
+use Rattle.region_rows.proofs.RowLaws.{spends_region, held_place}
+use Rattle.region_rows.proofs.impls.RegionRowsRegions.spend.Goals as goal
+
+pub free-requires : goal.free-requires
+free-requires c = held_place (game_data c.args.self.now.numbered.game) c.args.self.now.slots.slots.items c.args.a c.requires
+
+pub returns-clause-spends : goal.returns-clause-spends
+returns-clause-spends c = spends_region (game_data c.args.self.now.numbered.game) c.args.self.now.slots.slots.items _ c.args.a c.requires c.free.ensures

@@ -1,0 +1,6 @@
+use Rattle.std.proofs.Common.{◌≡◌, map}
+use Rattle.spec_model.specs.Steps.{below}
+use Rattle.region_rows.proofs.row.filled.Given as goal
+
+abbrev pub invariant-loop-k : goal.invariant-loop-k
+invariant-loop-k l = l.bits.items ≡ map (λ k. l.value) (below l.k)

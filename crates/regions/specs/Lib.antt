@@ -1,0 +1,4 @@
+pub mod Kept
+pub mod Rules
+pub mod Worked
+pub mod Laws
