@@ -13,6 +13,7 @@ use Rattle.std.proofs.Common.{Result, Ok, Err, IfOk}
 use Rattle.regions.specs.declared.types.Recur.{Recur}
 use Rattle.regions.specs.Rules.{goals_like, number_of, states_holding}
 use Rattle.region_rows.specs.declared.row.Row.{Row}
+use Rattle.region_rows.specs.Rows.{Shows}
 use Rattle.region_rows.specs.Slots.{marked}
 use Rattle.region_rows.proofs.IntoLaws.{marked-map}
 
@@ -26,7 +27,7 @@ get-goal [] k a h is = absurd (omega arith)
 get-goal (x ∷ goals) zero a h is = ap (λ z. Some (goal_data z)) (sym is)
 get-goal (x ∷ goals) (suc k) a h is = get-goal goals k a (omega arith) is
 
-pub goal_row_is : (g : GameData) (row : Row) (e : Formula) → row.bits.items ≡ map (λ s. holds_at (step_reading g s s) e 0) (states_of g) → marked g row ≡ holding g e
+pub goal_row_is : (g : GameData) (row : Row) (e : Formula) → Shows row (map (λ s. holds_at (step_reading g s s) e 0) (states_of g)) → marked g row ≡ holding g e
 goal_row_is g row e bits = λ i s. marked-map g row (λ s. holds_at (step_reading g s s) e 0) bits s i
 
 pub states_holding-is : (g : GameData) (what : Recur) (goals : List Goal) (k : ℕ) (a : Goal) → k < length goals → a ≡ get_or goals k a → goals_like g what ≡ map goal_data goals → number_of what ≡ k → states_holding g what ≡ holding g (goal_data a).holds
@@ -35,6 +36,6 @@ states_holding-is g what goals k a h is e n =
     rw at refl
 
 pub goal_row_holds : (g : GameData) (what : Recur) (goals : List Goal) (k : ℕ) (a : Goal) → k < length goals → a ≡ get_or goals k a → goals_like g what ≡ map goal_data goals → number_of what ≡ k → {E : Type 0} (r : Result Row E) →
-    IfOk r (λ row. row.bits.items ≡ map (λ s. holds_at (step_reading g s s) (goal_data a).holds 0) (states_of g)) → IfOk r (λ row. marked g row ≡ states_holding g what)
+    IfOk r (λ row. Shows row (map (λ s. holds_at (step_reading g s s) (goal_data a).holds 0) (states_of g))) → IfOk r (λ row. marked g row ≡ states_holding g what)
 goal_row_holds g what goals k a h is e n (Ok row) bits = goal_row_is g row (goal_data a).holds bits ∙ sym (states_holding-is g what goals k a h is e n)
 goal_row_holds g what goals k a h is e n (Err x) bits = tt

@@ -8,7 +8,7 @@ use Rattle.spec_model.specs.Steps.{Before, is_state, is_input, is_output, below,
 use Rattle.spec_model.specs.Sets.{output_into, input_into, system_forces, environment_forces}
 use Rattle.spec_model.proofs.Listed.{every_weaker, inputs_fit, outputs_fit, list_all-same, list_any-same}
 use Rattle.region_rows.specs.declared.row.Row.{Row}
-use Rattle.region_rows.specs.Rows.{bit_of}
+use Rattle.region_rows.specs.Rows.{bit_of, Shows}
 use Rattle.region_rows.specs.Numbers.{number_of_state}
 use Rattle.region_rows.specs.Slots.{marked}
 use Rattle.region_rows.specs.Tables.{answers_of, moves_of}
@@ -83,22 +83,22 @@ module _ (g : GameData) (b : Before) (row : Row) (leads_there : LeadsToStates g 
 
 module _ (g : GameData) (row : Row) where
   -- a row that has the results of a test of each state
-  pub marked-map : (f : State → Bool) → row.bits.items ≡ map f (states_of g) → (s : State) → marked g row s ≡ (is_state g s && f s)
+  pub marked-map : (f : State → Bool) → Shows row (map f (states_of g)) → (s : State) → marked g row s ≡ (is_state g s && f s)
   marked-map f e s = at (is_state g s) refl
     where
       bit : is_state g s ≡ true → bit_of row (number_of_state g s) ≡ f s
-      bit here = ap (λ bits. get_or bits (number_of_state g s) false) e ∙ get-some (map f (states_of g)) (number_of_state g s) (f s) false (slice_get-map f (states_of g) (number_of_state g s) ∙ ap (option_map f) (state_here g s here))
+      bit here = e.at (number_of_state g s) ∙ get-some (map f (states_of g)) (number_of_state g s) (f s) false (slice_get-map f (states_of g) (number_of_state g s) ∙ ap (option_map f) (state_here g s here))
 
       at : (c : Bool) → is_state g s ≡ c → (c && bit_of row (number_of_state g s)) ≡ (c && f s)
       at true here = bit here
       at false here = refl
 
   -- a row that has the results of a test of each number
-  pub marked-below : (f : ℕ → Bool) (n : ℕ) → n ≡ length (states_of g) → row.bits.items ≡ map f (below n) → (s : State) → marked g row s ≡ (is_state g s && f (number_of_state g s))
+  pub marked-below : (f : ℕ → Bool) (n : ℕ) → n ≡ length (states_of g) → Shows row (map f (below n)) → (s : State) → marked g row s ≡ (is_state g s && f (number_of_state g s))
   marked-below f n count e s = at (is_state g s) refl
     where
       bit : is_state g s ≡ true → bit_of row (number_of_state g s) ≡ f (number_of_state g s)
-      bit here = ap (λ bits. get_or bits (number_of_state g s) false) e ∙ get-map-below f n (number_of_state g s) false (subst (λ k. number_of_state g s < k) (sym count) (number_below g s here))
+      bit here = e.at (number_of_state g s) ∙ get-map-below f n (number_of_state g s) false (subst (λ k. number_of_state g s < k) (sym count) (number_below g s here))
 
       at : (c : Bool) → is_state g s ≡ c → (c && bit_of row (number_of_state g s)) ≡ (c && f (number_of_state g s))
       at true here = bit here

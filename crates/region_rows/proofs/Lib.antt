@@ -6,6 +6,7 @@ pub mod ChoiceSteps
 pub mod Counts
 pub mod Letters
 pub mod Typed
+pub mod WordLaws
 pub mod TableSteps
 pub mod Belows
 pub mod SeenSteps

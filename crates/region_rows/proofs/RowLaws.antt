@@ -11,7 +11,7 @@ use Rattle.region_rows.specs.declared.slots.Slot.TheVariants.{Free, Region, Outp
 use Rattle.region_rows.specs.declared.slots.RowRegion.{RowRegion}
 use Rattle.region_rows.specs.declared.slots.RowMove.{RowMove}
 use Rattle.regions.specs.declared.types.When.{When}
-use Rattle.region_rows.specs.Rows.{bit_of}
+use Rattle.region_rows.specs.Rows.{bit_of, Shows}
 use Rattle.region_rows.specs.Numbers.{number_of_state}
 use Rattle.region_rows.specs.Slots.{marked, content_meaning, set_of, content_at, kept_in, HasRow, TakesSlot, FreesSlot}
 use Rattle.region_rows.specs.Held.{Weights, IsMoves, takes, frees, region_content, move_content, slot_weighs}
@@ -98,38 +98,38 @@ module _ (g : GameData) where
   -- ---- the sets that the calls make
 
   module _ (row : Row) (n : ℕ) (count : n ≡ length (states_of g)) where
-    pub all_is : row.bits.items ≡ map (λ k. true) (below n) → marked g row ≡ all_states g
+    pub all_is : Shows row (map (λ k. true) (below n)) → marked g row ≡ all_states g
     all_is e = λ i s. (marked-below g row (λ k. true) n count e s ∙ and-true (is_state g s)) i
       where
         and-true : (b : Bool) → (b && true) ≡ b
         and-true true = refl
         and-true false = refl
 
-    pub none_is : row.bits.items ≡ map (λ k. false) (below n) → marked g row ≡ no_states
+    pub none_is : Shows row (map (λ k. false) (below n)) → marked g row ≡ no_states
     none_is e = λ i s. (marked-below g row (λ k. false) n count e s ∙ and-false (is_state g s)) i
       where
         and-false : (b : Bool) → (b && false) ≡ false
         and-false true = refl
         and-false false = refl
 
-    pub copy_is : (a : Row) → row.bits.items ≡ map (λ k. bit_of a k) (below n) → marked g row ≡ marked g a
+    pub copy_is : (a : Row) → Shows row (map (λ k. bit_of a k) (below n)) → marked g row ≡ marked g a
     copy_is a e = λ i s. marked-below g row (bit_of a) n count e s i
 
-    pub both_is : (a b : Row) → row.bits.items ≡ map (λ k. bit_of a k && bit_of b k) (below n) → marked g row ≡ both (marked g a) (marked g b)
+    pub both_is : (a b : Row) → Shows row (map (λ k. bit_of a k && bit_of b k) (below n)) → marked g row ≡ both (marked g a) (marked g b)
     both_is a b e = λ i s. (marked-below g row (λ k. bit_of a k && bit_of b k) n count e s ∙ with_state (is_state g s) (bit_of a (number_of_state g s)) (bit_of b (number_of_state g s))) i
       where
         with_state : (c p q : Bool) → (c && (p && q)) ≡ ((c && p) && (c && q))
         with_state true p q = refl
         with_state false p q = refl
 
-    pub either_is : (a b : Row) → row.bits.items ≡ map (λ k. bit_of a k || bit_of b k) (below n) → marked g row ≡ either (marked g a) (marked g b)
+    pub either_is : (a b : Row) → Shows row (map (λ k. bit_of a k || bit_of b k) (below n)) → marked g row ≡ either (marked g a) (marked g b)
     either_is a b e = λ i s. (marked-below g row (λ k. bit_of a k || bit_of b k) n count e s ∙ with_state (is_state g s) (bit_of a (number_of_state g s)) (bit_of b (number_of_state g s))) i
       where
         with_state : (c p q : Bool) → (c && (p || q)) ≡ ((c && p) || (c && q))
         with_state true p q = refl
         with_state false p q = refl
 
-    pub rest_is : (a : Row) → row.bits.items ≡ map (λ k. not (bit_of a k)) (below n) → marked g row ≡ rest g (marked g a)
+    pub rest_is : (a : Row) → Shows row (map (λ k. not (bit_of a k)) (below n)) → marked g row ≡ rest g (marked g a)
     rest_is a e = λ i s. (marked-below g row (λ k. not (bit_of a k)) n count e s ∙ with_state (is_state g s) (bit_of a (number_of_state g s))) i
       where
         with_state : (c p : Bool) → (c && not p) ≡ (c && not (c && p))
@@ -148,14 +148,14 @@ module _ (g : GameData) where
     with_state true p q e = e refl
     with_state false p q e = refl
 
-    pub pre_sys_is : row.bits.items ≡ map (list_all (system_into (bit_of t))) (map (λ s. moves_of g (Some s)) (states_of g)) → marked g row ≡ pre_sys g (marked g t)
+    pub pre_sys_is : Shows row (map (list_all (system_into (bit_of t))) (map (λ s. moves_of g (Some s)) (states_of g))) → marked g row ≡ pre_sys g (marked g t)
     pre_sys_is e = λ i s.
-        (marked-map g row (λ s. list_all (system_into (bit_of t)) (moves_of g (Some s))) (e ∙ map-map (list_all (system_into (bit_of t))) (λ s. moves_of g (Some s)) (states_of g)) s
+        (marked-map g row (λ s. list_all (system_into (bit_of t)) (moves_of g (Some s))) (subst (Shows row) (map-map (list_all (system_into (bit_of t))) (λ s. moves_of g (Some s)) (states_of g)) e) s
         ∙ with_state (is_state g s) (list_all (system_into (bit_of t)) (moves_of g (Some s))) (system_forces g (marked g t) (Some s)) (λ here. system_is g (Some s) t (later_leads s here))) i
 
-    pub pre_env_is : row.bits.items ≡ map (list_any (environment_into (bit_of t))) (map (λ s. moves_of g (Some s)) (states_of g)) → marked g row ≡ pre_env g (marked g t)
+    pub pre_env_is : Shows row (map (list_any (environment_into (bit_of t))) (map (λ s. moves_of g (Some s)) (states_of g))) → marked g row ≡ pre_env g (marked g t)
     pre_env_is e = λ i s.
-        (marked-map g row (λ s. list_any (environment_into (bit_of t)) (moves_of g (Some s))) (e ∙ map-map (list_any (environment_into (bit_of t))) (λ s. moves_of g (Some s)) (states_of g)) s
+        (marked-map g row (λ s. list_any (environment_into (bit_of t)) (moves_of g (Some s))) (subst (Shows row) (map-map (list_any (environment_into (bit_of t))) (λ s. moves_of g (Some s)) (states_of g)) e) s
         ∙ with_state (is_state g s) (list_any (environment_into (bit_of t)) (moves_of g (Some s))) (environment_forces g (marked g t) (Some s)) (λ here. environment_is g (Some s) t (later_leads s here))) i
 
 -- rows mark one set exactly where they have the same numbers

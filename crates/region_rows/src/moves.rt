@@ -2,10 +2,10 @@
 
 ghost use Rattle.std.specs.Prelude.{◌≡◌, map, option_map, IfOk};
 ghost use Rattle.std.specs.List.{list_all, list_any};
-ghost use Rattle.region_rows.specs.Rows.{bit_of};
+ghost use Rattle.region_rows.specs.Rows.{bit_of, Shows};
 ghost use Rattle.region_rows.specs.Into.{leads, stays, system_into, environment_into};
 
-use crate::row::Row;
+use crate::row::{self, Row};
 use std::alloc::{AllocError, Global};
 
 pub fn leads_into(answer: Option<usize>, t: &Row) -> bool
@@ -82,13 +82,24 @@ pub fn system_row(
     later: &[Vec<Option<Vec<Option<usize>>>>],
     t: &Row,
 ) -> Result<Row, AllocError>
-    ensures { IfOk result (λ row. row.bits.items ≡ map (list_all (system_into (bit_of t.now))) (map (λ v. map (option_map (λ a. a.items)) v.items) later.now)) }
+    ensures { IfOk result (λ row. Shows row (map (list_all (system_into (bit_of t.now))) (map (λ v. map (option_map (λ a. a.items)) v.items) later.now))) }
+{
+    let bits = system_bits(alloc, later, t)?;
+    row::packed(alloc, &bits)
+}
+
+fn system_bits(
+    alloc: Global,
+    later: &[Vec<Option<Vec<Option<usize>>>>],
+    t: &Row,
+) -> Result<Vec<bool>, AllocError>
+    ensures { IfOk result (λ bits. bits.items ≡ map (list_all (system_into (bit_of t.now))) (map (λ v. map (option_map (λ a. a.items)) v.items) later.now)) }
 {
     let mut bits = Vec::new(alloc);
     for moves in later {
         bits.push(system_forces(moves, t))?;
     }
-    Ok(Row { bits })
+    Ok(bits)
 }
 
 /// The states from which the environment forces the row.
@@ -97,11 +108,22 @@ pub fn environment_row(
     later: &[Vec<Option<Vec<Option<usize>>>>],
     t: &Row,
 ) -> Result<Row, AllocError>
-    ensures { IfOk result (λ row. row.bits.items ≡ map (list_any (environment_into (bit_of t.now))) (map (λ v. map (option_map (λ a. a.items)) v.items) later.now)) }
+    ensures { IfOk result (λ row. Shows row (map (list_any (environment_into (bit_of t.now))) (map (λ v. map (option_map (λ a. a.items)) v.items) later.now))) }
+{
+    let bits = environment_bits(alloc, later, t)?;
+    row::packed(alloc, &bits)
+}
+
+fn environment_bits(
+    alloc: Global,
+    later: &[Vec<Option<Vec<Option<usize>>>>],
+    t: &Row,
+) -> Result<Vec<bool>, AllocError>
+    ensures { IfOk result (λ bits. bits.items ≡ map (list_any (environment_into (bit_of t.now))) (map (λ v. map (option_map (λ a. a.items)) v.items) later.now)) }
 {
     let mut bits = Vec::new(alloc);
     for moves in later {
         bits.push(environment_forces(moves, t))?;
     }
-    Ok(Row { bits })
+    Ok(bits)
 }

@@ -11,6 +11,7 @@ ghost use Rattle.spec_model.specs.Views.{formula};
 ghost use Rattle.spec_model.specs.Meaning.{holds_at};
 ghost use Rattle.region_rows.specs.Numbers.{hidden_choices, number_at};
 ghost use Rattle.region_rows.specs.Lines.{IsThere, IsBefore};
+ghost use Rattle.region_rows.specs.Rows.{Shows};
 ghost use Rattle.region_rows.specs.Seen.{seen as seen_data, seen_at};
 ghost use Rattle.region_rows.specs.Tables.{before_of, judged, is_legal_from, answer_at, answers_from, input_moves_from, moves_from, moves_of};
 
@@ -18,7 +19,7 @@ use crate::eval::{At, holds};
 use crate::lines::all_hold;
 use crate::places::{firsts, place_of_numbers};
 use crate::read::Readout;
-use crate::row::Row;
+use crate::row::{self, Row};
 use spec_model::game::{Game, Goal};
 use spec_model::value::Value;
 use std::alloc::{AllocError, Global};
@@ -213,13 +214,13 @@ impl Numbered {
     /// For each state, whether a goal holds there.
     pub fn holding(&self, alloc: Global, goal: &Goal) -> Result<Row, AllocError>
         requires { is_state_formula (scope_of (game_data self.now.game)) (formula goal.now.holds) ≡ true }
-        ensures { IfOk result (λ row. row.bits.items ≡ map (λ s. holds_at (step_reading (game_data self.now.game) s s) (formula goal.now.holds) 0) (states_of (game_data self.now.game))) }
+        ensures { IfOk result (λ row. Shows row (map (λ s. holds_at (step_reading (game_data self.now.game) s s) (formula goal.now.holds) 0) (states_of (game_data self.now.game)))) }
     {
         let mut bits = Vec::new(alloc);
         for at in 0..self.seen.len() {
             let moment = &self.seen[at].moment;
             bits.push(holds(&goal.holds, moment, moment, At::Now))?;
         }
-        Ok(Row { bits })
+        row::packed(alloc, &bits)
     }
 }

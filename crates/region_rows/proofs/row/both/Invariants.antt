@@ -1,7 +1,8 @@
-use Rattle.std.proofs.Common.{◌≡◌, ◌&&◌, map}
+use Rattle.std.proofs.Common.{◌≡◌, map}
+use Rattle.std.specs.Prelude.{bit_and}
 use Rattle.spec_model.specs.Steps.{below}
-use Rattle.region_rows.specs.Rows.{bit_of}
+use Rattle.region_rows.specs.Rows.{word_of, ones_of}
 use Rattle.region_rows.proofs.row.both.Given as goal
 
-abbrev pub invariant-loop-k : goal.invariant-loop-k
-invariant-loop-k l = l.bits.items ≡ map (λ k. bit_of l.a k && bit_of l.b k) (below l.k)
+abbrev pub invariant-loop-j : goal.invariant-loop-j
+invariant-loop-j l = l.words.items ≡ map (λ j. bit_and (bit_and (word_of l.a j) (word_of l.b j)) (ones_of l.count j)) (below l.j)
