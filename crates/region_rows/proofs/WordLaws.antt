@@ -31,7 +31,7 @@ outside w count j i h = omega (arith, bit_at_and w (ones_of count j) i, ones_out
 -- ---- a row of words that are cut off at a count
 
 module _ (row : Row) (count : ℕ) (w : ℕ → ℕ) (f : ℕ → Bool)
-  (n : ℕ) (end : n ≡ count / 64 + 1) (words : row.words.items ≡ map (λ j. bit_and (w j) (ones_of count j)) (below n)) where
+    (n : ℕ) (end : n ≡ count / 64 + 1) (words : row.words.items ≡ map (λ j. bit_and (w j) (ones_of count j)) (below n)) where
   word_is : (j : ℕ) → j < n → word_of row j ≡ bit_and (w j) (ones_of count j)
   word_is j h = ap (λ items. get_or items j 0) words ∙ get-map-below (λ j. bit_and (w j) (ones_of count j)) n j 0 h
 
@@ -39,7 +39,7 @@ module _ (row : Row) (count : ℕ) (w : ℕ → ℕ) (f : ℕ → Bool)
   word_past j h =
       ap (λ items. get_or items j 0) words
       ∙ get_or_past (map (λ j. bit_and (w j) (ones_of count j)) (below n)) j 0
-        (omega (arith, length-map (below n) (λ j. bit_and (w j) (ones_of count j)), length-below n, h))
+      (omega (arith, length-map (below n) (λ j. bit_and (w j) (ones_of count j)), length-below n, h))
 
   none_past : (k : ℕ) → count ≤ k → (k / 64 < n) ⊎ (n ≤ k / 64) → bit_at (word_of row (k / 64)) (k % 64) ≡ 0
   none_past k h (inl less) = ap (λ v. bit_at v (k % 64)) (word_is (k / 64) less) ∙ outside (w (k / 64)) count (k / 64) (k % 64) (omega arith)
@@ -181,8 +181,8 @@ pub bit_of-word : (a b : Row) (count k : ℕ) → k < count → bit_and (word_of
 unfolding bit_of
 bit_of-word a b count k h e =
     ap (λ v. eqb v 1)
-      (sym (inside (word_of a (k / 64)) count (k / 64) (k % 64) (omega arith) (omega arith))
-      ∙ (ap (λ v. bit_at v (k % 64)) e ∙ inside (word_of b (k / 64)) count (k / 64) (k % 64) (omega arith) (omega arith)))
+    (sym (inside (word_of a (k / 64)) count (k / 64) (k % 64) (omega arith) (omega arith))
+    ∙ (ap (λ v. bit_at v (k % 64)) e ∙ inside (word_of b (k / 64)) count (k / 64) (k % 64) (omega arith) (omega arith)))
 
 ones_low : (count j i : ℕ) → 64 ≤ i → bit_at (ones_of count j) i ≡ 0
 unfolding ones_of

@@ -23,7 +23,11 @@ impl Row {
     fn word(&self, j: usize) -> u64
         ensures { result ≡ word_of self.now j }
     {
-        if j < self.words.len() { self.words[j] } else { 0 }
+        if j < self.words.len() {
+            self.words[j]
+        } else {
+            0
+        }
     }
 }
 

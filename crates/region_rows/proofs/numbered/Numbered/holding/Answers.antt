@@ -50,10 +50,10 @@ returns c =
     let f = judged g test in
     let past : length self.seen.items ≤ c.loop-at.at = omega (arith, c.loop-at-test.false, c.len-at-end.ensures) in
     let is =
-        sym (ap (λ r. c.loop-at.bits.items ++ r) (spread_past f c.loop-at.at c.loop-at.at self.seen.items past) ∙ append-nothing c.loop-at.bits.items)
-        ∙ (c.loop-at.invariant
-        ∙ (sym (spread-map f seen 0 self.seen.items)
-        ∙ (ap (spread f 0) self.states_seen
-        ∙ (spread-map f (seen_at g) 0 (states_of g)
-        ∙ spread-is f test (states_of g) (λ i s e. judged_is g test i s e))))) in
+    sym (ap (λ r. c.loop-at.bits.items ++ r) (spread_past f c.loop-at.at c.loop-at.at self.seen.items past) ∙ append-nothing c.loop-at.bits.items)
+    ∙ (c.loop-at.invariant
+    ∙ (sym (spread-map f seen 0 self.seen.items)
+    ∙ (ap (spread f 0) self.states_seen
+    ∙ (spread-map f (seen_at g) 0 (states_of g)
+    ∙ spread-is f test (states_of g) (λ i s e. judged_is g test i s e))))) in
     rw (c.deref.ensures.value, is) at c.packed.ensures
