@@ -14,3 +14,4 @@ mod worked;
 
 pub use regions::Regions;
 pub use types::{Halt, MakeRefusal, Recur, When};
+pub use worked::greatest;

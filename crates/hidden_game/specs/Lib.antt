@@ -1,0 +1,2 @@
+pub mod GameOf
+pub mod Agreement
