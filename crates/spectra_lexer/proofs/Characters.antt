@@ -1,18 +1,12 @@
--- Blanks, signs and words begin differently, and a word is as long as it can be.
+-- Blanks and words begin differently, and a word is as long as it can be.
 use Rattle.std.proofs.Common.{◌≡◌, ℕ, Bool, true, false, not, List, [], ◌∷◌, ◌++◌, refl, sym, arith}
 use Rattle.std.specs.List.{list_all}
 use Rattle.std.proofs.lemmas.Bool.{and_parts, or_left}
 use Rattle.std.proofs.lemmas.Bool.Decides.{nat_tests}
-use Rattle.spectra_lexer.specs.Words.{is_blank, is_sign, is_letter, is_part, is_word, is_apart}
-
-pub sign_is_no_blank : (c : ℕ) → is_sign c ≡ true → is_blank c ≡ true → ⊥
-sign_is_no_blank c s b = grind (arith, nat_tests)
+use Rattle.spectra_lexer.specs.Words.{is_blank, is_letter, is_part, is_word, is_apart}
 
 pub letter_is_no_blank : (c : ℕ) → is_letter c ≡ true → is_blank c ≡ true → ⊥
 letter_is_no_blank c l b = grind (arith, nat_tests)
-
-pub letter_is_no_sign : (c : ℕ) → is_letter c ≡ true → is_sign c ≡ true → ⊥
-letter_is_no_sign c l s = grind (arith, nat_tests)
 
 apart_from : (b : Bool) → b ≡ true → not b ≡ true → ⊥
 apart_from true e f = cc

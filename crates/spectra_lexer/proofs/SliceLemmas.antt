@@ -1,8 +1,8 @@
 -- Each token of a text is a slice of it, and the slices rise.
-use Rattle.std.proofs.Common.{◌≡◌, ℕ, ◌+◌, ◌-◌, ◌<◌, ◌≤◌, Bool, true, false, cond, eqb, List, [], ◌∷◌, ◌++◌, length, take, drop, refl, sym, ap, subst, ◌∙◌, append_assoc, arith, length-append}
+use Rattle.std.proofs.Common.{◌≡◌, ℕ, ◌+◌, ◌-◌, ◌<◌, ◌≤◌, Bool, true, false, cond, eqb, ltb, List, [], ◌∷◌, ◌++◌, length, take, drop, refl, sym, ap, subst, ◌∙◌, append_assoc, arith, length-append}
 use Rattle.std.specs.List.{list_all}
 use Rattle.std.specs.Str.{IsAscii}
-use Rattle.std.proofs.lemmas.Bool.{and_parts}
+use Rattle.std.proofs.lemmas.Bool.{and_parts, ltb-true}
 use Rattle.std.proofs.lemmas.Bool.Decides.{nat_tests}
 use Rattle.std.proofs.lemmas.Str.Ascii.{IsAscii-nil, IsAscii-cons}
 use Rattle.std.proofs.Math.Seq.{drop-append_seam, take-append_seam}
@@ -10,13 +10,11 @@ use Rattle.spectra_lexer.specs.declared.spot.Spot.{Spot}
 use Rattle.spectra_lexer.specs.declared.token.Kind.{Kind}
 use Rattle.spectra_lexer.specs.declared.token.Kind.TheVariants.{Sign, Finish}
 use Rattle.spectra_lexer.specs.declared.token.Token.{Token}
-use Rattle.spectra_lexer.specs.Words.{is_sign, is_part}
+use Rattle.spectra_lexer.specs.Words.{is_part, is_sign}
 use Rattle.spectra_lexer.specs.Tokens.{Lexes, blank, sign, word, finish, behind, further, token_at, kind_of, AreTokens}
 use Rattle.spectra_lexer.specs.Slices.{IsSlice, AreSlices}
 use Rattle.spectra_lexer.proofs.Characters.{word_parts}
-
-sign_is_ascii : (c : ℕ) → is_sign c ≡ true → c < 128
-sign_is_ascii c h = grind (arith, nat_tests)
+use Rattle.spectra_lexer.proofs.Signs.{each_sign}
 
 part_is_ascii : (c : ℕ) → is_part c ≡ true → c < 128
 part_is_ascii c h = grind (arith, nat_tests)
@@ -26,6 +24,15 @@ parts_are_ascii [] h = IsAscii-nil
 parts_are_ascii (c ∷ w) h =
     let p = and_parts (is_part c) (list_all is_part w) h in
     IsAscii-cons c w (part_is_ascii c p.0) (parts_are_ascii w p.1)
+
+all_ascii : (w : List ℕ) → list_all (λ c. ltb c 128) w ≡ true → IsAscii w
+all_ascii [] h = IsAscii-nil
+all_ascii (c ∷ w) h =
+    let p = and_parts (ltb c 128) (list_all (λ c. ltb c 128) w) h in
+    IsAscii-cons c w (ltb-true c 128 p.0) (all_ascii w p.1)
+
+sign_is_ascii : (s : List ℕ) → is_sign s ≡ true → IsAscii s
+sign_is_ascii s h = all_ascii s (each_sign (λ s. list_all (λ c. ltb c 128) s) s refl h)
 
 abbrev pick : Bool → Spot → Spot → Spot
 pick b x y = cond b x y
@@ -56,23 +63,23 @@ a_slice at kind front w rest e ascii =
       ascii = rw (e, piece front w rest) ascii;
     }
 
+-- the slice of a token and those behind it
+token_slices : {text : List ℕ} (ts : List Token) (at : Spot) (kind : Kind) (front w rest : List ℕ) → at.byte ≡ length front → IsAscii w → text ≡ w ++ rest
+    → (at.byte + length w ≡ length (front ++ w) → AreSlices ((front ++ w) ++ rest) (at.byte + length w) ts) → AreSlices (front ++ text) at.byte (token_at at kind (length w) ∷ ts)
+token_slices ts at kind front w rest e ascii f more =
+    let here : at.byte + length w ≡ length (front ++ w) = omega (arith, e, length-append front w) in (
+      rw f (a_slice at kind front w rest e ascii),
+      subst (λ (x : List ℕ). AreSlices (front ++ x) (at.byte + length w) ts) (sym f) (rw append_assoc at (more here)),
+    )
+
 pub slices : {at : Spot} {rest : List ℕ} {ts : List Token} (front : List ℕ) → at.byte ≡ length front → Lexes at rest ts → AreSlices (front ++ rest) at.byte ts
 slices {at = at} front e (blank {c = c} {rest = rest} b d) =
     let here : length (front ++ c ∷ []) ≡ length front + 1 = length-append front (c ∷ []) in
     let next : (behind c at).byte ≡ length front + 1 = behind-byte c at ∙ ap (λ (k : ℕ). k + 1) e in
     let more = slices (front ++ c ∷ []) (next ∙ sym here) d in
     later _ _ at.byte (behind c at).byte (omega (arith, next, e)) (rw append_assoc at more)
-slices {at = at} front e (sign {c = c} {rest = rest} s d) =
-    let here : length (front ++ c ∷ []) ≡ length front + 1 = length-append front (c ∷ []) in
-    let next : (behind c at).byte ≡ length front + 1 = behind-byte c at ∙ ap (λ (k : ℕ). k + 1) e in
-    let more = slices (front ++ c ∷ []) (next ∙ sym here) d in
-    (a_slice at Sign front (c ∷ []) rest e (IsAscii-cons c [] (sign_is_ascii c s) IsAscii-nil), later _ _ (at.byte + 1) (behind c at).byte (omega (arith, next, e)) (rw append_assoc at more))
-slices {at = at} front e (word {tokens = ts} w r f i a d) =
-    let here : at.byte + length w ≡ length (front ++ w) = omega (arith, e, length-append front w) in
-    let more = slices (front ++ w) here d in (
-      rw f (a_slice at (kind_of w) front w r e (parts_are_ascii w (word_parts w i))),
-      subst (λ (x : List ℕ). AreSlices (front ++ x) (at.byte + length w) ts) (sym f) (rw append_assoc at more),
-    )
+slices {at = at} front e (sign {tokens = ts} s r l d) = token_slices ts at Sign front s r e (sign_is_ascii s l.begins.is) l.begins.parts (λ here. slices (front ++ s) here d)
+slices {at = at} front e (word {tokens = ts} w r f i a d) = token_slices ts at (kind_of w) front w r e (parts_are_ascii w (word_parts w i)) f (λ here. slices (front ++ w) here d)
 slices {at = at} front e (finish) = (a_slice at Finish front [] [] e IsAscii-nil, tt)
 
 pub tokens_are_slices : (text : List ℕ) (ts : List Token) → AreTokens text ts → AreSlices text 0 ts

@@ -6,7 +6,7 @@ use Rattle.spectra_lexer.specs.declared.token.Token.{Token}
 use Rattle.std.specs.List.{list_all}
 use Rattle.std.proofs.lemmas.Bool.{and_from, and_parts, or_left}
 use Rattle.std.proofs.lemmas.List.{append-nil}
-use Rattle.spectra_lexer.specs.Words.{is_blank, is_sign, is_letter, is_part, is_word, is_apart}
+use Rattle.spectra_lexer.specs.Words.{is_blank, is_letter, is_part, is_word, is_apart, BeginsWithLongest}
 use Rattle.spectra_lexer.proofs.Characters.{part_is_not_apart}
 use Rattle.spectra_lexer.specs.Tokens.{Lexes, blank, sign, word, finish, behind, further, token_at, kind_of}
 use Rattle.spectra_lexer.specs.Progress.{Leads}
@@ -26,12 +26,13 @@ goes_on a x old b y mid c z new p q =
 pub over_blank : (at : Spot) (c : ℕ) (rest : List ℕ) (old : List Token) → is_blank c ≡ true → Leads at (c ∷ rest) old (behind c at) rest old
 over_blank at c rest old h = record { found = λ ts d. (ts, blank h d, refl); only = λ us d. (us, at_blank h d, refl) }
 
-pub over_sign : (at : Spot) (c : ℕ) (rest : List ℕ) (old : List Token) → is_sign c ≡ true → Leads at (c ∷ rest) old (behind c at) rest (old ++ token_at at Sign 1 ∷ [])
-over_sign at c rest old h =
-    let t : Token = token_at at Sign 1 in
+pub over_sign : (at : Spot) (text s rest : List ℕ) (old : List Token) → BeginsWithLongest text s rest
+    → Leads at text old (further (length s) at) rest (old ++ token_at at Sign (length s) ∷ [])
+over_sign at text s rest old l =
+    let t : Token = token_at at Sign (length s) in
     record {
-      found = λ ts d. (t ∷ ts, sign h d, sym (append_assoc old (t ∷ []) ts));
-      only = λ us d. let p = at_sign h d in (p.0, p.2, ap (λ (vs : List Token). old ++ vs) p.1 ∙ sym (append_assoc old (t ∷ []) p.0));
+      found = λ ts d. (t ∷ ts, sign s rest l d, sym (append_assoc old (t ∷ []) ts));
+      only = λ us d. let p = at_sign s rest l d in (p.0, p.2, ap (λ (vs : List Token). old ++ vs) p.1 ∙ sym (append_assoc old (t ∷ []) p.0));
     }
 
 pub over_word : (at : Spot) (text w rest : List ℕ) (old : List Token) → text ≡ w ++ rest → is_word w ≡ true → is_apart rest ≡ true

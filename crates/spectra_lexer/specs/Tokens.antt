@@ -7,7 +7,7 @@ use Rattle.spectra_lexer.specs.declared.token.Kind.TheVariants.{Word, Name, Sign
 use Rattle.spectra_lexer.specs.declared.token.Token.{Token}
 use Rattle.spectra_lexer.specs.declared.fault.LexFault.{LexFault}
 use Rattle.spectra_lexer.specs.declared.fault.LexFault.TheVariants.{NotUtf8, BadCharacter, TooLong, Unsupported, Memory}
-use Rattle.spectra_lexer.specs.Words.{is_blank, is_sign, is_word, is_apart, is_reserved}
+use Rattle.spectra_lexer.specs.Words.{is_blank, BeginsWithLongest, is_word, is_apart, is_reserved}
 
 -- where a text begins
 abbrev pub start : Spot
@@ -31,7 +31,9 @@ kind_of word = if is_reserved word then Word else Name
 -- The tokens of what is left of a text from a spot on.
 pub data Lexes : Spot → List ℕ → List Token → Type 0 where
   blank : {at : Spot} {c : ℕ} {rest : List ℕ} {tokens : List Token} → is_blank c ≡ true → Lexes (behind c at) rest tokens → Lexes at (c ∷ rest) tokens
-  sign : {at : Spot} {c : ℕ} {rest : List ℕ} {tokens : List Token} → is_sign c ≡ true → Lexes (behind c at) rest tokens → Lexes at (c ∷ rest) (token_at at Sign 1 ∷ tokens)
+  -- a sign is as long as it can be
+  sign : {at : Spot} {text : List ℕ} {tokens : List Token} (sign rest : List ℕ) → BeginsWithLongest text sign rest
+      → Lexes (further (length sign) at) rest tokens → Lexes at text (token_at at Sign (length sign) ∷ tokens)
   -- a word is as long as it can be
   word : {at : Spot} {text : List ℕ} {tokens : List Token} (word rest : List ℕ) → text ≡ word ++ rest → is_word word ≡ true → is_apart rest ≡ true
       → Lexes (further (length word) at) rest tokens → Lexes at text (token_at at (kind_of word) (length word) ∷ tokens)

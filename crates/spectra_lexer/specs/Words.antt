@@ -1,15 +1,11 @@
 -- Which bytes make blanks, signs and words, and which words are reserved.
-use Rattle.std.specs.Prelude.{ℕ, ◌==◌, ◌&&◌, ◌||◌, nat_le, nat_eq, not, Bool, true, false, List, [], ◌∷◌, codes}
+use Rattle.std.specs.Prelude.{ℕ, ◌≡◌, ◌≤◌, ◌==◌, ◌&&◌, ◌||◌, nat_le, nat_eq, not, Bool, true, false, List, [], ◌∷◌, ◌++◌, length, codes}
 use Rattle.std.specs.List.{list_any, list_all}
 use Rattle.std.specs.Cmp.Lexicographic.{pointwise}
 
 -- space, tab, carriage return or line feed
 abbrev pub is_blank : ℕ → Bool
 is_blank c = c == 32 || c == 9 || c == 13 || c == 10
-
--- ; ( ) ! & or |
-abbrev pub is_sign : ℕ → Bool
-is_sign c = c == 59 || c == 40 || c == 41 || c == 33 || c == 38 || c == 124
 
 abbrev pub is_digit : ℕ → Bool
 is_digit c = nat_le 48 c && nat_le c 57
@@ -35,6 +31,24 @@ is_apart (c ∷ cs) = not (is_part c)
 -- whether two texts are the same
 abbrev pub same_text : List ℕ → List ℕ → Bool
 same_text = pointwise nat_eq
+
+-- the signs
+abbrev pub signs : List (List ℕ)
+signs = codes "<->" ∷ codes "->" ∷ codes ";" ∷ codes "(" ∷ codes ")" ∷ codes "!" ∷ codes "&" ∷ codes "|" ∷ []
+
+-- one of them
+unfoldable pub is_sign : List ℕ → Bool
+is_sign sign = list_any (λ s. same_text s sign) signs
+
+-- a text that begins with a sign
+pub record BeginsWithSign (text sign rest : List ℕ) : Type 0 where
+  pub is : is_sign sign ≡ true
+  pub parts : text ≡ sign ++ rest
+
+-- a text that begins with a sign and with no longer one
+pub record BeginsWithLongest (text sign rest : List ℕ) : Type 0 where
+  pub begins : BeginsWithSign text sign rest
+  pub longest : (other more : List ℕ) → BeginsWithSign text other more → length other ≤ length sign
 
 -- the words that are no names
 abbrev pub reserved_words : List (List ℕ)

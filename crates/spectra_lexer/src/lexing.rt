@@ -1,14 +1,14 @@
 //! From a text to its tokens.
 
-ghost use Rattle.std.specs.Prelude.{◌≡◌, ◌<◌, ◌∷◌, ℕ, true, List, length, IfOk, IfErr, IsErrOf};
-ghost use Rattle.spectra_lexer.specs.Words.{is_letter as letter_test};
+ghost use Rattle.std.specs.Prelude.{◌≡◌, ◌<◌, ◌≤◌, ◌∷◌, ℕ, true, List, length, take, drop, IfOk, IfErr, IsErrOf};
+ghost use Rattle.spectra_lexer.specs.Words.{BeginsWithLongest, is_letter as letter_test};
 ghost use Rattle.spectra_lexer.specs.Tokens.{AreTokens, Lexes, IsOfForm};
 ghost use Rattle.spectra_lexer.specs.Progress.{Leads, IsInside};
 
 use crate::fault::LexFault;
 use crate::spot::Spot;
 use crate::token::{Kind, Token};
-use crate::words::{count_parts, is_blank, is_letter, is_sign, kind_of};
+use crate::words::{count_parts, is_blank, is_letter, kind_of, sign_size};
 use std::alloc::{AllocError, Global};
 
 /// The greatest number of bytes of a text.
@@ -61,14 +61,34 @@ fn piece<'a>(
     if is_blank(byte) {
         return Ok((at.over(byte), after));
     }
-    if is_sign(byte) {
-        tokens.push(at.token(Kind::Sign, 1))?;
-        return Ok((at.over(byte), after));
+    if let Some(size) = sign_size(rest) {
+        return Ok(sign(rest, size, at, tokens)?);
     }
     if is_letter(byte) {
         return Ok(word(rest, at, tokens)?);
     }
     Err(LexFault::Unsupported)
+}
+
+/// Reads the sign of so many bytes at the front of what is left.
+fn sign<'a>(
+    rest: &'a [u8],
+    size: usize,
+    at: Spot,
+    tokens: &mut Vec<Token>,
+) -> Result<(Spot, &'a [u8]), AllocError>
+    requires within { size ≤ length rest.now }
+    requires begins { BeginsWithLongest rest.now (take size rest.now) (drop size rest.now) }
+    requires inside { IsInside at rest.now }
+    ensures leads { IfOk result (λ next.
+        Leads at rest.now tokens.old.items next.0 next.1.now tokens.new.items) }
+    ensures inside { IfOk result (λ next. IsInside next.0 next.1.now) }
+    ensures shorter { IfOk result (λ next. length next.1.now < length rest.now) }
+{
+    let (sign, after) = rest.split_at(size);
+    let size = sign.len() as u32;
+    tokens.push(at.token(Kind::Sign, size))?;
+    Ok((at.skip(size), after))
 }
 
 /// Reads the word at the front of what is left.

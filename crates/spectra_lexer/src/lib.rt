@@ -1,7 +1,7 @@
 //! The tokens of a text: words, names and signs, each with its slice, line and column.
 //!
-//! The tokens of a text are a relation by cases on the text, and no text has two lists of them. A word is as long as it
-//! can be. What isn't of the form that is built so far is refused as a whole.
+//! The tokens of a text are a relation by cases on the text, and no text has two lists of them. A word or a sign is as long
+//! as it can be. What isn't of the form that is built so far is refused as a whole.
 //!
 //! Contract: `lex` answers the tokens, or `Unsupported` only where there are none. Path: text → **tokens** → trees.
 #![tactic(auto)]

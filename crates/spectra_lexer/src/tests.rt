@@ -48,6 +48,47 @@ fn blanks_take_columns_and_only_a_line_feed_ends_a_line(rt: HostRuntime) -> Resu
     Ok(())
 }
 
+// `->` takes 2 bytes and columns and `<->` takes 3, beside a word or another sign too.
+#[test]
+fn arrows_are_the_longest_signs(rt: HostRuntime) -> Result<(), Fail> {
+    let cases: [(&[u8], &[Token]); 3] = [
+        (
+            b"a->b",
+            &[
+                token(Kind::Name, 0, 1, 1, 1),
+                token(Kind::Sign, 1, 3, 1, 2),
+                token(Kind::Name, 3, 4, 1, 4),
+                token(Kind::Finish, 4, 4, 1, 5),
+            ],
+        ),
+        (
+            b"a<->b",
+            &[
+                token(Kind::Name, 0, 1, 1, 1),
+                token(Kind::Sign, 1, 4, 1, 2),
+                token(Kind::Name, 4, 5, 1, 5),
+                token(Kind::Finish, 5, 5, 1, 6),
+            ],
+        ),
+        (
+            b"->->|\n<->!",
+            &[
+                token(Kind::Sign, 0, 2, 1, 1),
+                token(Kind::Sign, 2, 4, 1, 3),
+                token(Kind::Sign, 4, 5, 1, 5),
+                token(Kind::Sign, 6, 9, 2, 1),
+                token(Kind::Sign, 9, 10, 2, 4),
+                token(Kind::Finish, 10, 10, 2, 5),
+            ],
+        ),
+    ];
+    for (text, expected) in cases {
+        let tokens = lex(rt.alloc(), text)?;
+        assert_eq!(rt; tokens.as_slice(), expected, "{text:?}");
+    }
+    Ok(())
+}
+
 #[test]
 fn the_empty_text_has_only_its_end(rt: HostRuntime) -> Result<(), Fail> {
     let tokens = lex(rt.alloc(), b"")?;
@@ -60,12 +101,22 @@ fn the_empty_text_has_only_its_end(rt: HostRuntime) -> Result<(), Fail> {
 
 #[test]
 fn other_characters_are_refused(rt: HostRuntime) {
-    let cases: [&[u8]; 9] = [
+    let cases: [&[u8]; 19] = [
         b"1a",
         b"a 1",
         b"a // b",
         b"a -- b",
-        b"a -> b",
+        b"a--b",
+        b"a-->b",
+        b"a->--b",
+        b"a-b",
+        b"a- >b",
+        b"a<b",
+        b"a>b",
+        b"a<-b",
+        b"a<- >b",
+        b"a<--b",
+        b"a != b",
         b"a = b",
         b"\"a\"",
         b"\xc3\xa9",

@@ -1,11 +1,14 @@
 //! Which bytes make blanks, signs and words, and which words are reserved.
 
-ghost use Rattle.std.specs.Prelude.{◌≡◌, ◌≤◌, true, length, map, take, drop};
-ghost use Rattle.std.specs.List.{list_all, list_any};
-ghost use Rattle.spectra_lexer.specs.Words.{is_blank as blank_test, is_sign as sign_test, is_letter as letter_test, is_part as part_test, is_apart, same_text, is_reserved as reserved_test};
+ghost use Rattle.std.specs.Prelude.{◌≡◌, ◌≤◌, ℕ, true, List, length, map, take, drop, nat_eq, option_map, IfSome, IfNone};
+ghost use Rattle.std.specs.List.{list_all, list_any, find, starts_with};
+ghost use Rattle.spectra_lexer.specs.Words.{is_blank as blank_test, BeginsWithSign, BeginsWithLongest, is_letter as letter_test, is_part as part_test, is_apart, same_text, is_reserved as reserved_test};
 ghost use Rattle.spectra_lexer.specs.Tokens.{kind_of as kind_of_word};
 
 use crate::token::Kind;
+
+/// The signs, none before a longer one.
+pub const SIGNS: [&str; 8] = ["<->", "->", ";", "(", ")", "!", "&", "|"];
 
 /// The words that are no names.
 pub const RESERVED: [&str; 47] = [
@@ -65,11 +68,27 @@ pub fn is_blank(byte: u8) -> bool
     byte == b' ' || byte == b'\t' || byte == b'\r' || byte == b'\n'
 }
 
-/// Whether a byte is a sign.
-pub fn is_sign(byte: u8) -> bool
-    ensures { result ≡ sign_test byte }
+/// How many bytes the first of these takes that a text begins with.
+fn front_size(fronts: &[&str], text: &[u8]) -> Option<usize>
+    ensures { result ≡ option_map length
+        (find (λ front. starts_with nat_eq text.now front) (map (λ front. front.now) fronts.now)) }
 {
-    byte == b';' || byte == b'(' || byte == b')' || byte == b'!' || byte == b'&' || byte == b'|'
+    for front in fronts {
+        if text.starts_with(front.as_bytes()) {
+            return Some(front.len());
+        }
+    }
+    None
+}
+
+/// How many bytes the longest sign at the front takes, where there is one.
+pub fn sign_size(text: &[u8]) -> Option<usize>
+    ensures within { IfSome result (λ size. size ≤ length text.now) }
+    ensures longest { IfSome result (λ size.
+        BeginsWithLongest text.now (take size text.now) (drop size text.now)) }
+    ensures none { IfNone result ((sign rest : List ℕ) → ¬ BeginsWithSign text.now sign rest) }
+{
+    front_size(&SIGNS, text)
 }
 
 /// Whether a word may begin with a byte.

@@ -1,23 +1,25 @@
 -- What is of the grammar is read.
 use Rattle.std.proofs.Common.{◌≡◌, ℕ, zero, suc, ◌<◌, ◌≤◌, true, false, List, [], ◌∷◌, length, Some, None, refl, sym, ap, ◌∙◌, codes, arith}
 use Rattle.spectra_parser.specs.declared.tree.Place.{Place}
+use Rattle.spectra_parser.specs.declared.tree.BinaryWord.{BinaryWord}
 use Rattle.spectra_lexer.specs.declared.token.Kind.TheVariants as kinds
 use Rattle.spectra_lexer.specs.Words.{same_text}
 use Rattle.spectra_parser.specs.Data.{Expression, Form, Expressions, TypeData, BodyData, ItemData, TreeData}
 use Rattle.spectra_parser.specs.Lexemes.{Lexeme}
-use Rattle.spectra_parser.specs.Grammar.{IsSign, joined, Expr, Disj, Conjs, Conj, Cmps, Cmp, Prefixed, Prim, IsType, Body, IsItem, Items, Text}
+use Rattle.spectra_parser.specs.Grammar.{IsSign, IsArrow, joined, levels, Expr, Disj, Conjs, Conj, Cmps, Cmp, Prefixed, Prim, IsType, Body, IsItem, Items, Text}
 use Rattle.spectra_parser.specs.Tests.{word_test, sign_test, name_test, end_test, of_finish}
-use Rattle.spectra_parser.specs.Reading.{Reader, expect, others, several_over, cmp_at, conj_at, expr_at, inner_at, type_at, body_at, vardecl_at, line_at, item_at, items_at, text_at}
+use Rattle.spectra_parser.specs.Reading.{Reader, expect, enclosed_over, others, several_over, arrow_at, cmp_at, conj_at, disj_at, expr_at, inner_at, type_at, formula_at, body_at, vardecl_at, line_at, item_at, items_at, text_at}
 use Rattle.spectra_parser.proofs.Chains.{others_end}
 use Rattle.spectra_parser.proofs.Sound.{some_is}
-use Rattle.spectra_parser.proofs.Steps.{cmp_prefixed, cmp_prim, prefixed_reads, closed_reads, prim_true, prim_false, prim_name, prim_open}
-use Rattle.spectra_parser.proofs.TokenTests.{word_passes, sign_passes, name_passes, other_word, other_sign, sign_is_no_word, sign_is_no_name, word_is_no_sign, name_is_no_sign, name_is_no_word, prefix_passes, no_prefix, owner_passes, role_passes, role_is_no_owner, passes, no_pass}
+use Rattle.spectra_parser.proofs.Steps.{cmp_prefixed, cmp_prim, prefixed_reads, enclosed_reads, closed_reads, next_reads, expr_single, expr_arrow, between_reads, prim_true, prim_false, prim_name, prim_next, IsNoWord, prim_open}
+use Rattle.spectra_parser.proofs.TokenTests.{word_passes, sign_passes, name_passes, other_word, other_sign, sign_is_no_word, sign_is_no_name, word_is_no_sign, word_is_no_name, name_is_no_sign, name_is_no_word, prefix_passes, no_prefix, arrow_passes, no_arrow, arrow_is_no, owner_passes, role_passes, role_is_no_owner, passes, no_pass}
 
 -- ---- each tree takes tokens
 
 mutual
   pub expr_shorter : {left : ℕ} {ts rest : List Lexeme} {e : Expression} → Expr left ts rest e → length rest < length ts
-  expr_shorter (Expr.expr p) = disj_shorter p
+  expr_shorter (Expr.single p) = disj_shorter p
+  expr_shorter (Expr.arrow p w q) = let a = disj_shorter p in let b = disj_shorter q in omega (arith, a, b)
 
   disj_shorter : {left : ℕ} {ts rest : List Lexeme} {e : Expression} → Disj left ts rest e → length rest < length ts
   disj_shorter (Disj.disj p q) = let a = conj_shorter p in let b = conjs_shorter q in omega (arith, a, b)
@@ -45,6 +47,7 @@ mutual
   prim_shorter (Prim.truth w) = omega arith
   prim_shorter (Prim.falsity w) = omega arith
   prim_shorter (Prim.read n) = omega arith
+  prim_shorter (Prim.next w a p b) = let c = expr_shorter p in omega (arith, c)
   prim_shorter (Prim.parentheses a p b) = let c = expr_shorter p in omega (arith, c)
 
 -- ---- what is read where nothing goes on
@@ -55,6 +58,30 @@ Stops sign ts = expect (sign_test sign) ts ≡ None
 
 closing_stops : (sign : List ℕ) (u : Lexeme) (rest : List Lexeme) (other : List ℕ) → IsSign other u → same_text other sign ≡ false → Stops sign (u ∷ rest)
 closing_stops sign u rest other s e = no_pass (sign_test sign) u rest (other_sign u other sign s e)
+
+-- no operator goes on an expression
+pub record Ends (ts : List Lexeme) : Type 0 where
+  pub and : Stops (codes "&") ts
+  pub or : Stops (codes "|") ts
+  pub arrow : arrow_at ts ≡ None
+
+-- a sign that is no operator
+closing_ends : (sign : List ℕ) (u : Lexeme) (rest : List Lexeme) → IsSign sign u → same_text sign (codes "&") ≡ false → same_text sign (codes "|") ≡ false
+    → same_text sign (codes "->") ≡ false → same_text sign (codes "<->") ≡ false → Ends (u ∷ rest)
+unfolding arrow_at
+closing_ends sign u rest s a b d e =
+    record {
+      and = closing_stops (codes "&") u rest sign s a;
+      or = closing_stops (codes "|") u rest sign s b;
+      arrow = rw (no_arrow u sign s d e) refl;
+    }
+
+arrow_stops : (sign : List ℕ) (t : Lexeme) (word : BinaryWord) (rest : List Lexeme) → IsArrow t word → same_text (codes "->") sign ≡ false → same_text (codes "<->") sign ≡ false → Stops sign (t ∷ rest)
+arrow_stops sign t word rest w a b = no_pass (sign_test sign) t rest (arrow_is_no t sign word w a b)
+
+took_arrow : (t : Lexeme) (word : BinaryWord) (rest : List Lexeme) → IsArrow t word → arrow_at (t ∷ rest) ≡ Some ((t.at, word), rest)
+unfolding arrow_at
+took_arrow t word rest w = rw (arrow_passes t word w) refl
 
 -- behind a conj stands what follows the disj, or another sign
 conjs_stop : {left : ℕ} {mid rest : List Lexeme} {es : List Expression} {ops : List Place} → Conjs left mid rest es ops → Stops (codes "&") rest → Stops (codes "&") mid
@@ -72,11 +99,29 @@ whole : (sign : List ℕ) (node : Expressions → List Place → Form) (part : R
 unfolding several_over
 whole sign node part ts mid rest e es ops p q = rw (p, q) refl
 
-mutual
-  pub complete_expr : {left : ℕ} {ts rest : List Lexeme} {e : Expression} → Expr left ts rest e → Stops (codes "&") rest → Stops (codes "|") rest → expr_at left ts ≡ Some (e, rest)
-  complete_expr (Expr.expr p) a b = complete_disj p a b
+sign_no_word : (t : Lexeme) (sign : List ℕ) → IsSign sign t → IsNoWord t
+sign_no_word t sign s =
+    record {
+      no_true = sign_is_no_word t sign (codes "true") s;
+      no_false = sign_is_no_word t sign (codes "false") s;
+      no_name = sign_is_no_name t sign s;
+      no_next = sign_is_no_word t sign (codes "next") s;
+    }
 
-  complete_disj : {left : ℕ} {ts rest : List Lexeme} {e : Expression} → Disj left ts rest e → Stops (codes "&") rest → Stops (codes "|") rest → expr_at left ts ≡ Some (e, rest)
+paren_ends : (u : Lexeme) (rest : List Lexeme) → IsSign (codes ")") u → Ends (u ∷ rest)
+paren_ends u rest s = closing_ends (codes ")") u rest s refl refl refl refl
+
+enclosed : (inner : Reader Expression) (u : Lexeme) (ts rest : List Lexeme) (e : Expression) → inner ts ≡ Some (e, u ∷ rest) → IsSign (codes ")") u → enclosed_over inner ts ≡ Some (e, rest)
+enclosed inner u ts rest e read s = enclosed_reads inner ts e (u ∷ rest) u rest read (passes (sign_test (codes ")")) u rest (sign_passes u (codes ")") s))
+
+mutual
+  pub complete_expr : {left : ℕ} {ts rest : List Lexeme} {e : Expression} → Expr left ts rest e → Ends rest → expr_at left ts ≡ Some (e, rest)
+  complete_expr {left = left} {ts = ts} {rest = rest} {e = e} (Expr.single p) ends = expr_single (disj_at left) ts e rest (complete_disj p ends.and ends.or) ends.arrow
+  complete_expr {left = left} {ts = ts} {rest = rest} (Expr.arrow {t = t} {word = word} {mid = mid} {a = a} {b = b} p w q) ends =
+      let first = complete_disj p (arrow_stops (codes "&") t word mid w refl refl) (arrow_stops (codes "|") t word mid w refl refl) in
+      expr_arrow (disj_at left) ts a (t ∷ mid) t.at word mid first (took_arrow t word mid w) ∙ between_reads (disj_at left) a t.at word mid b rest (complete_disj q ends.and ends.or)
+
+  complete_disj : {left : ℕ} {ts rest : List Lexeme} {e : Expression} → Disj left ts rest e → Stops (codes "&") rest → Stops (codes "|") rest → disj_at left ts ≡ Some (e, rest)
   complete_disj {left = left} {ts = ts} {rest = rest} (Disj.disj {mid = mid} {e = e} {es = es} {ops = ops} p q) a b =
       whole (codes "|") Form.Or (conj_at left) ts mid rest e es ops (complete_conj p (conjs_stop q a)) (complete_conjs (length mid) q a b (omega arith))
 
@@ -117,11 +162,13 @@ mutual
       cmp_prim left t rest (no_prefix t (word_is_no_sign t (codes "false") (codes "!") w)) ∙ prim_false (inner_at left) t rest (other_word t (codes "false") (codes "true") w refl) (word_passes t (codes "false") w)
   complete_prim {left = left} {rest = rest} (Prim.read {t = t} n) =
       cmp_prim left t rest (no_prefix t (name_is_no_sign t (codes "!") n)) ∙ prim_name (inner_at left) t rest (name_is_no_word t (codes "true") n) (name_is_no_word t (codes "false") n) (name_passes t n)
+  complete_prim {rest = rest} (Prim.next {left = left} {t = t} {u = u} {v = v} {ts = ts} {e = e} w a p b) =
+      cmp_prim (suc left) t (u ∷ ts) (no_prefix t (word_is_no_sign t (codes "next") (codes "!") w))
+      ∙ prim_next (expr_at left) t (u ∷ ts) (other_word t (codes "next") (codes "true") w refl) (other_word t (codes "next") (codes "false") w refl) (word_is_no_name t (codes "next") w) (word_passes t (codes "next") w)
+      ∙ next_reads (expr_at left) t (u ∷ ts) u ts (passes (sign_test (codes "(")) u ts (sign_passes u (codes "(") a)) e rest (enclosed (expr_at left) v ts rest e (complete_expr p (paren_ends v rest b)) b)
   complete_prim {rest = rest} (Prim.parentheses {left = left} {t = t} {u = u} {ts = ts} {e = e} a p b) =
-      cmp_prim (suc left) t ts (no_prefix t (other_sign t (codes "(") (codes "!") a refl))
-      ∙ prim_open (expr_at left) t ts (sign_is_no_word t (codes "(") (codes "true") a) (sign_is_no_word t (codes "(") (codes "false") a) (sign_is_no_name t (codes "(") a) (sign_passes t (codes "(") a)
-      ∙ closed_reads (expr_at left) t ts e (u ∷ rest) u rest (complete_expr p (closing_stops (codes "&") u rest (codes ")") b refl) (closing_stops (codes "|") u rest (codes ")") b refl))
-      (passes (sign_test (codes ")")) u rest (sign_passes u (codes ")") b))
+      cmp_prim (suc left) t ts (no_prefix t (other_sign t (codes "(") (codes "!") a refl)) ∙ prim_open (expr_at left) t ts (sign_no_word t (codes "(") a) (sign_passes t (codes "(") a)
+      ∙ closed_reads (expr_at left) t ts e rest (enclosed (expr_at left) u ts rest e (complete_expr p (paren_ends u rest b)) b)
 
 -- ---- items
 
@@ -129,9 +176,14 @@ complete_type : {ts rest : List Lexeme} {d : TypeData} → IsType ts rest d → 
 unfolding type_at
 complete_type {rest = rest} (IsType.boolean {t = t} w) = rw (passes (word_test (codes "boolean")) t rest (word_passes t (codes "boolean") w)) refl
 
-complete_body : {ts rest : List Lexeme} {b : BodyData} → Body ts rest b → Stops (codes "&") rest → Stops (codes "|") rest → body_at ts ≡ Some (b, rest)
+complete_formula : {ts rest : List Lexeme} {e : Expression} (body : Expression → BodyData) → Expr levels ts rest e → Ends rest → formula_at body ts ≡ Some (body e, rest)
+unfolding formula_at
+complete_formula body p ends = rw (complete_expr p ends) refl
+
+complete_body : {ts rest : List Lexeme} {b : BodyData} → Body ts rest b → Ends rest → body_at ts ≡ Some (b, rest)
 unfolding body_at
-complete_body {rest = rest} (Body.initial {t = t} {ts = ts} {e = e} w p) a b = rw (passes (word_test (codes "ini")) t ts (word_passes t (codes "ini") w), complete_expr p a b) refl
+complete_body (Body.initial {t = t} w p) ends = rw (word_passes t (codes "ini") w) (complete_formula BodyData.Initial p ends)
+complete_body (Body.always {t = t} w p) ends = rw (other_word t (codes "alw") (codes "ini") w refl, word_passes t (codes "alw") w) (complete_formula BodyData.Always p ends)
 
 complete_item : {ts rest : List Lexeme} {i : ItemData} → IsItem ts rest i → item_at ts ≡ Some (i, rest)
 unfolding item_at vardecl_at line_at
@@ -141,7 +193,7 @@ complete_item {rest = rest} (IsItem.line {t = t} {s = s} {role = role} r b e) =
     rw (
       role_is_no_owner t role r,
       role_passes t role r,
-      complete_body b (closing_stops (codes "&") s rest (codes ";") e refl) (closing_stops (codes "|") s rest (codes ";") e refl),
+      complete_body b (closing_ends (codes ";") s rest e refl refl refl refl),
       passes (sign_test (codes ";")) s rest (sign_passes s (codes ";") e),
     ) refl
 
@@ -149,10 +201,12 @@ item_is_no_end : {ts rest : List Lexeme} {i : ItemData} → IsItem ts rest i →
 unfolding end_test
 item_is_no_end (IsItem.vardecl o (IsType.boolean w) m e) = refl
 item_is_no_end (IsItem.line r (Body.initial {ts = ts} w p) e) = refl
+item_is_no_end (IsItem.line r (Body.always {ts = ts} w p) e) = refl
 
 item_shorter : {ts rest : List Lexeme} {i : ItemData} → IsItem ts rest i → length rest < length ts
 item_shorter (IsItem.vardecl o (IsType.boolean w) m e) = omega arith
 item_shorter (IsItem.line r (Body.initial w p) e) = let fewer = expr_shorter p in omega (arith, fewer)
+item_shorter (IsItem.line r (Body.always w p) e) = let fewer = expr_shorter p in omega (arith, fewer)
 
 last_is_end : (t : Lexeme) → t.kind ≡ kinds.Finish → end_test (t ∷ []) ≡ true
 unfolding end_test

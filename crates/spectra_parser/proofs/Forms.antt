@@ -4,6 +4,7 @@ use Rattle.std.specs.Global.{Vec, Box}
 use Rattle.spectra_parser.specs.declared.tree.Place.{Place}
 use Rattle.spectra_parser.specs.declared.tree.Name.{Name}
 use Rattle.spectra_parser.specs.declared.tree.PrefixWord.{PrefixWord}
+use Rattle.spectra_parser.specs.declared.tree.BinaryWord.{BinaryWord}
 use Rattle.spectra_parser.specs.declared.tree.ExprTree.{ExprTree}
 use Rattle.spectra_parser.specs.declared.tree.ExprForm.{the_lemmas}
 use Rattle.spectra_parser.specs.declared.tree.ExprForm.TheVariants as forms
@@ -21,6 +22,12 @@ form_read n = search (rules, the_lemmas)
 
 pub form_prefix : (word : PrefixWord) (a : Box ExprTree) → form_data (forms.Prefix word a) ≡ Form.Prefix word (expr_data a.value)
 form_prefix word a = search (rules, the_lemmas)
+
+pub form_next : (a : Box ExprTree) → form_data (forms.Next a) ≡ Form.Next (expr_data a.value)
+form_next a = search (rules, the_lemmas)
+
+pub form_binary : (word : BinaryWord) (a b : Box ExprTree) → form_data (forms.Binary word a b) ≡ Form.Binary word (expr_data a.value) (expr_data b.value)
+form_binary word a b = search (rules, the_lemmas)
 
 pub form_and : (es : Vec ExprTree) (ops : Vec Place) → form_data (forms.And es ops) ≡ Form.And (expressions (map expr_data es.items)) ops.items
 form_and es ops = search (rules, the_lemmas)

@@ -1,18 +1,20 @@
 -- What is read is of the grammar.
 use Rattle.std.proofs.Common.{◌≡◌, ℕ, zero, suc, Bool, true, false, cond, List, [], ◌∷◌, length, Option, Some, None, refl, sym, ap, subst, ◌∙◌, ◌⊎◌, inl, inr, codes}
+use Rattle.std.specs.Prelude.{option_map}
 use Rattle.std.specs.Option.{option_map_or}
 use Rattle.spec_model.specs.declared.spec.Role.{Role}
 use Rattle.spectra_parser.specs.declared.tree.Place.{Place}
 use Rattle.spectra_parser.specs.declared.tree.OwnerWord.{OwnerWord}
 use Rattle.spectra_parser.specs.declared.tree.PrefixWord.{PrefixWord}
+use Rattle.spectra_parser.specs.declared.tree.BinaryWord.{BinaryWord}
 use Rattle.spectra_parser.specs.Data.{Expression, Form, Expressions, TypeData, TypeShape, BodyData, ItemData, TreeData}
 use Rattle.spectra_parser.specs.Lexemes.{Lexeme, name_of}
-use Rattle.spectra_parser.specs.Grammar.{IsWord, IsSign, IsName, IsPrefix, IsRole, IsOwner, leaf, applied, opened, joined, levels, Expr, Disj, Conjs, Conj, Cmps, Cmp, Prefixed, Prim, IsType, Body, IsItem, Items, Text}
-use Rattle.spectra_parser.specs.Tests.{word_test, sign_test, name_test, end_test, prefix_word, owner_word, role_word}
-use Rattle.spectra_parser.specs.Reading.{◌>>=◌, Reader, Others, expect, closed_over, prim_over, prefixed_over, others, several_over, cmp_at, conj_at, expr_at, operand_at, inner_at, type_at, body_at, vardecl_at, line_at, item_at, items_at, text_at}
+use Rattle.spectra_parser.specs.Grammar.{IsWord, IsSign, IsName, IsPrefix, IsArrow, IsRole, IsOwner, leaf, applied, between, next_of, opened, joined, levels, Expr, Disj, Conjs, Conj, Cmps, Cmp, Prefixed, Prim, IsType, Body, IsItem, Items, Text}
+use Rattle.spectra_parser.specs.Tests.{word_test, sign_test, name_test, end_test, prefix_word, arrow_word, owner_word, role_word}
+use Rattle.spectra_parser.specs.Reading.{◌>>=◌, Reader, Others, expect, enclosed_over, closed_over, next_over, prim_over, prefixed_over, others, several_over, arrow_at, between_over, expr_over, cmp_at, conj_at, disj_at, expr_at, operand_at, inner_at, type_at, formula_at, body_at, vardecl_at, line_at, item_at, items_at, text_at}
 use Rattle.spectra_parser.proofs.Chains.{expected}
 use Rattle.spectra_parser.proofs.Steps.{cmp_nil, cmp_prefixed, cmp_prim}
-use Rattle.spectra_parser.proofs.TokenTests.{word_is, sign_is, name_is, prefix_is, owner_is, role_is, is_finish_kind}
+use Rattle.spectra_parser.proofs.TokenTests.{word_is, sign_is, name_is, prefix_is, arrow_is, owner_is, role_is, is_finish_kind}
 
 -- ---- options
 
@@ -74,10 +76,44 @@ sound_conj left sound ts e r h =
     let p = sound_several (codes "&") (cmp_at left) (Cmp left) (Cmps left) (λ ts. Cmps.no_and) (λ t ts mid rest e es ops s p q. Cmps.and s p q) sound Form.And ts (e, r) h in
     subst (λ (x : Read). Conj left ts x.1 x.0) p.5 (Conj.conj p.3 p.4)
 
-sound_expr_over : (left : ℕ) → SoundAs (cmp_at left) (Cmp left) → SoundAs (expr_at left) (Expr left)
-sound_expr_over left sound ts e r h =
+sound_disj : (left : ℕ) → SoundAs (cmp_at left) (Cmp left) → SoundAs (disj_at left) (Disj left)
+sound_disj left sound ts e r h =
     let p = sound_several (codes "|") (conj_at left) (Conj left) (Conjs left) (λ ts. Conjs.no_or) (λ t ts mid rest e es ops s p q. Conjs.or s p q) (sound_conj left sound) Form.Or ts (e, r) h in
-    subst (λ (x : Read). Expr left ts x.1 x.0) p.5 (Expr.expr (Disj.disj p.3 p.4))
+    subst (λ (x : Read). Disj left ts x.1 x.0) p.5 (Disj.disj p.3 p.4)
+
+-- what an arrow took
+arrow_took : (ts s : List Lexeme) (at : Place) (word : BinaryWord) → arrow_at ts ≡ Some ((at, word), s) → (t : Lexeme) × (ts ≡ t ∷ s) × (t.at ≡ at) × IsArrow t word
+unfolding arrow_at
+arrow_took [] s at word h = absurd (no_some ((at, word), s) h)
+arrow_took (t ∷ ts) s at word h = found (arrow_word t) refl h
+  where
+    found : (o : Option BinaryWord) → arrow_word t ≡ o → option_map {U = (Place × BinaryWord) × List Lexeme} (λ w. ((t.at, w), ts)) o ≡ Some ((at, word), s) → (u : Lexeme) × (t ∷ ts ≡ u ∷ s) × (u.at ≡ at) × IsArrow u word
+    found None p h = absurd (no_some ((at, word), s) h)
+    found (Some w) p h =
+        let same : ((t.at, w), ts) ≡ ((at, word), s) = some_is ((t.at, w), ts) ((at, word), s) h in
+        let is_word : w ≡ word = ap (λ (x : (Place × BinaryWord) × List Lexeme). x.0.1) same in (
+          t,
+          ap (λ (x : (Place × BinaryWord) × List Lexeme). t ∷ x.1) same,
+          ap (λ (x : (Place × BinaryWord) × List Lexeme). x.0.0) same,
+          arrow_is t word (p ∙ ap (λ (x : BinaryWord). Some x) is_word),
+        )
+
+sound_expr_over : (left : ℕ) → SoundAs (cmp_at left) (Cmp left) → SoundAs (expr_at left) (Expr left)
+unfolding expr_over between_over
+sound_expr_over left sound ts e r h =
+    let a = bind_some (disj_at left ts) (λ a. option_map_or (λ o. between_over (disj_at left) a.0 o.0.0 o.0.1 o.1) (arrow_at a.1) (Some a)) (e, r) h in
+    arrows a.0 (sound_disj left sound ts a.0.0 a.0.1 a.1) (arrow_at a.0.1) refl a.2
+  where
+    arrows : (a : Read) → Disj left ts a.1 a.0 → (o : Option ((Place × BinaryWord) × List Lexeme)) → arrow_at a.1 ≡ o
+        → option_map_or (λ o. between_over (disj_at left) a.0 o.0.0 o.0.1 o.1) o (Some a) ≡ Some (e, r) → Expr left ts r e
+    arrows a first None none h = subst (λ (x : Read). Expr left ts x.1 x.0) (some_is a (e, r) h) (Expr.single first)
+    arrows a first (Some o) took h =
+        let t = arrow_took a.1 o.1 o.0.0 o.0.1 took in
+        let b = bind_some (disj_at left o.1) (λ b. Some (between o.0.0 o.0.1 a.0 b.0, b.1)) (e, r) h in
+        let second = sound_disj left sound o.1 b.0.0 b.0.1 b.1 in
+        let whole : Expr left ts b.0.1 (between t.0.at o.0.1 a.0 b.0.0) = Expr.arrow (subst (λ (z : List Lexeme). Disj left ts z a.0) t.1 first) t.3 second in
+        let tree : between t.0.at o.0.1 a.0 b.0.0 ≡ between o.0.0 o.0.1 a.0 b.0.0 = ap (λ (z : Place). between z o.0.1 a.0 b.0.0) t.2 in
+        subst (λ (x : Read). Expr left ts x.1 x.0) (some_is (between o.0.0 o.0.1 a.0 b.0.0, b.0.1) (e, r) b.2) (subst (λ (x : Expression). Expr left ts b.0.1 x) tree whole)
 
 -- what stands one level deeper
 abbrev Inner : ℕ → List Lexeme → List Lexeme → Expression → Type 0
@@ -88,26 +124,51 @@ abbrev Operand : ℕ → List Lexeme → List Lexeme → Expression → Type 0
 Operand zero ts r e = ⊥
 Operand (suc left) ts r e = Cmp left ts r e
 
-closed : (left : ℕ) (t u : Lexeme) (ts rest : List Lexeme) (e : Expression) → IsSign (codes "(") t → IsSign (codes ")") u → Inner left ts (u ∷ rest) e → Prim left (t ∷ ts) rest (opened t e)
-closed zero t u ts rest e a b h = absurd h
-closed (suc left) t u ts rest e a b h = Prim.parentheses a h b
+-- an expression between parentheses, behind the opening one
+abbrev Enclosed : ℕ → List Lexeme → List Lexeme → Expression → Type 0
+Enclosed left ts r e = (u : Lexeme) × Inner left ts (u ∷ r) e × IsSign (codes ")") u
 
-sound_closed : (left : ℕ) → SoundAs (inner_at left) (Inner left) → (t : Lexeme) → IsSign (codes "(") t → (ts : List Lexeme) (x : Read) → closed_over (inner_at left) t ts ≡ Some x → Prim left (t ∷ ts) x.1 x.0
-unfolding closed_over
-sound_closed left sound t a ts x h =
-    let d = bind_some (inner_at left ts) (λ d. expect (sign_test (codes ")")) d.1 >>= λ u. Some (opened t d.0, u.1)) x h in
-    let u = bind_some (expect (sign_test (codes ")")) d.0.1) (λ u. Some (opened t d.0.0, u.1)) x d.2 in
+sound_enclosed : (left : ℕ) → SoundAs (inner_at left) (Inner left) → (ts : List Lexeme) (x : Read) → enclosed_over (inner_at left) ts ≡ Some x → Enclosed left ts x.1 x.0
+unfolding enclosed_over
+sound_enclosed left sound ts x h =
+    let d = bind_some (inner_at left ts) (λ d. expect (sign_test (codes ")")) d.1 >>= λ u. Some (d.0, u.1)) x h in
+    let u = bind_some (expect (sign_test (codes ")")) d.0.1) (λ u. Some (d.0.0, u.1)) x d.2 in
     let took = expected (sign_test (codes ")")) d.0.1 u.0.0 u.0.1 u.1 in
     let inside = sound ts d.0.0 d.0.1 d.1 in
-    subst (λ (y : Read). Prim left (t ∷ ts) y.1 y.0) (some_is (opened t d.0.0, u.0.1) x u.2)
-    (closed left t u.0.0 ts u.0.1 d.0.0 a (sign_is u.0.0 (codes ")") took.1) (subst (λ (z : List Lexeme). Inner left ts z d.0.0) took.0 inside))
+    subst (λ (y : Read). Enclosed left ts y.1 y.0) (some_is (d.0.0, u.0.1) x u.2)
+    (u.0.0, subst (λ (z : List Lexeme). Inner left ts z d.0.0) took.0 inside, sign_is u.0.0 (codes ")") took.1)
+
+closed : (left : ℕ) (t : Lexeme) (ts rest : List Lexeme) (e : Expression) → IsSign (codes "(") t → Enclosed left ts rest e → Prim left (t ∷ ts) rest (opened t e)
+closed zero t ts rest e a h = absurd h.1
+closed (suc left) t ts rest e a h = Prim.parentheses a h.1 h.2
+
+under_next : (left : ℕ) (t u : Lexeme) (ts s rest : List Lexeme) (e : Expression) → IsWord (codes "next") t → IsSign (codes "(") u → ts ≡ u ∷ s → Enclosed left s rest e → Prim left (t ∷ ts) rest (next_of t e)
+under_next zero t u ts s rest e w a is h = absurd h.1
+under_next (suc left) t u ts s rest e w a is h = subst (λ (z : List Lexeme). Prim (suc left) (t ∷ z) rest (next_of t e)) (sym is) (Prim.next w a h.1 h.2)
+
+module _ (left : ℕ) (sound : SoundAs (inner_at left) (Inner left)) (t : Lexeme) (ts : List Lexeme) (x : Read) where
+  sound_closed : IsSign (codes "(") t → closed_over (inner_at left) t ts ≡ Some x → Prim left (t ∷ ts) x.1 x.0
+  unfolding closed_over
+  sound_closed a h =
+      let d = bind_some (enclosed_over (inner_at left) ts) (λ d. Some (opened t d.0, d.1)) x h in
+      subst (λ (y : Read). Prim left (t ∷ ts) y.1 y.0) (some_is (opened t d.0.0, d.0.1) x d.2) (closed left t ts d.0.1 d.0.0 a (sound_enclosed left sound ts d.0 d.1))
+
+  sound_next : IsWord (codes "next") t → next_over (inner_at left) t ts ≡ Some x → Prim left (t ∷ ts) x.1 x.0
+  unfolding next_over
+  sound_next w h =
+      let u = bind_some (expect (sign_test (codes "(")) ts) (λ u. enclosed_over (inner_at left) u.1 >>= λ d. Some (next_of t d.0, d.1)) x h in
+      let d = bind_some (enclosed_over (inner_at left) u.0.1) (λ d. Some (next_of t d.0, d.1)) x u.2 in
+      let took = expected (sign_test (codes "(")) ts u.0.0 u.0.1 u.1 in
+      subst (λ (y : Read). Prim left (t ∷ ts) y.1 y.0) (some_is (next_of t d.0.0, d.0.1) x d.2)
+      (under_next left t u.0.0 ts u.0.1 d.0.1 d.0.0 w (sign_is u.0.0 (codes "(") took.1) took.0 (sound_enclosed left sound u.0.1 d.0 d.1))
 
 sound_prim : (left : ℕ) → SoundAs (inner_at left) (Inner left) → (t : Lexeme) (ts : List Lexeme) (x : Read) → prim_over (inner_at left) (t ∷ ts) ≡ Some x → Prim left (t ∷ ts) x.1 x.0
 unfolding prim_over
 sound_prim left sound t ts x h =
     let Reads : Read → Type 0 = λ y. Prim left (t ∷ ts) y.1 y.0 in
     let deep : Option Read = cond (sign_test (codes "(") t) (closed_over (inner_at left) t ts) None in
-    let named : Option Read = cond (name_test t) (Some (leaf t (Form.Read (name_of t)), ts)) deep in
+    let later : Option Read = cond (word_test (codes "next") t) (next_over (inner_at left) t ts) deep in
+    let named : Option Read = cond (name_test t) (Some (leaf t (Form.Read (name_of t)), ts)) later in
     let other : Option Read = cond (word_test (codes "false") t) (Some (leaf t Form.False, ts)) named in
     elim (which {A = Option Read} (word_test (codes "true") t) (Some (leaf t Form.True, ts)) other (Some x) h) [
       | inl q ↦ subst Reads (some_is (leaf t Form.True, ts) x q.1) (Prim.truth (word_is t (codes "true") q.0))
@@ -115,12 +176,16 @@ sound_prim left sound t ts x h =
           elim (which {A = Option Read} (word_test (codes "false") t) (Some (leaf t Form.False, ts)) named (Some x) q.1) [
             | inl q ↦ subst Reads (some_is (leaf t Form.False, ts) x q.1) (Prim.falsity (word_is t (codes "false") q.0))
             | inr q ↦
-                elim (which {A = Option Read} (name_test t) (Some (leaf t (Form.Read (name_of t)), ts)) deep (Some x) q.1) [
+                elim (which {A = Option Read} (name_test t) (Some (leaf t (Form.Read (name_of t)), ts)) later (Some x) q.1) [
                   | inl q ↦ subst Reads (some_is (leaf t (Form.Read (name_of t)), ts) x q.1) (Prim.read (name_is t q.0))
                   | inr q ↦
-                      elim (which {A = Option Read} (sign_test (codes "(") t) (closed_over (inner_at left) t ts) None (Some x) q.1) [
-                        | inl q ↦ sound_closed left sound t (sign_is t (codes "(") q.0) ts x q.1
-                        | inr q ↦ absurd (no_some x q.1)
+                      elim (which {A = Option Read} (word_test (codes "next") t) (next_over (inner_at left) t ts) deep (Some x) q.1) [
+                        | inl q ↦ sound_next left sound t ts x (word_is t (codes "next") q.0) q.1
+                        | inr q ↦
+                            elim (which {A = Option Read} (sign_test (codes "(") t) (closed_over (inner_at left) t ts) None (Some x) q.1) [
+                              | inl q ↦ sound_closed left sound t ts x (sign_is t (codes "(") q.0) q.1
+                              | inr q ↦ absurd (no_some x q.1)
+                            ]
                       ]
                 ]
           ]
@@ -165,17 +230,29 @@ sound_type ts x h =
     subst (λ (y : TypeData × List Lexeme). IsType ts y.1 y.0) (some_is (record { at = t.0.0.at; form = TypeShape.Boolean }, t.0.1) x t.2)
     (type_from ts t.0.1 t.0.0 took.0 (word_is t.0.0 (codes "boolean") took.1))
 
-body_from : (ts mid rest : List Lexeme) (t : Lexeme) (e : Expression) → ts ≡ t ∷ mid → IsWord (codes "ini") t → Expr levels mid rest e → Body ts rest (BodyData.Initial e)
-body_from ts mid rest t e is w p = subst (λ (z : List Lexeme). Body z rest (BodyData.Initial e)) (sym is) (Body.initial w p)
+sound_formula : (body : Expression → BodyData) (ts : List Lexeme) (x : BodyData × List Lexeme) → formula_at body ts ≡ Some x → (e : Expression) × Expr levels ts x.1 e × (body e ≡ x.0)
+unfolding formula_at
+sound_formula body ts x h =
+    let e = bind_some (expr_at levels ts) (λ e. Some (body e.0, e.1)) x h in
+    let same = some_is (body e.0.0, e.0.1) x e.2 in (
+      e.0.0,
+      subst (λ (y : BodyData × List Lexeme). Expr levels ts y.1 e.0.0) same (sound_expr levels ts e.0.0 e.0.1 e.1),
+      ap (λ (y : BodyData × List Lexeme). y.0) same,
+    )
 
 sound_body : (ts : List Lexeme) (x : BodyData × List Lexeme) → body_at ts ≡ Some x → Body ts x.1 x.0
 unfolding body_at
-sound_body ts x h =
-    let t = bind_some (expect (word_test (codes "ini")) ts) (λ t. expr_at levels t.1 >>= λ e. Some (BodyData.Initial e.0, e.1)) x h in
-    let took = expected (word_test (codes "ini")) ts t.0.0 t.0.1 t.1 in
-    let e = bind_some (expr_at levels t.0.1) (λ e. Some (BodyData.Initial e.0, e.1)) x t.2 in
-    subst (λ (y : BodyData × List Lexeme). Body ts y.1 y.0) (some_is (BodyData.Initial e.0.0, e.0.1) x e.2)
-    (body_from ts t.0.1 e.0.1 t.0.0 e.0.0 took.0 (word_is t.0.0 (codes "ini") took.1) (sound_expr levels t.0.1 e.0.0 e.0.1 e.1))
+sound_body [] x h = absurd (no_some x h)
+sound_body (t ∷ ts) x h =
+    let always : Option (BodyData × List Lexeme) = cond (word_test (codes "alw") t) (formula_at BodyData.Always ts) None in
+    elim (which {A = Option (BodyData × List Lexeme)} (word_test (codes "ini") t) (formula_at BodyData.Initial ts) always (Some x) h) [
+      | inl q ↦ let e = sound_formula BodyData.Initial ts x q.1 in subst (λ (b : BodyData). Body (t ∷ ts) x.1 b) e.2 (Body.initial (word_is t (codes "ini") q.0) e.1)
+      | inr q ↦
+          elim (which {A = Option (BodyData × List Lexeme)} (word_test (codes "alw") t) (formula_at BodyData.Always ts) None (Some x) q.1) [
+            | inl q ↦ let e = sound_formula BodyData.Always ts x q.1 in subst (λ (b : BodyData). Body (t ∷ ts) x.1 b) e.2 (Body.always (word_is t (codes "alw") q.0) e.1)
+            | inr q ↦ absurd (no_some x q.1)
+          ]
+    ]
 
 sound_vardecl : (t : Lexeme) (owner : OwnerWord) → IsOwner t owner → (ts : List Lexeme) (x : ItemData × List Lexeme) → vardecl_at t.at owner ts ≡ Some x → IsItem (t ∷ ts) x.1 x.0
 unfolding vardecl_at

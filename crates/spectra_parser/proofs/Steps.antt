@@ -3,14 +3,26 @@ use Rattle.std.proofs.Common.{◌≡◌, ℕ, zero, suc, ◌-◌, ◌<◌, Bool,
 use Rattle.spectra_parser.specs.declared.fault.SyntaxFault.{SyntaxFault}
 use Rattle.spectra_parser.specs.declared.fault.SyntaxFault.TheVariants as faults
 use Rattle.spectra_parser.specs.declared.tree.PrefixWord.{PrefixWord}
+use Rattle.spectra_parser.specs.declared.tree.Place.{Place}
+use Rattle.spectra_parser.specs.declared.tree.BinaryWord.{BinaryWord}
 use Rattle.std.proofs.lemmas.List.{length-map}
 use Rattle.spectra_parser.specs.declared.lexeme.Spelled.{Spelled}
 use Rattle.spectra_parser.specs.Data.{Expression, Form}
 use Rattle.spectra_parser.specs.Lexemes.{Lexeme, name_of}
-use Rattle.spectra_parser.specs.Grammar.{leaf, applied, opened}
+use Rattle.spectra_parser.specs.Grammar.{leaf, applied, between, next_of, opened}
 use Rattle.spectra_parser.specs.Tests.{word_test, sign_test, name_test, prefix_word}
-use Rattle.spectra_parser.specs.Reading.{Reader, expect, nothing, closed_over, prim_over, prefixed_over, cmp_over, cmp_at, expr_at, operand_at, inner_at}
+use Rattle.spectra_parser.specs.Reading.{Reader, expect, nothing, enclosed_over, closed_over, next_over, prim_over, prefixed_over, cmp_over, arrow_at, between_over, expr_over, cmp_at, expr_at, operand_at, inner_at}
 use Rattle.spectra_parser.specs.Outcomes.{Fails, lexeme_of, lexemes_of}
+
+-- ---- faults
+
+-- nothing is read where nothing was read before
+fails_on : {X Y : Type 0} (read : Option X) (more : Option Y) (fault : SyntaxFault) → (read ≡ None → more ≡ None) → Fails fault read → Fails fault more
+fails_on read more (faults.Unexpected at) on f = f
+fails_on read more (faults.TooDeep at) on f = f
+fails_on read more (faults.Parentheses at) on f = f
+fails_on read more (faults.Unsupported at) on f = (f.0, on f.1)
+fails_on read more faults.Memory on f = tt
 
 -- ---- operands
 
@@ -44,11 +56,7 @@ prefixed_none (suc left) t word ts e = absurd (omega arith)
 
 pub prefixed_fails : (operand : Reader Expression) (t : Lexeme) (word : PrefixWord) (ts : List Lexeme) (fault : SyntaxFault) → Fails fault (operand ts) → Fails fault (prefixed_over operand t word ts)
 unfolding prefixed_over
-prefixed_fails operand t word ts (faults.Unexpected at) f = f
-prefixed_fails operand t word ts (faults.TooDeep at) f = f
-prefixed_fails operand t word ts (faults.Parentheses at) f = f
-prefixed_fails operand t word ts (faults.Unsupported at) f = (f.0, rw f.1 refl)
-prefixed_fails operand t word ts faults.Memory f = tt
+prefixed_fails operand t word ts fault f = fails_on (operand ts) (prefixed_over operand t word ts) fault (λ none. rw none refl) f
 
 pub prefixed_reads : (operand : Reader Expression) (t : Lexeme) (word : PrefixWord) (ts : List Lexeme) (e : Expression) (r : List Lexeme) → operand ts ≡ Some (e, r)
     → prefixed_over operand t word ts ≡ Some (applied t word e, r)
@@ -57,24 +65,89 @@ prefixed_reads operand t word ts e r read = rw read refl
 
 -- ---- parentheses
 
-pub closed_fails : (inner : Reader Expression) (t : Lexeme) (ts : List Lexeme) (fault : SyntaxFault) → Fails fault (inner ts) → Fails fault (closed_over inner t ts)
-unfolding closed_over
-closed_fails inner t ts (faults.Unexpected at) f = f
-closed_fails inner t ts (faults.TooDeep at) f = f
-closed_fails inner t ts (faults.Parentheses at) f = f
-closed_fails inner t ts (faults.Unsupported at) f = (f.0, rw f.1 refl)
-closed_fails inner t ts faults.Memory f = tt
+module _ (inner : Reader Expression) (ts : List Lexeme) where
+  enclosed_stops : inner ts ≡ None → enclosed_over inner ts ≡ None
+  unfolding enclosed_over
+  enclosed_stops none = rw none refl
 
-pub closed_not : (inner : Reader Expression) (t : Lexeme) (ts : List Lexeme) (e : Expression) (r : List Lexeme) → inner ts ≡ Some (e, r) → expect (sign_test (codes ")")) r ≡ None → closed_over inner t ts ≡ None
-unfolding closed_over
-closed_not inner t ts e r read none = rw (read, none) refl
+  pub enclosed_fails : (fault : SyntaxFault) → Fails fault (inner ts) → Fails fault (enclosed_over inner ts)
+  enclosed_fails fault f = fails_on (inner ts) (enclosed_over inner ts) fault enclosed_stops f
 
-pub closed_reads : (inner : Reader Expression) (t : Lexeme) (ts : List Lexeme) (e : Expression) (r : List Lexeme) (u : Lexeme) (s : List Lexeme) → inner ts ≡ Some (e, r) → expect (sign_test (codes ")")) r ≡ Some (u, s)
-    → closed_over inner t ts ≡ Some (opened t e, s)
-unfolding closed_over
-closed_reads inner t ts e r u s read took = rw (read, took) refl
+  pub enclosed_not : (e : Expression) (r : List Lexeme) → inner ts ≡ Some (e, r) → expect (sign_test (codes ")")) r ≡ None → enclosed_over inner ts ≡ None
+  unfolding enclosed_over
+  enclosed_not e r read none = rw (read, none) refl
+
+  pub enclosed_reads : (e : Expression) (r : List Lexeme) (u : Lexeme) (s : List Lexeme) → inner ts ≡ Some (e, r) → expect (sign_test (codes ")")) r ≡ Some (u, s) → enclosed_over inner ts ≡ Some (e, s)
+  unfolding enclosed_over
+  enclosed_reads e r u s read took = rw (read, took) refl
+
+module _ (inner : Reader Expression) (t : Lexeme) (ts : List Lexeme) where
+  closed_stops : enclosed_over inner ts ≡ None → closed_over inner t ts ≡ None
+  unfolding closed_over
+  closed_stops none = rw none refl
+
+  pub closed_fails : (fault : SyntaxFault) → Fails fault (enclosed_over inner ts) → Fails fault (closed_over inner t ts)
+  closed_fails fault f = fails_on (enclosed_over inner ts) (closed_over inner t ts) fault closed_stops f
+
+  pub closed_reads : (e : Expression) (r : List Lexeme) → enclosed_over inner ts ≡ Some (e, r) → closed_over inner t ts ≡ Some (opened t e, r)
+  unfolding closed_over
+  closed_reads e r read = rw read refl
+
+  pub next_not : expect (sign_test (codes "(")) ts ≡ None → next_over inner t ts ≡ None
+  unfolding next_over
+  next_not none = rw none refl
+
+  module _ (u : Lexeme) (s : List Lexeme) (took : expect (sign_test (codes "(")) ts ≡ Some (u, s)) where
+    next_stops : enclosed_over inner s ≡ None → next_over inner t ts ≡ None
+    unfolding next_over
+    next_stops none = rw (took, none) refl
+
+    pub next_fails : (fault : SyntaxFault) → Fails fault (enclosed_over inner s) → Fails fault (next_over inner t ts)
+    next_fails fault f = fails_on (enclosed_over inner s) (next_over inner t ts) fault next_stops f
+
+    pub next_reads : (e : Expression) (r : List Lexeme) → enclosed_over inner s ≡ Some (e, r) → next_over inner t ts ≡ Some (next_of t e, r)
+    unfolding next_over
+    next_reads e r read = rw (took, read) refl
+
+-- ---- two disjunctions
+
+module _ (disj : Reader Expression) (ts : List Lexeme) where
+  expr_stops : disj ts ≡ None → expr_over disj ts ≡ None
+  unfolding expr_over
+  expr_stops none = rw none refl
+
+  pub expr_fails : (fault : SyntaxFault) → Fails fault (disj ts) → Fails fault (expr_over disj ts)
+  expr_fails fault f = fails_on (disj ts) (expr_over disj ts) fault expr_stops f
+
+  pub expr_single : (a : Expression) (r : List Lexeme) → disj ts ≡ Some (a, r) → arrow_at r ≡ None → expr_over disj ts ≡ Some (a, r)
+  unfolding expr_over
+  expr_single a r read none = rw (read, none) refl
+
+  pub expr_arrow : (a : Expression) (r : List Lexeme) (at : Place) (word : BinaryWord) (s : List Lexeme) → disj ts ≡ Some (a, r) → arrow_at r ≡ Some ((at, word), s)
+      → expr_over disj ts ≡ between_over disj a at word s
+  unfolding expr_over
+  expr_arrow a r at word s read took = rw (read, took) refl
+
+module _ (disj : Reader Expression) (a : Expression) (at : Place) (word : BinaryWord) (ts : List Lexeme) where
+  between_stops : disj ts ≡ None → between_over disj a at word ts ≡ None
+  unfolding between_over
+  between_stops none = rw none refl
+
+  pub between_fails : (fault : SyntaxFault) → Fails fault (disj ts) → Fails fault (between_over disj a at word ts)
+  between_fails fault f = fails_on (disj ts) (between_over disj a at word ts) fault between_stops f
+
+  pub between_reads : (b : Expression) (r : List Lexeme) → disj ts ≡ Some (b, r) → between_over disj a at word ts ≡ Some (between at word a b, r)
+  unfolding between_over
+  between_reads b r read = rw read refl
 
 -- ---- single tokens
+
+-- no word that begins an operand, and no name
+pub record IsNoWord (t : Lexeme) : Type 0 where
+  pub no_true : word_test (codes "true") t ≡ false
+  pub no_false : word_test (codes "false") t ≡ false
+  pub no_name : name_test t ≡ false
+  pub no_next : word_test (codes "next") t ≡ false
 
 module _ (inner : Reader Expression) (t : Lexeme) (ts : List Lexeme) where
   pub prim_true : word_test (codes "true") t ≡ true → prim_over inner (t ∷ ts) ≡ Some (leaf t Form.True, ts)
@@ -89,20 +162,24 @@ module _ (inner : Reader Expression) (t : Lexeme) (ts : List Lexeme) where
   unfolding prim_over
   prim_name a b d = rw (a, b, d) refl
 
-  pub prim_open : word_test (codes "true") t ≡ false → word_test (codes "false") t ≡ false → name_test t ≡ false → sign_test (codes "(") t ≡ true → prim_over inner (t ∷ ts) ≡ closed_over inner t ts
+  pub prim_next : word_test (codes "true") t ≡ false → word_test (codes "false") t ≡ false → name_test t ≡ false → word_test (codes "next") t ≡ true → prim_over inner (t ∷ ts) ≡ next_over inner t ts
   unfolding prim_over
-  prim_open a b d e = rw (a, b, d, e) refl
+  prim_next a b d e = rw (a, b, d, e) refl
 
-  pub prim_other : word_test (codes "true") t ≡ false → word_test (codes "false") t ≡ false → name_test t ≡ false → sign_test (codes "(") t ≡ false → prim_over inner (t ∷ ts) ≡ None
+  pub prim_open : IsNoWord t → sign_test (codes "(") t ≡ true → prim_over inner (t ∷ ts) ≡ closed_over inner t ts
   unfolding prim_over
-  prim_other a b d e = rw (a, b, d, e) refl
+  prim_open n e = rw (n.no_true, n.no_false, n.no_name, n.no_next, e) refl
+
+  pub prim_other : IsNoWord t → sign_test (codes "(") t ≡ false → prim_over inner (t ∷ ts) ≡ None
+  unfolding prim_over
+  prim_other n e = rw (n.no_true, n.no_false, n.no_name, n.no_next, e) refl
 
 pub prim_nil : (inner : Reader Expression) → prim_over inner [] ≡ None
 unfolding prim_over
 prim_nil inner = refl
 
 closed_nothing : (t : Lexeme) (ts : List Lexeme) → closed_over nothing t ts ≡ None
-unfolding closed_over
+unfolding closed_over enclosed_over
 closed_nothing t ts = refl
 
 abbrev none : Option (Expression × List Lexeme)
@@ -113,10 +190,18 @@ either_way true = refl
 either_way false = refl
 
 -- no level is left
-pub prim_deep : (left : ℕ) (t : Lexeme) (ts : List Lexeme) → word_test (codes "true") t ≡ false → word_test (codes "false") t ≡ false → name_test t ≡ false → left ≡ 0 → prim_over (inner_at left) (t ∷ ts) ≡ None
+pub prim_deep : (left : ℕ) (t : Lexeme) (ts : List Lexeme) → IsNoWord t → left ≡ 0 → prim_over (inner_at left) (t ∷ ts) ≡ None
 unfolding prim_over
-prim_deep zero t ts a b d e = rw (a, b, d, closed_nothing t ts) (either_way (sign_test (codes "(") t))
-prim_deep (suc left) t ts a b d e = absurd (omega arith)
+prim_deep zero t ts n e = rw (n.no_true, n.no_false, n.no_name, n.no_next, closed_nothing t ts) (either_way (sign_test (codes "(") t))
+prim_deep (suc left) t ts n e = absurd (omega arith)
+
+pub next_deep : (left : ℕ) (t : Lexeme) (ts : List Lexeme) → left ≡ 0 → next_over (inner_at left) t ts ≡ None
+next_deep zero t ts e = nowhere (expect (sign_test (codes "(")) ts) refl
+  where
+    nowhere : (o : Option (Lexeme × List Lexeme)) → expect (sign_test (codes "(")) ts ≡ o → next_over nothing t ts ≡ None
+    nowhere None none = next_not nothing t ts none
+    nowhere (Some u) took = next_stops nothing t ts u.0 u.1 took (enclosed_stops nothing u.1 refl)
+next_deep (suc left) t ts e = absurd (omega arith)
 
 pub length-lexemes : (ts : List Spelled) → length (lexemes_of ts) ≡ length ts
 length-lexemes ts = length-map ts lexeme_of

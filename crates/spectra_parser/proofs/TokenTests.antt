@@ -11,9 +11,11 @@ use Rattle.spectra_parser.specs.declared.tree.OwnerWord.{OwnerWord}
 use Rattle.spectra_parser.specs.declared.tree.OwnerWord.TheVariants.{Env, Sys}
 use Rattle.spectra_parser.specs.declared.tree.PrefixWord.{PrefixWord}
 use Rattle.spectra_parser.specs.declared.tree.PrefixWord.TheVariants.{Not}
+use Rattle.spectra_parser.specs.declared.tree.BinaryWord.{BinaryWord}
+use Rattle.spectra_parser.specs.declared.tree.BinaryWord.TheVariants.{Implies, Iff}
 use Rattle.spectra_parser.specs.Lexemes.{Lexeme}
-use Rattle.spectra_parser.specs.Grammar.{IsWord, IsSign, IsName, IsPrefix, IsOwner, IsRole}
-use Rattle.spectra_parser.specs.Tests.{of_word, of_name, of_sign, of_finish, word_test, sign_test, name_test, prefix_word, owner_word, role_word}
+use Rattle.spectra_parser.specs.Grammar.{IsWord, IsSign, IsName, IsPrefix, IsArrow, IsOwner, IsRole}
+use Rattle.spectra_parser.specs.Tests.{of_word, of_name, of_sign, of_finish, word_test, sign_test, name_test, prefix_word, arrow_word, owner_word, role_word}
 use Rattle.spectra_parser.specs.Reading.{expect}
 
 is_word_kind : (k : Kind) → of_word k ≡ true → k ≡ kinds.Word
@@ -105,6 +107,10 @@ module _ (t : Lexeme) where
   unfolding sign_test
   word_is_no_sign letters sign w = and_left (of_sign t.kind) (same_text t.text sign) (ap of_sign w.kind)
 
+  pub word_is_no_name : (letters : List ℕ) → IsWord letters t → name_test t ≡ false
+  unfolding name_test
+  word_is_no_name letters w = ap of_name w.kind
+
   pub name_is_no_sign : (sign : List ℕ) → IsName t → sign_test sign t ≡ false
   unfolding sign_test
   name_is_no_sign sign n = and_left (of_sign t.kind) (same_text t.text sign) (ap of_sign n)
@@ -129,6 +135,32 @@ module _ (t : Lexeme) where
         | inl q ↦ subst (λ (w : PrefixWord). IsPrefix t w) q.1 (IsPrefix.not (sign_is (codes "!") q.0))
         | inr q ↦ absurd (none_is word q.1)
       ]
+
+  pub arrow_is : (word : BinaryWord) → arrow_word t ≡ Some word → IsArrow t word
+  unfolding arrow_word
+  arrow_is word h =
+      elim (chosen (sign_test (codes "->") t) Implies (cond (sign_test (codes "<->") t) (Some Iff) None) word h) [
+        | inl q ↦ subst (λ (w : BinaryWord). IsArrow t w) q.1 (IsArrow.implies (sign_is (codes "->") q.0))
+        | inr q ↦
+            elim (chosen (sign_test (codes "<->") t) Iff None word q.1) [
+              | inl r ↦ subst (λ (w : BinaryWord). IsArrow t w) r.1 (IsArrow.iff (sign_is (codes "<->") r.0))
+              | inr r ↦ absurd (none_is word r.1)
+            ]
+      ]
+
+  pub arrow_passes : (word : BinaryWord) → IsArrow t word → arrow_word t ≡ Some word
+  unfolding arrow_word
+  arrow_passes word (IsArrow.implies s) = rw (sign_passes (codes "->") s) refl
+  arrow_passes word (IsArrow.iff s) = rw (other_sign (codes "<->") (codes "->") s refl, sign_passes (codes "<->") s) refl
+
+  pub no_arrow : (sign : List ℕ) → IsSign sign t → same_text sign (codes "->") ≡ false → same_text sign (codes "<->") ≡ false → arrow_word t ≡ None
+  unfolding arrow_word
+  no_arrow sign s a b = rw (other_sign sign (codes "->") s a, other_sign sign (codes "<->") s b) refl
+
+  -- an arrow is no other sign
+  pub arrow_is_no : (sign : List ℕ) (word : BinaryWord) → IsArrow t word → same_text (codes "->") sign ≡ false → same_text (codes "<->") sign ≡ false → sign_test sign t ≡ false
+  arrow_is_no sign word (IsArrow.implies s) a b = other_sign (codes "->") sign s a
+  arrow_is_no sign word (IsArrow.iff s) a b = other_sign (codes "<->") sign s b
 
   pub owner_is : (word : OwnerWord) → owner_word t ≡ Some word → IsOwner t word
   unfolding owner_word

@@ -9,6 +9,8 @@ use Rattle.spectra_parser.specs.declared.tree.OwnerWord.{OwnerWord}
 use Rattle.spectra_parser.specs.declared.tree.OwnerWord.TheVariants.{Env, Sys}
 use Rattle.spectra_parser.specs.declared.tree.PrefixWord.{PrefixWord}
 use Rattle.spectra_parser.specs.declared.tree.PrefixWord.TheVariants.{Not}
+use Rattle.spectra_parser.specs.declared.tree.BinaryWord.{BinaryWord}
+use Rattle.spectra_parser.specs.declared.tree.BinaryWord.TheVariants.{Implies, Iff}
 use Rattle.spectra_parser.specs.Data.{Expression, Form, expression, Expressions, expressions, first_of, TypeData, TypeShape, BodyData, ItemData, TreeData}
 use Rattle.spectra_parser.specs.Lexemes.{Lexeme, name_of}
 
@@ -31,6 +33,11 @@ IsName t = t.kind ≡ kinds.Name
 pub data IsPrefix : Lexeme → PrefixWord → Type 0 where
   not : {t : Lexeme} → IsSign (codes "!") t → IsPrefix t Not
 
+-- the operators between two disjunctions
+pub data IsArrow : Lexeme → BinaryWord → Type 0 where
+  implies : {t : Lexeme} → IsSign (codes "->") t → IsArrow t Implies
+  iff : {t : Lexeme} → IsSign (codes "<->") t → IsArrow t Iff
+
 pub data IsOwner : Lexeme → OwnerWord → Type 0 where
   env : {t : Lexeme} → IsWord (codes "env") t → IsOwner t Env
   sys : {t : Lexeme} → IsWord (codes "sys") t → IsOwner t Sys
@@ -44,6 +51,10 @@ pub data IsRole : Lexeme → Role → Type 0 where
 abbrev pub IsInitial : Lexeme → Type 0
 IsInitial t = IsWord (codes "ini") t
 
+-- ALW
+abbrev pub IsAlways : Lexeme → Type 0
+IsAlways t = IsWord (codes "alw") t
+
 -- ---- trees
 
 -- a tree of one token
@@ -53,6 +64,14 @@ leaf t form = expression t.at t.at form
 -- an operator before its operand
 abbrev pub applied : Lexeme → PrefixWord → Expression → Expression
 applied t word e = expression t.at t.at (Form.Prefix word e)
+
+-- an operator at a place between its operands
+abbrev pub between : Place → BinaryWord → Expression → Expression → Expression
+between at word a b = expression (first_of a) at (Form.Binary word a b)
+
+-- the word `next` before its operand
+abbrev pub next_of : Lexeme → Expression → Expression
+next_of t e = expression t.at t.at (Form.Next e)
 
 -- the tree between parentheses, whose first token is the opening one
 abbrev pub opened : Lexeme → Expression → Expression
@@ -66,9 +85,11 @@ joined node e es (op ∷ ops) = expression (first_of e) op (node (expressions (e
 -- ---- expressions
 
 mutual
-  -- expr = disj
+  -- expr = disj [ ( "->" | "<->" ) disj ]
   pub data Expr : ℕ → List Lexeme → List Lexeme → Expression → Type 0 where
-    expr : {left : ℕ} {ts rest : List Lexeme} {e : Expression} → Disj left ts rest e → Expr left ts rest e
+    single : {left : ℕ} {ts rest : List Lexeme} {e : Expression} → Disj left ts rest e → Expr left ts rest e
+    arrow : {left : ℕ} {t : Lexeme} {word : BinaryWord} {ts mid rest : List Lexeme} {a b : Expression}
+        → Disj left ts (t ∷ mid) a → IsArrow t word → Disj left mid rest b → Expr left ts rest (between t.at word a b)
 
   -- disj = conj { "|" conj }
   pub data Disj : ℕ → List Lexeme → List Lexeme → Expression → Type 0 where
@@ -104,11 +125,13 @@ mutual
     more : {left : ℕ} {t : Lexeme} {word : PrefixWord} {ts rest : List Lexeme} {e : Expression}
         → IsPrefix t word → Prefixed left ts rest e → Prefixed (suc left) (t ∷ ts) rest (applied t word e)
 
-  -- prim = "true" | "false" | NAME | "(" expr ")"
+  -- prim = "true" | "false" | NAME | "next" "(" expr ")" | "(" expr ")"
   pub data Prim : ℕ → List Lexeme → List Lexeme → Expression → Type 0 where
     truth : {left : ℕ} {t : Lexeme} {rest : List Lexeme} → IsWord (codes "true") t → Prim left (t ∷ rest) rest (leaf t Form.True)
     falsity : {left : ℕ} {t : Lexeme} {rest : List Lexeme} → IsWord (codes "false") t → Prim left (t ∷ rest) rest (leaf t Form.False)
     read : {left : ℕ} {t : Lexeme} {rest : List Lexeme} → IsName t → Prim left (t ∷ rest) rest (leaf t (Form.Read (name_of t)))
+    next : {left : ℕ} {t u v : Lexeme} {ts rest : List Lexeme} {e : Expression}
+        → IsWord (codes "next") t → IsSign (codes "(") u → Expr left ts (v ∷ rest) e → IsSign (codes ")") v → Prim (suc left) (t ∷ u ∷ ts) rest (next_of t e)
     parentheses : {left : ℕ} {t u : Lexeme} {ts rest : List Lexeme} {e : Expression}
         → IsSign (codes "(") t → Expr left ts (u ∷ rest) e → IsSign (codes ")") u → Prim (suc left) (t ∷ ts) rest (opened t e)
 
@@ -122,9 +145,10 @@ levels = 128
 pub data IsType : List Lexeme → List Lexeme → TypeData → Type 0 where
   boolean : {t : Lexeme} {rest : List Lexeme} → IsWord (codes "boolean") t → IsType (t ∷ rest) rest (record { at = t.at; form = TypeShape.Boolean })
 
--- body = INI expr
+-- body = INI expr | ALW expr
 pub data Body : List Lexeme → List Lexeme → BodyData → Type 0 where
   initial : {t : Lexeme} {ts rest : List Lexeme} {e : Expression} → IsInitial t → Expr levels ts rest e → Body (t ∷ ts) rest (BodyData.Initial e)
+  always : {t : Lexeme} {ts rest : List Lexeme} {e : Expression} → IsAlways t → Expr levels ts rest e → Body (t ∷ ts) rest (BodyData.Always e)
 
 -- item = vardecl | line
 pub data IsItem : List Lexeme → List Lexeme → ItemData → Type 0 where

@@ -9,6 +9,8 @@ use Rattle.spectra_parser.specs.declared.tree.OwnerWord.{OwnerWord}
 use Rattle.spectra_parser.specs.declared.tree.OwnerWord.TheVariants.{Env, Sys}
 use Rattle.spectra_parser.specs.declared.tree.PrefixWord.{PrefixWord}
 use Rattle.spectra_parser.specs.declared.tree.PrefixWord.TheVariants.{Not}
+use Rattle.spectra_parser.specs.declared.tree.BinaryWord.{BinaryWord}
+use Rattle.spectra_parser.specs.declared.tree.BinaryWord.TheVariants.{Implies, Iff}
 use Rattle.spectra_parser.specs.Lexemes.{Lexeme}
 
 abbrev pub of_word : Kind → Bool
@@ -44,6 +46,9 @@ end_test (t ∷ u ∷ ts) = false
 
 unfoldable pub prefix_word : Lexeme → Option PrefixWord
 prefix_word t = if sign_test (codes "!") t then Some Not else None
+
+unfoldable pub arrow_word : Lexeme → Option BinaryWord
+arrow_word t = if sign_test (codes "->") t then Some Implies else if sign_test (codes "<->") t then Some Iff else None
 
 unfoldable pub owner_word : Lexeme → Option OwnerWord
 owner_word t = if word_test (codes "env") t then Some Env else if word_test (codes "sys") t then Some Sys else None

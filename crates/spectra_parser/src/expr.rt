@@ -5,14 +5,14 @@
 ghost use Rattle.std.specs.Prelude.{◌≡◌, ◌<◌, length, IfOk, IfSome, codes, option_map};
 ghost use Rattle.spectra_parser.specs.Data.{Form, expression};
 ghost use Rattle.spectra_parser.specs.Views.{expr_data, form_data};
-ghost use Rattle.spectra_parser.specs.Tests.{sign_test, prefix_word as prefix_word_lem};
-ghost use Rattle.spectra_parser.specs.Reading.{expect as expect_lem, cmp_at, conj_at, expr_at, operand_at, prefixed_over, prim_over, closed_over, inner_at};
+ghost use Rattle.spectra_parser.specs.Tests.{sign_test, prefix_word as prefix_word_lem, arrow_word as arrow_word_lem};
+ghost use Rattle.spectra_parser.specs.Reading.{expect as expect_lem, arrow_at, cmp_at, conj_at, disj_at, expr_at, between_over, operand_at, prefixed_over, prim_over, next_over, enclosed_over, closed_over, inner_at};
 ghost use Rattle.spectra_parser.specs.Outcomes.{lexeme_of, lexemes_of, Gives};
 ghost use Rattle.spectra_parser.specs.Further.{further};
 
 use crate::fault::SyntaxFault;
 use crate::lexeme::{Spelled, is_name, is_sign, is_word, name};
-use crate::tree::{ExprForm, ExprTree, Place, PrefixWord};
+use crate::tree::{BinaryWord, ExprForm, ExprTree, Place, PrefixWord};
 use std::alloc::Global;
 
 /// The sign at the front, and what is behind it.
@@ -43,6 +43,32 @@ fn prefix_word(token: &Spelled<'_>) -> Option<PrefixWord>
     }
 }
 
+/// The operator between two disjunctions that a token is.
+#[tactic(auto, unfolding(crate::specs::Tests::arrow_word))]
+fn arrow_word(token: &Spelled<'_>) -> Option<BinaryWord>
+    ensures { result ≡ arrow_word_lem (lexeme_of token.now) }
+{
+    if is_sign(token, "->") {
+        Some(BinaryWord::Implies)
+    } else if is_sign(token, "<->") {
+        Some(BinaryWord::Iff)
+    } else {
+        None
+    }
+}
+
+/// That operator at the front with its place, and what is behind it.
+#[tactic(auto, unfolding(crate::specs::Reading::arrow_at))]
+fn take_arrow<'a, 'b>(tokens: &'b [Spelled<'a>]) -> Option<(Place, BinaryWord, &'b [Spelled<'a>])>
+    ensures read { option_map (λ x. ((x.0, x.1), lexemes_of x.2.now)) result
+        ≡ arrow_at (lexemes_of tokens.now) }
+    ensures shorter { IfSome result (λ x. length x.2.now < length tokens.now) }
+{
+    let (token, rest) = tokens.split_first()?;
+    let word = arrow_word(token)?;
+    Some((token.at, word, rest))
+}
+
 /// A tree by its parts.
 fn tree(first: Place, at: Place, form: ExprForm) -> ExprTree
     ensures { expr_data result ≡ expression first at (form_data form) }
@@ -50,7 +76,7 @@ fn tree(first: Place, at: Place, form: ExprForm) -> ExprTree
     ExprTree { first, at, form }
 }
 
-/// expr = disj
+/// expr = disj [ ( "->" | "<->" ) disj ]
 #[cycle(expr)]
 pub fn expr<'a, 'b>(
     alloc: Global,
@@ -61,7 +87,31 @@ pub fn expr<'a, 'b>(
         (expr_at left (lexemes_of tokens.now)) }
     ensures shorter { IfOk result (λ x. length x.1.now < length tokens.now) }
 {
-    disj(alloc, tokens, left)
+    let (first, rest) = disj(alloc, tokens, left)?;
+    match take_arrow(rest) {
+        Some((at, word, after)) => second(alloc, first, at, word, after, left),
+        None => Ok((first, rest)),
+    }
+}
+
+/// disj behind a first one and the operator between them.
+#[cycle(expr)]
+fn second<'a, 'b>(
+    alloc: Global,
+    first: ExprTree,
+    at: Place,
+    word: BinaryWord,
+    tokens: &'b [Spelled<'a>],
+    left: u32,
+) -> Result<(ExprTree, &'b [Spelled<'a>]), SyntaxFault>
+    ensures read { Gives (λ x. (expr_data x.0, lexemes_of x.1.now)) result
+        (between_over (disj_at left) (expr_data first) at word (lexemes_of tokens.now)) }
+    ensures shorter { IfOk result (λ x. length x.1.now < length tokens.now) }
+{
+    let (second, rest) = disj(alloc, tokens, left)?;
+    let place = first.first;
+    let form = ExprForm::Binary(word, Box::new(alloc, first)?, Box::new(alloc, second)?);
+    Ok((tree(place, at, form), rest))
 }
 
 /// disj = conj { "|" conj }
@@ -72,7 +122,7 @@ fn disj<'a, 'b>(
     left: u32,
 ) -> Result<(ExprTree, &'b [Spelled<'a>]), SyntaxFault>
     ensures read { Gives (λ x. (expr_data x.0, lexemes_of x.1.now)) result
-        (expr_at left (lexemes_of tokens.now)) }
+        (disj_at left (lexemes_of tokens.now)) }
     ensures shorter { IfOk result (λ x. length x.1.now < length tokens.now) }
 {
     let (first, rest) = conj(alloc, tokens, left)?;
@@ -207,7 +257,7 @@ fn prefixed<'a, 'b>(
     Ok((tree(token.at, token.at, form), rest))
 }
 
-/// prim = "true" | "false" | NAME | "(" expr ")"
+/// prim = "true" | "false" | NAME | "next" "(" expr ")" | "(" expr ")"
 #[cycle(expr)]
 fn prim<'a, 'b>(
     alloc: Global,
@@ -233,13 +283,57 @@ fn prim<'a, 'b>(
             rest,
         ));
     }
+    if is_word(token, "next") {
+        return next(alloc, token, rest, left);
+    }
     if is_sign(token, "(") && left > 0 {
         return parentheses(alloc, token, rest, left - 1);
     }
     Err(SyntaxFault::Unsupported(0))
 }
 
-/// expr ")" behind the opening parenthesis.
+/// "(" expr ")" behind the word `next`.
+#[cycle(expr)]
+fn next<'a, 'b>(
+    alloc: Global,
+    token: &Spelled<'a>,
+    tokens: &'b [Spelled<'a>],
+    left: u32,
+) -> Result<(ExprTree, &'b [Spelled<'a>]), SyntaxFault>
+    ensures read { Gives (λ x. (expr_data x.0, lexemes_of x.1.now)) result
+        (next_over (inner_at left) (lexeme_of token.now) (lexemes_of tokens.now)) }
+    ensures shorter { IfOk result (λ x. length x.1.now < length tokens.now) }
+{
+    if left == 0 {
+        return Err(SyntaxFault::Unsupported(0));
+    }
+    let Some((_, rest)) = take_sign(tokens, "(") else {
+        return Err(SyntaxFault::Unsupported(0));
+    };
+    let (operand, behind) = enclosed(alloc, rest, left - 1)?;
+    let form = ExprForm::Next(Box::new(alloc, operand)?);
+    Ok((tree(token.at, token.at, form), behind))
+}
+
+/// expr ")" behind an opening parenthesis.
+#[cycle(expr)]
+fn enclosed<'a, 'b>(
+    alloc: Global,
+    tokens: &'b [Spelled<'a>],
+    left: u32,
+) -> Result<(ExprTree, &'b [Spelled<'a>]), SyntaxFault>
+    ensures read { Gives (λ x. (expr_data x.0, lexemes_of x.1.now)) result
+        (enclosed_over (expr_at left) (lexemes_of tokens.now)) }
+    ensures shorter { IfOk result (λ x. length x.1.now < length tokens.now) }
+{
+    let (inner, rest) = expr(alloc, tokens, left)?;
+    match take_sign(rest, ")") {
+        Some((_, behind)) => Ok((inner, behind)),
+        None => Err(SyntaxFault::Unsupported(0)),
+    }
+}
+
+/// The same as the tree that begins with the parenthesis.
 #[cycle(expr)]
 fn parentheses<'a, 'b>(
     alloc: Global,
@@ -251,9 +345,6 @@ fn parentheses<'a, 'b>(
         (closed_over (expr_at left) (lexeme_of token.now) (lexemes_of tokens.now)) }
     ensures shorter { IfOk result (λ x. length x.1.now < length tokens.now) }
 {
-    let (inner, rest) = expr(alloc, tokens, left)?;
-    let Some((_, behind)) = take_sign(rest, ")") else {
-        return Err(SyntaxFault::Unsupported(0));
-    };
+    let (inner, behind) = enclosed(alloc, tokens, left)?;
     Ok((tree(token.at, inner.at, inner.form), behind))
 }

@@ -134,8 +134,8 @@ fn vardecl<'a, 'b>(
     ))
 }
 
-/// body = INI expr
-#[tactic(auto, unfolding(crate::specs::Reading::body_at))]
+/// body = INI expr | ALW expr
+#[tactic(auto, unfolding(crate::specs::Reading::body_at, crate::specs::Reading::formula_at))]
 fn body<'a, 'b>(
     alloc: Global,
     tokens: &'b [Spelled<'a>],
@@ -144,9 +144,18 @@ fn body<'a, 'b>(
         (body_at (lexemes_of tokens.now)) }
     ensures shorter { IfOk result (λ x. length x.1.now < length tokens.now) }
 {
-    let (_, rest) = expect_word(tokens, "ini")?;
-    let (formula, rest) = expr(alloc, rest, LEVELS)?;
-    Ok((BodyTree::Initial(formula), rest))
+    let Some((token, rest)) = tokens.split_first() else {
+        return Err(SyntaxFault::Unsupported(0));
+    };
+    if is_word(token, "ini") {
+        let (formula, behind) = expr(alloc, rest, LEVELS)?;
+        return Ok((BodyTree::Initial(formula), behind));
+    }
+    if is_word(token, "alw") {
+        let (formula, behind) = expr(alloc, rest, LEVELS)?;
+        return Ok((BodyTree::Always(formula), behind));
+    }
+    Err(SyntaxFault::Unsupported(0))
 }
 
 /// line = ( ASM | GAR ) body ";", behind its first word.

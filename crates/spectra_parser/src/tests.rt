@@ -1,12 +1,9 @@
 //! Texts with their trees, and texts that have none.
 
 use super::*;
-use crate::tree::{
-    BodyTree, ExprForm, ExprTree, Item, LineItem, OwnerWord, PrefixWord, TypeForm, VarItem,
-};
-use spec_model::spec::Role;
+use crate::tree::{BodyTree, ExprForm, ExprTree, Item, LineItem, OwnerWord, TypeForm, VarItem};
 use spectra_lexer::{LexFault, lex};
-use std::alloc::Global;
+use std::alloc::{AllocError, Global};
 use std::test::Fail;
 
 /// What a text is, by its tokens and its tree. A text without tokens is refused too.
@@ -24,17 +21,6 @@ fn place(line: u32, column: u32) -> Place {
 
 fn is_name(name: &Name, text: &str, line: u32, column: u32) -> bool {
     name.text.as_str() == text && name.line == line && name.column == column
-}
-
-fn reads(tree: &ExprTree, text: &str, line: u32, column: u32) -> bool {
-    match &tree.form {
-        ExprForm::Read(name) => {
-            is_name(name, text, line, column)
-                && tree.first == place(line, column)
-                && tree.at == place(line, column)
-        }
-        _ => false,
-    }
 }
 
 fn is_declared(item: &VarItem, owner: OwnerWord, line: u32, text: &str, column: u32) -> bool {
@@ -62,73 +48,160 @@ fn a_declaration_has_its_owner_its_type_and_its_name(rt: HostRuntime) -> Result<
     Ok(())
 }
 
-fn formula(item: &Item, role: Role) -> Option<&ExprTree> {
-    match item {
-        Item::Statement(
-            LineItem {
-                role: found,
-                body: BodyTree::Initial(formula),
-                ..
-            },
-        ) if *found == role => Some(formula),
-        _ => None,
+fn show_columns(places: &[Place], out: &mut String) -> Result<(), AllocError> {
+    for place in places {
+        let column = place.column;
+        write!(out, "{column} ")?;
     }
-}
-
-// `!` is at column 16, `a` at 17, `|` at 19, `(` at 21, `b` at 22, `&` at 25.
-#[test]
-fn conjunctions_stand_below_disjunctions_and_places_are_those_of_the_operators(
-    rt: HostRuntime,
-) -> Result<(), Fail> {
-    let tree = read(rt.alloc(), b"spec X gar ini !a | (b) & true;")?;
-    assert_eq!(rt; tree.items.len(), 1);
-    let found = formula(&tree.items[0], Role::Guarantee).ok_or("no line")?;
-    assert_eq!(rt; found.first, place(1, 16));
-    assert_eq!(rt; found.at, place(1, 19));
-    let ExprForm::Or(operands, operators) = &found.form else {
-        return Err("no disjunction".into());
-    };
-    assert_eq!(rt; operators.as_slice(), [place(1, 19)].as_slice());
-    assert_eq!(rt; operands.len(), 2);
-    let ExprForm::Prefix(PrefixWord::Not, negated) = &operands[0].form else {
-        return Err("no negation".into());
-    };
-    assert_eq!(rt; operands[0].at, place(1, 16));
-    assert!(rt; reads(negated, "a", 1, 17));
-    let ExprForm::And(below, signs) = &operands[1].form else {
-        return Err("no conjunction".into());
-    };
-    assert_eq!(rt; operands[1].first, place(1, 21));
-    assert_eq!(rt; signs.as_slice(), [place(1, 25)].as_slice());
-    assert_eq!(rt; below.len(), 2);
-    assert_eq!(rt; below[0].first, place(1, 21));
-    assert_eq!(rt; below[0].at, place(1, 22));
-    assert!(rt; matches!(below[1].form, ExprForm::True));
     Ok(())
 }
 
+#[cycle(show)]
+fn show_all(trees: &[ExprTree], out: &mut String) -> Result<(), AllocError> {
+    for tree in trees {
+        show(tree, out)?;
+    }
+    Ok(())
+}
+
+/// Writes a tree: the columns of its first token and of its own place, what it is, the columns of the operators of a
+/// conjunction or a disjunction, and its operands.
+#[cycle(show)]
+fn show(tree: &ExprTree, out: &mut String) -> Result<(), AllocError> {
+    let (first, at) = (tree.first.column, tree.at.column);
+    write!(out, "({first}@{at} ")?;
+    match &tree.form {
+        ExprForm::True => out.push_str("true")?,
+        ExprForm::False => out.push_str("false")?,
+        ExprForm::Read(name) => out.push_str(name.text.as_str())?,
+        ExprForm::Next(a) => {
+            out.push_str("next ")?;
+            show(a, out)?;
+        }
+        ExprForm::Prefix(word, a) => {
+            write!(out, "{word:?} ")?;
+            show(a, out)?;
+        }
+        ExprForm::Binary(word, a, b) => {
+            write!(out, "{word:?} ")?;
+            show(a, out)?;
+            show(b, out)?;
+        }
+        ExprForm::And(all, operators) => {
+            out.push_str("And ")?;
+            show_columns(operators, out)?;
+            show_all(all, out)?;
+        }
+        ExprForm::Or(all, operators) => {
+            out.push_str("Or ")?;
+            show_columns(operators, out)?;
+            show_all(all, out)?;
+        }
+        _ => out.push_str("?")?,
+    }
+    out.push_str(")")
+}
+
+/// Writes a line: its column, its role, its kind and its tree.
+fn show_line(line: &LineItem, out: &mut String) -> Result<(), AllocError> {
+    let (at, role) = (line.at.column, line.role);
+    match &line.body {
+        BodyTree::Initial(formula) => {
+            write!(out, "{at} {role:?} Initial ")?;
+            show(formula, out)
+        }
+        BodyTree::Always(formula) => {
+            write!(out, "{at} {role:?} Always ")?;
+            show(formula, out)
+        }
+        _ => out.push_str("?"),
+    }
+}
+
+/// The one line of a text, as it is shown.
+fn shown(alloc: Global, text: &[u8]) -> Result<String, Fail> {
+    let tree = read(alloc, text)?;
+    let mut out = String::new(alloc);
+    match tree.items.as_slice() {
+        [Item::Statement(line)] => show_line(line, &mut out)?,
+        _ => out.push_str("no line")?,
+    }
+    Ok(out)
+}
+
+// Each expression begins at column 16, and the columns are counted by hand from there.
 #[test]
-fn operands_of_one_chain_stand_beside_one_another(rt: HostRuntime) -> Result<(), Fail> {
-    let tree = read(rt.alloc(), b"spec X asm ini a & b & c;")?;
-    assert_eq!(rt; tree.items.len(), 1);
-    let found = formula(&tree.items[0], Role::Assumption).ok_or("no line")?;
-    let ExprForm::And(operands, operators) = &found.form else {
-        return Err("no conjunction".into());
-    };
-    assert_eq!(rt;
-        operators.as_slice(),
-        [place(1, 18), place(1, 22)].as_slice()
-    );
-    assert_eq!(rt; operands.len(), 3);
-    assert!(rt; reads(&operands[0], "a", 1, 16));
-    assert!(rt; reads(&operands[1], "b", 1, 20));
-    assert!(rt; reads(&operands[2], "c", 1, 24));
+fn a_line_has_its_tree(rt: HostRuntime) -> Result<(), Fail> {
+    let cases: [(&[u8], &str); 16] = [
+        (
+            b"spec X gar ini !a | (b) & true;",
+            "8 Guarantee Initial (16@19 Or 19 (16@16 Not (17@17 a))(21@25 And 25 (21@22 b)(27@27 true)))",
+        ),
+        (
+            b"spec X asm ini a & b & c;",
+            "8 Assumption Initial (16@18 And 18 22 (16@16 a)(20@20 b)(24@24 c))",
+        ),
+        (b"spec X asm alw a;", "8 Assumption Always (16@16 a)"),
+        (b"spec X gar alw false;", "8 Guarantee Always (16@16 false)"),
+        (
+            b"spec X gar alw a -> b | c;",
+            "8 Guarantee Always (16@18 Implies (16@16 a)(21@23 Or 23 (21@21 b)(25@25 c)))",
+        ),
+        (
+            b"spec X gar alw a | b <-> c & d;",
+            "8 Guarantee Always (16@22 Iff (16@18 Or 18 (16@16 a)(20@20 b))(26@28 And 28 (26@26 c)(30@30 d)))",
+        ),
+        (
+            b"spec X gar alw a->b;",
+            "8 Guarantee Always (16@17 Implies (16@16 a)(19@19 b))",
+        ),
+        (
+            b"spec X gar alw a<->b;",
+            "8 Guarantee Always (16@17 Iff (16@16 a)(20@20 b))",
+        ),
+        (
+            b"spec X gar alw (a -> b) -> c;",
+            "8 Guarantee Always (16@25 Implies (16@19 Implies (17@17 a)(22@22 b))(28@28 c))",
+        ),
+        (
+            b"spec X gar alw a -> (b <-> c);",
+            "8 Guarantee Always (16@18 Implies (16@16 a)(21@24 Iff (22@22 b)(28@28 c)))",
+        ),
+        (
+            b"spec X gar alw next(a);",
+            "8 Guarantee Always (16@16 next (21@21 a))",
+        ),
+        (
+            b"spec X gar alw next (a);",
+            "8 Guarantee Always (16@16 next (22@22 a))",
+        ),
+        (
+            b"spec X gar alw !next(a);",
+            "8 Guarantee Always (16@16 Not (17@17 next (22@22 a)))",
+        ),
+        (
+            b"spec X gar alw next(next(a));",
+            "8 Guarantee Always (16@16 next (21@21 next (26@26 a)))",
+        ),
+        (
+            b"spec X gar alw (next((a) -> b)) & c;",
+            "8 Guarantee Always (16@33 And 33 (16@17 next (22@26 Implies (22@23 a)(29@29 b)))(35@35 c))",
+        ),
+        (
+            b"spec X gar ini next(a) <-> b;",
+            "8 Guarantee Initial (16@24 Iff (16@16 next (21@21 a))(28@28 b))",
+        ),
+    ];
+    for (text, expected) in cases {
+        let found = shown(rt.alloc(), text)?;
+        assert_eq!(rt; found.as_str(), expected, "{text:?}");
+    }
     Ok(())
 }
 
 #[test]
 fn texts_of_no_form_are_refused(rt: HostRuntime) {
-    let cases: [&[u8]; 20] = [
+    let cases: [&[u8]; 47] = [
         b"",
         b"spec",
         b"spec X Y",
@@ -145,10 +218,37 @@ fn texts_of_no_form_are_refused(rt: HostRuntime) {
         b"spec X gar ini a);",
         b"spec X gar ini a !b;",
         b"spec X gar ini not a;",
-        b"spec X gar alw a;",
+        b"spec X gar alw;",
+        b"spec X gar a;",
+        b"spec X gar ini alw a;",
+        b"spec X gar always a;",
+        b"spec X gar G a;",
+        b"spec X gar trans a;",
+        b"spec X gar alwEv a;",
+        b"spec X gar initially a;",
         b"spec X assumption ini a;",
         b"spec X // comment",
-        b"spec X gar ini a -> b;",
+        b"spec X gar alw a -> b -> c;",
+        b"spec X gar alw a -> b <-> c;",
+        b"spec X gar alw a <-> b -> c;",
+        b"spec X gar alw (a -> b -> c);",
+        b"spec X gar alw next(a -> b -> c);",
+        b"spec X gar alw a ->;",
+        b"spec X gar alw -> a;",
+        b"spec X gar alw a -> -> b;",
+        b"spec X gar alw !-> a;",
+        b"spec X gar alw a-b;",
+        b"spec X gar alw a--b;",
+        b"spec X gar alw a<-b;",
+        b"spec X gar alw a implies b;",
+        b"spec X gar alw next a;",
+        b"spec X gar alw next;",
+        b"spec X gar alw next();",
+        b"spec X gar alw next(a;",
+        b"spec X gar alw next(a));",
+        b"spec X gar alw next!(a);",
+        b"spec X gar alw a next(b);",
+        b"spec X env boolean next;",
     ];
     for text in cases {
         assert!(rt;
@@ -175,13 +275,19 @@ fn nested(alloc: Global, open: &[u8], count: usize, close: &[u8]) -> Result<Vec<
 #[test]
 fn an_expression_may_open_128_levels(rt: HostRuntime) -> Result<(), Fail> {
     // (what opens, how often, what closes, whether it is read)
-    let cases: [(&[u8], usize, &[u8], bool); 6] = [
+    let cases: [(&[u8], usize, &[u8], bool); 12] = [
         (b"(", 128, b")", true),
         (b"(", 129, b")", false),
         (b"!", 128, b"", true),
         (b"!", 129, b"", false),
         (b"!(", 64, b")", true),
         (b"!(", 65, b")", false),
+        (b"next(", 128, b")", true),
+        (b"next(", 129, b")", false),
+        (b"next((", 64, b"))", true),
+        (b"next((", 65, b"))", false),
+        (b"!next(", 64, b")", true),
+        (b"!next(", 65, b")", false),
     ];
     for (open, count, close, is_read) in cases {
         let text = nested(rt.alloc(), open, count, close)?;

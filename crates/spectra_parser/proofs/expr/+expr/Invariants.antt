@@ -7,7 +7,13 @@ use Rattle.spectra_parser.proofs.expr.+expr.Given as goal
 
 -- The tokens that are left count first, and then how deep a production stands in the grammar.
 abbrev pub decreases-parentheses : goal.decreases-parentheses
-decreases-parentheses l = 16 * length l.tokens.now + 8
+decreases-parentheses l = 16 * length l.tokens.now + 10
+
+abbrev pub decreases-enclosed : goal.decreases-enclosed
+decreases-enclosed l = 16 * length l.tokens.now + 9
+
+abbrev pub decreases-second : goal.decreases-second
+decreases-second l = 16 * length l.tokens.now + 8
 
 abbrev pub decreases-expr : goal.decreases-expr
 decreases-expr l = 16 * length l.tokens.now + 7
@@ -29,6 +35,9 @@ decreases-prefixed l = 16 * length l.tokens.now + 5
 
 abbrev pub decreases-cmp : goal.decreases-cmp
 decreases-cmp l = 16 * length l.tokens.now + 4
+
+abbrev pub decreases-next : goal.decreases-next
+decreases-next l = 16 * length l.tokens.now + 3
 
 abbrev pub decreases-prim : goal.decreases-prim
 decreases-prim l = 16 * length l.tokens.now + 3
