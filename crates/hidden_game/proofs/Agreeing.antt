@@ -74,7 +74,7 @@ module _ (s : Specification) where
       ∙ (ap (λ x. x || list_any (is_output s) (present_variables b)) of_a ∙ ap (λ x. reads_output s.variables [] a || x) of_b)
 
   mutual
-    same_reads : (e : Formula) → is_stepwise false e ≡ true → reads_present_output s e ≡ reads_output s.variables [] e
+    pub same_reads : (e : Formula) → is_stepwise false e ≡ true → reads_present_output s e ≡ reads_output s.variables [] e
     same_reads (Constant v) step = refl
     same_reads (Variable k) step = single (is_output s k)
       where

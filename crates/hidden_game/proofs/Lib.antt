@@ -1,4 +1,4 @@
 mod Readings
 mod Lines
-mod Choices
-mod Agreeing
+pub mod Choices
+pub mod Agreeing

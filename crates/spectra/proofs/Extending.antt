@@ -4,7 +4,7 @@ use Rattle.std.specs.List.{list_all}
 use Rattle.std.proofs.lemmas.Bool.{false≢true}
 use Rattle.spec_model.specs.Syntax.{VariableData, PatternData, TriggerData, Statement, Specification}
 use Rattle.spectra_parser.specs.Data.{TreeData}
-use Rattle.spectra.specs.Trees.{prepend, extended, names_of, reads_inputs, IsReadFrom, Means}
+use Rattle.spectra.specs.Trees.{prepend, extended, names_of, is_allowed, IsReadFrom, Means}
 
 pub extended_more : {X : Type 0} (xs : List X) (x : X) (rest : Option (List X)) → extended xs (prepend (Some x) rest) ≡ extended (xs ++ x ∷ []) rest
 extended_more xs x None = refl
@@ -26,7 +26,7 @@ read_once tree s s' read read' =
     let same_lines : s'.lines ≡ s.lines = let e = read.lines in let e' = read'.lines in cc in
     same_specification s s' (read'.no_names ∙ sym read.no_names) same_variables (read'.no_patterns ∙ sym read.no_patterns) (read'.no_triggers ∙ sym read.no_triggers) same_lines
 
--- a tree whose initial assumptions read variables of the system means nothing
-pub wrong_inputs : (tree : TreeData) (s s' : Specification) → IsReadFrom tree s → list_all (λ l. reads_inputs s l.role l.content) s.lines ≡ false → Means tree s' → ⊥
-wrong_inputs tree s s' read wrong means =
-    false≢true (sym wrong ∙ subst (λ (z : Specification). list_all (λ l. reads_inputs z l.role l.content) z.lines ≡ true) (read_once tree s s' read means.read) means.inputs)
+-- a tree with a line that reads what it may not means nothing
+pub not_allowed : (tree : TreeData) (s s' : Specification) → IsReadFrom tree s → list_all (λ l. is_allowed s l.role l.content) s.lines ≡ false → Means tree s' → ⊥
+not_allowed tree s s' read wrong means =
+    false≢true (sym wrong ∙ subst (λ (z : Specification). list_all (λ l. is_allowed z l.role l.content) z.lines ≡ true) (read_once tree s s' read means.read) means.allowed)

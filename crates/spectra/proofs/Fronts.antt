@@ -44,8 +44,8 @@ some_bytes = omega arith
 
 -- the answer for what was read is the answer for the file
 pub file_answer : (name : List ℕ) (told : Option (Option (List ℕ))) (rose : Type 0) (bytes line : List ℕ) (status : Status) → IsFrontOf told (MAX_BYTES + 1) bytes → IsTextAnswer name bytes line status → IsFileAnswer name told rose line status
-file_answer name told rose bytes line Done front is = (of_file _ (λ text has. (has.0, has.1)) told bytes some_bytes front is.0, is.1)
-file_answer name told rose bytes line Other front is = (of_file _ (λ text has. (has.0, has.1)) told bytes some_bytes front is.0, is.1)
+file_answer name told rose bytes line Done front is = (is.0, of_file _ (λ text has. (has.0, has.1)) told bytes some_bytes front is.1, is.2)
+file_answer name told rose bytes line Other front is = (is.0, is.1, of_file _ (λ text has. (has.0, has.1)) told bytes some_bytes front is.2, is.3)
 file_answer name told rose bytes line Refused front (inl is) = inl (unsupported told bytes some_bytes front is.0, is.1)
 file_answer name told rose bytes line Refused front (inr is) = inr (of_file HasTooManyStates (λ text has. (has.0, has.1)) told bytes some_bytes front is.0, is.1)
 file_answer name told rose bytes line Words front is = absurd is

@@ -1,10 +1,10 @@
 mod FirstMoves
-mod Computing
-mod Listing
 mod Naming
 mod Extending
 mod Forms
 mod Bounds
+mod MadeGames
+mod InitialGames
 mod Readings
 mod Fronts
 mod Statuses

@@ -7,18 +7,16 @@ use Rattle.spectra_parser.specs.Data.{TreeData}
 use Rattle.spectra_parser.specs.Texts.{IsText}
 use Rattle.spectra.specs.declared.reading.Verdict.{Verdict}
 use Rattle.spectra.specs.declared.reading.Verdict.TheVariants.{Realizable, Unrealizable, Unsupported, TooManyStates}
-use Rattle.spectra.specs.First.{IsInitialOnly}
 use Rattle.spectra_lexer.proofs.Pieces.{one_list_of_tokens}
 use Rattle.spectra_parser.proofs.Whole.{one_text}
 use Rattle.spectra.specs.Trees.{Means, IsReadFrom}
 use Rattle.spectra.proofs.Extending.{read_once}
-use Rattle.spectra.proofs.Forms.{means_initial}
 use Rattle.spectra.specs.Reading.{Reads, IsUnsupported}
 use Rattle.spectra.specs.Verdict.{IsVerdict, IsVerdictOn}
 
 pub verdict_from : (text : List ℕ) (s : Specification) (v : Verdict) → Reads text s → IsVerdictOn s v → IsVerdict text v
-verdict_from text s Realizable reads on = (s, reads, on.0, on.1)
-verdict_from text s Unrealizable reads on = (s, reads, on.0, on.1)
+verdict_from text s (Realizable k) reads on = (s, reads, on.0, on.1)
+verdict_from text s (Unrealizable n m) reads on = (s, reads, on.0, on.1)
 verdict_from text s Unsupported reads on = absurd on
 verdict_from text s TooManyStates reads on = (s, reads, on)
 
@@ -40,10 +38,6 @@ no_meaning text tokens tree only_tokens only_tree none s reads =
     none s (subst (λ (t : TreeData). Means t s) (only_tree reads.tree parsed) reads.means)
 
 pub ruleset refusals = (no_tokens, no_tree, no_meaning)
-
--- a text that means something means what first moves decide
-pub reads_initial : (text : List ℕ) (s : Specification) → Reads text s → IsInitialOnly s
-reads_initial text s reads = means_initial reads.tree s reads.means
 
 -- no text means two specifications
 pub one_meaning : (text : List ℕ) (s s' : Specification) → Reads text s → Reads text s' → s ≡ s'

@@ -2,13 +2,13 @@
 use Rattle.std.proofs.Common.{◌≡◌, ℕ, List, Option, Some, inl, inr, refl, length, ap, subst, arith}
 use Rattle.spec_model.specs.Syntax.{Specification}
 use Rattle.spec_model.specs.Commands.{AskVerdict}
-use Rattle.spec_model.specs.Verdicts.{SystemWins, EnvironmentWins}
 use Rattle.sp_outside.specs.Files.{Files, told_file, HasFile, HasNoFile}
 use Rattle.spectra.specs.declared.status.Status.{Status}
 use Rattle.spectra.specs.declared.status.Status.TheVariants.{Done, Other, Words, Refused, Assumption, Budget, BadLine, ShelfFault, InputFault, OutputFault, Memory, NoFile, Limit}
 use Rattle.spectra.specs.Status.{IsUnlessFault}
 use Rattle.spectra.specs.Reading.{IsRefused, MeansOne}
 use Rattle.spectra.proofs.Readings.{one_meaning}
+use Rattle.spectra.specs.Verdict.{IsWonBySystem, IsWonByEnvironment}
 use Rattle.spectra.specs.Top.{IsFileAnswer, Answers}
 
 -- words ask for one file alone
@@ -25,8 +25,8 @@ no_verdict text P told is refused has = refuted text P refused (subst (λ (o : O
 
 module _ (name text : List ℕ) (rose : Type 0) (refused : IsRefused text) where
   told_status : (told : Option (Option (List ℕ))) (line : List ℕ) (status : Status) → told ≡ Some (Some text) → IsFileAnswer name told rose line status → IsUnlessFault Refused status
-  told_status told line Done is answer = absurd (no_verdict text (λ s. SystemWins s 2) told is refused answer.0)
-  told_status told line Other is answer = absurd (no_verdict text (λ s. EnvironmentWins s 0 1) told is refused answer.0)
+  told_status told line Done is answer = absurd (no_verdict text (λ s. IsWonBySystem s answer.0) told is refused answer.1)
+  told_status told line Other is answer = absurd (no_verdict text (λ s. IsWonByEnvironment s answer.0 answer.1) told is refused answer.2)
   told_status told line Refused is answer = inl refl
   told_status told line NoFile is answer = absurd (let none = subst HasNoFile is answer.0 in cc)
   told_status told line ShelfFault is answer = inr (inl refl)

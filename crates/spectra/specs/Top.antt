@@ -1,13 +1,14 @@
 -- What the program answers to words and files.
 use Rattle.std.specs.Prelude.{◌≡◌, ◌⊎◌, ℕ, List, [], ◌∷◌, ◌++◌, codes, Option}
+use Rattle.std.specs.Fmt.{decimal}
 use Rattle.std.specs.Io.KnownBytes.{Appends}
 use Rattle.sp_outside.specs.Files.{Files, told_file, HasNoFile, HasFile}
 use Rattle.sp_outside.specs.Written.{AppendsFront}
 use Rattle.spec_model.specs.Commands.{AskVerdict, AskNothing}
-use Rattle.spec_model.specs.Verdicts.{SystemWins, EnvironmentWins}
 use Rattle.spectra.specs.declared.status.Status.{Status}
 use Rattle.spectra.specs.declared.status.Status.TheVariants.{Done, Other, Words, Refused, ShelfFault, OutputFault, Memory, NoFile}
 use Rattle.spectra.specs.Reading.{IsUnsupported, HasTooManyStates, MeansOne}
+use Rattle.spectra.specs.Verdict.{IsWonBySystem, IsWonByEnvironment}
 
 -- ---- lines, each with its line feed
 
@@ -26,19 +27,19 @@ unsupported name = name ++ codes ":1:1: fault 23 Unsupported\n"
 abbrev pub too_many_states : List ℕ → List ℕ
 too_many_states name = name ++ codes ":1:1: fault 24 TooManyStates\n"
 
-abbrev pub realizable : List ℕ
-realizable = codes "realizable K=2\n"
+abbrev pub realizable : ℕ → List ℕ
+realizable k = codes "realizable K=" ++ (decimal k ++ 10 ∷ [])
 
-abbrev pub unrealizable : List ℕ
-unrealizable = codes "unrealizable N=0 M=1\n"
+abbrev pub unrealizable : (n m : ℕ) → List ℕ
+unrealizable n m = codes "unrealizable N=" ++ (decimal n ++ (codes " M=" ++ (decimal m ++ 10 ∷ [])))
 
 -- ---- answers
 
 -- the line and the status for a text, in a file of this name
 abbrev pub IsTextAnswer : List ℕ → List ℕ → List ℕ → Status → Type 0
 IsTextAnswer name text line Refused = IsUnsupported text × (line ≡ unsupported name) ⊎ HasTooManyStates text × (line ≡ too_many_states name)
-IsTextAnswer name text line Done = MeansOne text (λ s. SystemWins s 2) × (line ≡ realizable)
-IsTextAnswer name text line Other = MeansOne text (λ s. EnvironmentWins s 0 1) × (line ≡ unrealizable)
+IsTextAnswer name text line Done = (k : ℕ) × MeansOne text (λ s. IsWonBySystem s k) × (line ≡ realizable k)
+IsTextAnswer name text line Other = (n m : ℕ) × MeansOne text (λ s. IsWonByEnvironment s n m) × (line ≡ unrealizable n m)
 IsTextAnswer name text line _ = ⊥
 
 -- The line and the status for a file of this name; `file` is what is told of it, and `rose` that the shelf failed.
@@ -47,8 +48,8 @@ IsFileAnswer name file rose line NoFile = HasNoFile file × (line ≡ no_such_fi
 IsFileAnswer name file rose line ShelfFault = rose × (line ≡ file_fault name)
 IsFileAnswer name file rose line Refused =
     HasFile file IsUnsupported × (line ≡ unsupported name) ⊎ HasFile file HasTooManyStates × (line ≡ too_many_states name)
-IsFileAnswer name file rose line Done = HasFile file (λ text. MeansOne text (λ s. SystemWins s 2)) × (line ≡ realizable)
-IsFileAnswer name file rose line Other = HasFile file (λ text. MeansOne text (λ s. EnvironmentWins s 0 1)) × (line ≡ unrealizable)
+IsFileAnswer name file rose line Done = (k : ℕ) × HasFile file (λ text. MeansOne text (λ s. IsWonBySystem s k)) × (line ≡ realizable k)
+IsFileAnswer name file rose line Other = (n m : ℕ) × HasFile file (λ text. MeansOne text (λ s. IsWonByEnvironment s n m)) × (line ≡ unrealizable n m)
 IsFileAnswer name file rose line _ = ⊥
 
 -- the line and the status for the words over the files

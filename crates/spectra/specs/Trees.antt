@@ -1,5 +1,5 @@
 -- What the tree of a text means: its specification. A tree with anything that is not built yet means none.
-use Rattle.std.specs.Prelude.{◌≡◌, ℕ, suc, Bool, true, false, not, ◌||◌, List, [], ◌∷◌, ◌++◌, Option, Some, None, option_map, map, position}
+use Rattle.std.specs.Prelude.{◌≡◌, ℕ, suc, Bool, true, false, not, ◌&&◌, ◌||◌, List, [], ◌∷◌, ◌++◌, Option, Some, None, option_map, map, position}
 use Rattle.std.specs.List.{list_any, list_all}
 use Rattle.std.specs.Str.{bytes_eq}
 use Rattle.spec_model.specs.declared.value.Owner.{Owner}
@@ -7,12 +7,15 @@ use Rattle.spec_model.specs.declared.value.Owner.TheVariants.{Env, Sys}
 use Rattle.spec_model.specs.declared.value.Value.TheVariants as value
 use Rattle.spec_model.specs.declared.spec.Role.{Role}
 use Rattle.spec_model.specs.Values.{TruthValues}
-use Rattle.spec_model.specs.Syntax.{Formula, Constant, Variable, Negation, Conjunction, Disjunction, formulas, Content, Initial, Statement, VariableData, Specification}
-use Rattle.spec_model.specs.Moves.{is_assumption, reads_present_output}
+use Rattle.spec_model.specs.Syntax.{Formula, Constant, Variable, NextOf, Negation, Conjunction, Disjunction, Implication, Equivalence, formulas, Content, Initial, Safety, Statement, VariableData, Specification}
+use Rattle.spec_model.specs.Moves.{is_assumption, has_next, reads_present_output}
+use Rattle.spec_model.specs.WellMade.{is_stepwise, awaits_output}
 use Rattle.spectra_parser.specs.declared.tree.OwnerWord.{OwnerWord}
 use Rattle.spectra_parser.specs.declared.tree.OwnerWord.TheVariants as owners
 use Rattle.spectra_parser.specs.declared.tree.PrefixWord.{PrefixWord}
 use Rattle.spectra_parser.specs.declared.tree.PrefixWord.TheVariants.{Not, Prev, Once, Historically}
+use Rattle.spectra_parser.specs.declared.tree.BinaryWord.{BinaryWord}
+use Rattle.spectra_parser.specs.declared.tree.BinaryWord.TheVariants.{Implies, Iff}
 use Rattle.spectra_parser.specs.Data.{NameData, Expression, Form, expression, Expressions, TypeShape, BodyData, ItemData, TreeData}
 
 -- one more before several, where all of them mean something
@@ -60,6 +63,17 @@ prefixed Prev e = None
 prefixed Once e = None
 prefixed Historically e = None
 
+-- two operands by the operator between them, where both mean something
+abbrev pub both_of : (Formula → Formula → Formula) → Option Formula → Option Formula → Option Formula
+both_of join (Some f) (Some g) = Some (join f g)
+both_of join (Some f) None = None
+both_of join None g = None
+
+abbrev pub joined : BinaryWord → Option Formula → Option Formula → Option Formula
+joined Implies a b = both_of (λ f g. Implication f g) a b
+joined Iff a b = both_of (λ f g. Equivalence f g) a b
+joined _ a b = None
+
 abbrev mutual
   pub formula_of : List (List ℕ) → Expression → Option Formula
   formula_of names (expression first at form) = form_means names form
@@ -70,9 +84,9 @@ abbrev mutual
   form_means names (Form.Number negative digits) = None
   form_means names (Form.Read name) = option_map (λ k. Variable k) (place_of names name.text)
   form_means names (Form.Call name es) = None
-  form_means names (Form.Next e) = None
+  form_means names (Form.Next e) = option_map (λ f. NextOf f) (formula_of names e)
   form_means names (Form.Prefix word e) = prefixed word (formula_of names e)
-  form_means names (Form.Binary word a b) = None
+  form_means names (Form.Binary word a b) = joined word (formula_of names a) (formula_of names b)
   form_means names (Form.Mod e at digits) = None
   form_means names (Form.And es ops) = option_map (λ fs. Conjunction (formulas fs)) (formulas_of names es)
   form_means names (Form.Or es ops) = option_map (λ fs. Disjunction (formulas fs)) (formulas_of names es)
@@ -85,6 +99,7 @@ abbrev mutual
 
 abbrev pub content_of : List (List ℕ) → BodyData → Option Content
 content_of names (BodyData.Initial e) = option_map (λ f. Initial f) (formula_of names e)
+content_of names (BodyData.Always e) = option_map (λ f. Safety f) (formula_of names e)
 content_of names _ = None
 
 -- the line with this number; a line with a name is not built yet
@@ -99,10 +114,12 @@ lines_of names number (ItemData.Variable v ∷ items) = lines_of names number it
 lines_of names number (ItemData.Statement l ∷ items) = prepend (line_of names number l.role l.name l.body) (lines_of names (suc number) items)
 lines_of names number (_ ∷ items) = None
 
--- whether the line, if it is an initial assumption, reads no variable of the system
-abbrev pub reads_inputs : Specification → Role → Content → Bool
-reads_inputs s role (Initial e) = not (is_assumption role) || not (reads_present_output s e)
-reads_inputs s role _ = true
+-- Whether the line reads what it may: no next value in an initial line, and no next value of a next value; no variable of
+-- the system in an initial assumption, and no next value of one in another assumption.
+abbrev pub is_allowed : Specification → Role → Content → Bool
+is_allowed s role (Initial e) = is_stepwise false e && (not (has_next e) && (not (is_assumption role) || not (reads_present_output s e)))
+is_allowed s role (Safety e) = is_stepwise false e && (not (is_assumption role) || not (awaits_output s.variables false e))
+is_allowed s role _ = true
 
 abbrev pub names_of : Specification → List (List ℕ)
 names_of s = map (λ v. v.name) s.variables
@@ -120,4 +137,4 @@ pub record IsReadFrom (tree : TreeData) (s : Specification) : Type 0 where
 -- the tree means this specification
 pub record Means (tree : TreeData) (s : Specification) : Type 0 where
   pub read : IsReadFrom tree s
-  pub inputs : list_all (λ l. reads_inputs s l.role l.content) s.lines ≡ true
+  pub allowed : list_all (λ l. is_allowed s l.role l.content) s.lines ≡ true

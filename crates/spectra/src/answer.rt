@@ -70,12 +70,12 @@ fn answer_text(alloc: Global, name: &str, text: &[u8]) -> Result<Answer, OutOfMe
     ensures { IfOk result (λ a. IsTextAnswer name.now text.now (string_bytes a.line) a.status) }
 {
     match verdict_of(alloc, text)? {
-        Verdict::Realizable => Ok(Answer {
-            line: format!(in alloc; "realizable K=2\n")?,
+        Verdict::Realizable { k } => Ok(Answer {
+            line: format!(in alloc; "realizable K={k}\n")?,
             status: Status::Done,
         }),
-        Verdict::Unrealizable => Ok(Answer {
-            line: format!(in alloc; "unrealizable N=0 M=1\n")?,
+        Verdict::Unrealizable { n, m } => Ok(Answer {
+            line: format!(in alloc; "unrealizable N={n} M={m}\n")?,
             status: Status::Other,
         }),
         Verdict::Unsupported => Ok(Answer {

@@ -1,13 +1,14 @@
 //! The program `spectra`: from the words of the command line to a verdict line and a status.
 //!
-//! `synth FILE` reads a specification of Boolean variables and initial lines, and says whether it is realizable. The
-//! verdict is decided by the first moves, which are listed.
+//! `synth FILE` reads a specification of Boolean variables, initial lines and lines that hold at each position, and says
+//! whether it is realizable. The verdict is decided over sets of its game's states.
 //!
 //! Contract: `top::spectra`. Path: words and bytes → tokens → trees → specification → verdict → **line and status**.
 #![tactic(auto)]
 
+mod allowed;
 mod answer;
-mod first;
+mod deciding;
 mod names;
 mod reading;
 mod resolve;

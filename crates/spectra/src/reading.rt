@@ -6,11 +6,10 @@ ghost use Rattle.spectra_lexer.specs.Tokens.{AreTokens};
 ghost use Rattle.spectra_parser.specs.Data.{TreeData};
 ghost use Rattle.spectra_parser.specs.Views.{tree_data};
 ghost use Rattle.spectra_parser.specs.Texts.{IsText};
-ghost use Rattle.spectra.specs.First.{IsInitialOnly};
 ghost use Rattle.spectra.specs.Reading.{Reads, IsUnsupported};
-ghost use Rattle.spectra.specs.Verdict.{IsVerdict, IsVerdictOn};
+ghost use Rattle.spectra.specs.Verdict.{IsVerdict};
 
-use crate::first::answers_all;
+use crate::deciding::verdict_on;
 use crate::resolve::{ResolveFault, resolve};
 use sp_outside::OutOfMemory;
 use spec_model::spec::Spec;
@@ -18,16 +17,13 @@ use spectra_lexer::{LexFault, Token, lex};
 use spectra_parser::{SyntaxFault, Tree, parse};
 use std::alloc::Global;
 
-/// The greatest number of variables of a specification, as long as its first moves are listed.
-const MAX_VARIABLES: usize = 10;
-
 /// What is found of a text.
 #[derive(Clone, Copy, Debug, PartialEq, Eq)]
 pub enum Verdict {
-    /// It means a specification that the system wins, with K = 2.
-    Realizable,
-    /// It means a specification that the environment wins, with N = 0 and M = 1.
-    Unrealizable,
+    /// It means a specification that the system wins, with K.
+    Realizable { k: u64 },
+    /// It means a specification that the environment wins, with N and M.
+    Unrealizable { n: u64, m: u64 },
     /// It isn't of the form that is built so far.
     Unsupported,
     /// It means a specification with too many variables.
@@ -43,22 +39,6 @@ pub fn verdict_of(alloc: Global, text: &[u8]) -> Result<Verdict, OutOfMemory>
         Ok(spec) => verdict_on(alloc, &spec),
         Err(ResolveFault::Unsupported) => Ok(Verdict::Unsupported),
         Err(ResolveFault::Memory) => Err(OutOfMemory),
-    }
-}
-
-// The verdict on a specification that first moves decide.
-fn verdict_on(alloc: Global, spec: &Spec) -> Result<Verdict, OutOfMemory>
-    requires initial { IsInitialOnly (spec_data spec.now) }
-    ensures { IfOk result (λ v. IsVerdictOn (spec_data spec.now) v) }
-{
-    if spec.vars.len() > MAX_VARIABLES {
-        return Ok(Verdict::TooManyStates);
-    }
-    let all = answers_all(alloc, spec)?;
-    if all {
-        Ok(Verdict::Realizable)
-    } else {
-        Ok(Verdict::Unrealizable)
     }
 }
 

@@ -8,24 +8,23 @@ ghost use Rattle.spectra_parser.specs.Data.{ItemData, expressions};
 ghost use Rattle.spectra_parser.specs.Views.{name_data, expr_data, type_shape, body_data, item_data, tree_data};
 ghost use Rattle.spectra.specs.declared.resolve.ResolveFault.TheVariants.{Memory};
 ghost use Rattle.spectra.specs.Names.{names_in};
-ghost use Rattle.spectra.specs.Trees.{extended, owner_of as owner_of_lem, variable_of, variables_of, AreDifferent, place_of, formula_of, formulas_of, line_of, lines_of, reads_inputs as reads_inputs_lem, IsReadFrom, Means};
+ghost use Rattle.spectra.specs.Trees.{extended, owner_of as owner_of_lem, variable_of, variables_of, AreDifferent, place_of, formula_of, formulas_of, line_of, lines_of, is_allowed as is_allowed_lem, IsReadFrom, Means};
 
+use crate::allowed::is_allowed;
 use crate::names::Names;
 use sp_outside::OutOfMemory;
 use spec_model::expr::Expr;
-use spec_model::judge::reads_present_output;
 use spec_model::spec::{Body, Line, Role, Spec};
 use spec_model::value::{Domain, Owner, Value, Var};
 use spectra_parser::tree::{
-    BodyTree, ExprForm, ExprTree, Item, LineItem, OwnerWord, PrefixWord, Tree, TypeForm, VarItem,
+    BinaryWord, BodyTree, ExprForm, ExprTree, Item, LineItem, OwnerWord, PrefixWord, Tree, TypeForm, VarItem,
 };
 use std::alloc::{AllocError, AllocFailed, Global};
 
 /// Why a tree has no specification.
 #[derive(Clone, Copy, Debug, PartialEq, Eq)]
 pub enum ResolveFault {
-    /// A name is declared twice or not at all, an initial assumption reads a variable of the system, or something
-    /// isn't built yet.
+    /// A name is declared twice or not at all, a line reads what it may not, or something isn't built yet.
     Unsupported,
     /// No memory was given.
     Memory,
@@ -155,8 +154,30 @@ fn expression(alloc: Global, names: &Names, tree: &ExprTree) -> Result<Expr, Res
         ExprForm::Or(es, _) => disjunction(alloc, names, es),
         ExprForm::Number(_, _) => Err(ResolveFault::Unsupported),
         ExprForm::Call(_, _) => Err(ResolveFault::Unsupported),
-        ExprForm::Next(_) => Err(ResolveFault::Unsupported),
-        ExprForm::Binary(_, _, _) => Err(ResolveFault::Unsupported),
+        ExprForm::Next(e) => Ok(Expr::Next(Box::new(alloc, expression(alloc, names, e)?)?)),
+        ExprForm::Binary(BinaryWord::Implies, a, b) => Ok(Expr::Implies(
+            Box::new(alloc, expression(alloc, names, a)?)?,
+            Box::new(alloc, expression(alloc, names, b)?)?,
+        )),
+        ExprForm::Binary(BinaryWord::Iff, a, b) => Ok(Expr::Iff(
+            Box::new(alloc, expression(alloc, names, a)?)?,
+            Box::new(alloc, expression(alloc, names, b)?)?,
+        )),
+        ExprForm::Binary(
+            BinaryWord::Since
+            | BinaryWord::Triggered
+            | BinaryWord::Eq
+            | BinaryWord::Ne
+            | BinaryWord::Lt
+            | BinaryWord::Le
+            | BinaryWord::Gt
+            | BinaryWord::Ge
+            | BinaryWord::Add
+            | BinaryWord::Sub
+            | BinaryWord::Mul,
+            _,
+            _,
+        ) => Err(ResolveFault::Unsupported),
         ExprForm::Mod(_, _, _) => Err(ResolveFault::Unsupported),
     }
 }
@@ -220,7 +241,12 @@ fn line(alloc: Global, names: &Names, number: u32, item: &LineItem) -> Result<Li
                 role: item.role,
                 body: Body::Initial(expression(alloc, names, e)?),
             }),
-            BodyTree::Always(_) => Err(ResolveFault::Unsupported),
+            BodyTree::Always(e) => Ok(Line {
+                number,
+                name: None,
+                role: item.role,
+                body: Body::Safety(expression(alloc, names, e)?),
+            }),
             BodyTree::Recurring(_) => Err(ResolveFault::Unsupported),
             BodyTree::Trigger(_, _, _) => Err(ResolveFault::Unsupported),
             BodyTree::Call(_, _) => Err(ResolveFault::Unsupported),
@@ -270,29 +296,19 @@ fn lines(alloc: Global, names: &Names, items: &[Item]) -> Result<Vec<Line>, Reso
     Ok(lines)
 }
 
-// Whether the line, if it is an initial assumption, reads no variable of the system.
-fn reads_inputs(spec: &Spec, line: &Line) -> bool
-    ensures { result ≡ reads_inputs_lem (spec_data spec.now) line.now.role (content_data line.now.body) }
-{
-    match &line.body {
-        Body::Initial(e) => line.role != Role::Assumption || !reads_present_output(spec, e),
-        _ => true,
-    }
-}
-
-// Whether each of the lines does so.
-fn all_read_inputs(spec: &Spec) -> bool
-    ensures { result ≡ list_all (λ l. reads_inputs_lem (spec_data spec.now) l.role l.content) (spec_data spec.now).lines }
+// Whether each of the lines reads what it may.
+fn all_allowed(spec: &Spec) -> bool
+    ensures { result ≡ list_all (λ l. is_allowed_lem (spec_data spec.now) l.role l.content) (spec_data spec.now).lines }
 {
     for line in &spec.lines {
-        if !reads_inputs(spec, line) {
+        if !is_allowed(spec, line) {
             return false;
         }
     }
     true
 }
 
-// The specification that a tree is read as, whatever its initial assumptions read.
+// The specification that a tree is read as, whatever its lines read.
 fn read(alloc: Global, tree: &Tree) -> Result<Spec, ResolveFault>
     ensures ok { IfOk result (λ s. IsReadFrom (tree_data tree.now) (spec_data s)) }
     ensures unsupported { IsErrOf result ResolveFault.Unsupported → (s : Specification) → ¬ (IsReadFrom (tree_data tree.now) s) }
@@ -314,13 +330,13 @@ fn read(alloc: Global, tree: &Tree) -> Result<Spec, ResolveFault>
 
 /// The specification that a tree means. `Unsupported`: it means none, as far as forms are built. `Memory`: none was
 /// given.
-#[tactic(auto, using(crate::proofs::Extending::wrong_inputs))]
+#[tactic(auto, using(crate::proofs::Extending::not_allowed))]
 pub fn resolve(alloc: Global, tree: &Tree) -> Result<Spec, ResolveFault>
     ensures meaning { IfOk result (λ s. Means (tree_data tree.now) (spec_data s)) }
     ensures unsupported { IsErrOf result ResolveFault.Unsupported → (s : Specification) → ¬ (Means (tree_data tree.now) s) }
 {
     let spec = read(alloc, tree)?;
-    if all_read_inputs(&spec) {
+    if all_allowed(&spec) {
         Ok(spec)
     } else {
         Err(ResolveFault::Unsupported)
