@@ -34,108 +34,109 @@ fn words_of(alloc: Global, line: &str) -> Result<Vec<String>, Fail> {
     Ok(words)
 }
 
+// The statements after `spec X`, the line, and the status.
+const TEXTS: [(&str, &str, u8); 22] = [
+    (
+        "env boolean a; sys boolean g; gar ini a & g;",
+        "unrealizable N=0 M=1\n",
+        1,
+    ),
+    (
+        "env boolean a; sys boolean g; gar ini g;",
+        "realizable K=2\n",
+        0,
+    ),
+    (
+        "env boolean a; asm ini a & !a; gar ini false;",
+        "realizable K=2\n",
+        0,
+    ),
+    ("", "realizable K=2\n", 0),
+    ("gar ini false;", "unrealizable N=0 M=1\n", 1),
+    // Only the input with a is legal, and it has an answer.
+    (
+        "env boolean a; sys boolean g; asm ini a; gar ini a & g;",
+        "realizable K=2\n",
+        0,
+    ),
+    // The system can't make the input true.
+    (
+        "env boolean a; sys boolean g; gar ini g; gar ini a | !g;",
+        "unrealizable N=0 M=1\n",
+        1,
+    ),
+    // `&` binds tighter than `|`: the line is true where b is.
+    (
+        "env boolean a; sys boolean b; gar ini b | a & !a;",
+        "realizable K=2\n",
+        0,
+    ),
+    (
+        "env boolean a; sys boolean b; gar ini (b | a) & !a;",
+        "unrealizable N=0 M=1\n",
+        1,
+    ),
+    // A variable may be declared after its use.
+    ("gar ini g; sys boolean g;", "realizable K=2\n", 0),
+    (
+        "sys boolean a; sys boolean b; sys boolean c; sys boolean d; sys boolean e; env boolean f; env boolean h; env boolean i; env boolean j; env boolean k; gar ini a & b;",
+        "realizable K=2\n",
+        0,
+    ),
+    (
+        "sys boolean a; sys boolean b; sys boolean c; sys boolean d; sys boolean e; env boolean f; env boolean h; env boolean i; env boolean j; env boolean k; env boolean l;",
+        "t.spectra:1:1: fault 24 TooManyStates\n",
+        3,
+    ),
+    (
+        "sys Int(0..3) x;",
+        "t.spectra:1:1: fault 23 Unsupported\n",
+        3,
+    ),
+    (
+        "sys boolean g; gar alwEv g;",
+        "t.spectra:1:1: fault 23 Unsupported\n",
+        3,
+    ),
+    (
+        "sys boolean g; gar ini g",
+        "t.spectra:1:1: fault 23 Unsupported\n",
+        3,
+    ),
+    (
+        "sys boolean g; sys boolean g;",
+        "t.spectra:1:1: fault 23 Unsupported\n",
+        3,
+    ),
+    (
+        "env boolean g; sys boolean g;",
+        "t.spectra:1:1: fault 23 Unsupported\n",
+        3,
+    ),
+    ("gar ini g;", "t.spectra:1:1: fault 23 Unsupported\n", 3),
+    (
+        "sys boolean g; asm ini g;",
+        "t.spectra:1:1: fault 23 Unsupported\n",
+        3,
+    ),
+    (
+        "sys boolean true;",
+        "t.spectra:1:1: fault 23 Unsupported\n",
+        3,
+    ),
+    (
+        "sys boolean g; // a comment",
+        "t.spectra:1:1: fault 23 Unsupported\n",
+        3,
+    ),
+    ("sys boolean g; gar ini !!(g);", "realizable K=2\n", 0),
+];
+
 #[test]
 fn each_text_has_its_line_and_status(rt: HostRuntime) -> Result<(), Fail> {
     let alloc = rt.alloc();
-    // the statements after `spec X`, the line, and the status
-    let cases: [(&str, &str, u8); 22] = [
-        (
-            "env boolean a; sys boolean g; gar ini a & g;",
-            "unrealizable N=0 M=1\n",
-            1,
-        ),
-        (
-            "env boolean a; sys boolean g; gar ini g;",
-            "realizable K=2\n",
-            0,
-        ),
-        (
-            "env boolean a; asm ini a & !a; gar ini false;",
-            "realizable K=2\n",
-            0,
-        ),
-        ("", "realizable K=2\n", 0),
-        ("gar ini false;", "unrealizable N=0 M=1\n", 1),
-        // Only the input with a is legal, and it has an answer.
-        (
-            "env boolean a; sys boolean g; asm ini a; gar ini a & g;",
-            "realizable K=2\n",
-            0,
-        ),
-        // The system can't make the input true.
-        (
-            "env boolean a; sys boolean g; gar ini g; gar ini a | !g;",
-            "unrealizable N=0 M=1\n",
-            1,
-        ),
-        // `&` binds tighter than `|`: the line is true where b is.
-        (
-            "env boolean a; sys boolean b; gar ini b | a & !a;",
-            "realizable K=2\n",
-            0,
-        ),
-        (
-            "env boolean a; sys boolean b; gar ini (b | a) & !a;",
-            "unrealizable N=0 M=1\n",
-            1,
-        ),
-        // A variable may be declared after its use.
-        ("gar ini g; sys boolean g;", "realizable K=2\n", 0),
-        (
-            "sys boolean a; sys boolean b; sys boolean c; sys boolean d; sys boolean e; env boolean f; env boolean h; env boolean i; env boolean j; env boolean k; gar ini a & b;",
-            "realizable K=2\n",
-            0,
-        ),
-        (
-            "sys boolean a; sys boolean b; sys boolean c; sys boolean d; sys boolean e; env boolean f; env boolean h; env boolean i; env boolean j; env boolean k; env boolean l;",
-            "t.spectra:1:1: fault 24 TooManyStates\n",
-            3,
-        ),
-        (
-            "sys Int(0..3) x;",
-            "t.spectra:1:1: fault 23 Unsupported\n",
-            3,
-        ),
-        (
-            "sys boolean g; gar alwEv g;",
-            "t.spectra:1:1: fault 23 Unsupported\n",
-            3,
-        ),
-        (
-            "sys boolean g; gar ini g",
-            "t.spectra:1:1: fault 23 Unsupported\n",
-            3,
-        ),
-        (
-            "sys boolean g; sys boolean g;",
-            "t.spectra:1:1: fault 23 Unsupported\n",
-            3,
-        ),
-        (
-            "env boolean g; sys boolean g;",
-            "t.spectra:1:1: fault 23 Unsupported\n",
-            3,
-        ),
-        ("gar ini g;", "t.spectra:1:1: fault 23 Unsupported\n", 3),
-        (
-            "sys boolean g; asm ini g;",
-            "t.spectra:1:1: fault 23 Unsupported\n",
-            3,
-        ),
-        (
-            "sys boolean true;",
-            "t.spectra:1:1: fault 23 Unsupported\n",
-            3,
-        ),
-        (
-            "sys boolean g; // a comment",
-            "t.spectra:1:1: fault 23 Unsupported\n",
-            3,
-        ),
-        ("sys boolean g; gar ini !!(g);", "realizable K=2\n", 0),
-    ];
     let words = words_of(alloc, "spectra synth t.spectra")?;
-    for (statements, line, number) in cases {
+    for (statements, line, number) in TEXTS {
         let text = format!(in alloc; "spec X\n{statements}\n")?;
         let mut shelf = MemoryShelf::make(alloc, &[])?;
         shelf.put("t.spectra", text.as_bytes())?;
@@ -148,72 +149,73 @@ fn each_text_has_its_line_and_status(rt: HostRuntime) -> Result<(), Fail> {
     Ok(())
 }
 
+// The words, the calls of the shelf and of the sink that fail, what is written, and the status.
+const FAULTS: [(&str, &[u64], &[u64], &str, u8); 11] = [
+    ("spectra synth t.spectra", &[], &[], "realizable K=2\n", 0),
+    (
+        "spectra synth none.spectra",
+        &[],
+        &[],
+        "no such file: none.spectra\n",
+        11,
+    ),
+    (
+        "spectra synth",
+        &[],
+        &[],
+        "usage: spectra COMMAND FILE [--nodes N]\n",
+        2,
+    ),
+    (
+        "spectra",
+        &[],
+        &[],
+        "usage: spectra COMMAND FILE [--nodes N]\n",
+        2,
+    ),
+    (
+        "spectra run t.spectra",
+        &[],
+        &[],
+        "usage: spectra COMMAND FILE [--nodes N]\n",
+        2,
+    ),
+    (
+        "spectra synth -t",
+        &[],
+        &[],
+        "usage: spectra COMMAND FILE [--nodes N]\n",
+        2,
+    ),
+    (
+        "spectra synth t.spectra more",
+        &[],
+        &[],
+        "usage: spectra COMMAND FILE [--nodes N]\n",
+        2,
+    ),
+    (
+        "spectra synth t.spectra",
+        &[1],
+        &[],
+        "file fault: t.spectra\n",
+        7,
+    ),
+    (
+        "spectra synth t.spectra",
+        &[2],
+        &[],
+        "file fault: t.spectra\n",
+        7,
+    ),
+    ("spectra synth t.spectra", &[], &[1], "", 9),
+    ("spectra synth", &[], &[1], "", 9),
+];
+
 #[test]
 fn each_fault_has_its_line_and_status(rt: HostRuntime) -> Result<(), Fail> {
     let alloc = rt.alloc();
-    // the words, the calls of the shelf and of the sink that fail, what is written, and the status
-    let cases: [(&str, &[u64], &[u64], &str, u8); 11] = [
-        ("spectra synth t.spectra", &[], &[], "realizable K=2\n", 0),
-        (
-            "spectra synth none.spectra",
-            &[],
-            &[],
-            "no such file: none.spectra\n",
-            11,
-        ),
-        (
-            "spectra synth",
-            &[],
-            &[],
-            "usage: spectra COMMAND FILE [--nodes N]\n",
-            2,
-        ),
-        (
-            "spectra",
-            &[],
-            &[],
-            "usage: spectra COMMAND FILE [--nodes N]\n",
-            2,
-        ),
-        (
-            "spectra run t.spectra",
-            &[],
-            &[],
-            "usage: spectra COMMAND FILE [--nodes N]\n",
-            2,
-        ),
-        (
-            "spectra synth -t",
-            &[],
-            &[],
-            "usage: spectra COMMAND FILE [--nodes N]\n",
-            2,
-        ),
-        (
-            "spectra synth t.spectra more",
-            &[],
-            &[],
-            "usage: spectra COMMAND FILE [--nodes N]\n",
-            2,
-        ),
-        (
-            "spectra synth t.spectra",
-            &[1],
-            &[],
-            "file fault: t.spectra\n",
-            7,
-        ),
-        (
-            "spectra synth t.spectra",
-            &[2],
-            &[],
-            "file fault: t.spectra\n",
-            7,
-        ),
-        ("spectra synth t.spectra", &[], &[1], "", 9),
-        ("spectra synth", &[], &[1], "", 9),
-    ];
-    for (line, shelf_fails, sink_fails, text, number) in cases {
+    for (line, shelf_fails, sink_fails, text, number) in FAULTS {
         let words = words_of(alloc, line)?;
         let mut shelf = MemoryShelf::make(alloc, shelf_fails)?;
         shelf.put("t.spectra", b"spec X")?;
