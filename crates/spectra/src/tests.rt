@@ -35,7 +35,7 @@ fn words_of(alloc: Global, line: &str) -> Result<Vec<String>, Fail> {
 }
 
 // The statements after `spec X`, the line, and the status.
-const TEXTS: [(&str, &str, u8); 22] = [
+const TEXTS: [(&str, &str, u8); 35] = [
     (
         "env boolean a; sys boolean g; gar ini a & g;",
         "unrealizable N=0 M=1\n",
@@ -130,6 +130,67 @@ const TEXTS: [(&str, &str, u8); 22] = [
         3,
     ),
     ("sys boolean g; gar ini !!(g);", "realizable K=2\n", 0),
+    // Safety lines: the reply g is next(r), which isn't known yet; so every state is lost after one position.
+    (
+        "env boolean r; sys boolean g; gar alw g <-> next(r);",
+        "unrealizable N=1 M=2\n",
+        1,
+    ),
+    (
+        "env boolean a; sys boolean g; asm alw g -> a; gar alw g;",
+        "realizable K=2\n",
+        0,
+    ),
+    // No output is legal, so that no state is kept; but no first input is legal.
+    (
+        "env boolean a; asm ini false; gar alw false;",
+        "realizable K=1\n",
+        0,
+    ),
+    (
+        "env boolean r; sys boolean g; gar alw r -> g;",
+        "realizable K=2\n",
+        0,
+    ),
+    ("gar alw false;", "unrealizable N=1 M=2\n", 1),
+    // From g there is no legal output, and from !g only g: one state is lost after one position, both after two.
+    (
+        "sys boolean g; gar ini !g; gar alw !g & next(g);",
+        "unrealizable N=2 M=2\n",
+        1,
+    ),
+    (
+        "sys boolean g; gar ini !g; gar alw next(g) <-> !g;",
+        "realizable K=2\n",
+        0,
+    ),
+    // After !g the input a leaves no legal output; after g only a is legal, and the system may answer g for ever.
+    (
+        "env boolean a; sys boolean g; asm alw g -> next(a); gar alw next(a) -> g; gar alw !g -> !next(g);",
+        "realizable K=2\n",
+        0,
+    ),
+    ("sys boolean g; gar ini g -> !g;", "realizable K=2\n", 0),
+    (
+        "sys boolean g; gar alw next(next(g));",
+        "t.spectra:1:1: fault 23 Unsupported\n",
+        3,
+    ),
+    (
+        "sys boolean g; gar ini next(g);",
+        "t.spectra:1:1: fault 23 Unsupported\n",
+        3,
+    ),
+    (
+        "sys boolean g; asm alw next(g);",
+        "t.spectra:1:1: fault 23 Unsupported\n",
+        3,
+    ),
+    (
+        "sys boolean g; gar alw g -> g -> g;",
+        "t.spectra:1:1: fault 23 Unsupported\n",
+        3,
+    ),
 ];
 
 #[test]
