@@ -12,3 +12,4 @@ pub mod Held
 pub mod Into
 pub mod TraitLaws
 pub mod Finds
+pub mod Examples

@@ -22,6 +22,8 @@ mod row;
 mod rows;
 mod slots;
 mod states;
+#[cfg(test)]
+mod tests;
 mod values;
 
 pub use rows::{RegionRows, RowsRefusal};
