@@ -1,12 +1,4 @@
-pub mod Moments
-pub mod Numbers
-pub mod Options
 pub mod Rows
-pub mod Readouts
-pub mod Whole
-pub mod Lines
-pub mod Seen
-pub mod Tables
 pub mod Slots
 pub mod Held
 pub mod Into
