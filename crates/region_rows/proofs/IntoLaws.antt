@@ -1,5 +1,5 @@
 -- What the tables say is what the players force.
-use Rattle.std.proofs.Common.{◌≡◌, ℕ, ◌<◌, Bool, true, false, not, ◌&&◌, ◌||◌, if◌then◌else◌, List, [], ◌∷◌, length, map, Some, None, option_map, get_or, refl, sym, ◌∙◌, ap, subst}
+use Rattle.std.proofs.Common.{◌≡◌, ℕ, ◌<◌, Bool, true, false, not, ◌&&◌, ◌||◌, if◌then◌else◌, List, [], ◌∷◌, length, map, Some, None, option_map, refl, sym, ◌∙◌, ap, subst}
 use Rattle.std.specs.List.{list_any, list_all}
 use Rattle.std.proofs.lemmas.Option.{slice_get-map}
 use Rattle.spec_model.specs.Values.{Assignment}
@@ -9,14 +9,14 @@ use Rattle.spec_model.specs.Sets.{output_into, input_into, system_forces, enviro
 use Rattle.spec_model.proofs.Listed.{every_weaker, inputs_fit, outputs_fit, list_all-same, list_any-same}
 use Rattle.region_rows.specs.declared.row.Row.{Row}
 use Rattle.region_rows.specs.Rows.{bit_of, Shows}
-use Rattle.region_rows.specs.Numbers.{number_of_state}
+use Rattle.game_states.specs.Numbers.{number_of_state}
 use Rattle.region_rows.specs.Slots.{marked}
-use Rattle.region_rows.specs.Tables.{answers_of, moves_of}
+use Rattle.game_states.specs.Tables.{answers_of, moves_of}
 use Rattle.region_rows.specs.Finds.{LeadsToStates}
 use Rattle.region_rows.specs.Into.{leads, stays, system_into, environment_into}
-use Rattle.region_rows.proofs.Typed.{get-map-below}
-use Rattle.region_rows.proofs.StateNumbers.{state_here, number_below}
-use Rattle.region_rows.proofs.LineLaws.{get-some}
+use Rattle.game_values.proofs.Typed.{get-map-below}
+use Rattle.game_states.proofs.StateNumbers.{state_here, number_below}
+use Rattle.game_states.proofs.LineLaws.{get-some}
 
 all-map : {X Y : Type 0} (p : Y → Bool) (f : X → Y) (xs : List X) → list_all p (map f xs) ≡ list_all (λ x. p (f x)) xs
 all-map p f [] = refl

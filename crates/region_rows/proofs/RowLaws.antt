@@ -12,17 +12,17 @@ use Rattle.region_rows.specs.declared.slots.RowRegion.{RowRegion}
 use Rattle.region_rows.specs.declared.slots.RowMove.{RowMove}
 use Rattle.regions.specs.declared.types.When.{When}
 use Rattle.region_rows.specs.Rows.{bit_of, Shows}
-use Rattle.region_rows.specs.Numbers.{number_of_state}
+use Rattle.game_states.specs.Numbers.{number_of_state}
 use Rattle.region_rows.specs.Slots.{marked, content_meaning, set_of, content_at, kept_in, HasRow, TakesSlot, FreesSlot}
 use Rattle.region_rows.specs.Held.{Weights, IsMoves, takes, frees, region_content, move_content, slot_weighs}
-use Rattle.region_rows.specs.Tables.{moves_of}
+use Rattle.game_states.specs.Tables.{moves_of}
 use Rattle.region_rows.specs.Into.{system_into, environment_into}
 use Rattle.region_rows.proofs.IntoLaws.{marked-map, marked-below, system_is, environment_is}
 use Rattle.region_rows.specs.Finds.{LeadsToStates}
-use Rattle.region_rows.proofs.StateNumbers.{number_below}
+use Rattle.game_states.proofs.StateNumbers.{number_below}
 use Rattle.spec_model.specs.WellMade.{WellMade}
-use Rattle.region_rows.proofs.StateNumbers.{number-of}
-use Rattle.region_rows.proofs.LineLaws.{there, state_fits}
+use Rattle.game_states.proofs.StateNumbers.{number-of}
+use Rattle.game_states.proofs.LineLaws.{there, state_fits}
 
 module _ (g : GameData) where
   -- ---- what is kept and what is freed

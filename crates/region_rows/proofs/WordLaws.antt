@@ -9,8 +9,8 @@ use Rattle.std.proofs.lemmas.Nat.Bits.{shr_and_one, ones_shl, bit_at_set_same, b
 use Rattle.spec_model.specs.Steps.{below}
 use Rattle.region_rows.specs.declared.row.Row.{Row}
 use Rattle.region_rows.specs.Rows.{word_of, set_in, bit_of, ones_of, Shows}
-use Rattle.region_rows.proofs.Typed.{get-map-below}
-use Rattle.region_rows.proofs.Counts.{length-below}
+use Rattle.game_values.proofs.Typed.{get-map-below}
+use Rattle.game_values.proofs.Lists.{length-below}
 
 -- ---- the ones of the numbers below a count
 

@@ -1,14 +1,7 @@
-pub mod Moments
-pub mod Numbers
-pub mod Options
 pub mod Rows
-pub mod Readouts
-pub mod Whole
-pub mod Lines
-pub mod Seen
-pub mod Tables
 pub mod Slots
 pub mod Held
 pub mod Into
 pub mod TraitLaws
 pub mod Finds
+pub mod Examples

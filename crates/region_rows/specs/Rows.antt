@@ -1,5 +1,5 @@
 -- A row has a bit for each number, in words of 64 bits.
-use Rattle.std.specs.Prelude.{◌≡◌, ℕ, ◌+◌, ◌-◌, ◌*◌, ◌/◌, ◌%◌, ◌^◌, Bool, false, List, get_or, eqb}
+use Rattle.std.specs.Prelude.{◌≡◌, ℕ, ◌-◌, ◌*◌, ◌/◌, ◌%◌, ◌^◌, Bool, false, List, get_or, eqb}
 use Rattle.std.proofs.Common.{min}
 use Rattle.std.specs.Int.{bit_at}
 use Rattle.region_rows.specs.declared.row.Row.{Row}

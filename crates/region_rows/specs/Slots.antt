@@ -10,7 +10,7 @@ use Rattle.region_rows.specs.declared.slots.Slot.{Slot}
 use Rattle.region_rows.specs.declared.slots.Slot.TheVariants.{Free, Region, Outputs, Inputs}
 use Rattle.region_rows.specs.declared.slots.RowRegion.{RowRegion}
 use Rattle.region_rows.specs.declared.slots.RowMove.{RowMove}
-use Rattle.region_rows.specs.Numbers.{number_of_state}
+use Rattle.game_states.specs.Numbers.{number_of_state}
 use Rattle.region_rows.specs.Rows.{bit_of}
 
 -- the states whose numbers a row has

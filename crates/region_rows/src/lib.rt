@@ -6,23 +6,14 @@
 //! Contract: `RegionRows::make`, and the trait `Regions`. Path: game → **regions as rows** → layers.
 #![tactic(auto)]
 
-mod choices;
-mod eval;
 mod finding;
 mod impls;
-mod late;
-mod lines;
-mod make;
 mod moves;
-mod numbered;
-mod options;
-mod places;
-mod read;
 mod row;
 mod rows;
 mod slots;
-mod states;
-mod values;
+#[cfg(test)]
+mod tests;
 
 pub use rows::{RegionRows, RowsRefusal};
 pub use slots::{RowMove, RowRegion};

@@ -3,22 +3,24 @@
 ghost use Rattle.std.specs.Prelude.{◌≡◌, ◌<◌, ◌↔◌, [], None, Some, map, option_map, length, slice_get, find, true, IfOk, IsErrOf, IsTrue};
 ghost use Rattle.spec_model.specs.GameViews.{game_data};
 ghost use Rattle.spec_model.specs.Steps.{Before, is_state, states_of};
-ghost use Rattle.spec_model.specs.WellMade.{WellMade};
-ghost use Rattle.region_rows.specs.Tables.{moves_of};
+ghost use Rattle.spec_model.specs.WellMade.{WellMade, scope_of, is_state_formula};
+ghost use Rattle.spec_model.specs.Views.{formula};
+ghost use Rattle.spec_model.specs.Meaning.{holds_at};
+ghost use Rattle.region_rows.specs.Rows.{Shows};
+ghost use Rattle.game_states.specs.Tables.{moves_of};
 ghost use Rattle.region_rows.specs.Slots.{kept_in, marked, content_meaning, content_at};
 ghost use Rattle.region_rows.specs.Finds.{output_test, input_test};
-ghost use Rattle.spec_model.specs.Games.{State, listed, inputs_of, outputs_of};
+ghost use Rattle.spec_model.specs.Games.{State, listed, inputs_of, outputs_of, step_reading};
 ghost use Rattle.spec_model.specs.Sets.{StateSet};
 ghost use Rattle.regions.specs.Kept.{Outputs, Inputs};
 ghost use Rattle.regions.specs.Rules.{outputs_into, inputs_into, AreBefore, Found, output_count, input_count, goals_like, number_of, states_holding};
 
-use crate::make::{number, state_count};
-use crate::numbered::Numbered;
-use crate::options::PAST;
-use crate::row::Row;
+use crate::finding::{first_input, first_output};
+use crate::row::{self, Row};
 use crate::slots::{RowMove, Slot, Slots};
+use game_states::{Numbered, PAST, number, state_count};
 use regions::{Recur, When};
-use spec_model::game::Game;
+use spec_model::game::{Game, Goal};
 use spec_model::value::Value;
 use std::alloc::{AllocError, Global};
 
@@ -111,7 +113,7 @@ impl RegionRows {
             AreBefore (game_data self.now.numbered.game) time b state.now → Found result out.new (find (outputs_into (game_data self.now.numbered.game) time t b input.now) (outputs_of (game_data self.now.numbered.game))) }
     {
         let k = match when {
-            When::First => self.numbered.first_output(&self.first, row, input),
+            When::First => first_output(&self.numbered, &self.first, row, input),
             When::Later => self.later_output(row, state, input),
         };
         self.numbered.write_output(k, out)
@@ -126,7 +128,7 @@ impl RegionRows {
         match self.numbered.number_of(state) {
             Some(p) => {
                 if p < self.later.len() {
-                    return self.numbered.first_output(&self.later[p], row, input);
+                    return first_output(&self.numbered, &self.later[p], row, input);
                 }
                 self.numbered.outputs.len()
             }
@@ -153,7 +155,7 @@ impl RegionRows {
             AreBefore (game_data self.now.numbered.game) time b state.now → Found result input.new (find (inputs_into (game_data self.now.numbered.game) time t b) (inputs_of (game_data self.now.numbered.game))) }
     {
         let k = match when {
-            When::First => self.numbered.first_input(&self.first, row),
+            When::First => first_input(&self.numbered, &self.first, row),
             When::Later => self.later_input(row, state),
         };
         self.numbered.write_input(k, input)
@@ -168,12 +170,21 @@ impl RegionRows {
         match self.numbered.number_of(state) {
             Some(p) => {
                 if p < self.later.len() {
-                    return self.numbered.first_input(&self.later[p], row);
+                    return first_input(&self.numbered, &self.later[p], row);
                 }
                 self.numbered.inputs.len()
             }
             None => self.numbered.inputs.len(),
         }
+    }
+
+    /// The states at which one goal holds.
+    fn row_of(&self, goal: &Goal) -> Result<Row, AllocError>
+        requires { is_state_formula (scope_of (game_data self.now.numbered.game)) (formula goal.now.holds) ≡ true }
+        ensures { IfOk result (λ row. Shows row (map (λ s. holds_at (step_reading (game_data self.now.numbered.game) s s) (formula goal.now.holds) 0) (states_of (game_data self.now.numbered.game)))) }
+    {
+        let bits = self.numbered.holding(self.alloc, goal)?;
+        row::packed(self.alloc, &bits)
     }
 
     /// The states at which a goal holds.
@@ -182,12 +193,8 @@ impl RegionRows {
         ensures { IfOk result (λ row. marked (game_data self.now.numbered.game) row ≡ states_holding (game_data self.now.numbered.game) what) }
     {
         match what {
-            Recur::Assumption(k) => self
-                .numbered
-                .holding(self.alloc, &self.numbered.game.assume[k]),
-            Recur::Guarantee(k) => self
-                .numbered
-                .holding(self.alloc, &self.numbered.game.goals[k]),
+            Recur::Assumption(k) => self.row_of(&self.numbered.game.assume[k]),
+            Recur::Guarantee(k) => self.row_of(&self.numbered.game.goals[k]),
         }
     }
 }

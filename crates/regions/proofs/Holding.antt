@@ -3,7 +3,7 @@ use Rattle.std.proofs.Common.{◌≡◌, ℕ, ◌+◌, List, [], ◌∷◌, ap, 
 use Rattle.regions.specs.declared.types.Halt.{Halt}
 use Rattle.regions.specs.declared.types.Halt.TheVariants.{Budget}
 use Rattle.spec_model.specs.Sets.{StateSet}
-use Rattle.regions.specs.Kept.{Kept, Item, Region, Meaning, States, meaning_of, weigh, weight, IsHeld, IsHeldAs, HoldsWithout, Spends, MakesRegion, Replaces, IsExact, Halts, Each, Call, Jam, JamAdds, meanings, jam_after}
+use Rattle.regions.specs.Kept.{Kept, Item, Region, Move, Meaning, States, meaning_of, weigh, weight, IsHeld, IsHeldAs, HasRegion, HasMove, GivesOutputs, GivesInputs, HoldsBesides, HoldsWithout, Makes, Stays, Spends, MakesRegion, Replaces, IsExact, Halts, Each, Call, Jam, JamAdds, meanings, jam_after}
 
 module _ {R M : Type 0} where
   -- what is held is held as what it stands for
@@ -50,3 +50,38 @@ module _ {R M : Type 0} where
   replaced_is first old new z r t exact made replaced =
       let made_new : MakesRegion first new r t = record { held = λ w. omega (arith, replaced.held w, made.held w); jam = replaced.jam } in
       made_is first new r t exact made_new
+
+  -- ---- what stays while others come and go
+
+  -- moves that are held as what they give, give it
+  pub choice_is : (k : Kept R M) (m : M) (c : Meaning) → IsExact k → IsHeldAs k (Move m) c → k.choice m ≡ c
+  choice_is k m c exact here = exact (Move m) c here
+
+  -- a region keeps its set where others are made
+  pub set_stays : (old new : Kept R M) (r : R) (more : List (Item R M × Meaning)) → IsExact new → HasRegion old r → HoldsBesides old new more → new.set r ≡ old.set r
+  set_stays old new r more exact here made = set_is new r (old.set r) exact (λ w. let is = made w in let held = held_as old (Region r) here w in omega (arith, is, held))
+
+  -- moves keep what they give
+  pub choice_stays : (old new : Kept R M) (m : M) (more : List (Item R M × Meaning)) → IsExact new → HasMove old m → HoldsBesides old new more → new.choice m ≡ old.choice m
+  choice_stays old new m more exact here made = choice_is new m (old.choice m) exact (λ w. let is = made w in let held = held_as old (Move m) here w in omega (arith, is, held))
+
+  -- so they stay moves of their kind
+  pub outputs_stay : (old new : Kept R M) (m : M) (more : List (Item R M × Meaning)) → IsExact new → HasMove old m → GivesOutputs old m → HoldsBesides old new more → GivesOutputs new m
+  outputs_stay old new m more exact here gives made = (gives.0, choice_stays old new m more exact here made ∙ gives.1)
+
+  pub inputs_stay : (old new : Kept R M) (m : M) (more : List (Item R M × Meaning)) → IsExact new → HasMove old m → GivesInputs old m → HoldsBesides old new more → GivesInputs new m
+  inputs_stay old new m more exact here gives made = (gives.0, choice_stays old new m more exact here made ∙ gives.1)
+
+  -- a region that is spent after calls that only read was spent as it stood before them
+  pub spends_later : (old mid new : Kept R M) (r : R) → IsExact mid → HasRegion old r → Stays old mid → Spends mid new (Region r) → Spends old new (Region r)
+  spends_later old mid new r exact here stays gone =
+      let same = set_stays old mid r [] exact here stays.held in
+      let set : HoldsWithout mid new (Region r) (States (old.set r)) = rw (← same) gone.held in
+      record { held = λ w. (let left = set w in let is = stays.held w in omega (arith, left, is)); jam = gone.jam ∙ stays.jam }
+
+  -- moves that were made give what they were made for, also when a region that was held is spent
+  pub made_gives : (old mid new : Kept R M) (r : R) (m : M) (c : Meaning) → IsExact mid → IsExact new → HasRegion old r → Makes old mid (Move m) c → Spends mid new (Region r) → new.choice m ≡ c
+  made_gives old mid new r m c exact_mid exact_new here made gone =
+      let same = set_stays old mid r ((Move m, c) ∷ []) exact_mid here made.held in
+      let left : HoldsWithout mid new (Region r) (States (old.set r)) = rw (← same) gone.held in
+      choice_is new m c exact_new (λ w. let without = left w in let is = made.held w in let held = held_as old (Region r) here w in omega (arith, without, is, held))

@@ -1,4 +1,4 @@
-use Rattle.std.proofs.Common.{ℕ, arith}
+use Rattle.std.proofs.Common.{arith}
 use Rattle.std.specs.Prelude.{bit_and, bit_or}
 use Rattle.region_rows.specs.Rows.{word_of, ones_of}
 use Rattle.region_rows.proofs.WordLaws.{either_shown, pushed}

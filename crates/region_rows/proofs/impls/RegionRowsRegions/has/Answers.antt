@@ -1,7 +1,7 @@
 use Rattle.std.proofs.Common.{◌≡◌, ◌&&◌, sym, ap, ◌∙◌}
 use Rattle.spec_model.specs.GameViews.{game_data}
 use Rattle.region_rows.specs.Rows.{bit_of}
-use Rattle.region_rows.specs.Numbers.{number_of_state}
+use Rattle.game_states.specs.Numbers.{number_of_state}
 use Rattle.region_rows.proofs.RowLaws.{has_row, set-row}
 use Rattle.region_rows.proofs.impls.RegionRowsRegions.has.Goals as goal
 

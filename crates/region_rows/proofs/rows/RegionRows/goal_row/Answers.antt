@@ -6,15 +6,15 @@ use Rattle.regions.specs.Rules.{goals_like, number_of}
 use Rattle.region_rows.proofs.GoalLaws.{goal_made, goal_row_holds}
 use Rattle.region_rows.proofs.rows.RegionRows.goal_row.Goals as goal
 
-pub holding-requires : goal.holding-requires
-holding-requires c =
+pub row_of-requires : goal.row_of-requires
+row_of-requires c =
     let self = c.args.self.now in
     let g = game_data self.numbered.game in
     let below : c.in-Assumption.k < length self.numbered.game.assume.items = omega (arith, subst (λ w. number_of w < length (goals_like g w)) c.in-Assumption.is c.requires, length-map self.numbered.game.assume.items goal_data) in
     goal_made (λ a. is_state_formula (scope_of g) a.holds) self.numbered.game.assume.items c.in-Assumption.k c.index.result.now below c.index.ensures self.numbered.made.assume
 
-pub holding-requires-in-Guarantee : goal.holding-requires-in-Guarantee
-holding-requires-in-Guarantee c =
+pub row_of-requires-in-Guarantee : goal.row_of-requires-in-Guarantee
+row_of-requires-in-Guarantee c =
     let self = c.args.self.now in
     let g = game_data self.numbered.game in
     let below : c.in-Guarantee.k < length self.numbered.game.goals.items = omega (arith, subst (λ w. number_of w < length (goals_like g w)) c.in-Guarantee.is c.requires, length-map self.numbered.game.goals.items goal_data) in
@@ -25,11 +25,11 @@ returns-in-Assumption c =
     let self = c.args.self.now in
     let g = game_data self.numbered.game in
     let below : c.in-Assumption.k < length self.numbered.game.assume.items = omega (arith, subst (λ w. number_of w < length (goals_like g w)) c.in-Assumption.is c.requires, length-map self.numbered.game.assume.items goal_data) in
-    goal_row_holds g c.args.what self.numbered.game.assume.items c.in-Assumption.k c.index.result.now below c.index.ensures (ap (goals_like g) c.in-Assumption.is) (ap number_of c.in-Assumption.is) c.holding.result c.holding.ensures
+    goal_row_holds g c.args.what self.numbered.game.assume.items c.in-Assumption.k c.index.result.now below c.index.ensures (ap (goals_like g) c.in-Assumption.is) (ap number_of c.in-Assumption.is) c.row_of.result c.row_of.ensures
 
 pub returns-in-Guarantee : goal.returns-in-Guarantee
 returns-in-Guarantee c =
     let self = c.args.self.now in
     let g = game_data self.numbered.game in
     let below : c.in-Guarantee.k < length self.numbered.game.goals.items = omega (arith, subst (λ w. number_of w < length (goals_like g w)) c.in-Guarantee.is c.requires, length-map self.numbered.game.goals.items goal_data) in
-    goal_row_holds g c.args.what self.numbered.game.goals.items c.in-Guarantee.k c.index-in-Guarantee.result.now below c.index-in-Guarantee.ensures (ap (goals_like g) c.in-Guarantee.is) (ap number_of c.in-Guarantee.is) c.holding-in-Guarantee.result c.holding-in-Guarantee.ensures
+    goal_row_holds g c.args.what self.numbered.game.goals.items c.in-Guarantee.k c.index-in-Guarantee.result.now below c.index-in-Guarantee.ensures (ap (goals_like g) c.in-Guarantee.is) (ap number_of c.in-Guarantee.is) c.row_of-in-Guarantee.result c.row_of-in-Guarantee.ensures

@@ -6,11 +6,11 @@ use Rattle.spec_model.specs.Games.{State, outputs_of}
 use Rattle.spec_model.specs.Steps.{states_of}
 use Rattle.spec_model.proofs.Closed.{closed}
 use Rattle.region_rows.specs.declared.rows.RegionRows.{RegionRows}
-use Rattle.region_rows.specs.Numbers.{number_of_state}
-use Rattle.region_rows.specs.Tables.{moves_of}
-use Rattle.region_rows.proofs.StateNumbers.{state_here, number_below}
-use Rattle.region_rows.proofs.LineLaws.{there, state_fits}
-use Rattle.region_rows.proofs.FindLaws.{get-map-at}
+use Rattle.game_states.specs.Numbers.{number_of_state}
+use Rattle.game_states.specs.Tables.{moves_of}
+use Rattle.game_states.proofs.StateNumbers.{state_here, number_below}
+use Rattle.game_states.proofs.LineLaws.{there, state_fits}
+use Rattle.game_states.proofs.StateValues.{get-map-at}
 use Rattle.region_rows.proofs.rows.RegionRows.later_output.Goals as goal
 
 length-later : (self : RegionRows) → length self.later.items ≡ length (states_of (game_data self.numbered.game))

@@ -1,0 +1,9 @@
+pub mod ChoicePlaces
+pub mod StateNumbers
+pub mod ChoiceSteps
+pub mod Counts
+pub mod SeenSteps
+pub mod LineLaws
+pub mod TableLaws
+pub mod MakeLaws
+pub mod StateValues

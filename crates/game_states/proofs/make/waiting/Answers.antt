@@ -1,0 +1,13 @@
+use Rattle.std.proofs.Common.{◌≡◌, Bool, List, IfOk, subst}
+use Rattle.spec_model.specs.GameViews.{game_data}
+use Rattle.spec_model.specs.Steps.{waits_for_output}
+use Rattle.game_states.proofs.MakeLaws.{tables_whole, map-flags}
+use Rattle.game_states.proofs.make.waiting.Goals as goal
+
+pub waits-requires : goal.waits-requires
+waits-requires c = rw c.deref-3.ensures.value (tables_whole _ c.args.game.now.hidden.items c.requires.hidden)
+
+pub returns : goal.returns
+returns c =
+    let g = game_data c.args.game.now in
+    subst (λ (w : List Bool). IfOk c.waits.result (λ flags. flags.items ≡ w)) (map-flags (waits_for_output g) c.args.game.now.safe_asm.items) (rw (c.deref.ensures.value, c.deref-2.ensures.value, c.deref-3.ensures.value) at c.waits.ensures)

@@ -1,0 +1,4 @@
+pub mod Moments
+pub mod Readouts
+pub mod Whole
+pub mod Lines

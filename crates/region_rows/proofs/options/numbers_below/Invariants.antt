@@ -1,6 +1,0 @@
-use Rattle.std.proofs.Common.{◌≡◌}
-use Rattle.spec_model.specs.Steps.{below}
-use Rattle.region_rows.proofs.options.numbers_below.Given as goal
-
-abbrev pub invariant-loop-i : goal.invariant-loop-i
-invariant-loop-i l = l.all.items ≡ below l.i

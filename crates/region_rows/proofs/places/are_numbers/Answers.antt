@@ -1,7 +1,0 @@
-use Rattle.std.proofs.Common.{sym, ◌∙◌}
-use Rattle.region_rows.specs.Numbers.{as_values}
-use Rattle.region_rows.proofs.ChoicePlaces.{same_values-long, length-values}
-use Rattle.region_rows.proofs.places.are_numbers.Goals as goal
-
-pub returns-then-values-numbers : goal.returns-then-values-numbers
-returns-then-values-numbers c = sym (same_values-long c.args.values.now (as_values c.args.numbers.now) (λ e. c.if-values-numbers.true (e ∙ length-values c.args.numbers.now)))
