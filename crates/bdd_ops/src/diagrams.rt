@@ -1,5 +1,6 @@
 ghost use Rattle.std.specs.Prelude.{◌≡◌, [], ◌∷◌, ◌++◌, OnOk, ◌≢◌, ◌<◌, ◌≤◌, ◌↔◌, ◌⊎◌, ℕ, map, min, length, IfOk, IfSome, vec_len, OnErr, MatchOption, IsTrue, true, false, slice_index_or, ◌+◌, ◌*◌, if◌then◌else◌};
 ghost use Rattle.spec_model.specs.Diagrams.{ite, shifted, IsLater, branch, constant, value, Bits};
+ghost use Rattle.node_table.specs.Table.{count_of};
 ghost use Rattle.bdd_store.specs.State.{IsEdge, IsRoot, diagram_of, KeepsEdges, SameRoots, AddsRoot, IsFull, IsStore, IsNewStore, IsReached, IsConstant, HasParts};
 ghost use Rattle.bdd_ops.specs.Functions.{split, Ignores, IgnoresTo, is_among, joined, joined_over, join_of};
 ghost use Rattle.bdd_ops.specs.Contents.{Contents, AreRight, function_at, list_at, over_op};
@@ -62,6 +63,13 @@ impl Diagrams {
         ensures budget { self.new.state.table.budget ≡ self.old.state.table.budget }
     {
         self.store.reclaim();
+    }
+
+    /// How many nodes there are, the constants among them.
+    pub fn nodes(&self) -> u32
+        ensures { result ≡ count_of self.now.state.table }
+    {
+        self.store.nodes()
     }
 
     /// Whether two diagrams are one function.
