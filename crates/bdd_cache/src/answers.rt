@@ -29,15 +29,15 @@ impl Model for Answers {
     ghost invariant = { λ answers. (0 < vec_len answers.cells) × (FIRST ≤ vec_capacity answers.cells) };
 }
 
-/// A number that the key is mixed into, by odd factors near the golden ratio's multiples (Knuth, multiplicative hashing).
+/// The number of a key: that of its first node, moved by what the rest is mixed into, by odd factors near the golden
+/// ratio's multiples (Knuth, multiplicative hashing). So answers about nodes that were made together stand together.
 fn mixed(op: u32, a: u32, b: u32, c: u32) -> usize {
-    let low = u64::from(a) | (u64::from(b) << 32);
-    let high = u64::from(c) | (u64::from(op) << 32);
-    let sum = low
+    let pair = u64::from(b) | (u64::from(op) << 32);
+    let rest = pair
         .wrapping_mul(0x9e37_79b9_7f4a_7c15)
-        .wrapping_add(high)
+        .wrapping_add(u64::from(c))
         .wrapping_mul(0xd6e8_feb8_6659_fd93);
-    (sum ^ (sum >> 32)) as usize
+    (rest ^ (rest >> 32)).wrapping_add(u64::from(a)) as usize
 }
 
 /// Empties each cell whose answer has a node that isn't live.

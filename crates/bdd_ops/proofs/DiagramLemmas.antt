@@ -1,9 +1,10 @@
 -- What reduced diagrams read, and their parts.
-use Rattle.std.proofs.Common.{◌≡◌, ℕ, ◌<◌, ◌≤◌, inl, inr, sym, ◌∙◌, subst, refl, arith, Bool, true, false, if◌then◌else◌}
+use Rattle.std.proofs.Common.{◌≡◌, ℕ, ◌<◌, ◌≤◌, inl, inr, sym, ◌∙◌, ap, subst, refl, arith, Bool, true, false, if◌then◌else◌}
 use Rattle.std.proofs.lemmas.Bool.{cases_order}
-use Rattle.spec_model.specs.Diagrams.{Diagram, constant, branch, Bits, value, IsLater, IsReduced, IsPartOf, Reads}
+use Rattle.spec_model.specs.Diagrams.{Diagram, constant, branch, Bits, value, with_bit, IsLater, IsReduced, IsWithin, IsPartOf, Reads}
 use Rattle.spec_model.proofs.Diagrams.{same_function, value-with_bit, value_at_false, value_at_true}
 use Rattle.bdd_ops.specs.Functions.{Ignores, IgnoresTo}
+use Rattle.bdd_ops.proofs.FunctionLemmas.{with_bit-swapped}
 
 -- a diagram of later levels is one of levels later than an earlier one
 pub later_than_earlier : (d : Diagram) (m level : ℕ) → m ≤ level → IsLater level d → IsLater m d
@@ -67,3 +68,33 @@ pub value_read : (d : Diagram) (u v : Bits) → ((x : ℕ) → Reads x d → u x
 value_read (constant b) u v agree = refl
 value_read (branch own low high) u v agree =
     if_same (u own) (v own) (value high u) (value high v) (value low u) (value low v) (agree own (inl refl)) (value_read high u v (λ x reads. agree x (inr (inr reads)))) (value_read low u v (λ x reads. agree x (inr (inl reads))))
+
+-- a part ignores a later level that the whole ignores
+low_ignores : (own : ℕ) (low high : Diagram) (x : ℕ) → IsReduced (branch own low high) → own < x → Ignores x (value (branch own low high)) → Ignores x (value low)
+low_ignores own low high x reduced before ignores s b =
+    sym (value_at_false own low high (with_bit s x b) reduced)
+    ∙ (ap (value (branch own low high)) (with_bit-swapped s own x b false (λ same. omega arith))
+    ∙ (ignores (with_bit s own false) b ∙ value_at_false own low high s reduced))
+
+high_ignores : (own : ℕ) (low high : Diagram) (x : ℕ) → IsReduced (branch own low high) → own < x → Ignores x (value (branch own low high)) → Ignores x (value high)
+high_ignores own low high x reduced before ignores s b =
+    sym (value_at_true own low high (with_bit s x b) reduced)
+    ∙ (ap (value (branch own low high)) (with_bit-swapped s own x b true (λ same. omega arith))
+    ∙ (ignores (with_bit s own true) b ∙ value_at_true own low high s reduced))
+
+-- a reduced diagram depends on each level that stands in it
+pub reads_depends : (d : Diagram) (x : ℕ) → IsReduced d → Reads x d → Ignores x (value d) → ⊥
+reads_depends (constant b) x reduced reads ignores = reads
+reads_depends (branch own low high) x reduced (inl same) ignores =
+    own_is_read own low high reduced (subst (λ (l : ℕ). Ignores l (value (branch own low high))) same ignores)
+reads_depends (branch own low high) x reduced (inr (inl in_low)) ignores =
+    reads_depends low x reduced.3 in_low (low_ignores own low high x reduced (reads_later low own x reduced.3 reduced.1 in_low) ignores)
+reads_depends (branch own low high) x reduced (inr (inr in_high)) ignores =
+    reads_depends high x reduced.4 in_high (high_ignores own low high x reduced (reads_later high own x reduced.4 reduced.2 in_high) ignores)
+
+-- the levels that stand in a diagram are within its levels
+pub reads_within : (d : Diagram) (n x : ℕ) → IsWithin n d → Reads x d → x < n
+reads_within (constant b) n x within reads = absurd reads
+reads_within (branch own low high) n x within (inl same) = rw same within.0
+reads_within (branch own low high) n x within (inr (inl in_low)) = reads_within low n x within.1 in_low
+reads_within (branch own low high) n x within (inr (inr in_high)) = reads_within high n x within.2 in_high

@@ -1,4 +1,5 @@
 pub mod FunctionLemmas
+pub mod ReadingLemmas
 pub mod DiagramLemmas
 pub mod StepLemmas
 pub mod ChoiceLemmas
@@ -10,4 +11,5 @@ pub mod CallLemmas
 pub mod ListLemmas
 pub mod ListCallLemmas
 pub mod ShiftLemmas
+pub mod RisingLemmas
 pub mod PathLemmas

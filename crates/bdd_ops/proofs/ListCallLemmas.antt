@@ -6,8 +6,8 @@ use Rattle.bdd_store.specs.declared.fault.StoreFault.{StoreFault}
 use Rattle.bdd_store.specs.State.{diagram_of}
 use Rattle.bdd_ops.specs.Functions.{joined, joined_over, join_of}
 use Rattle.bdd_ops.specs.Contents.{Contents, function_at, list_at}
-use Rattle.bdd_ops.specs.Steps.{IsUnfinished, IsQuantifiedPart, IsRelatedPart, IsShift, IsShiftedPart}
-use Rattle.bdd_ops.specs.Calls.{GivesRoot}
+use Rattle.bdd_ops.specs.Steps.{IsUnfinished, IsQuantifiedPart, IsRelatedPart, IsShiftedPart}
+use Rattle.bdd_ops.specs.Calls.{GivesRoot, RisesOver}
 use Rattle.bdd_ops.proofs.CallLemmas.{same_start}
 use Rattle.bdd_ops.proofs.FunctionLemmas.{exists_over-joined, forall_over-joined}
 
@@ -47,11 +47,11 @@ and_exists_start old mid new result list a b levels table kept is_list gives =
     same_start old mid new result _ _ _ _ table kept refl (λ d made. made) of_table in
     subst (λ (f : Function). GivesRoot old new result f (IsUnfinished (join_of false) (IsRelatedPart levels (diagram_of old.state a) (diagram_of old.state b)))) (sym (exists_over-joined levels (joined (join_of true) (function_at old a) (function_at old b)))) joined_is
 
--- a list that shifts a diagram still does when it is looked up
-pub shift_listed : (old mid : Contents) (list a : ℕ) (to : List ℕ) → mid.state.table ≡ old.state.table → list_at mid list ≡ to → IsShift old.state.table.levels to (diagram_of old.state a) → IsShift mid.state.table.levels (list_at mid list) (diagram_of mid.state a)
-shift_listed old mid list a to table is_list is =
-    let of_table : IsShift mid.state.table.levels to (diagram_of mid.state a) = subst (λ (t : Table). IsShift t.levels to (diagram_at t a)) (sym table) is in
-    subst (λ (l : List ℕ). IsShift mid.state.table.levels l (diagram_of mid.state a)) (sym is_list) of_table
+-- a list that rises over what a root reads still does when it is looked up
+pub rising_listed : (old mid : Contents) (list a : ℕ) (to : List ℕ) → mid.state.table ≡ old.state.table → list_at mid list ≡ to → RisesOver old.state.table.levels to (function_at old a) → RisesOver mid.state.table.levels (list_at mid list) (function_at mid a)
+rising_listed old mid list a to table is_list rises =
+    let of_table : RisesOver mid.state.table.levels to (function_at mid a) = subst (λ (t : Table). RisesOver t.levels to (value (diagram_at t a))) (sym table) rises in
+    subst (λ (l : List ℕ). RisesOver mid.state.table.levels l (function_at mid a)) (sym is_list) of_table
 
 pub shift_start : (old mid new : Contents) (result : Result ℕ StoreFault) (list a : ℕ) (to : List ℕ) → mid.state.table ≡ old.state.table → mid.state.kept ≡ old.state.kept → list_at mid list ≡ to →
     GivesRoot mid new result (shifted (list_at mid list) (function_at mid a)) (IsShiftedPart (list_at mid list) (diagram_of mid.state a)) → GivesRoot old new result (shifted to (function_at old a)) (IsShiftedPart to (diagram_of old.state a))

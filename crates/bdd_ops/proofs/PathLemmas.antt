@@ -1,9 +1,9 @@
 -- One level of the search for the first bits.
-use Rattle.std.proofs.Common.{◌≡◌, ◌⊎◌, ◌≤◌, ◌<◌, ◌+◌, ◌-◌, ℕ, zero, suc, inl, inr, sym, ◌∙◌, ap, subst, refl, arith, add-one, Bool, true, false, Option, Some, None, List, if◌then◌else◌}
+use Rattle.std.proofs.Common.{◌≡◌, ◌⊎◌, ◌<◌, ◌+◌, ◌-◌, ℕ, suc, inl, inr, sym, ◌∙◌, subst, refl, arith, add-one, Bool, true, false, Option, List, if◌then◌else◌}
 use Rattle.std.proofs.lemmas.Bool.{cases_order}
 use Rattle.spec_model.specs.Diagrams.{Bits, Function}
 use Rattle.bdd_ops.specs.Functions.{split}
-use Rattle.bdd_ops.specs.Paths.{AgreesAt, Agrees, fixed_at, NotAfter, IsFirst, IsFirstAt, HasNone}
+use Rattle.bdd_ops.specs.Paths.{AgreesAt, Agrees, fixed_at, IsFirst, IsFirstAt, HasNone}
 
 -- bits that agree at a level and from the next on agree from it on
 agrees_from : (fixed : List (Option Bool)) (level : ℕ) (s : Bits) → AgreesAt (fixed_at fixed level) (s level) → Agrees fixed (suc level) s → Agrees fixed level s

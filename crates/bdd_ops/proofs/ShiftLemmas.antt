@@ -1,11 +1,12 @@
 -- The step of a shift.
 use Rattle.std.proofs.Common.{◌≡◌, ◌≢◌, ℕ, ◌<◌, ◌≤◌, inl, sym, ◌∙◌, ap, subst, refl, arith, List, [], length, slice_index_or}
-use Rattle.spec_model.specs.Diagrams.{Diagram, constant, branch, Function, with_bit, value, shifted, IsPartOf, Reads}
+use Rattle.spec_model.specs.Diagrams.{Diagram, constant, branch, Function, with_bit, value, shifted, IsReduced, IsWithin, IsPartOf, Reads}
 use Rattle.bdd_store.specs.State.{IsEdge, diagram_of, KeepsEdges}
 use Rattle.bdd_ops.specs.Functions.{split, IgnoresTo}
 use Rattle.bdd_ops.specs.Contents.{Contents, function_at, list_at}
 use Rattle.bdd_ops.specs.Steps.{Grows, HasFunction, IsSplitAt, IsSplit, IsShiftedPart, IsShift, level_of, level_at}
-use Rattle.bdd_ops.proofs.DiagramLemmas.{part_of_itself, part_of_part, reads_part, value_read}
+use Rattle.bdd_ops.specs.Calls.{RisesOver}
+use Rattle.bdd_ops.proofs.DiagramLemmas.{part_of_itself, part_of_part, reads_part, reads_depends, reads_within, value_read}
 use Rattle.bdd_ops.proofs.FunctionLemmas.{with_bit-other}
 use Rattle.bdd_ops.proofs.StepLemmas.{grows_on, grows_more}
 use Rattle.bdd_ops.proofs.ChoiceLemmas.{carried}
@@ -16,6 +17,14 @@ shifted_at c list a = shifted (list_at c list) (function_at c a)
 
 abbrev pub MayShift : Contents → ℕ → ℕ → Diagram → Type 0
 MayShift c list a = IsShiftedPart (list_at c list) (diagram_of c.state a)
+
+-- a list that rises over the levels that the function depends on rises over those that stand in its diagram
+pub shift_of_rising : (levels : ℕ) (to : List ℕ) (d : Diagram) → IsReduced d → IsWithin levels d → RisesOver levels to (value d) → IsShift levels to d
+shift_of_rising levels to d reduced within rises = record {
+  known = λ x reads. rises.known x (reads_within d levels x within reads) (reads_depends d x reduced reads);
+  below = λ x reads. rises.below x (reads_within d levels x within reads) (reads_depends d x reduced reads);
+  rising = λ x y reads_x reads_y before. rises.rising x y before (reads_within d levels y within reads_y) (reads_depends d x reduced reads_x) (reads_depends d y reduced reads_y);
+}
 
 -- what may be shifted may be shifted in parts
 pub shift_part : (levels : ℕ) (to : List ℕ) (part d : Diagram) → IsPartOf part d → IsShift levels to d → IsShift levels to part

@@ -1,9 +1,10 @@
 -- What a call of diagrams gives and leaves.
-use Rattle.std.specs.Prelude.{◌≡◌, ◌⊎◌, ℕ, not, Result, Err, IfOk, OnErr}
+use Rattle.std.specs.Prelude.{◌≡◌, ◌<◌, ◌⊎◌, ℕ, not, List, length, slice_index_or, Result, Err, IfOk, OnErr}
 use Rattle.spec_model.specs.Diagrams.{Diagram, Function, value, IsPartOf}
 use Rattle.bdd_store.specs.declared.fault.StoreFault.{StoreFault}
 use Rattle.bdd_store.specs.declared.fault.StoreFault.TheVariants.{Full}
 use Rattle.bdd_store.specs.State.{IsEdge, IsRoot, diagram_of, AddsRoot, SameRoots, IsFull}
+use Rattle.bdd_ops.specs.Functions.{DependsOn}
 use Rattle.bdd_ops.specs.Contents.{Contents, function_at}
 
 -- each kept root is the diagram that it was, and the levels and the budget stay
@@ -34,3 +35,9 @@ pub record IsNegatedPart (a made : Diagram) : Type 0 where
   pub x : Diagram
   pub x_part : IsPartOf x a
   pub is_negated : value made ≡ negated (value x)
+
+-- the list gives each of so many levels that the function reads one of them, and rises over them
+pub record RisesOver (levels : ℕ) (to : List ℕ) (f : Function) : Type 0 where
+  pub known : (x : ℕ) → x < levels → DependsOn x f → x < length to
+  pub below : (x : ℕ) → x < levels → DependsOn x f → slice_index_or to x x < levels
+  pub rising : (x y : ℕ) → x < y → y < levels → DependsOn x f → DependsOn y f → slice_index_or to x x < slice_index_or to y y

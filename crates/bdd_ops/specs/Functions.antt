@@ -10,6 +10,10 @@ split level low high s = if s level then high s else low s
 abbrev pub Ignores : ℕ → Function → Type 0
 Ignores level f = (s : Bits) (b : Bool) → f (with_bit s level b) ≡ f s
 
+-- the function reads the level
+abbrev pub DependsOn : ℕ → Function → Type 0
+DependsOn level f = Ignores level f → ⊥
+
 -- the function reads no level up to this one
 abbrev pub IgnoresTo : ℕ → Function → Type 0
 IgnoresTo level f = (m : ℕ) → m ≤ level → Ignores m f

@@ -3,3 +3,4 @@ pub mod Contents
 pub mod Steps
 pub mod Calls
 pub mod Paths
+pub mod Reading

@@ -5,8 +5,8 @@ ghost use Rattle.spec_model.specs.Diagrams.{ite, value, exists_over, forall_over
 ghost use Rattle.bdd_store.specs.State.{IsRoot, diagram_of};
 ghost use Rattle.bdd_ops.specs.Functions.{joined, joined_over, join_of};
 ghost use Rattle.bdd_ops.specs.Contents.{function_at, list_at};
-ghost use Rattle.bdd_ops.specs.Steps.{IsChoiceOfParts, IsJoinOfParts, IsUnfinished, IsQuantifiedPart, IsRelatedPart, IsShift, IsShiftedPart};
-ghost use Rattle.bdd_ops.specs.Calls.{GivesRoot, IsNegatedPart, negated};
+ghost use Rattle.bdd_ops.specs.Steps.{IsChoiceOfParts, IsJoinOfParts, IsUnfinished, IsQuantifiedPart, IsRelatedPart, IsShiftedPart};
+ghost use Rattle.bdd_ops.specs.Calls.{GivesRoot, IsNegatedPart, RisesOver, negated};
 
 use crate::diagrams::Diagrams;
 use bdd_store::{Root, StoreFault};
@@ -113,11 +113,11 @@ impl Diagrams {
         self.related_root(list, a, b)
     }
 
-    /// The diagram whose level `k` is `a`'s where the list gives `to[k]` for it. The list rises over the levels that
-    /// `a` reads.
+    /// The diagram that reads at level `to[k]` what `a` reads at level `k`. The list rises over the levels that `a`
+    /// depends on; the laws tell which those are at most.
     pub fn shift(&mut self, a: &Root, to: &[u32]) -> Result<Root, StoreFault>
         requires kept { IsRoot self.old.state a.now }
-        requires rising { IsShift self.old.state.table.levels to.now (diagram_of self.old.state a.now) }
+        requires rising { RisesOver self.old.state.table.levels to.now (function_at self.old a.now) }
         ensures { GivesRoot self.old self.new result (shifted to.now (function_at self.old a.now)) (IsShiftedPart to.now (diagram_of self.old.state a.now)) }
     {
         let list = self.list(to)?;
@@ -127,7 +127,7 @@ impl Diagrams {
     fn moved_root(&mut self, list: usize, a: &Root) -> Result<Root, StoreFault>
         requires list { list < length self.old.lists }
         requires kept { IsRoot self.old.state a.now }
-        requires rising { IsShift self.old.state.table.levels (list_at self.old list) (diagram_of self.old.state a.now) }
+        requires rising { RisesOver self.old.state.table.levels (list_at self.old list) (function_at self.old a.now) }
         ensures { GivesRoot self.old self.new result (shifted (list_at self.old list) (function_at self.old a.now)) (IsShiftedPart (list_at self.old list) (diagram_of self.old.state a.now)) }
     {
         let a = self.edge(a);

@@ -13,11 +13,14 @@ mod calls;
 mod choice;
 mod diagrams;
 mod joins;
+pub mod laws;
 mod level_list;
+mod lists;
 mod look;
 mod paths;
 mod quantify;
 mod relate;
+mod remembered;
 mod shift;
 
 pub use bdd_store::{Root, StoreFault};
@@ -25,6 +28,8 @@ pub use diagrams::Diagrams;
 /// Memory ran out.
 pub use std::alloc::AllocError as OutOfMemory;
 
+#[cfg(test)]
+mod shift_tests;
 #[cfg(test)]
 mod table_tests;
 #[cfg(test)]

@@ -45,7 +45,7 @@ fn of_four(rt: &impl Abort, diagrams: &mut Diagrams, table: u32) -> Root
 }
 
 /// The diagram of a table of three levels.
-fn of_eight(rt: &impl Abort, diagrams: &mut Diagrams, table: u32) -> Root
+pub(crate) fn of_eight(rt: &impl Abort, diagrams: &mut Diagrams, table: u32) -> Root
     requires levels { diagrams.old.state.table.levels ≡ 3 }
     ensures added { AddsRoot diagrams.old.state diagrams.new.state result }
     ensures levels { diagrams.new.state.table.levels ≡ 3 }
@@ -59,7 +59,7 @@ fn of_eight(rt: &impl Abort, diagrams: &mut Diagrams, table: u32) -> Root
 }
 
 /// Compares a diagram with its table, and gives it back.
-fn compare(rt: &impl Abort, diagrams: &mut Diagrams, made: Root, table: u32)
+pub(crate) fn compare(rt: &impl Abort, diagrams: &mut Diagrams, made: Root, table: u32)
     requires kept { IsRoot diagrams.old.state made }
     requires levels { diagrams.old.state.table.levels ≡ 3 }
     ensures released { AddsRoot diagrams.new.state diagrams.old.state made }
@@ -77,7 +77,7 @@ fn compare(rt: &impl Abort, diagrams: &mut Diagrams, made: Root, table: u32)
 }
 
 /// The table that joins both halves at a level.
-fn folded(table: u32, level: u32, all: bool) -> u32 {
+pub(crate) fn folded(table: u32, level: u32, all: bool) -> u32 {
     let (step, half) = match level {
         0 => (4, 0x0f),
         1 => (2, 0x33),

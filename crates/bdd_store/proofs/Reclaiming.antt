@@ -56,6 +56,19 @@ live_of_get [] n e = cc
 live_of_get (b ∷ live) zero e = cc
 live_of_get (b ∷ live) (suc n) e = live_of_get live n e
 
+get_of_live : (live : List Bool) (n : ℕ) → get_or live n false ≡ true → slice_get live n ≡ Some true
+get_of_live [] n e = cc
+get_of_live (b ∷ live) zero e = cc
+get_of_live (b ∷ live) (suc n) e = get_of_live live n e
+
+pub has_live_nodes : (t : Table) (a : Answer) → IsLive t a.a × IsLive t a.b × IsLive t a.c × IsLive t a.r → HasLiveNodes t.live a
+has_live_nodes t a live = record {
+  a = get_of_live t.live a.a live.0;
+  b = get_of_live t.live a.b live.1;
+  c = get_of_live t.live a.c live.2;
+  r = get_of_live t.live a.r live.3;
+}
+
 -- ---- the sweep
 
 module _ (s : State) (roots : ℕ) (whole : IsWhole s roots) (t1 t2 : Table) (marks : MarksKept s.table t1 s.kept (length s.kept)) (sound1 : IsSound t1) (sweeps : Sweeps t1 t2) (sound2 : IsSound t2) where

@@ -39,11 +39,15 @@ IsFull s = count_of s.table ≡ s.table.budget
 abbrev pub HasAnswer : State → Answer → Type 0
 HasAnswer s a = IsKept s.answers a
 
+-- each node that the answer speaks of is live
+abbrev pub IsOfLiveNodes : State → Answer → Type 0
+IsOfLiveNodes s a = IsEdge s a.a × IsEdge s a.b × IsEdge s a.c × IsEdge s a.r
+
 -- roots and answers are of live nodes, which stand for reduced diagrams, and one node stands for each function
 pub record IsStore (s : State) : Type 0 where
   pub sound : IsSound s.table
   pub roots_live : (n : ℕ) → IsRoot s n → IsEdge s n
-  pub answers_live : (a : Answer) → HasAnswer s a → IsEdge s a.a × IsEdge s a.b × IsEdge s a.c × IsEdge s a.r
+  pub answers_live : (a : Answer) → HasAnswer s a → IsOfLiveNodes s a
   pub reduced : (n : ℕ) → IsEdge s n → IsReduced (diagram_of s n)
   pub within : (n : ℕ) → IsEdge s n → IsWithin s.table.levels (diagram_of s n)
   pub one : (n m : ℕ) → IsEdge s n → IsEdge s m → value (diagram_of s n) ≡ value (diagram_of s m) → n ≡ m

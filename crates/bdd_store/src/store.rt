@@ -2,7 +2,7 @@ ghost use Rattle.std.specs.Prelude.{◌≡◌, ◌≢◌, ◌<◌, ◌≤◌, �
 ghost use Rattle.spec_model.specs.Diagrams.{Diagram, constant, branch, value, Bits, IsLater};
 ghost use Rattle.node_table.specs.Table.{count_of, Table};
 ghost use Rattle.bdd_cache.specs.declared.answer.Answer.{Answer};
-ghost use Rattle.bdd_store.specs.State.{State, IsStore, IsEdge, IsRoot, diagram_of, HasDiagram, IsFull, HasAnswer, KeepsEdges, SameRoots, AddsRoot, IsReached, IsConstant, HasParts, IsNewStore, roots_at};
+ghost use Rattle.bdd_store.specs.State.{State, IsStore, IsEdge, IsRoot, diagram_of, HasDiagram, IsFull, HasAnswer, IsOfLiveNodes, KeepsEdges, SameRoots, AddsRoot, IsReached, IsConstant, HasParts, IsNewStore, roots_at};
 
 use crate::OutOfMemory;
 use crate::edge::Edge;
@@ -93,12 +93,13 @@ impl Store {
         take_root(&mut self.kept, &mut self.roots, node);
     }
 
-    /// Frees each node other than the constants that no kept root reaches, and the answers about it.
+    /// Frees each node other than the constants that no kept root reaches, and the answers about it. Answers about
+    /// nodes that stay stay too.
     pub fn reclaim(&mut self)
         ensures live { (n : ℕ) → IsEdge self.new n ↔ ((n < 2) ⊎ IsReached self.old n) }
         ensures meaning { (n : ℕ) → IsEdge self.new n → diagram_of self.new n ≡ diagram_of self.old n }
         ensures roots { SameRoots self.old self.new }
-        ensures answers { (a : Answer) → HasAnswer self.new a → HasAnswer self.old a }
+        ensures answers { (a : Answer) → HasAnswer self.new a ↔ (HasAnswer self.old a × IsOfLiveNodes self.new a) }
         ensures bounds { (self.new.table.levels ≡ self.old.table.levels) × (self.new.table.budget ≡ self.old.table.budget) }
         ensures sound { IsStore self.new }
     {

@@ -4,13 +4,14 @@ use Rattle.std.specs.Prelude.{nat_lt}
 use Rattle.node_table.specs.declared.node.Node.{Node}
 use Rattle.node_table.specs.Table.{Table, no_node, IsSound, count_of}
 
--- a node's number, by odd factors near the golden ratio's multiples (Knuth, multiplicative hashing)
+-- what level and high part are mixed into, by odd factors near the golden ratio's multiples (Knuth, multiplicative
+-- hashing)
 abbrev pub mixed : Node → ℕ
-mixed node = ((node.low * 0x9e3779b97f4a7c15 % 2 ^ 64 + node.high * 0xd6e8feb86659fd93 % 2 ^ 64) % 2 ^ 64 + node.level * 0xa0761d6478bd642f % 2 ^ 64) % 2 ^ 64
+mixed node = (node.high * 0x9e3779b97f4a7c15 % 2 ^ 64 + node.level * 0xd6e8feb86659fd93 % 2 ^ 64) % 2 ^ 64
 
--- the slot where the search for a node begins
+-- the slot where the search for a node begins: nodes over low parts that were made together stand together
 abbrev pub start_of : Node → ℕ → ℕ
-start_of node size = bit_and (mixed node / 2 ^ 32) (size - 1)
+start_of node size = bit_and (mixed node / 2 ^ 32 + 4 * node.low) (size - 1)
 
 -- the slot that is so many steps behind another, the first following the last
 abbrev pub slot_after : ℕ → ℕ → ℕ → ℕ

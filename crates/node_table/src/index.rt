@@ -11,11 +11,10 @@ fn start(node: Node, size: usize) -> usize
     ensures value { result ≡ start_of node size }
     ensures within { result < size }
 {
-    let low = u64::from(node.low).wrapping_mul(0x9e37_79b9_7f4a_7c15);
-    let high = u64::from(node.high).wrapping_mul(0xd6e8_feb8_6659_fd93);
-    let level = u64::from(node.level).wrapping_mul(0xa076_1d64_78bd_642f);
-    let sum = low.wrapping_add(high).wrapping_add(level);
-    (sum >> 32) as usize & (size - 1)
+    let high = u64::from(node.high).wrapping_mul(0x9e37_79b9_7f4a_7c15);
+    let level = u64::from(node.level).wrapping_mul(0xd6e8_feb8_6659_fd93);
+    let mixed = high.wrapping_add(level) >> 32;
+    (mixed + 4 * u64::from(node.low)) as usize & (size - 1)
 }
 
 /// The slot that names the node, or the empty one in which its number would be found.

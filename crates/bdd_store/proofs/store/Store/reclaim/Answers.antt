@@ -2,7 +2,7 @@ use Rattle.std.proofs.Common.{◌<◌, ◌⊎◌, subst, sym}
 use Rattle.bdd_store.specs.State.{IsReached, HasAnswer}
 use Rattle.bdd_store.specs.contracts.store.Store.{the_view}
 use Rattle.bdd_store.proofs.Whole.{store_of_whole}
-use Rattle.bdd_store.proofs.Reclaiming.{stays, stayed, swept_whole}
+use Rattle.bdd_store.proofs.Reclaiming.{stays, stayed, swept_whole, has_live_nodes}
 use Rattle.bdd_cache.specs.Kept.{HasLiveNodes}
 use Rattle.bdd_store.proofs.store.Store.reclaim.Goals as goal
 
@@ -14,7 +14,10 @@ pub returns-clause-sound : goal.returns-clause-sound
 returns-clause-sound c = store_of_whole _ c.self.inside.roots (invariant_of-self c)
 
 pub returns-clause-answers : goal.returns-clause-answers
-returns-clause-answers c a kept = subst (λ s. HasAnswer s a) c.self.view_is ((c.keep_only.ensures a).0 kept).0
+returns-clause-answers c a = (
+  (λ kept. (subst (λ s. HasAnswer s a) c.self.view_is ((c.keep_only.ensures a).0 kept).0, (invariant_of-self c).answers_live a kept)),
+  (λ stays. (c.keep_only.ensures a).1 (subst (λ s. HasAnswer s a) (sym c.self.view_is) stays.0, subst (λ live. HasLiveNodes live a) (sym c.live.ensures) (has_live_nodes c.sweep.new.self a stays.1))),
+)
 
 pub returns-clause-live : goal.returns-clause-live
 returns-clause-live c n = (
