@@ -1,0 +1,6 @@
+pub mod Shown
+pub mod Reading
+pub mod InputLines
+pub mod Pieces
+pub mod Taking
+pub mod Room
