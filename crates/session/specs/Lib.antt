@@ -4,3 +4,4 @@ pub mod InputLines
 pub mod Pieces
 pub mod Taking
 pub mod Room
+pub mod Views
