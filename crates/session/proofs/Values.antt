@@ -16,7 +16,7 @@ use Rattle.session.specs.Reading.{IsWritten}
 
 -- ---- whole numbers
 
-mag_between : (z lo hi : ℤ) (n : ℕ) → lo ≤ℤ z → z ≤ℤ hi → mag lo < n → mag hi < n → mag z < n
+pub mag_between : (z lo hi : ℤ) (n : ℕ) → lo ≤ℤ z → z ≤ℤ hi → mag lo < n → mag hi < n → mag z < n
 mag_between (pos z) lo (pos hi) n low high lo_fits hi_fits = omega (arith, ints)
 mag_between (pos z) lo (negsuc hi) n low high lo_fits hi_fits = absurd (omega (arith, ints))
 mag_between (negsuc z) (pos lo) hi n low high lo_fits hi_fits = absurd (omega (arith, ints))

@@ -5,3 +5,4 @@ pub mod Pieces
 pub mod Taking
 pub mod Room
 pub mod Views
+pub mod Plain

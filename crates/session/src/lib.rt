@@ -7,12 +7,15 @@
 //! it reads as an assignment; `Lines::write_output` writes a whole line. Path: verdict → **lines**.
 #![tactic(auto)]
 
+pub mod laws;
 mod lines;
 mod make;
 mod number;
 mod print;
 mod read;
 mod reader;
+#[cfg(test)]
+mod tests;
 mod value;
 mod word;
 

@@ -13,6 +13,7 @@ use crate::make::{copy_names, copy_vars, room_for};
 use crate::print::{push_bytes, push_line};
 use crate::read::read_line;
 use crate::reader::{Reader, Taken};
+use crate::value::are_values;
 use sp_outside::{Failed, OutOfMemory, Sink, Source, write_line};
 use spec_model::spec::Spec;
 use spec_model::value::{Owner, Value, Var};
@@ -74,6 +75,13 @@ impl Lines {
         self.reader.next_line(input)
     }
 
+    /// The line at hand, without its line feed.
+    pub fn line(&self) -> &[u8]
+        ensures { result.now ≡ line_of self.now }
+    {
+        self.reader.line()
+    }
+
     /// Reads the line at hand as an input, and says whether it reads as one. It takes no memory.
     pub fn read_input(&mut self) -> bool
         ensures read { OnTrue result (Reads (names_of self.old) (input_variables self.old) (line_of self.old) (input_of self.new)) }
@@ -96,9 +104,16 @@ impl Lines {
         &self.input
     }
 
+    /// Whether these are an output: values of its variables, one for each.
+    pub fn is_output(&self, values: &[Value]) -> bool
+        ensures { result ≡ is_assignment (domains (output_variables self.now)) values.now }
+    {
+        are_values(&self.outputs, values)
+    }
+
     /// Sets the output that is written next.
     pub fn set_output(&mut self, values: &[Value])
-        requires { length values.now ≡ length (output_variables self.old) }
+        requires { is_assignment (domains (output_variables self.old)) values.now ≡ true }
         ensures output { output_of self.new ≡ values.now }
         ensures keeps { KeepsTables self.old self.new }
         ensures reader { KeepsReader self.old self.new }

@@ -2,13 +2,14 @@
 
 ghost use Rattle.std.specs.Prelude.{◌≡◌, [], List, ℕ, ℤ, map, string_bytes, slice_index_or, IfSome, IfNone};
 ghost use Rattle.spec_model.specs.declared.value.Value.{Value};
-ghost use Rattle.spec_model.specs.Values.{TruthValues, WholeNumbers, Enumeration};
-ghost use Rattle.spec_model.specs.Views.{domain_data};
+ghost use Rattle.spec_model.specs.Values.{TruthValues, WholeNumbers, Enumeration, is_assignment};
+ghost use Rattle.spec_model.specs.Views.{domain_data, variable_data};
 ghost use Rattle.session.specs.Reading.{IsWritten};
+ghost use Rattle.session.specs.Room.{domains};
 
 use crate::number::number_in;
 use spec_model::judge::has_value;
-use spec_model::value::{Domain, Value};
+use spec_model::value::{Domain, Value, Var};
 
 /// The text of an enum name; of one that isn't there, the empty text.
 pub fn name_text(names: &[String], n: u16) -> &[u8]
@@ -70,4 +71,19 @@ pub fn value_in(names: &[String], domain: &Domain, text: &[u8]) -> Option<Value>
         Domain::Range { lo, hi } => whole_in(*lo, *hi, text),
         Domain::Names(domain) => name_in(names, domain, text),
     }
+}
+
+/// Whether these are values of the variables, one for each.
+pub fn are_values(vars: &[Var], values: &[Value]) -> bool
+    ensures { result ≡ is_assignment (domains (map variable_data vars.now)) values.now }
+{
+    if vars.len() != values.len() {
+        return false;
+    }
+    for (i, var) in vars.iter().enumerate() {
+        if !has_value(&var.domain, values[i]) {
+            return false;
+        }
+    }
+    true
 }
