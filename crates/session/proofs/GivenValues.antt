@@ -27,6 +27,6 @@ module _ (names ws : List (List ℕ)) where
   given_more vars values i v x here there is front last =
       let more = given_push (map variable_data (take i vars)) (take i values) (variable_data v) x front last in
       let longer : map variable_data (take (i + 1) vars) ≡ map variable_data (take i vars) ++ variable_data v ∷ [] =
-              map_more variable_data vars i v here ∙ ap (λ (u : Var). map variable_data (take i vars) ++ variable_data u ∷ []) (sym is) in
+      map_more variable_data vars i v here ∙ ap (λ (u : Var). map variable_data (take i vars) ++ variable_data u ∷ []) (sym is) in
       subst (λ (xs : Assignment). AreGiven names ws (map variable_data (take (i + 1) vars)) xs) (sym (take_more_set values i x there))
       (subst (λ (vs : List VariableData). AreGiven names ws vs (take i values ++ x ∷ [])) (sym longer) more)

@@ -108,10 +108,11 @@ items_words names [] [] are writable plain within = tt
 items_words names [] (x ∷ xs) are writable plain within = tt
 items_words names (v ∷ vs) [] are writable plain within = tt
 items_words names (v ∷ vs) (x ∷ xs) are writable plain within =
-    let parts = and_parts (list_any (same_value x) (values_of v.domain)) (is_assignment (domains vs) xs) within in
-    (item_whole v.name (text_of names x) plain.0 (text_whole names are v.domain writable.0 x parts.0),
-     omega (arith, length-append v.name (61 ∷ text_of names x)),
-     items_words names vs xs are writable.1 plain.2 parts.1)
+    let parts = and_parts (list_any (same_value x) (values_of v.domain)) (is_assignment (domains vs) xs) within in (
+      item_whole v.name (text_of names x) plain.0 (text_whole names are v.domain writable.0 x parts.0),
+      omega (arith, length-append v.name (61 ∷ text_of names x)),
+      items_words names vs xs are writable.1 plain.2 parts.1,
+    )
 
 -- ---- whose item a word is
 
@@ -174,11 +175,12 @@ items_none names v (u ∷ vs) (x ∷ xs) plain others =
 -- its item gives the others nothing
 item_none : (names ws : List (List ℕ)) (v : VariableData) (x : Value) (vs : List VariableData) → IsPlain v.name → DiffersFrom v.name vs → GivesNone ws vs → GivesNone (ws ++ item_of names v x ∷ []) vs
 item_none names ws v x [] plain others none = tt
-item_none names ws v x (u ∷ vs) plain others none =
-    (filter_map-append (after_name u.name) ws (item_of names v x ∷ [])
-     ∙ ap (λ (l : List (List ℕ)). l ++ cons_option (after_name u.name (item_of names v x)) []) none.0
-     ∙ ap (λ (o : Option (List ℕ)). cons_option o []) (other_item u.name v.name (text_of names x) others.1 plain (λ e. others.0 (sym e))),
-     item_none names ws v x vs plain others.2 none.1)
+item_none names ws v x (u ∷ vs) plain others none = (
+  filter_map-append (after_name u.name) ws (item_of names v x ∷ [])
+      ∙ ap (λ (l : List (List ℕ)). l ++ cons_option (after_name u.name (item_of names v x)) []) none.0
+      ∙ ap (λ (o : Option (List ℕ)). cons_option o []) (other_item u.name v.name (text_of names x) others.1 plain (λ e. others.0 (sym e))),
+  item_none names ws v x vs plain others.2 none.1,
+)
 
 none_given : (vs : List VariableData) → GivesNone [] vs
 none_given [] = tt
@@ -195,13 +197,14 @@ items_given names before (v ∷ vs) (x ∷ xs) plain none within =
     let text = text_of names x in
     let rest = items_of names vs xs in
     let once : texts_given v (before ++ item_of names v x ∷ rest) ≡ text ∷ [] =
-            filter_map-append (after_name v.name) before (item_of names v x ∷ rest)
-            ∙ ap (λ (l : List (List ℕ)). l ++ cons_option (after_name v.name (item_of names v x)) (texts_given v rest)) none.0
-            ∙ ap (λ (o : Option (List ℕ)). cons_option o (texts_given v rest)) (own_item v.name text)
-            ∙ ap (λ (l : List (List ℕ)). text ∷ l) (items_none names v vs xs plain.0 others) in
-    let later = items_given names (before ++ item_of names v x ∷ []) vs xs plain.2 (item_none names before v x vs plain.0 others none.1) parts.1 in
-    (record { text = text; once = once; written = record { text_is = refl; within = parts.0 } },
-     subst (λ (ws : List (List ℕ)). AreGiven names ws vs xs) (append_assoc before (item_of names v x ∷ []) rest) later)
+    filter_map-append (after_name v.name) before (item_of names v x ∷ rest)
+    ∙ ap (λ (l : List (List ℕ)). l ++ cons_option (after_name v.name (item_of names v x)) (texts_given v rest)) none.0
+    ∙ ap (λ (o : Option (List ℕ)). cons_option o (texts_given v rest)) (own_item v.name text)
+    ∙ ap (λ (l : List (List ℕ)). text ∷ l) (items_none names v vs xs plain.0 others) in
+    let later = items_given names (before ++ item_of names v x ∷ []) vs xs plain.2 (item_none names before v x vs plain.0 others none.1) parts.1 in (
+      record { text = text; once = once; written = record { text_is = refl; within = parts.0 } },
+      subst (λ (ws : List (List ℕ)). AreGiven names ws vs xs) (append_assoc before (item_of names v x ∷ []) rest) later,
+    )
 
 pub shown_reads : (names : List (List ℕ)) (vs : List VariableData) (xs : Assignment) → AreNames names → AreWritable names vs → ArePlain (map (λ v. v.name) vs) → is_assignment (domains vs) xs ≡ true → Reads names vs (show names vs xs) xs
 shown_reads names vs xs are writable plain within =

@@ -54,8 +54,10 @@ named_later names ns text i x here other is = record { text_is = is.text_is; wit
   where
     rest : Bool
     rest = list_any (same_value x) (map (λ n. value.Name n) (drop (i + 1) ns))
+
     cut : (same_value x (value.Name (get_or ns i 0)) || list_any (same_value x) (map (λ n. value.Name n) (drop (i + 1) ns))) ≡ true
     cut = ap (λ (l : List ℕ). list_any (same_value x) (map (λ n. value.Name n) l)) (sym (drop_more ns i 0 here)) ∙ is.within
+
     later : (same_value x (value.Name (get_or ns i 0)) ≡ true) ⊎ (list_any (same_value x) (map (λ n. value.Name n) (drop (i + 1) ns)) ≡ true) → list_any (same_value x) (map (λ n. value.Name n) (drop (i + 1) ns)) ≡ true
     later (inl same) = absurd (other (is.text_is ∙ ap (text_of names) (same_name x (get_or ns i 0) same)))
     later (inr among) = among

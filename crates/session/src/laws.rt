@@ -12,12 +12,10 @@ ghost use Rattle.session.specs.Plain.{ArePlain, AreWritable, AreNames};
 pub fn what_is_shown_is_read()
     ensures { (names : List (List ℕ)) (vs : List VariableData) (xs : Assignment) → AreNames names → AreWritable names vs
         → ArePlain (map (λ v. v.name) vs) → is_assignment (domains vs) xs ≡ true → Reads names vs (show names vs xs) xs }
-{
-}
+{}
 
 /// No line reads as two assignments.
 pub fn no_line_reads_as_two()
     ensures { (names : List (List ℕ)) (vs : List VariableData) (line : List ℕ) (xs ys : Assignment) → AreNames names → AreWritable names vs
         → Reads names vs line xs → Reads names vs line ys → xs ≡ ys }
-{
-}
+{}

@@ -134,12 +134,7 @@ impl Lines {
         ensures reader { KeepsReader self.old self.new }
     {
         self.printed.clear();
-        push_line(
-            &mut self.printed,
-            &self.names,
-            &self.outputs,
-            &self.output,
-        );
+        push_line(&mut self.printed, &self.names, &self.outputs, &self.output);
         push_bytes(&mut self.printed, b"\n");
         write_line(output, &self.printed)
     }

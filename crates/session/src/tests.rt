@@ -122,7 +122,11 @@ fn a_line_of_blanks_reads_where_nothing_is_wanted(rt: HostRuntime) -> Result<(),
 }
 
 // All lines of an input, each behind its mark: `|` where a line feed ends it, and `!` where the input ends in it.
-fn marked_lines(alloc: Global, lines: &mut Lines, source: &mut SlowSource) -> Result<Vec<u8>, Fail> {
+fn marked_lines(
+    alloc: Global,
+    lines: &mut Lines,
+    source: &mut SlowSource,
+) -> Result<Vec<u8>, Fail> {
     let mut all = Vec::new(alloc);
     for _ in 0..9 {
         match lines.next_line(source) {

@@ -36,7 +36,7 @@ returns-clause-text t c =
     let count = c.put_digits-count.result in
     let new = c.put_digits-count.new.buffer in
     let here : count < length new =
-            omega (arith, c.requires, longer c.args.n c.if-n-lt10.false c.ranges.n.fits, c.put_digits-count.auto.buffer, c.put_digits-count.ensures.within, ap length c.put_digits-count.ensures.text, length-take count new) in
+    omega (arith, c.requires, longer c.args.n c.if-n-lt10.false c.ranges.n.fits, c.put_digits-count.auto.buffer, c.put_digits-count.ensures.within, ap length c.put_digits-count.ensures.text, length-take count new) in
     take_more_set new count (48 + c.args.n % 10) here
     ∙ ap (λ (l : List ℕ). l ++ (48 + c.args.n % 10) ∷ []) c.put_digits-count.ensures.text
     ∙ sym (decimal_step c.args.n c.if-n-lt10.false c.ranges.n.fits)

@@ -15,5 +15,5 @@ returns-clause-part g c =
     let items = c.push_line.ensures.items in
     let printed : c.push_line.new.out.items ≡ c.clear.new.self.items ++ shown = cc in
     let line : c.deref-4.result.now ≡ shown ++ 10 ∷ [] =
-            c.deref-4.ensures.value ∙ c.push_bytes.ensures.items ∙ ap (λ (l : List ℕ). l ++ 10 ∷ []) (printed ∙ ap (λ (l : List ℕ). l ++ shown) c.clear.ensures.items) in
+    c.deref-4.ensures.value ∙ c.push_bytes.ensures.items ∙ ap (λ (l : List ℕ). l ++ 10 ∷ []) (printed ∙ ap (λ (l : List ℕ). l ++ shown) c.clear.ensures.items) in
     subst (λ (l : List ℕ). OnErr c.write_line.result (AppendsFront (g.O.Sink.written c.args.output.now) (g.O.Sink.written c.write_line.new.output) l)) line c.write_line.ensures.part
