@@ -47,3 +47,8 @@ pub record KeepsTables (old new : Lines) : Type 0 where
 pub record KeepsReader (old new : Lines) : Type 0 where
   pub pending : pending_of new ≡ pending_of old
   pub line : line_of new ≡ line_of old
+
+-- the last input and output stay
+pub record KeepsMoves (old new : Lines) : Type 0 where
+  pub input : input_of new ≡ input_of old
+  pub output : output_of new ≡ output_of old

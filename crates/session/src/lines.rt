@@ -40,7 +40,7 @@ impl Lines {
     ghost use Rattle.session.specs.Reading.{Reads};
     ghost use Rattle.session.specs.Room.{domains};
     ghost use Rattle.session.specs.Taking.{Takes};
-    ghost use Rattle.session.specs.Views.{pending_of, line_of, names_of, input_variables, output_variables, input_of, output_of, AreFor, KeepsTables, KeepsReader};
+    ghost use Rattle.session.specs.Views.{pending_of, line_of, names_of, input_variables, output_variables, input_of, output_of, AreFor, KeepsTables, KeepsReader, KeepsMoves};
 
     /// The lines of plays of a specification, before any byte was taken. It takes every buffer that later calls use.
     pub fn make(alloc: Global, spec: &Spec) -> Result<Lines, OutOfMemory>
@@ -69,6 +69,7 @@ impl Lines {
     pub fn next_line<I: Source>(&mut self, input: &mut I) -> Taken
         ensures takes { Takes (I.left input.old) (I.left input.new) (pending_of self.old) (line_of self.new) (pending_of self.new) result }
         ensures keeps { KeepsTables self.old self.new }
+        ensures moves { KeepsMoves self.old self.new }
         ensures later { I.faults input.old ≤ I.faults input.new }
         ensures cause { result ≡ Taken.Failed → Rose (I.faults input.old) (I.faults input.new) }
     {
@@ -86,6 +87,7 @@ impl Lines {
     pub fn read_input(&mut self) -> bool
         ensures read { OnTrue result (Reads (names_of self.old) (input_variables self.old) (line_of self.old) (input_of self.new)) }
         ensures refused { OnFalse result ((xs : Assignment) → Reads (names_of self.old) (input_variables self.old) (line_of self.old) xs → ⊥) }
+        ensures output { output_of self.new ≡ output_of self.old }
         ensures keeps { KeepsTables self.old self.new }
         ensures reader { KeepsReader self.old self.new }
     {
@@ -115,6 +117,7 @@ impl Lines {
     pub fn set_output(&mut self, values: &[Value])
         requires { is_assignment (domains (output_variables self.old)) values.now ≡ true }
         ensures output { output_of self.new ≡ values.now }
+        ensures input { input_of self.new ≡ input_of self.old }
         ensures keeps { KeepsTables self.old self.new }
         ensures reader { KeepsReader self.old self.new }
     {
@@ -132,6 +135,7 @@ impl Lines {
         ensures cause { HasCause (O.faults output.old) (O.faults output.new) result }
         ensures keeps { KeepsTables self.old self.new }
         ensures reader { KeepsReader self.old self.new }
+        ensures moves { KeepsMoves self.old self.new }
     {
         self.printed.clear();
         push_line(&mut self.printed, &self.names, &self.outputs, &self.output);
