@@ -1,26 +1,16 @@
 -- No line reads as two assignments.
-use Rattle.std.proofs.Common.{◌≡◌, ◌≢◌, ℕ, zero, suc, ◌+◌, ◌<◌, ◌≤◌, ◌^◌, ℤ, pos, negsuc, Bool, true, false, not, ◌&&◌, ◌||◌, ◌==◌, cond, List, [], ◌∷◌, ◌++◌, map, length, filter, filter_map, get_or, Option, Some, None, is_some, ◌⊎◌, inl, inr, refl, sym, ap, ◌∙◌, subst, arith, append_assoc}
-use Rattle.std.proofs.lemmas.Bool.{and_parts, or_cases, or_right, eqb-true, eq-eqb}
-use Rattle.std.proofs.lemmas.Bool.Decides.{nat_tests}
-use Rattle.std.proofs.lemmas.Fmt.{signed_decimal_injective, decimal_is_IsNumeral}
-use Rattle.std.proofs.lemmas.Str.Parse.{digit_from_value}
-use Rattle.std.proofs.lemmas.List.Elements.{All-nil, All-cons}
-use Rattle.std.proofs.lemmas.List.Splits.{slice_split_none, slice_split_at}
-use Rattle.std.proofs.lemmas.Slice.Eq.{bytes_eq-Decides}
-use Rattle.std.specs.List.{list_any, list_all, slice_split, join_with_byte, All, cons_option}
-use Rattle.std.specs.Fmt.{decimal, signed_decimal}
-use Rattle.std.specs.Str.{bytes_eq}
-use Rattle.std.specs.Str.Parse.{AllDigits}
-use lib.Signed.{mag}
+use Rattle.std.proofs.Common.{◌≡◌, ℕ, zero, suc, ◌<◌, ◌^◌, ℤ, true, false, List, [], ◌∷◌, map, length, ◌⊎◌, inl, inr, refl, sym, ap, ◌∙◌, arith}
+use Rattle.std.proofs.lemmas.Bool.{or_cases, eqb-true}
+use Rattle.std.proofs.lemmas.Fmt.{signed_decimal_injective}
+use Rattle.std.specs.List.{list_any}
 use Rattle.spec_model.specs.declared.value.Value.{Value}
 use Rattle.spec_model.specs.declared.value.Value.TheVariants as value
-use Rattle.spec_model.specs.Values.{Assignment, DomainData, TruthValues, WholeNumbers, Enumeration, values_of, same_value, is_assignment}
+use Rattle.spec_model.specs.Values.{Assignment, DomainData, TruthValues, WholeNumbers, Enumeration, values_of, same_value}
 use Rattle.spec_model.specs.Syntax.{VariableData}
 use Rattle.spec_model.proofs.Domains.{none_in_range, none_named, no_number, no_name, in_range}
-use Rattle.session.specs.Shown.{text_of, item_of, items_of, show}
-use Rattle.session.specs.Reading.{is_blank, words, after_sign, after_name, texts_given, names_one, IsWritten, IsGiven, AreGiven, Reads}
-use Rattle.session.specs.Room.{domains}
-use Rattle.session.specs.Plain.{IsWhole, IsPlain, ArePlain, IsWritable, AreWritable, AreNames}
+use Rattle.session.specs.Shown.{text_of}
+use Rattle.session.specs.Reading.{IsGiven, AreGiven}
+use Rattle.session.specs.Plain.{IsWritable, AreWritable, AreNames}
 use Rattle.session.proofs.Values.{mag_between}
 
 -- ---- one value for a text

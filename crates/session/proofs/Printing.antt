@@ -1,13 +1,11 @@
 -- A line as it is printed, item by item.
 use Rattle.std.proofs.Common.{◌≡◌, ℕ, ◌+◌, ◌<◌, ◌≤◌, List, [], ◌∷◌, ◌++◌, map, length, drop, get_or, flat_map, refl, sym, ap, ◌∙◌, arith, append_assoc, length-append}
-use Rattle.std.proofs.lemmas.List.{drop_more, drop_all, append-nil}
+use Rattle.std.proofs.lemmas.List.{drop_more, append-nil}
 use Rattle.std.specs.List.{join_with_byte}
 use Rattle.spec_model.specs.declared.value.Value.{Value}
 use Rattle.spec_model.specs.declared.value.Var.{Var}
-use Rattle.spec_model.specs.Values.{Assignment}
-use Rattle.spec_model.specs.Syntax.{VariableData}
 use Rattle.spec_model.specs.Views.{variable_data}
-use Rattle.session.specs.Shown.{item_of, items_of, show}
+use Rattle.session.specs.Shown.{item_of, items_of}
 
 -- each with a space before it
 abbrev pub spaced : List (List ℕ) → List ℕ

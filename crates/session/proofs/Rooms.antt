@@ -1,16 +1,15 @@
 -- How long a printed line can be.
-use Rattle.std.proofs.Common.{◌≡◌, ℕ, zero, suc, ◌+◌, ◌<◌, ◌≤◌, ◌^◌, ℤ, Bool, true, false, ◌&&◌, List, [], ◌∷◌, ◌++◌, map, length, get_or, refl, sym, ap, ◌∙◌, arith, length-append}
+use Rattle.std.proofs.Common.{◌≡◌, ℕ, zero, suc, ◌+◌, ◌<◌, ◌≤◌, ◌^◌, ℤ, true, false, List, [], ◌∷◌, map, length, get_or, refl, ap, arith, length-append}
 use Rattle.std.proofs.lemmas.Bool.{or_cases, and_parts}
 use Rattle.std.proofs.lemmas.Fmt.{length_signed_le}
 use Rattle.std.specs.List.{list_any, join_with_byte}
-use Rattle.std.specs.Fmt.{signed_decimal}
 use Rattle.std.proofs.Common.{◌⊎◌, inl, inr}
 use lib.Signed.{mag}
 use Rattle.spec_model.specs.declared.value.Value.{Value}
 use Rattle.spec_model.specs.declared.value.Value.TheVariants as value
-use Rattle.spec_model.specs.Values.{Assignment, values_of, same_value, is_assignment, TruthValues, WholeNumbers, Enumeration}
+use Rattle.spec_model.specs.Values.{values_of, same_value, is_assignment, TruthValues, WholeNumbers, Enumeration}
 use Rattle.spec_model.specs.Syntax.{VariableData}
-use Rattle.session.specs.Shown.{text_of, item_of, items_of, show}
+use Rattle.session.specs.Shown.{text_of, item_of, items_of}
 use Rattle.session.specs.Room.{HasShortTexts, HasItemRoom, HasRoom, domains}
 use Rattle.session.proofs.Values.{only_whole, same_name}
 

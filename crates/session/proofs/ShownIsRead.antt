@@ -1,6 +1,6 @@
 -- What is shown of an assignment reads as it.
-use Rattle.std.proofs.Common.{◌≡◌, ◌≢◌, ℕ, zero, suc, ◌+◌, ◌<◌, ◌≤◌, ◌^◌, ℤ, pos, negsuc, Bool, true, false, not, ◌&&◌, ◌||◌, ◌==◌, cond, List, [], ◌∷◌, ◌++◌, map, length, filter, filter_map, get_or, Option, Some, None, is_some, ◌⊎◌, inl, inr, refl, sym, ap, ◌∙◌, subst, arith, append_assoc, length-append}
-use Rattle.std.proofs.lemmas.Bool.{and_parts, or_cases, or_right, eqb-true, eq-eqb}
+use Rattle.std.proofs.Common.{◌≡◌, ◌≢◌, ℕ, suc, ◌<◌, ◌≤◌, ◌^◌, ℤ, pos, negsuc, Bool, true, false, not, ◌&&◌, ◌||◌, ◌==◌, cond, List, [], ◌∷◌, ◌++◌, map, length, filter, Option, Some, None, is_some, inr, refl, sym, ap, ◌∙◌, subst, arith, append_assoc, length-append}
+use Rattle.std.proofs.lemmas.Bool.{and_parts, or_right, eqb-true, eq-eqb}
 use Rattle.std.proofs.lemmas.Bool.Decides.{nat_tests}
 use Rattle.std.proofs.lemmas.Fmt.{decimal_is_IsNumeral}
 use Rattle.std.proofs.lemmas.Str.Parse.{digit_from_value}
@@ -19,7 +19,7 @@ use Rattle.spec_model.specs.Values.{Assignment, DomainData, TruthValues, WholeNu
 use Rattle.spec_model.specs.Syntax.{VariableData}
 use Rattle.spec_model.proofs.Domains.{none_in_range, none_named, no_number, no_name, in_range}
 use Rattle.session.specs.Shown.{text_of, item_of, items_of, show}
-use Rattle.session.specs.Reading.{is_blank, words, after_sign, after_name, texts_given, names_one, IsWritten, IsGiven, AreGiven, Reads}
+use Rattle.session.specs.Reading.{is_blank, words, after_name, texts_given, names_one, AreGiven, Reads}
 use Rattle.session.specs.Room.{domains}
 use Rattle.session.specs.Plain.{IsWhole, IsPlain, ArePlain, IsWritable, AreWritable, AreNames}
 use Rattle.session.proofs.Values.{mag_between}

@@ -1,4 +1,4 @@
-use Rattle.std.proofs.Common.{◌<◌, arith, map, length, string_bytes}
+use Rattle.std.proofs.Common.{◌<◌, arith, map, string_bytes}
 use Rattle.session.proofs.Rooms.{names_short}
 use Rattle.session.proofs.make.longest_name.Goals as goal
 

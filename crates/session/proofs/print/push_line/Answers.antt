@@ -1,8 +1,8 @@
-use Rattle.std.proofs.Common.{◌≡◌, ℕ, ◌+◌, ◌≤◌, List, [], ◌∷◌, ◌++◌, false, map, string_bytes, length, get_or, sym, ap, ◌∙◌, arith, length-append}
+use Rattle.std.proofs.Common.{◌≡◌, ℕ, ◌+◌, List, [], ◌∷◌, ◌++◌, false, map, string_bytes, length, get_or, ap, ◌∙◌, arith, length-append}
 use Rattle.spec_model.specs.declared.value.Value.TheVariants as value
 use Rattle.spec_model.specs.declared.value.Var.{Var}
 use Rattle.spec_model.specs.Views.{variable_data}
-use Rattle.session.specs.Shown.{item_of, items_of, show}
+use Rattle.session.specs.Shown.{item_of, show}
 use Rattle.session.proofs.Printing.{led, led_by_none, rest_of, parts, parts_fit}
 use Rattle.session.proofs.print.push_line.Goals as goal
 

@@ -1,4 +1,4 @@
-use Rattle.std.proofs.Common.{sym, ap, subst, arith, map, string_bytes}
+use Rattle.std.proofs.Common.{sym, subst, arith, map, string_bytes}
 use Rattle.spec_model.specs.declared.value.Var.{Var}
 use Rattle.spec_model.specs.Views.{variable_data}
 use Rattle.session.specs.Reading.{words, IsGiven}

@@ -1,4 +1,4 @@
-use Rattle.std.proofs.Common.{◌≡◌, map, drop, length}
+use Rattle.std.proofs.Common.{◌≡◌, map, drop}
 use Rattle.spec_model.specs.Values.{is_assignment}
 use Rattle.spec_model.specs.Views.{variable_data}
 use Rattle.session.specs.Room.{domains}

@@ -1,4 +1,4 @@
-use Rattle.std.proofs.Common.{sym, ◌∙◌, arith, map, string_bytes}
+use Rattle.std.proofs.Common.{sym, ◌∙◌, map, string_bytes}
 use Rattle.std.proofs.lemmas.Slice.Eq.{bytes_eq-Decides}
 use Rattle.session.proofs.Values.{named_at, named_later}
 use Rattle.session.proofs.value.name_in.Goals as goal
