@@ -1,0 +1,10 @@
+mod Assigned
+mod Feeds
+mod GivenValues
+mod OneReading
+mod Printing
+mod Rooms
+mod ShownIsRead
+mod Slices
+mod Values
+mod Words

@@ -1,0 +1,23 @@
+//! The lines of a play: from the bytes of an input to assignments, and from assignments to lines.
+//!
+//! A line has an item `name=value` for each wanted variable, in any order, with spaces and tabs between. A value is
+//! written exactly as it is printed. Input comes in pieces of any size. Each buffer is taken before the first line.
+//!
+//! Contract: `Lines::next_line` hands out the lines of the input in order; `Lines::read_input` reads a line exactly where
+//! it reads as an assignment; `Lines::write_output` writes a whole line. Path: verdict → **lines**.
+#![tactic(auto)]
+
+pub mod laws;
+mod lines;
+mod make;
+mod number;
+mod print;
+mod read;
+mod reader;
+#[cfg(test)]
+mod tests;
+mod value;
+mod word;
+
+pub use lines::Lines;
+pub use reader::Taken;
