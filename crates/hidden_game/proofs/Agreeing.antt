@@ -1,16 +1,15 @@
 -- The game of a specification has its legal moves.
-use Rattle.std.proofs.Common.{◌≡◌, ℕ, zero, suc, ◌+◌, ◌<◌, Bool, true, false, not, ◌&&◌, ◌||◌, List, [], ◌∷◌, ◌++◌, length, get_or, slice_get, Option, Some, None, is_some, is_none, option_map, unwrap_or, cond, if◌then◌else◌, refl, sym, ap, subst, ◌∙◌, arith}
-use Rattle.std.specs.List.{list_all, list_any}
-use Rattle.std.proofs.lemmas.Bool.{and_parts, and_from}
-use Rattle.spec_model.specs.declared.value.Value.TheVariants as value
+use Rattle.std.proofs.Common.{◌≡◌, ℕ, suc, Bool, true, false, not, ◌&&◌, ◌||◌, List, [], ◌∷◌, ◌++◌, length, get_or, slice_get, Option, Some, None, is_some, is_none, option_map, unwrap_or, if◌then◌else◌, refl, sym, ap, ◌∙◌}
+use Rattle.std.specs.List.{list_any}
+use Rattle.std.proofs.lemmas.Bool.{and_parts}
 use Rattle.spec_model.specs.declared.value.Owner.{Owner}
 use Rattle.spec_model.specs.declared.value.Owner.TheVariants.{Env, Sys}
 use Rattle.spec_model.specs.Values.{Assignment, truth_of}
-use Rattle.spec_model.specs.Syntax.{Formula, Constant, Variable, NextOf, Negation, Conjunction, Disjunction, Implication, Equivalence, Comparison, Sum, Difference, Product, Remainder, PastOf, Entry, Formulas, Content, Initial, Safety, Recurring, PatternUse, TriggerUse, Statement, VariableData, Specification}
-use Rattle.spec_model.specs.Meaning.{Reading, value_at, holds_at}
+use Rattle.spec_model.specs.Syntax.{Formula, Constant, Variable, NextOf, Negation, Conjunction, Disjunction, Implication, Equivalence, Comparison, Sum, Difference, Product, Remainder, PastOf, Entry, Formulas, Initial, Safety, VariableData, Specification}
+use Rattle.spec_model.specs.Meaning.{holds_at}
 use Rattle.spec_model.specs.Rules.{Run, Position, after, after_input}
 use Rattle.spec_model.specs.Moves.{is_env, is_output, nothing, value_among, reading_of, has_next, present_variables, present_in_each, reads_present_output, at_first, one_before, fails_at, broken_by_input, broken_by_output, input_breaks, output_breaks, broken_assumption, broken_guarantee}
-use Rattle.spec_model.specs.Games.{State, step_reading, outputs_of}
+use Rattle.spec_model.specs.Games.{step_reading, outputs_of}
 use Rattle.spec_model.specs.Steps.{Before, is_output_variable, reads_output, some_reads_output, waits_for_output, line_holds, reached, assumptions_hold, guarantees_hold, is_input, is_output as is_output_of, legal_input as legal_input_from}
 use Rattle.spec_model.specs.WellMade.{WellMade, is_stepwise, are_stepwise, awaits_output, is_step_formula, is_state_formula, is_initial_assumption, is_safety_assumption, scope_of}
 use Rattle.hidden_game.specs.GameOf.{game_of}
@@ -117,7 +116,6 @@ or_none true b h = absurd (cc)
 or_none false b h = (refl, h)
 
 module _ (s : Specification) (x y : Assignment) where
-
   -- the position that is being made, as far as it is there: with the output, or without
   module _ (z : Assignment) (whole : Bool) (as_whole : whole ≡ true → z ≡ y) where
     abbrev made : Position
@@ -202,8 +200,8 @@ module _ (s : Specification) (x y : Assignment) (h : Run) (b : Before) (last : I
       let step = (and_parts _ (is_stepwise false e) parts.0).1 in
       ap (λ reads. not (fails_at (reading_of s (after_input h x)) e (if has_next e || reads then one_before (length h) else Some (length h)))) (same_reads s e step)
       ∙ judged s x y [] false (λ never. absurd (cc)) h b last e (waits_for_output (game_of s) e)
-          (λ is. let waits = or_none (has_next e) (reads_output s.variables [] e) is in (step, ap not waits.1, refl, ap not waits.0))
-          (λ is. (step, refl, parts.1, refl))
+      (λ is. let waits = or_none (has_next e) (reads_output s.variables [] e) is in (step, ap not waits.1, refl, ap not waits.0))
+      (λ is. (step, refl, parts.1, refl))
 
   gar_first : (e : Formula) → is_state_formula (scope_of (game_of s)) e ≡ true →
       not (broken_by_output s (after h x y) (length h) (Initial e)) ≡ (is_some b || line_holds (game_of s) false b (reached (game_of s) b x y) e)
@@ -222,17 +220,17 @@ module _ (s : Specification) (x y : Assignment) (h : Run) (b : Before) (last : I
     assumptions_agree =
         none_found (input_breaks s (after_input h x) (length h)) s.lines
         ∙ lines_hold Environment (broken_by_input s (after_input h x) (length h)) (is_some b)
-            (is_initial_assumption (game_of s)) (is_safety_assumption (game_of s))
-            (line_holds (game_of s) false b (reached (game_of s) b x y)) (λ e. line_holds (game_of s) (waits_for_output (game_of s) e) b (reached (game_of s) b x y) e)
-            asm_first asm_always (λ e. refl) (λ p es. refl) (λ t. refl) s.lines made.initial_asm made.safe_asm
+        (is_initial_assumption (game_of s)) (is_safety_assumption (game_of s))
+        (line_holds (game_of s) false b (reached (game_of s) b x y)) (λ e. line_holds (game_of s) (waits_for_output (game_of s) e) b (reached (game_of s) b x y) e)
+        asm_first asm_always (λ e. refl) (λ p es. refl) (λ t. refl) s.lines made.initial_asm made.safe_asm
 
     pub guarantees_agree : is_none (broken_guarantee s h x y) ≡ guarantees_hold (game_of s) b (reached (game_of s) b x y)
     guarantees_agree =
         none_found (output_breaks s (after h x y) (length h)) s.lines
         ∙ lines_hold System (broken_by_output s (after h x y) (length h)) (is_some b)
-            (is_state_formula (scope_of (game_of s))) (is_step_formula (scope_of (game_of s)))
-            (line_holds (game_of s) false b (reached (game_of s) b x y)) (λ e. line_holds (game_of s) (has_next e) b (reached (game_of s) b x y) e)
-            gar_first gar_always (λ e. refl) (λ p es. refl) (λ t. refl) s.lines made.initial_gar made.safe_gar
+        (is_state_formula (scope_of (game_of s))) (is_step_formula (scope_of (game_of s)))
+        (line_holds (game_of s) false b (reached (game_of s) b x y)) (λ e. line_holds (game_of s) (has_next e) b (reached (game_of s) b x y) e)
+        gar_first gar_always (λ e. refl) (λ p es. refl) (λ t. refl) s.lines made.initial_gar made.safe_gar
 
 pub moves_agree : (s : Specification) → WellMade (game_of s) → MovesAgree s
 moves_agree s made =
@@ -244,4 +242,4 @@ moves_agree s made =
     inputs : (h : Run) (b : Before) → IsLast h b → (x : Assignment) → is_none (broken_assumption s h x) ≡ legal_input_from (game_of s) b x
     inputs h b last x =
         sym (all_alike (λ y. assumptions_hold (game_of s) b (reached (game_of s) b x y)) (is_none (broken_assumption s h x)) (outputs_of (game_of s))
-            (some_choice (λ o. not (is_env o)) s.variables made.domains) (λ y. sym (assumptions_agree s x y h b last made)))
+        (some_choice (λ o. not (is_env o)) s.variables made.domains) (λ y. sym (assumptions_agree s x y h b last made)))

@@ -1,6 +1,6 @@
 -- There is an assignment of the outputs of each well-made game.
-use Rattle.std.proofs.Common.{◌≡◌, ℕ, zero, suc, ◌+◌, ◌<◌, ◌≤◌, ℤ, pos, ◌+ℤ◌, ◌-ℤ◌, nat_abs, int_le, nat_lt, Bool, true, false, not, ◌&&◌, List, [], ◌∷◌, ◌++◌, length, map, flat_map, cond, refl, sym, ap, subst, ◌∙◌, arith}
-use Rattle.std.specs.List.{list_all, list_any}
+use Rattle.std.proofs.Common.{◌≡◌, ℕ, zero, suc, ◌+◌, ◌<◌, ℤ, pos, ◌+ℤ◌, ◌-ℤ◌, nat_abs, int_le, nat_lt, Bool, true, false, ◌&&◌, List, [], ◌∷◌, length, map, flat_map, cond, refl, ap, ◌∙◌, arith}
+use Rattle.std.specs.List.{list_all}
 use Rattle.std.proofs.lemmas.Bool.{and_parts, ltb-true}
 use Rattle.std.proofs.lemmas.List.{length-append, length-map}
 use Rattle.spec_model.specs.declared.value.Value.{Value}
@@ -9,7 +9,7 @@ use Rattle.spec_model.specs.declared.value.Value.TheVariants as value
 use Rattle.spec_model.specs.Values.{DomainData, TruthValues, WholeNumbers, Enumeration, values_of, rising_from, assignments_of}
 use Rattle.spec_model.specs.Syntax.{VariableData}
 use Rattle.spec_model.specs.Moves.{domains_of}
-use Rattle.spec_model.specs.WellMade.{is_domain, all_differ}
+use Rattle.spec_model.specs.WellMade.{is_domain}
 
 length-rising : (z : ℤ) (n : ℕ) → length (rising_from z n) ≡ n
 length-rising z zero = refl
@@ -36,7 +36,7 @@ some_assignment (d ∷ ds) made =
     let parts = and_parts (is_domain d) (list_all is_domain ds) made in
     let rest = some_assignment ds parts.1 in
     some_flat (λ v. map (λ vs. v ∷ vs) (assignments_of ds)) (values_of d) (some_value d parts.0)
-        (λ v. let e = length-map (assignments_of ds) (λ (vs : List Value). v ∷ vs) in omega arith)
+    (λ v. let e = length-map (assignments_of ds) (λ (vs : List Value). v ∷ vs) in omega arith)
 
 domains_made : (test : Owner → Bool) (vs : List VariableData) → list_all (λ (v : VariableData). is_domain v.domain) vs ≡ true → list_all is_domain (domains_of test vs) ≡ true
 domains_made test [] made = refl

@@ -62,7 +62,6 @@ fn copy_domain(alloc: Global, domain: &Domain) -> Result<Domain, AllocError>
     }
 }
 
-
 /// A variable of the same name, owner and domain.
 fn copy_var(alloc: Global, var: &Var) -> Result<Var, AllocError>
     ensures { IfOk result (λ copy. variable_data copy ≡ variable_data var.now) }

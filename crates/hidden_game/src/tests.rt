@@ -28,10 +28,7 @@ fn line(number: u32, role: Role, body: Body) -> Line {
 // next(v0) -> v1
 fn awaited(alloc: Global) -> Result<Expr, AllocError> {
     let next = Expr::Next(Box::new(alloc, Expr::Var(0))?);
-    Ok(Expr::Implies(
-        Box::new(alloc, next)?,
-        Box::new(alloc, Expr::Var(1))?,
-    ))
+    Ok(Expr::Implies(Box::new(alloc, next)?, Box::new(alloc, Expr::Var(1))?))
 }
 
 fn lines(alloc: Global) -> Result<Vec<Line>, AllocError> {
@@ -44,7 +41,11 @@ fn lines(alloc: Global) -> Result<Vec<Line>, AllocError> {
         line(6, Role::Assumption, Body::Recurring(Expr::Var(6))),
         line(7, Role::Monitor, Body::Initial(Expr::Var(7))),
         line(8, Role::Guarantee, Body::Recurring(Expr::Var(8))),
-        line(9, Role::Assumption, Body::Initial(Expr::And(vec![in alloc; Expr::Var(2), Expr::Var(0)]?))),
+        line(
+            9,
+            Role::Assumption,
+            Body::Initial(Expr::And(vec![in alloc; Expr::Var(2), Expr::Var(0)]?))
+        ),
     ]?)
 }
 
@@ -52,7 +53,12 @@ fn game(alloc: Global) -> Result<Game, AllocError> {
     let vars = vec![in alloc;
         variable(alloc, "a", Owner::Env, Domain::Boolean)?,
         variable(alloc, "floor", Owner::Sys, Domain::Range { lo: -1, hi: 3 })?,
-        variable(alloc, "door", Owner::Env, Domain::Names(vec![in alloc; 4, 2]?))?,
+        variable(
+            alloc,
+            "door",
+            Owner::Env,
+            Domain::Names(vec![in alloc; 4, 2]?)
+        )?,
     ]?;
     let spec = Spec {
         names: Vec::new(alloc),
@@ -70,7 +76,10 @@ fn each_line_stands_where_its_role_and_kind_say(rt: HostRuntime) -> Result<(), F
     let game = game(alloc)?;
     // a list of the game, and its lines with their numbers
     let cases = [
-        (&game.initial_asm, "[(2, Var(2)), (9, And([Var(2), Var(0)]))]"),
+        (
+            &game.initial_asm,
+            "[(2, Var(2)), (9, And([Var(2), Var(0)]))]",
+        ),
         (&game.initial_gar, "[(3, Var(3)), (7, Var(7))]"),
         (&game.safe_asm, "[(4, Var(4))]"),
         (

@@ -1,21 +1,20 @@
 -- The game of a specification all of whose lines are initial is decided by its first moves, and has few states where there are few variables.
-use Rattle.std.proofs.Common.{◌≡◌, ℕ, zero, suc, ◌+◌, ◌*◌, ◌^◌, ◌<◌, ◌≤◌, Bool, true, false, not, ◌&&◌, ◌||◌, List, [], ◌∷◌, ◌++◌, length, length-append, map, flat_map, Some, None, cond, if◌then◌else◌, refl, sym, ap, subst, ◌∙◌, arith, inl, inr, ◌⊎◌, IsTrue}
+use Rattle.std.proofs.Common.{◌≡◌, ℕ, zero, suc, ◌+◌, ◌*◌, ◌^◌, ◌<◌, ◌≤◌, Bool, true, false, not, ◌&&◌, ◌||◌, List, [], ◌∷◌, ◌++◌, length, length-append, map, flat_map, Some, None, cond, if◌then◌else◌, refl, sym, ap, subst, ◌∙◌, arith, inl, inr}
 use Rattle.std.specs.List.{AllByRecursion, list_all, list_any}
-use Rattle.std.proofs.lemmas.Bool.{and_parts, and_from, false≢true}
+use Rattle.std.proofs.lemmas.Bool.{and_from, false≢true}
 use Rattle.std.proofs.lemmas.List.{length-map}
 use Rattle.std.proofs.lemmas.Nat.{pow-add}
 use Rattle.std.proofs.Math.Nat.{pow-suc, suc-mul}
 use Rattle.std.proofs.Math.Pow.{pow_mono}
-use Rattle.spec_model.specs.declared.spec.Role.{Role}
 use Rattle.spec_model.specs.declared.value.Owner.{Owner}
 use Rattle.spec_model.specs.declared.value.Value.{Value}
 use Rattle.spec_model.specs.declared.value.Value.TheVariants as value
-use Rattle.spec_model.specs.Values.{Assignment, DomainData, TruthValues, is_assignment, assignments_of}
-use Rattle.spec_model.specs.Syntax.{Formula, Content, Initial, Safety, Recurring, PatternUse, TriggerUse, Statement, VariableData, Specification}
+use Rattle.spec_model.specs.Values.{Assignment, DomainData, TruthValues, assignments_of}
+use Rattle.spec_model.specs.Syntax.{Content, Initial, Safety, Recurring, PatternUse, TriggerUse, Statement, VariableData, Specification}
 use Rattle.spec_model.specs.Moves.{is_env, domains_of, legal_input, legal_output}
 use Rattle.spec_model.specs.Games.{GameData, State, inputs_of, outputs_of}
-use Rattle.spec_model.specs.Steps.{Before, is_state, is_input, is_output, states_of, reached, guarantees_hold, legal_input as legal_input_from, legal_output as legal_output_from}
-use Rattle.spec_model.specs.Sets.{StateSet, all_states, no_states, pre_sys, pre_env, system_forces, environment_forces, output_into, input_into, IsGreatest}
+use Rattle.spec_model.specs.Steps.{Before, is_state, is_input, is_output, states_of, reached, legal_input as legal_input_from, legal_output as legal_output_from}
+use Rattle.spec_model.specs.Sets.{StateSet, all_states, no_states, pre_sys, pre_env, system_forces, output_into, input_into, IsGreatest}
 use Rattle.spec_model.specs.WellMade.{WellMade}
 use Rattle.spec_model.specs.Verdicts.{SystemWins, EnvironmentWins}
 use Rattle.spec_model.proofs.AllStates.{Every}
@@ -27,10 +26,10 @@ use Rattle.hidden_game.specs.declared.expanding.Time.TheVariants.{Always}
 use Rattle.hidden_game.specs.GameOf.{game_of, binds, said, numbered, lines_for}
 use Rattle.hidden_game.proofs.Agreeing.{moves_agree}
 use Rattle.hidden_game.proofs.Choices.{some_choice, all_alike}
-use Rattle.safety.specs.Solution.{lost_within, IsShiftCount, IsRoundCount, IsDenialCount}
+use Rattle.safety.specs.Solution.{IsShiftCount, IsRoundCount, IsDenialCount}
 use Rattle.spectra.specs.declared.reading.Verdict.{Verdict}
 use Rattle.spectra.specs.declared.reading.Verdict.TheVariants.{Realizable, Unrealizable, Unsupported, TooManyStates}
-use Rattle.spectra.specs.First.{IsInitialLine, IsInitialOnly, has_reply, answers_all}
+use Rattle.spectra.specs.First.{IsInitialLine, IsInitialOnly, answers_all}
 use Rattle.spectra.specs.Reading.{most_variables}
 use Rattle.spectra.specs.Verdict.{IsKept, IsLost, IsFound, IsVerdictOn}
 use Rattle.spectra.proofs.Bounds.{system_wins, environment_wins}
@@ -131,9 +130,9 @@ module _ (s : Specification) (only : IsInitialOnly s) (made : WellMade (game_of 
   always_forced r =
       each_passes (λ x. not (legal_input_from g (Some r) x) || list_any (output_into g (all_states g) (Some r) x) (outputs_of g)) (inputs_of g)
       (every_weaker (λ x. is_input g x ≡ true) _ (λ x of_x.
-          or_right (not (legal_input_from g (Some r) x)) _
-          (one_passes (output_into g (all_states g) (Some r) x) (outputs_of g) some_output
-          (every_weaker (λ y. is_output g y ≡ true) _ (λ y of_y. and_from (legal_output_from g (Some r) x y) (is_state g (reached g (Some r) x y)) (later_legal r x y) (leads_on (Some r) x y of_x of_y)) (outputs_of g) (outputs_fit g))))
+      or_right (not (legal_input_from g (Some r) x)) _
+      (one_passes (output_into g (all_states g) (Some r) x) (outputs_of g) some_output
+      (every_weaker (λ y. is_output g y ≡ true) _ (λ y of_y. and_from (legal_output_from g (Some r) x y) (is_state g (reached g (Some r) x y)) (later_legal r x y) (leads_on (Some r) x y of_x of_y)) (outputs_of g) (outputs_fit g))))
       (inputs_of g) (inputs_fit g))
     where
       or_right : (a b : Bool) → b ≡ true → (a || b) ≡ true
@@ -159,12 +158,12 @@ module _ (s : Specification) (only : IsInitialOnly s) (made : WellMade (game_of 
   forced_first =
       list_all-same _ _ (inputs_of g)
       (every_weaker (λ x. is_input g x ≡ true) _ (λ x of_x.
-          let legal : legal_input_from g None x ≡ legal_input s [] x = sym ((moves_agree s made).inputs [] None refl x ∙ ap (λ b. b && legal_input_from g None x) of_x) in
-          let replies = list_any-same (output_into g (all_states g) None x) (legal_output s [] x) (outputs_of g)
-              (every_weaker (λ y. is_output g y ≡ true) _ (λ y of_y.
-                  drop_true (legal_output_from g None x y) (is_state g (reached g None x y)) (leads_on None x y of_x of_y)
-                  ∙ sym ((moves_agree s made).outputs [] None refl x y ∙ ap (λ b. b && legal_output_from g None x y) of_y)) (outputs_of g) (outputs_fit g)) in
-          ap (λ b. not b || list_any (output_into g (all_states g) None x) (outputs_of g)) legal ∙ ap (λ b. not (legal_input s [] x) || b) replies)
+      let legal : legal_input_from g None x ≡ legal_input s [] x = sym ((moves_agree s made).inputs [] None refl x ∙ ap (λ b. b && legal_input_from g None x) of_x) in
+      let replies = list_any-same (output_into g (all_states g) None x) (legal_output s [] x) (outputs_of g)
+      (every_weaker (λ y. is_output g y ≡ true) _ (λ y of_y.
+      drop_true (legal_output_from g None x y) (is_state g (reached g None x y)) (leads_on None x y of_x of_y)
+      ∙ sym ((moves_agree s made).outputs [] None refl x y ∙ ap (λ b. b && legal_output_from g None x y) of_y)) (outputs_of g) (outputs_fit g)) in
+      ap (λ b. not b || list_any (output_into g (all_states g) None x) (outputs_of g)) legal ∙ ap (λ b. not (legal_input s [] x) || b) replies)
       (inputs_of g) (inputs_fit g))
     where
       drop_true : (a b : Bool) → b ≡ true → (a && b) ≡ a

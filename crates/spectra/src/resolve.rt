@@ -17,7 +17,8 @@ use spec_model::expr::Expr;
 use spec_model::spec::{Body, Line, Role, Spec};
 use spec_model::value::{Domain, Owner, Value, Var};
 use spectra_parser::tree::{
-    BinaryWord, BodyTree, ExprForm, ExprTree, Item, LineItem, OwnerWord, PrefixWord, Tree, TypeForm, VarItem,
+    BinaryWord, BodyTree, ExprForm, ExprTree, Item, LineItem, OwnerWord, PrefixWord, Tree,
+    TypeForm, VarItem,
 };
 use std::alloc::{AllocError, AllocFailed, Global};
 

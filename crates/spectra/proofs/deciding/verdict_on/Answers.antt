@@ -1,4 +1,4 @@
-use Rattle.std.proofs.Common.{◌≡◌, ◌≤◌, arith, length, sym, subst}
+use Rattle.std.proofs.Common.{◌≤◌, arith, length, sym, subst}
 use Rattle.std.proofs.lemmas.List.{length-map}
 use Rattle.spec_model.specs.Views.{variable_data, spec_data}
 use Rattle.spec_model.specs.Games.{GameData}
