@@ -1,7 +1,10 @@
--- What `one_forces` holds at each of its steps.
-use Rattle.std.proofs.Common.{arith}
+-- What the functions of src/worked.rt hold at their steps.
+use Rattle.std.proofs.Common.{◌≡◌, ◌∙◌, List, ap, arith}
+use Rattle.regions.specs.declared.types.Halt.{Halt}
+use Rattle.regions.specs.declared.types.Halt.TheVariants.{Budget}
 use Rattle.spec_model.specs.Sets.{StateSet, either, pre_env}
-use Rattle.regions.specs.Kept.{Kept, Region, MakesRegion, HasRegion, IsExact, IsSameGame}
+use Rattle.regions.specs.Kept.{Kept, Region, Meaning, Call, Halts, MakesRegion, HasRegion, IsExact, IsSameGame, meanings, jam_after}
+use Rattle.regions.specs.Worked.{TellsJam}
 use Rattle.regions.proofs.Holding.{held_as, set_is}
 
 module _ {R M : Type 0} where
@@ -19,3 +22,8 @@ module _ {R M : Type 0} where
       let x_is = set_is k2 x s exact (λ w. omega (arith, y_made.held w, x_made.held w)) in
       let y_is = set_is k2 y t exact (λ w. omega (arith, y_made.held w)) in
       rw (← x_is, ← y_is) r_made
+
+  -- a call that answered Budget told its jam
+  pub told : (old new : Kept R M) (asked : Call) (arguments : List Meaning) (halt : Halt) → Halts old new asked arguments halt → halt ≡ Budget → TellsJam new
+  told old new asked arguments halt halts is_budget =
+      (record { call = asked; arguments = arguments; held = meanings old }, halts.jam ∙ ap (jam_after old asked arguments) is_budget)

@@ -3,7 +3,7 @@
 ghost use Rattle.std.specs.Prelude.{◌≡◌, ◌↔◌, [], ◌∷◌, None, Some, IfOk, IfErr, OnOk, OnErr, IsErrOf, IsTrue};
 ghost use Rattle.spec_model.specs.Sets.{either, pre_sys, pre_env, IsGreatest};
 ghost use Rattle.regions.specs.Kept.{Region, States, HasRegion, HoldsBesides, HoldsWithout, MakesRegion, IsSameGame, JamAdds, Replaces};
-ghost use Rattle.regions.specs.Worked.{IsForced};
+ghost use Rattle.regions.specs.Worked.{IsForced, TellsJam};
 
 use crate::regions::Regions;
 use crate::types::Halt;
@@ -51,6 +51,7 @@ fn forced_into<G: Regions>(g: &mut G, z: G::R) -> Result<(G::R, bool), Halt>
         IfOk result (λ r. Replaces k (G.kept g.new) (Region z) (States (k.set z)) (Region r.0) (States (pre_sys k.game (k.set z)))) }
     ensures settled { let k = G.kept g.old in IfOk result (λ r. IsTrue r.1 ↔ k.set z ≡ pre_sys k.game (k.set z)) }
     ensures halted { let k = G.kept g.old in OnErr result (HoldsWithout k (G.kept g.new) (Region z) (States (k.set z))) }
+    ensures told { IsErrOf result Halt.Budget → TellsJam (G.kept g.new) }
     ensures same { IsSameGame (G.kept g.old) (G.kept g.new) }
 {
     match g.pre_sys(&z) {
@@ -72,6 +73,7 @@ pub fn greatest<G: Regions>(g: &mut G) -> Result<G::R, Halt>
     ensures made { let new = G.kept g.new in IfOk result (λ z. MakesRegion (G.kept g.old) new z (new.set z)) }
     ensures greatest { let new = G.kept g.new in IfOk result (λ z. IsGreatest (pre_sys new.game) (new.set z)) }
     ensures halted { OnErr result (HoldsBesides (G.kept g.old) (G.kept g.new) []) }
+    ensures told { IsErrOf result Halt.Budget → TellsJam (G.kept g.new) }
     ensures same { IsSameGame (G.kept g.old) (G.kept g.new) }
 {
     let mut z = g.all()?;

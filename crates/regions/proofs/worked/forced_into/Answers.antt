@@ -1,6 +1,8 @@
-use Rattle.std.proofs.Common.{rules, arith}
+use Rattle.std.proofs.Common.{◌≡◌, ◌∙◌, rules, arith}
+use Rattle.regions.specs.declared.types.Halt.TheVariants as Halt
 use Rattle.spec_model.specs.Sets.{pre_sys}
 use Rattle.regions.proofs.Holding.{held_as, set_is, spent}
+use Rattle.regions.proofs.Forces.{told}
 use Rattle.regions.proofs.worked.forced_into.Goals as goal
 
 pub returns-in-Ok-clause-made : goal.returns-in-Ok-clause-made
@@ -25,3 +27,9 @@ returns-in-Err-clause-halted g c =
     let z = (g.G.Regions.kept c.args.g.now).set c.args.z in
     let gone = spent _ _ _ z (g.met.G.Regions.exact _) c.spend-in-Err.ensures.spends (λ w. omega (arith, halted.held w, held_as _ _ c.requires.z w)) in
     λ w. omega (arith, gone w, halted.held w)
+
+pub returns-in-Err-clause-told : goal.returns-in-Err-clause-told
+returns-in-Err-clause-told g c = λ is_budget.
+    let is : c.in-Err.halt ≡ Halt.Budget = cc is_budget in
+    let jam = told _ _ _ _ c.in-Err.halt c.in-Err.ensures.halted is in
+    (jam.0, c.spend-in-Err.ensures.spends.jam ∙ jam.1)

@@ -1,9 +1,12 @@
 use Rattle.std.proofs.Common.{◌≡◌, sym, ◌∙◌}
 use Rattle.std.proofs.lemmas.Bool.{false≢true}
+use Rattle.std.proofs.lemmas.Result.{err_from_is_err_and}
+use Rattle.regions.specs.declared.types.Halt.TheVariants as Halt
 use Rattle.spec_model.specs.Sets.{pre_sys}
 use Rattle.spec_model.proofs.SetLaws.{pre_sys_grows, pre_sys-inside}
 use Rattle.spec_model.proofs.Fixpoints.{falling-first, falling-next, falling-last, falling-fewer}
 use Rattle.regions.proofs.Holding.{made_is, replaced_is}
+use Rattle.regions.proofs.Forces.{told}
 use Rattle.regions.proofs.worked.greatest.Goals as goal
 
 pub loop-next-init : goal.loop-next-init
@@ -53,3 +56,9 @@ returns-then-settled-clause-greatest g c =
     let settled = c.in_ok-next.ensures.settled.0 c.if-settled.true in
     let found = falling-last k.game (pre_sys k.game) (pre_sys_grows k.game) (pre_sys-inside k.game) (k.set c.loop-next.z) c.loop-next.invariant.falling settled in
     rw (c.forced_into.ensures.same.game, is, ← settled) found
+
+pub returns-in_err-z-clause-told : goal.returns-in_err-z-clause-told
+returns-in_err-z-clause-told g c = λ is_budget.
+    let p = err_from_is_err_and c.from_residual.result c.from_residual.ensures.1 in
+    let is : c.in_err-z.field-0.0 ≡ Halt.Budget = cc (p.1, p.2, is_budget) in
+    told _ _ _ _ c.in_err-z.field-0.0 c.in_err-z.ensures.halted is
