@@ -28,12 +28,10 @@ pub fn lines_follow_one_another()
     ensures start { HandsOut [] [] [] }
     ensures one_more { (given before got line after : List ℕ) (handed : List (List ℕ)) → HandsOut given handed before
         → GivesLine Taken.Line before got line after → HandsOut (given ++ got) (handed ++ line ∷ []) after }
-{
-}
+{}
 
 /// Where no line follows, those that were handed out are all the lines of what was given, or the next one is too long.
 pub fn an_end_tells_all_lines()
     ensures { (what : Taken) (given before got line after : List ℕ) (handed : List (List ℕ)) → HandsOut given handed before
         → GivesLine what before got line after → EndsWith what (given ++ got) handed line }
-{
-}
+{}
