@@ -1,6 +1,7 @@
 mod Assigned
 mod Feeds
 mod GivenValues
+mod HandingLemmas
 mod OneReading
 mod Printing
 mod Rooms

@@ -4,5 +4,6 @@ pub mod InputLines
 pub mod Pieces
 pub mod Taking
 pub mod Room
+pub mod Handing
 pub mod Views
 pub mod Plain

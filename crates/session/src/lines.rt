@@ -23,13 +23,13 @@ use std::alloc::Global;
 /// no later call wants memory.
 #[derive(Drop)]
 pub struct Lines {
-    pub names: Vec<String>,
-    pub inputs: Vec<Var>,
-    pub outputs: Vec<Var>,
-    pub input: Vec<Value>,
-    pub output: Vec<Value>,
-    pub printed: Vec<u8>,
-    pub reader: Reader,
+    pub(crate) names: Vec<String>,
+    pub(crate) inputs: Vec<Var>,
+    pub(crate) outputs: Vec<Var>,
+    pub(crate) input: Vec<Value>,
+    pub(crate) output: Vec<Value>,
+    pub(crate) printed: Vec<u8>,
+    pub(crate) reader: Reader,
     ghost input_places: { vec_len input ≡ vec_len inputs },
     ghost output_places: { vec_len output ≡ vec_len outputs },
     ghost output_room: { HasRoom (map string_bytes names.items) (map variable_data outputs.items) (vec_capacity printed) },
