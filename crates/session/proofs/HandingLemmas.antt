@@ -6,7 +6,7 @@ use Rattle.session.specs.InputLines.{Line, input_lines}
 use Rattle.session.specs.Taking.{GivesLine}
 use Rattle.session.specs.Handing.{HandsOut, EndsWith}
 
-pushed : (handed : List (List ℕ)) (line : List ℕ) → map (λ l. Some l) (handed ++ line ∷ []) ≡ map (λ l. Some l) handed ++ Some line ∷ []
+pub pushed : (handed : List (List ℕ)) (line : List ℕ) → map (λ l. Some l) (handed ++ line ∷ []) ≡ map (λ l. Some l) handed ++ Some line ∷ []
 pushed [] line = refl
 pushed (l ∷ handed) line = ap (λ (ls : List Line). Some l ∷ ls) (pushed handed line)
 

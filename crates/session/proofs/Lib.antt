@@ -9,3 +9,6 @@ mod ShownIsRead
 mod Slices
 mod Values
 mod Words
+mod Conversation
+mod Turns
+mod Players

@@ -3,7 +3,9 @@ pub mod Reading
 pub mod InputLines
 pub mod Pieces
 pub mod Taking
+pub mod Talks
 pub mod Room
 pub mod Handing
 pub mod Views
 pub mod Plain
+pub mod Examples

@@ -11,13 +11,19 @@ pub mod laws;
 mod lines;
 mod make;
 mod number;
+mod player;
 mod print;
 mod read;
 mod reader;
+#[cfg(test)]
+mod talk_tests;
+mod talking;
 #[cfg(test)]
 mod tests;
 mod value;
 mod word;
 
 pub use lines::Lines;
+pub use player::Player;
 pub use reader::Taken;
+pub use talking::{End, talk};

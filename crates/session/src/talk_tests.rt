@@ -1,0 +1,182 @@
+//! Talks with two players of the tests' own: one answers g with r, and one stands for a play without legal inputs.
+
+ghost use Rattle.std.specs.Prelude.{◌≡◌, map, IfOk};
+ghost use Rattle.spec_model.specs.Views.{line_data, variable_data, spec_data};
+ghost use Rattle.session.specs.Examples.{boolean as boolean_lem, free as free_lem, with_lines as with_lines_lem};
+
+use crate::{End, Lines, Player, talk};
+use sp_outside::{MemorySink, MemorySource};
+use spec_model::expr::Expr;
+use spec_model::game::Label;
+use spec_model::spec::{Body, Line, Role, Spec};
+use spec_model::value::{Domain, Owner, Value, Var};
+use std::alloc::{AllocError, Global};
+use std::test::Fail;
+
+/// Answers g with r.
+#[derive(Drop)]
+struct Echo;
+
+impl Player for Echo {
+    ghost use Rattle.session.specs.Examples.{free};
+
+    ghost game = { λ _. free };
+
+    ghost stands = { λ _ h. Unit {0} };
+
+    fn broken(&mut self, input: &[Value]) -> Option<Label> {
+        let _ = input;
+        None
+    }
+
+    fn reply(&mut self, input: &[Value], out: &mut [Value]) {
+        out.copy_from_slice(input);
+    }
+}
+
+/// Has no legal input.
+#[derive(Drop)]
+struct Hopeless;
+
+impl Player for Hopeless {
+    ghost use Rattle.session.specs.Examples.{hopeless};
+
+    ghost game = { λ _. hopeless };
+
+    ghost stands = { λ _ h. Unit {0} };
+
+    fn broken(&mut self, input: &[Value]) -> Option<Label> {
+        let _ = input;
+        Some(Label { line: 3, part: 0 })
+    }
+
+    fn reply(&mut self, input: &[Value], out: &mut [Value]) {
+        let _ = input;
+        let _ = out;
+    }
+}
+
+fn boolean(alloc: Global, name: &str, owner: Owner) -> Result<Var, AllocError>
+    ensures { IfOk result (λ v. variable_data v ≡ boolean_lem name.now owner) }
+{
+    Ok(Var {
+        name: String::from_str(alloc, name)?,
+        owner,
+        domain: Domain::Boolean,
+    })
+}
+
+fn with_lines(alloc: Global, lines: Vec<Line>) -> Result<Spec, AllocError>
+    ensures { IfOk result (λ s. spec_data s ≡ with_lines_lem (map line_data lines.items)) }
+{
+    Ok(Spec {
+        names: Vec::new(alloc),
+        vars: vec![in alloc;
+            boolean(alloc, "r", Owner::Env)?,
+            boolean(alloc, "g", Owner::Sys)?,
+        ]?,
+        patterns: Vec::new(alloc),
+        triggers: Vec::new(alloc),
+        lines,
+    })
+}
+
+// What a talk of the player that echoes writes, and how it ends; the calls of the input and of the output that fail.
+fn echoed(
+    alloc: Global,
+    input: &[u8],
+    limit: u64,
+    reads: &[u64],
+    writes: &[u64],
+) -> Result<(End, MemorySink), Fail> {
+    let spec = free(alloc)?;
+    let mut lines = Lines::make(alloc, &spec)?;
+    let mut source = MemorySource::make(alloc, input, reads)?;
+    let mut sink = MemorySink::make(alloc, 64, writes)?;
+    let end = talk(&mut lines, &mut Echo, &mut source, &mut sink, limit);
+    Ok((end, sink))
+}
+
+fn free(alloc: Global) -> Result<Spec, AllocError>
+    ensures { IfOk result (λ s. spec_data s ≡ free_lem) }
+{
+    with_lines(alloc, Vec::new(alloc))
+}
+
+#[test]
+fn each_line_is_answered_until_the_talk_ends(rt: HostRuntime) -> Result<(), Fail> {
+    let alloc = rt.alloc();
+    // the input, the limit, the calls of the input and of the output that fail, the end, and what is written
+    let cases: [(&str, u64, &[u64], &[u64], End, &str); 10] = [
+        ("", 9, &[], &[], End::Finished, ""),
+        (
+            "r=true\nr=false\n",
+            9,
+            &[],
+            &[],
+            End::Finished,
+            "g=true\ng=false\n",
+        ),
+        (
+            "r=true\r\nr=false",
+            9,
+            &[],
+            &[],
+            End::Finished,
+            "g=true\ng=false\n",
+        ),
+        (
+            "r=true\nr=false\n",
+            2,
+            &[],
+            &[],
+            End::StateLimit,
+            "g=true\ng=false\n",
+        ),
+        (
+            "r=true\nr=false",
+            2,
+            &[],
+            &[],
+            End::StateLimit,
+            "g=true\ng=false\n",
+        ),
+        ("r=true\nr=1\n", 9, &[], &[], End::BadLine(2), "g=true\n"),
+        ("\n", 9, &[], &[], End::BadLine(1), ""),
+        ("r=true\n", 9, &[1], &[], End::ReadFault, ""),
+        ("r=true\n", 9, &[2], &[], End::ReadFault, "g=true\n"),
+        (
+            "r=true\nr=false\n",
+            9,
+            &[],
+            &[2],
+            End::WriteFault,
+            "g=true\n",
+        ),
+    ];
+    for (input, limit, reads, writes, end, text) in cases {
+        let (ended, sink) = echoed(alloc, input.as_bytes(), limit, reads, writes)?;
+        assert_eq!(rt; ended, end, "at {input}");
+        assert_eq!(rt; sink.written(), text.as_bytes(), "at {input}");
+    }
+    Ok(())
+}
+
+#[test]
+fn a_broken_assumption_is_named(rt: HostRuntime) -> Result<(), Fail> {
+    let alloc = rt.alloc();
+    let line = Line {
+        number: 3,
+        name: None,
+        role: Role::Assumption,
+        body: Body::Safety(Expr::Const(Value::Bool(false))),
+    };
+    let spec = with_lines(alloc, vec![in alloc; line]?)?;
+    let mut lines = Lines::make(alloc, &spec)?;
+    let mut source = MemorySource::make(alloc, b"r=true\n", &[])?;
+    let mut sink = MemorySink::make(alloc, 64, &[])?;
+    let end = talk(&mut lines, &mut Hopeless, &mut source, &mut sink, 9);
+    assert_eq!(rt; end, End::Broken(Label { line: 3, part: 0 }));
+    assert_eq!(rt; sink.written(), b"".as_slice());
+    Ok(())
+}
