@@ -1,4 +1,4 @@
-ghost use Rattle.std.specs.Prelude.{◌≡◌, ◌<◌, ◌≤◌, ◌^◌, ℕ, true, false, length, vec_len, IfOk, IsTrue, slice_index_or};
+ghost use Rattle.std.specs.Prelude.{◌≡◌, ◌↔◌, ◌<◌, ◌≤◌, ◌^◌, ℕ, true, false, length, vec_len, IfOk, IsTrue, slice_index_or};
 ghost use Rattle.bdd_ops.specs.Functions.{is_among};
 
 use std::alloc::{AllocError, Global};
@@ -16,7 +16,7 @@ pub struct LevelList {
 impl LevelList {
     /// Whether it is the list of these levels.
     pub fn is(&self, levels: &[u32]) -> bool
-        ensures { IsTrue result → self.now.levels.items ≡ levels.now }
+        ensures { IsTrue result ↔ self.now.levels.items ≡ levels.now }
     {
         self.levels.as_slice() == levels
     }

@@ -217,6 +217,7 @@ impl Store {
         requires b_live { IsEdge self.old b.0 }
         requires c_live { IsEdge self.old c.0 }
         requires r_live { IsEdge self.old r.0 }
+        ensures added { 0 < op → HasAnswer self.new (record { op = op; a = a.0; b = b.0; c = c.0; r = r.0 }) }
         ensures others { (x : Answer) → HasAnswer self.new x → (x ≡ record { op = op; a = a.0; b = b.0; c = c.0; r = r.0 }) ⊎ HasAnswer self.old x }
         ensures table { (self.new.table ≡ self.old.table) × (self.new.kept ≡ self.old.kept) }
         ensures sound { IsStore self.new }
