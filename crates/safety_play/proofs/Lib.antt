@@ -1,0 +1,5 @@
+mod Lines
+mod LastAlone
+mod Computing
+mod Judged
+mod Buffered
