@@ -1,5 +1,5 @@
 -- What is judged in a buffer of two positions can be computed.
-use Rattle.std.proofs.Common.{◌≡◌, ℕ, ◌-◌, true, List, [], ◌∷◌, length, take, drop, Some, None, sym, subst, arith}
+use Rattle.std.proofs.Common.{◌≡◌, ◌-◌, true, List, [], ◌∷◌, length, take, drop, Some, None, sym, subst, arith}
 use Rattle.spec_model.specs.declared.value.Step.{Step}
 use Rattle.spec_model.specs.Values.{Assignment, is_assignment}
 use Rattle.spec_model.specs.Syntax.{Specification}

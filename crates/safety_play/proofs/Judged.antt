@@ -1,15 +1,12 @@
 -- What is judged of an input after a whole position, or after none, can be computed.
-use Rattle.std.proofs.Common.{◌≡◌, ℕ, zero, suc, ◌<◌, Bool, true, false, not, ◌||◌, List, [], ◌∷◌, length, map, Option, Some, None, option_map, slice_get, if◌then◌else◌, refl, sym, ◌∙◌, ap, arith}
-use Rattle.std.specs.Prelude.{IsTrue}
-use Rattle.std.specs.List.{list_all, AllByRecursion}
+use Rattle.std.proofs.Common.{◌≡◌, ℕ, zero, suc, ◌<◌, Bool, true, false, not, ◌||◌, List, [], ◌∷◌, length, Option, Some, None, if◌then◌else◌, refl, sym, ◌∙◌, ap, arith}
 use Rattle.std.proofs.lemmas.Bool.{and_parts, false≢true}
-use Rattle.spec_model.specs.Values.{Assignment, is_assignment, assignments_of}
-use Rattle.spec_model.specs.Syntax.{Formula, Content, Initial, Safety, Statement, Specification}
+use Rattle.spec_model.specs.Values.{Assignment, is_assignment}
+use Rattle.spec_model.specs.Syntax.{Formula, Content, Initial, Safety, Specification}
 use Rattle.spec_model.specs.Rules.{Run, Position, after_input}
-use Rattle.spec_model.specs.Moves.{is_env, domains_of, input_domains, is_assumption, reading_of, has_next, reads_present_output, at_first, one_before}
+use Rattle.spec_model.specs.Moves.{is_env, input_domains, reading_of, has_next, reads_present_output, at_first, one_before}
 use Rattle.spec_model.specs.Plain.{IsComputableAt, IsInputComputable, AreInputComputable}
-use Rattle.spec_model.specs.Typing.{Scope, kind_of, is_truth}
-use Rattle.spec_model.specs.Games.{State, step_reading, outputs_of}
+use Rattle.spec_model.specs.Games.{step_reading, outputs_of}
 use Rattle.spec_model.specs.Steps.{reads_output, waits_for_output, is_output}
 use Rattle.spec_model.specs.WellMade.{WellMade, is_stepwise, awaits_output, is_step_formula, is_state_formula, is_initial_assumption, is_safety_assumption, scope_of}
 use Rattle.spec_model.proofs.AllStates.{Every}
@@ -19,7 +16,6 @@ use Rattle.game_values.proofs.Typed.{typed_among}
 use Rattle.hidden_game.specs.GameOf.{game_of}
 use Rattle.hidden_game.specs.declared.expanding.Player.TheVariants.{Environment}
 use Rattle.hidden_game.specs.Agreement.{state_of}
-use Rattle.hidden_game.proofs.Readings.{Share}
 use Rattle.hidden_game.proofs.Choices.{some_choice}
 use Rattle.hidden_game.proofs.Agreeing.{input_shared, same_reads, or_none, not_false, parts_of_state_formula}
 use Rattle.safety_play.specs.Plays.{last_alone, IsWhole}

@@ -3,3 +3,7 @@ mod LastAlone
 mod Computing
 mod Judged
 mod Buffered
+mod Moving
+mod Going
+mod Replies
+mod Sizes

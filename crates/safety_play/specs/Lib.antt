@@ -1,3 +1,5 @@
 pub mod Plays
 pub mod Pairs
 pub mod Buffers
+pub mod Standing
+pub mod Objects

@@ -1,6 +1,6 @@
 //! The last position of a play, in memory that is taken once.
 
-ghost use Rattle.std.specs.Prelude.{◌≡◌, ◌++◌, ◌+◌, ◌<◌, ◌^◌, [], None, Some, length, IfOk, IsTrue};
+ghost use Rattle.std.specs.Prelude.{◌≡◌, ◌++◌, ◌+◌, ◌<◌, ◌^◌, [], None, Some, length, is_some, IfOk, IsTrue};
 ghost use Rattle.spec_model.specs.Values.{is_assignment};
 ghost use Rattle.spec_model.specs.Views.{position_data, spec_data};
 ghost use Rattle.spec_model.specs.Moves.{input_domains, broken_assumption as broken_assumption_lem};
@@ -89,6 +89,13 @@ impl Last {
             run: [blank(alloc, inputs, outputs)?, blank(alloc, inputs, 0)?],
             values: vec![in alloc; Value::Bool(false); inputs + outputs]?,
         })
+    }
+
+    /// Whether there is a position.
+    pub fn is_started(&self) -> bool
+        ensures { result ≡ is_some self.now.position }
+    {
+        self.started
     }
 
     /// The values of the last position, its input and then its output. There are none before the first.

@@ -3,6 +3,8 @@
 
 mod last;
 mod laws;
+mod play;
 
 pub use last::Last;
 pub use laws::inputs_are_judged_by_the_last_position;
+pub use play::SafetyPlay;
