@@ -1,12 +1,14 @@
 -- What is held once two moves are made, and once they are spent again.
-use Rattle.std.proofs.Common.{◌≡◌, ℕ, ◌+◌, ◌≤◌, [], ◌∷◌, sym, subst, ◌∙◌, arith}
+use Rattle.std.proofs.Common.{List, refl, ◌≡◌, ℕ, ◌+◌, ◌≤◌, [], ◌∷◌, sym, subst, ◌∙◌, arith}
 use Rattle.spec_model.specs.Games.{GameData}
 use Rattle.spec_model.specs.Sets.{StateSet}
-use Rattle.regions.specs.Kept.{Kept, Item, Move, Region, Meaning, Outputs, IsHeldAs, HasRegion, HasMove, HoldsBesides, HoldsWithout, Makes, Stays, Spends, IsExact, IsSameGame, weight}
+use Rattle.regions.specs.Kept.{Call, Halts, Each, weigh, Kept, Item, Move, Region, Meaning, Outputs, IsHeldAs, HasRegion, HasMove, HoldsBesides, HoldsWithout, Makes, Stays, Spends, IsExact, IsSameGame, weight}
 use Rattle.regions.specs.Rules.{outputs_into}
+use Rattle.regions.specs.declared.types.Halt.{Halt}
+use Rattle.regions.specs.declared.types.Halt.TheVariants.{Budget, Memory}
 use Rattle.regions.specs.declared.types.When.TheVariants.{First, Later}
-use Rattle.regions.proofs.Holding.{set_stays, held_as}
-use Rattle.safety_play.specs.Standing.{MakesMoves, HoldsReplies, SpendsMoves, TakesForMoves}
+use Rattle.regions.proofs.Holding.{jam_adds, set_stays, held_as}
+use Rattle.safety_play.specs.Standing.{TellsHalt, IsOfReplies, MakesMoves, HoldsReplies, SpendsMoves, TakesForMoves}
 
 module _ {R M : Type 0} where
   -- moves that are spent go as what they were held as
@@ -54,3 +56,15 @@ module _ {R M : Type 0} where
   replies_taken k k1 region first later same here taken =
       subst (λ (g : GameData). (w : Item R M → Meaning → ℕ) → w (Move first) (Outputs (outputs_into g First (k.set region))) + w (Move later) (Outputs (outputs_into g Later (k.set region))) ≤ weight k1 w)
       (sym same.game) (λ w. omega (arith, taken.held w, held_as k (Region region) here w))
+
+  -- what a call told that halted, where these were made before it
+  pub told : (first old new : Kept R M) (z : StateSet) (asked : Call) (arguments besides : List Meaning) (halt : Halt) → Halts old new asked arguments halt →
+      ((w : Meaning → ℕ) → weight old (λ i m. w m) ≡ weigh w besides + weight first (λ i m. w m)) →
+      Each (IsOfReplies first.game z) besides → Each (IsOfReplies first.game z) arguments → TellsHalt first new z halt
+  told first old new z asked arguments besides Memory halts sums named asked_named = halts.jam
+  told first old new z asked arguments besides Budget halts sums named asked_named = jam_adds first old new asked arguments besides (IsOfReplies first.game z) Budget halts refl sums named asked_named
+
+  -- what was told stays told while something is spent
+  pub still_told : (first mid new : Kept R M) (z : StateSet) (halt : Halt) → new.jam ≡ mid.jam → TellsHalt first mid z halt → TellsHalt first new z halt
+  still_told first mid new z Memory same is = same ∙ is
+  still_told first mid new z Budget same is = (is.0, same ∙ is.1, is.2)

@@ -5,11 +5,14 @@ use Rattle.spec_model.specs.Syntax.{Specification}
 use Rattle.spec_model.specs.Rules.{Run, Position}
 use Rattle.spec_model.specs.Moves.{input_domains, output_domains, legal_output}
 use Rattle.spec_model.specs.WellMade.{WellMade}
+use Rattle.spec_model.specs.Games.{GameData}
 use Rattle.spec_model.specs.Sets.{StateSet, pre_sys, system_forces}
 use Rattle.hidden_game.specs.GameOf.{game_of}
 use Rattle.hidden_game.specs.Agreement.{state_of}
+use Rattle.regions.specs.declared.types.Halt.{Halt}
+use Rattle.regions.specs.declared.types.Halt.TheVariants.{Budget, Memory}
 use Rattle.regions.specs.declared.types.When.TheVariants.{First, Later}
-use Rattle.regions.specs.Kept.{Kept, Item, Region, Move, Meaning, States, Outputs, weight}
+use Rattle.regions.specs.Kept.{Kept, Item, Region, Move, Meaning, States, Outputs, Jam, JamAdds, weight}
 use Rattle.regions.specs.Rules.{outputs_into}
 use Rattle.safety_play.specs.Plays.{LastData, IsPlay, last_position}
 
@@ -30,6 +33,11 @@ pub record KeepsIn (s : Specification) (z : StateSet) (h : Run) : Type 0 where
   pub play : IsPlay s h
   pub inside : IsIn z (last_position h)
 
+-- the set, or the first moves into it
+pub data IsOfReplies (g : GameData) (z : StateSet) (m : Meaning) : Type 0 where
+  the_set : m ≡ States z → IsOfReplies g z m
+  the_first_moves : m ≡ Outputs (outputs_into g First z) → IsOfReplies g z m
+
 module _ {R M : Type 0} where
   -- the two moves are held, as the legal outputs that lead into the set
   abbrev pub HoldsReplies : Kept R M → StateSet → M → M → Type 0
@@ -41,6 +49,11 @@ module _ {R M : Type 0} where
     pub held : (w : Item R M → Meaning → ℕ) →
         weight new w ≡ w (Move first) (Outputs (outputs_into old.game First z)) + (w (Move later) (Outputs (outputs_into old.game Later z)) + weight old w)
     pub jam : new.jam ≡ None
+
+  -- a budget that ran out is told, with what was held then: what was held at first, and of what was made only these sets
+  abbrev pub TellsHalt : Kept R M → Kept R M → StateSet → Halt → Type 0
+  TellsHalt old new z Budget = (jam : Jam) × (new.jam ≡ Some jam) × JamAdds old (IsOfReplies old.game z) jam
+  TellsHalt old new z Memory = new.jam ≡ None
 
   -- after a call that took the region away and gave in its place the moves into its set
   pub record TakesForMoves (old new : Kept R M) (region : R) (z : StateSet) (first later : M) : Type 0 where

@@ -11,7 +11,7 @@ ghost use Rattle.spec_model.specs.WellMade.{WellMade};
 ghost use Rattle.hidden_game.specs.GameOf.{game_of};
 ghost use Rattle.regions.specs.Kept.{Region, States, HasRegion, HoldsBesides, HoldsWithout, Stays, IsSameGame};
 ghost use Rattle.regions.specs.Rules.{output_count};
-ghost use Rattle.safety_play.specs.Standing.{MakesMoves, TakesForMoves, IsFirstReply, IsKeptBy};
+ghost use Rattle.safety_play.specs.Standing.{MakesMoves, TakesForMoves, TellsHalt, IsFirstReply, IsKeptBy};
 
 use crate::last::Last;
 use regions::{Halt, MakeRefusal, Regions, When};
@@ -46,6 +46,7 @@ fn outputs<G: Regions>(g: &mut G, z: &G::R) -> Result<(G::Move, G::Move), Halt>
     requires z { HasRegion (G.kept g.old) z.now }
     ensures made { let k = G.kept g.old in IfOk result (λ m. MakesMoves k (G.kept g.new) (k.set z.now) m.0 m.1) }
     ensures halted { OnErr result (HoldsBesides (G.kept g.old) (G.kept g.new) []) }
+    ensures told { let k = G.kept g.old in IfErr result (TellsHalt k (G.kept g.new) (k.set z.now)) }
     ensures same { IsSameGame (G.kept g.old) (G.kept g.new) }
 {
     let first = g.out_moves(When::First, z)?;
@@ -64,6 +65,7 @@ fn replies<G: Regions>(g: &mut G, z: G::R) -> Result<(G::Move, G::Move), Halt>
     requires z { HasRegion (G.kept g.old) z }
     ensures made { let k = G.kept g.old in IfOk result (λ m. TakesForMoves k (G.kept g.new) z (k.set z) m.0 m.1) }
     ensures halted { let k = G.kept g.old in OnErr result (HoldsWithout k (G.kept g.new) (Region z) (States (k.set z))) }
+    ensures told { let k = G.kept g.old in IfErr result (TellsHalt k (G.kept g.new) (k.set z)) }
     ensures same { IsSameGame (G.kept g.old) (G.kept g.new) }
 {
     match outputs(g, &z) {
@@ -125,6 +127,7 @@ impl<'s, G: Regions> SafetyPlay<'s, G> {
         ensures taken { IfOk result (λ p. IsMadeOf G.kept (G.kept g) z p) }
         ensures same { IfOk result (λ p. IsSameGame (G.kept g) (kept_by G.kept p)) }
         ensures refused { IfErr result (λ r. HoldsWithout (G.kept g) (G.kept r.g) (Region z) (States ((G.kept g).set z))) }
+        ensures told { IfErr result (λ r. TellsHalt (G.kept g) (G.kept r.g) ((G.kept g).set z) r.halt) }
         ensures same_refused { IfErr result (λ r. IsSameGame (G.kept g) (G.kept r.g)) }
     {
         let mut g = g;
