@@ -3,3 +3,4 @@ pub mod Pairs
 pub mod Buffers
 pub mod Standing
 pub mod Objects
+pub mod Examples

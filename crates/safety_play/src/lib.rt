@@ -14,3 +14,6 @@ mod play;
 
 pub use laws::inputs_are_judged_by_the_last_position;
 pub use play::SafetyPlay;
+
+#[cfg(test)]
+mod tests;
