@@ -1,5 +1,5 @@
 -- What an object of replies is seen as: which plays it stands for, and what it holds.
-use Rattle.std.specs.Prelude.{◌≡◌}
+use Rattle.std.specs.Prelude.{◌≡◌, []}
 use Rattle.spec_model.specs.Syntax.{Specification}
 use Rattle.spec_model.specs.Rules.{Run}
 use Rattle.spec_model.specs.Views.{spec_data}
@@ -13,10 +13,6 @@ module _ {G R M : Type 0} where
   spec_of p = spec_data p.spec.now
 
   module _ (kept : G → Kept R M) where
-    -- what is held by it
-    abbrev pub kept_by : SafetyPlay G R M → Kept R M
-    kept_by p = kept p.g
-
     -- it keeps the play in the set
     abbrev pub StandsFor : SafetyPlay G R M → StateSet → Run → Type 0
     StandsFor p z h = IsKeptBy (spec_of p) (kept p.g) p.first p.later p.last z h
@@ -25,13 +21,22 @@ module _ {G R M : Type 0} where
     abbrev pub Stands : SafetyPlay G R M → Type 0
     Stands p = (z : StateSet) × (h : Run) × StandsFor p z h
 
-    -- it took the region, and holds the moves in its place
-    abbrev pub IsMadeOf : Kept R M → R → SafetyPlay G R M → Type 0
-    IsMadeOf old region p = TakesForMoves old (kept p.g) region (old.set region) p.first p.later
+    -- something holds of each play that it keeps, and of the set
+    abbrev pub InEachPlay : SafetyPlay G R M → (StateSet → Run → Type 0) → Type 0
+    InEachPlay p P = (z : StateSet) (h : Run) → StandsFor p z h → P z h
+
+    -- it keeps the empty play alone, took the region, and holds the moves into its set in its place
+    pub record Begins (old : Kept R M) (region : R) (s : Specification) (p : SafetyPlay G R M) : Type 0 where
+      pub stands : StandsFor p (old.set region) []
+      pub fresh : InEachPlay p (λ z h. h ≡ [])
+      pub spec : spec_of p ≡ s
+      pub taken : TakesForMoves old (kept p.g) region (old.set region) p.first p.later
+      pub game : IsSameGame old (kept p.g)
 
     -- the moves into the set are spent
-    abbrev pub GivesBack : SafetyPlay G R M → StateSet → G → Type 0
-    GivesBack p z g = SpendsMoves (kept p.g) (kept g) z p.first p.later
+    pub record GivesBack (p : SafetyPlay G R M) (z : StateSet) (g : G) : Type 0 where
+      pub spent : SpendsMoves (kept p.g) (kept g) z p.first p.later
+      pub game : IsSameGame (kept p.g) (kept g)
 
     -- nothing is held more or less, and the specification and the moves are the same
     pub record HoldsTheSame (old new : SafetyPlay G R M) : Type 0 where

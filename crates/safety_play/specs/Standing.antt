@@ -12,7 +12,7 @@ use Rattle.hidden_game.specs.Agreement.{state_of}
 use Rattle.regions.specs.declared.types.Halt.{Halt}
 use Rattle.regions.specs.declared.types.Halt.TheVariants.{Budget, Memory}
 use Rattle.regions.specs.declared.types.When.TheVariants.{First, Later}
-use Rattle.regions.specs.Kept.{Kept, Item, Region, Move, Meaning, States, Outputs, Jam, JamAdds, weight}
+use Rattle.regions.specs.Kept.{Kept, Item, Region, Move, Meaning, States, Outputs, Jam, JamAdds, HoldsWithout, IsSameGame, weight}
 use Rattle.regions.specs.Rules.{outputs_into}
 use Rattle.safety_play.specs.Plays.{LastData, IsPlay, last_position}
 
@@ -32,6 +32,13 @@ pub record KeepsIn (s : Specification) (z : StateSet) (h : Run) : Type 0 where
   pub starts : system_forces (game_of s) z None ≡ true
   pub play : IsPlay s h
   pub inside : IsIn z (last_position h)
+
+-- In the specification's game the system forces the first state into the set, and from each state of it the next one.
+pub record CanStayIn (s : Specification) (g : GameData) (z : StateSet) : Type 0 where
+  pub game : g ≡ game_of s
+  pub made : WellMade (game_of s)
+  pub solves : z ≡ pre_sys g z
+  pub starts : system_forces g z None ≡ true
 
 -- the set, or the first moves into it
 pub data IsOfReplies (g : GameData) (z : StateSet) (m : Meaning) : Type 0 where
@@ -60,6 +67,12 @@ module _ {R M : Type 0} where
     pub held : (w : Item R M → Meaning → ℕ) →
         weight new w + w (Region region) (States z) ≡ w (Move first) (Outputs (outputs_into old.game First z)) + (w (Move later) (Outputs (outputs_into old.game Later z)) + weight old w)
     pub jam : new.jam ≡ None
+
+  -- after a call that halted and spent the region
+  pub record IsRefused (old new : Kept R M) (region : R) (halt : Halt) : Type 0 where
+    pub held : HoldsWithout old new (Region region) (States (old.set region))
+    pub told : TellsHalt old new (old.set region) halt
+    pub game : IsSameGame old new
 
   -- after a call that took the moves away
   pub record SpendsMoves (old new : Kept R M) (z : StateSet) (first later : M) : Type 0 where

@@ -1,17 +1,15 @@
 //! The system's replies: the first legal output that leads into Z.
 
-ghost use Rattle.std.specs.Prelude.{◌≡◌, ◌≤◌, [], None, true, length, is_none, IfOk, IfErr, OnErr, IsTrue};
+ghost use Rattle.std.specs.Prelude.{◌≡◌, ◌≤◌, [], None, length, is_none, IfOk, IfErr, OnErr, IsTrue};
 ghost use Rattle.spec_model.specs.Values.{is_assignment};
 ghost use Rattle.spec_model.specs.Views.{spec_data};
 ghost use Rattle.spec_model.specs.Syntax.{Specification};
 ghost use Rattle.spec_model.specs.Rules.{Run, after};
 ghost use Rattle.spec_model.specs.Moves.{input_domains, output_domains, broken_assumption as broken_assumption_lem, legal_input, legal_output};
-ghost use Rattle.spec_model.specs.Sets.{StateSet, IsGreatest, pre_sys, system_forces};
-ghost use Rattle.spec_model.specs.WellMade.{WellMade};
-ghost use Rattle.hidden_game.specs.GameOf.{game_of};
+ghost use Rattle.spec_model.specs.Sets.{StateSet};
 ghost use Rattle.regions.specs.Kept.{Region, States, HasRegion, HoldsBesides, HoldsWithout, Stays, IsSameGame};
 ghost use Rattle.regions.specs.Rules.{output_count};
-ghost use Rattle.safety_play.specs.Standing.{MakesMoves, TakesForMoves, TellsHalt, IsFirstReply, IsKeptBy};
+ghost use Rattle.safety_play.specs.Standing.{MakesMoves, TakesForMoves, TellsHalt, IsFirstReply, IsKeptBy, CanStayIn, IsRefused};
 
 use crate::last::Last;
 use regions::{Halt, MakeRefusal, Regions, When};
@@ -104,7 +102,7 @@ fn write_reply<G: Regions>(
 }
 
 impl<'s, G: Regions> SafetyPlay<'s, G> {
-    ghost use Rattle.safety_play.specs.Objects.{spec_of, kept_by, StandsFor, Stands, IsMadeOf, GivesBack, HoldsTheSame};
+    ghost use Rattle.safety_play.specs.Objects.{spec_of, StandsFor, Stands, InEachPlay, Begins, GivesBack, HoldsTheSame};
 
     /// Replies from the start on. Z is taken: the moves into it are held in its place.
     ///
@@ -117,18 +115,9 @@ impl<'s, G: Regions> SafetyPlay<'s, G> {
     ) -> Result<SafetyPlay<'s, G>, MakeRefusal<G>>
         requires free { (G.kept g).jam ≡ None }
         requires z { HasRegion (G.kept g) z }
-        requires game { (G.kept g).game ≡ game_of (spec_data spec.now) }
-        requires made { WellMade (game_of (spec_data spec.now)) }
-        requires greatest { IsGreatest (pre_sys (G.kept g).game) ((G.kept g).set z) }
-        requires forced { system_forces (G.kept g).game ((G.kept g).set z) None ≡ true }
-        ensures stands { IfOk result (λ p. StandsFor G.kept p ((G.kept g).set z) []) }
-        ensures fresh { IfOk result (λ p. (t : StateSet) (h : Run) → StandsFor G.kept p t h → h ≡ []) }
-        ensures spec { IfOk result (λ p. spec_of p ≡ spec_data spec.now) }
-        ensures taken { IfOk result (λ p. IsMadeOf G.kept (G.kept g) z p) }
-        ensures same { IfOk result (λ p. IsSameGame (G.kept g) (kept_by G.kept p)) }
-        ensures refused { IfErr result (λ r. HoldsWithout (G.kept g) (G.kept r.g) (Region z) (States ((G.kept g).set z))) }
-        ensures told { IfErr result (λ r. TellsHalt (G.kept g) (G.kept r.g) ((G.kept g).set z) r.halt) }
-        ensures same_refused { IfErr result (λ r. IsSameGame (G.kept g) (G.kept r.g)) }
+        requires won { CanStayIn (spec_data spec.now) (G.kept g).game ((G.kept g).set z) }
+        ensures begins { IfOk result (Begins G.kept (G.kept g) z (spec_data spec.now)) }
+        ensures refused { IfErr result (λ r. IsRefused (G.kept g) (G.kept r.g) z r.halt) }
     {
         let mut g = g;
         let Ok(last) = buffers(alloc, spec) else {
@@ -154,8 +143,8 @@ impl<'s, G: Regions> SafetyPlay<'s, G> {
     pub fn broken_assumption(&mut self, input: &[Value]) -> Option<u32>
         requires stands { Stands G.kept self.old }
         requires input { IsTrue (is_assignment (input_domains (spec_of self.old)) input.now) }
-        ensures first { (z : StateSet) (h : Run) → StandsFor G.kept self.old z h → result ≡ broken_assumption_lem (spec_of self.old) h input.now }
-        ensures legal { (z : StateSet) (h : Run) → StandsFor G.kept self.old z h → is_none result ≡ legal_input (spec_of self.old) h input.now }
+        ensures first { InEachPlay G.kept self.old (λ z h. result ≡ broken_assumption_lem (spec_of self.old) h input.now) }
+        ensures legal { InEachPlay G.kept self.old (λ z h. is_none result ≡ legal_input (spec_of self.old) h input.now) }
         ensures unchanged { self.new ≡ self.old }
     {
         self.last.broken(self.spec, input)
@@ -164,11 +153,11 @@ impl<'s, G: Regions> SafetyPlay<'s, G> {
     /// Writes the first legal output that leads into Z, and goes on to the position that the input and the output make.
     pub fn reply(&mut self, input: &[Value], out: &mut [Value])
         requires stands { Stands G.kept self.old }
-        requires legal { (z : StateSet) (h : Run) → StandsFor G.kept self.old z h → IsTrue (legal_input (spec_of self.old) h input.now) }
+        requires legal { InEachPlay G.kept self.old (λ z h. IsTrue (legal_input (spec_of self.old) h input.now)) }
         requires room { length out.old ≡ length (output_domains (spec_of self.old)) }
-        ensures first { (z : StateSet) (h : Run) → StandsFor G.kept self.old z h → IsFirstReply (spec_of self.old) z h input.now out.new }
-        ensures legal { (z : StateSet) (h : Run) → StandsFor G.kept self.old z h → IsTrue (legal_output (spec_of self.old) h input.now out.new) }
-        ensures stands { (z : StateSet) (h : Run) → StandsFor G.kept self.old z h → StandsFor G.kept self.new z (after h input.now out.new) }
+        ensures first { InEachPlay G.kept self.old (λ z h. IsFirstReply (spec_of self.old) z h input.now out.new) }
+        ensures legal { InEachPlay G.kept self.old (λ z h. IsTrue (legal_output (spec_of self.old) h input.now out.new)) }
+        ensures stands { InEachPlay G.kept self.old (λ z h. StandsFor G.kept self.new z (after h input.now out.new)) }
         ensures same { HoldsTheSame G.kept self.old self.new }
     {
         write_reply(
@@ -185,8 +174,7 @@ impl<'s, G: Regions> SafetyPlay<'s, G> {
     /// Ends the play: its moves are spent.
     pub fn close(self) -> G
         requires stands { Stands G.kept self }
-        ensures spends { (z : StateSet) (h : Run) → StandsFor G.kept self.entry z h → GivesBack G.kept self.entry z result }
-        ensures same { IsSameGame (kept_by G.kept self.entry) (G.kept result) }
+        ensures spent { InEachPlay G.kept self.entry (λ z h. GivesBack G.kept self.entry z result) }
     {
         let SafetyPlay {
             mut g,
