@@ -27,6 +27,10 @@ pub record LastData : Type 0 where
   pub outputs : ℕ
   pub position : Option Position
 
+-- the same at the next position
+abbrev pub at_next : LastData → Assignment → Assignment → LastData
+at_next last x y = record { inputs = last.inputs; outputs = last.outputs; position = Some (record { input = x; output = y }) }
+
 -- its values, the input's and then the output's
 abbrev pub values_in : Option Position → List Value
 values_in None = []

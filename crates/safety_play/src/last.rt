@@ -7,7 +7,7 @@ ghost use Rattle.spec_model.specs.Moves.{input_domains, broken_assumption as bro
 ghost use Rattle.spec_model.specs.WellMade.{WellMade};
 ghost use Rattle.hidden_game.specs.GameOf.{game_of};
 ghost use Rattle.safety_play.specs.Pairs.{first_of, second_of};
-ghost use Rattle.safety_play.specs.Plays.{LastData, values_in, last_alone, IsWhole};
+ghost use Rattle.safety_play.specs.Plays.{LastData, at_next, values_in, last_alone, IsWhole};
 
 use spec_model::judge::broken_assumption;
 use spec_model::spec::Spec;
@@ -127,7 +127,7 @@ impl Last {
     pub fn go_on(&mut self, input: &[Value], output: &[Value])
         requires input { length input.now ≡ self.old.inputs }
         requires output { length output.now ≡ self.old.outputs }
-        ensures { self.new ≡ record { inputs = self.old.inputs; outputs = self.old.outputs; position = Some (record { input = input.now; output = output.now }) } }
+        ensures { self.new ≡ at_next self.old input.now output.now }
     {
         write(&mut self.run[0], input, output);
         write_both(&mut self.values, input, output);
