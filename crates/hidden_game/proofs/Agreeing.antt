@@ -43,7 +43,7 @@ module _ (vs : List VariableData) (x y y' : Assignment) where
   abbrev with_output : Assignment → Position
   with_output z = record { input = x; output = z }
 
-  input_shared : (k : ℕ) → not (is_output_variable vs k) ≡ true → value_among vs (with_output y) k ≡ value_among vs (with_output y') k
+  pub input_shared : (k : ℕ) → not (is_output_variable vs k) ≡ true → value_among vs (with_output y) k ≡ value_among vs (with_output y') k
   input_shared k own = by_owner (option_map (λ (v : VariableData). v.owner) (slice_get vs k)) refl
     where
       by_owner : (o : Option Owner) → option_map (λ (v : VariableData). v.owner) (slice_get vs k) ≡ o → value_among vs (with_output y) k ≡ value_among vs (with_output y') k
@@ -107,11 +107,11 @@ twice : (b : Bool) → not (not b) ≡ b
 twice true = refl
 twice false = refl
 
-not_false : (b : Bool) → not b ≡ true → b ≡ false
+pub not_false : (b : Bool) → not b ≡ true → b ≡ false
 not_false true h = absurd (cc)
 not_false false h = refl
 
-or_none : (a b : Bool) → (a || b) ≡ false → (a ≡ false) × (b ≡ false)
+pub or_none : (a b : Bool) → (a || b) ≡ false → (a ≡ false) × (b ≡ false)
 or_none true b h = absurd (cc)
 or_none false b h = (refl, h)
 
@@ -178,14 +178,14 @@ module _ (s : Specification) (x y : Assignment) where
 
 -- ---- the moves
 
-parts_of_state_formula : (s : Specification) (e : Formula) → is_state_formula (scope_of (game_of s)) e ≡ true → (is_stepwise false e ≡ true) × (has_next e ≡ false)
+pub parts_of_state_formula : (s : Specification) (e : Formula) → is_state_formula (scope_of (game_of s)) e ≡ true → (is_stepwise false e ≡ true) × (has_next e ≡ false)
 parts_of_state_formula s e made =
     let parts = and_parts (is_step_formula (scope_of (game_of s)) e) (not (has_next e)) made in
     ((and_parts _ (is_stepwise false e) parts.0).1, not_false (has_next e) parts.1)
 
 module _ (s : Specification) (x y : Assignment) (h : Run) (b : Before) (last : IsLast h b) where
   -- an assumption is judged with the input alone
-  asm_first : (e : Formula) → is_initial_assumption (game_of s) e ≡ true →
+  pub asm_first : (e : Formula) → is_initial_assumption (game_of s) e ≡ true →
       not (broken_by_input s (after_input h x) (length h) (Initial e)) ≡ (is_some b || line_holds (game_of s) false b (reached (game_of s) b x y) e)
   asm_first e made =
       let parts = and_parts (is_state_formula (scope_of (game_of s)) e) (not (waits_for_output (game_of s) e)) made in
@@ -193,7 +193,7 @@ module _ (s : Specification) (x y : Assignment) (h : Run) (b : Before) (last : I
       let waits = or_none (has_next e) (reads_output s.variables [] e) (not_false (waits_for_output (game_of s) e) parts.1) in
       first_judged s x y [] false (λ never. absurd (cc)) h b last e (state.0, ap not waits.1, refl, ap not waits.0)
 
-  asm_always : (e : Formula) → is_safety_assumption (game_of s) e ≡ true →
+  pub asm_always : (e : Formula) → is_safety_assumption (game_of s) e ≡ true →
       not (broken_by_input s (after_input h x) (length h) (Safety e)) ≡ line_holds (game_of s) (waits_for_output (game_of s) e) b (reached (game_of s) b x y) e
   asm_always e made =
       let parts = and_parts (is_step_formula (scope_of (game_of s)) e) (not (awaits_output s.variables false e)) made in

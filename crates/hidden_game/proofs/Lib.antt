@@ -1,4 +1,4 @@
-mod Readings
-mod Lines
+pub mod Readings
+pub mod Lines
 pub mod Choices
 pub mod Agreeing

@@ -1,0 +1,9 @@
+mod Lines
+mod LastAlone
+mod Computing
+mod Judged
+mod Buffered
+mod Moving
+mod Going
+mod Replies
+mod Sizes
