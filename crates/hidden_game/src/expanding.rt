@@ -5,7 +5,7 @@ ghost use Rattle.spec_model.specs.Views.{formula, content_data, line_data, spec_
 ghost use Rattle.spec_model.specs.GameViews.{game_data, goal_data};
 ghost use Rattle.hidden_game.specs.GameOf.{game_of, binds as binds_lem, recurs as recurs_lem, said as said_lem, recurring as recurring_lem, line_for, lines_for, goal_for, goals_for};
 
-use crate::copy::{copy_expr, copy_vars};
+use spec_model::copy::{copy_expr, copy_vars};
 use spec_model::expr::Expr;
 use spec_model::game::{Game, Goal, Label};
 use spec_model::spec::{Body, Line, Role, Spec};

@@ -7,7 +7,6 @@
 //! Contract: `expand`, and the law `moves_agree`. Path: specification → **game** → regions.
 #![tactic(auto)]
 
-mod copy;
 mod expanding;
 mod laws;
 

@@ -13,7 +13,9 @@ use Rattle.session.specs.declared.talking.End.{End}
 use Rattle.session.specs.declared.talking.End.TheVariants as ends
 use Rattle.session.specs.InputLines.{Line, input_lines}
 use Rattle.session.specs.Taking.{Takes, GivesLine, IsEndIf, BeginsTooLong}
-use Rattle.session.specs.Talks.{IsPlay, nothing, more, ReadsInput, shown_output, AreInputs, shown_outputs, IsNext, EndsSo, RunTalk, SoFar, IsAnswered, IsNotAnswered, IsLastEnd}
+use Rattle.spec_model.specs.Plays.{IsPlay, more}
+use Rattle.spec_model.specs.Moves.{rules_of}
+use Rattle.session.specs.Talks.{ReadsInput, shown_output, AreInputs, shown_outputs, IsNext, EndsSo, RunTalk, SoFar, IsAnswered, IsNotAnswered, IsLastEnd}
 use Rattle.session.proofs.HandingLemmas.{pushed, one_more, all_told}
 
 -- ---- one position more
@@ -80,7 +82,7 @@ module _ (s : Specification) (Stands : Run → Type 0) (left0 left1 left2 writte
     counted_more : length play' ≡ count + 1
     counted_more = let e = length_more so.play answered.input answered.output in omega (arith, e, so.counted)
 
-    legal_more : IsPlay s play'
+    legal_more : IsPlay (rules_of s) play'
     legal_more = more so.play answered.input answered.output so.legal answered.legal_in answered.legal_out
 
     pub goes_on : (what ≡ taken.Line) → SoFar s Stands' left0 left2 written0 written2 after_it (count + 1)

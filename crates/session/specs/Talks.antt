@@ -5,18 +5,14 @@ use Rattle.sp_outside.specs.Written.{AppendsFront}
 use Rattle.spec_model.specs.Values.{Assignment}
 use Rattle.spec_model.specs.Syntax.{Specification}
 use Rattle.spec_model.specs.Rules.{Run, after}
-use Rattle.spec_model.specs.Moves.{broken_assumption, legal_input, legal_output}
+use Rattle.spec_model.specs.Plays.{IsPlay}
+use Rattle.spec_model.specs.Moves.{broken_assumption, legal_input, legal_output, rules_of}
 use Rattle.session.specs.declared.talking.End.{End}
 use Rattle.session.specs.declared.talking.End.TheVariants as ends
 use Rattle.session.specs.Shown.{inputs_of, outputs_of, show}
 use Rattle.session.specs.Reading.{Reads}
 use Rattle.session.specs.InputLines.{Line, input_lines}
 use Rattle.session.specs.Handing.{HandsOut}
-
--- a run all of whose moves are legal
-pub data IsPlay (s : Specification) : Run → Type 0 where
-  nothing : IsPlay s []
-  more : (h : Run) (x y : Assignment) → IsPlay s h → legal_input s h x ≡ true → legal_output s h x y ≡ true → IsPlay s (after h x y)
 
 -- the line reads as an input, the output as it is shown
 abbrev pub ReadsInput : Specification → List ℕ → Assignment → Type 0
@@ -73,7 +69,7 @@ pub record RunTalk (s : Specification) (limit : ℕ) (left_old left_new written_
   pub handed : List (List ℕ)
   pub play : Run
   pub inputs : AreInputs s handed play
-  pub legal : IsPlay s play
+  pub legal : IsPlay (rules_of s) play
   pub few : length play ≤ limit
   pub wrote : Wrote end written_old written_new (shown_outputs s play)
   pub ends : EndsSo s limit given left_new handed play rose_in rose_out end
@@ -88,7 +84,7 @@ pub record SoFar (s : Specification) (Stands : Run → Type 0) (left_old left_ne
   pub hands_out : HandsOut given handed pending
   pub play : Run
   pub inputs : AreInputs s handed play
-  pub legal : IsPlay s play
+  pub legal : IsPlay (rules_of s) play
   pub counted : length play ≡ count
   pub wrote : Appends written_old written_new (shown_outputs s play)
   pub stands : Stands play

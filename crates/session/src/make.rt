@@ -9,6 +9,7 @@ ghost use Rattle.session.specs.Room.{HasShortTexts, HasItemRoom, HasRoom};
 use crate::number::MOST_DIGITS;
 use crate::value::name_text;
 use sp_outside::OutOfMemory;
+use spec_model::copy::copy_var;
 use spec_model::value::{Domain, Owner, Var};
 use std::alloc::{AllocError, Global};
 
@@ -21,28 +22,6 @@ pub fn copy_names(alloc: Global, names: &[String]) -> Result<Vec<String>, OutOfM
         copies.push(name.clone()?)?;
     }
     Ok(copies)
-}
-
-// Copies a domain.
-fn copy_domain(alloc: Global, domain: &Domain) -> Result<Domain, OutOfMemory>
-    ensures { IfOk result (λ copy. domain_data copy ≡ domain_data domain.now) }
-{
-    match domain {
-        Domain::Boolean => Ok(Domain::Boolean),
-        Domain::Range { lo, hi } => Ok(Domain::Range { lo: *lo, hi: *hi }),
-        Domain::Names(names) => Ok(Domain::Names(names.to_vec(alloc)?)),
-    }
-}
-
-// Copies a variable.
-fn copy_var(alloc: Global, var: &Var) -> Result<Var, OutOfMemory>
-    ensures { IfOk result (λ copy. variable_data copy ≡ variable_data var.now) }
-{
-    Ok(Var {
-        name: var.name.clone()?,
-        owner: var.owner,
-        domain: copy_domain(alloc, &var.domain)?,
-    })
 }
 
 /// Copies the variables of an owner.
