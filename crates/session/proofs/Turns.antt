@@ -13,7 +13,7 @@ use Rattle.session.specs.declared.talking.End.{End}
 use Rattle.session.specs.declared.talking.End.TheVariants as ends
 use Rattle.session.specs.InputLines.{Line, input_lines}
 use Rattle.session.specs.Taking.{Takes, GivesLine, IsEndIf, BeginsTooLong}
-use Rattle.spec_model.specs.Plays.{IsPlay, more}
+use Rattle.spec_model.specs.Plays.{IsPlay, nothing, more}
 use Rattle.spec_model.specs.Moves.{rules_of}
 use Rattle.session.specs.Talks.{ReadsInput, shown_output, AreInputs, shown_outputs, IsNext, EndsSo, RunTalk, SoFar, IsAnswered, IsNotAnswered, IsLastEnd}
 use Rattle.session.proofs.HandingLemmas.{pushed, one_more, all_told}

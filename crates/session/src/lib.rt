@@ -3,8 +3,11 @@
 //! A line has an item `name=value` for each wanted variable, in any order, with spaces and tabs between. A value is
 //! written exactly as it is printed. Input comes in pieces of any size. Each buffer is taken before the first line.
 //!
-//! Contract: `Lines::next_line` hands out the lines of the input in order; `Lines::read_input` reads a line exactly where
-//! it reads as an assignment; `Lines::write_output` writes a whole line. Path: verdict → **lines**.
+//! A talk answers each line of the input by one line, for any `Player`, until it ends.
+//!
+//! Contract: `talk` meets `RunTalk`: the lines that it read, what it wrote, and how it ended. Below it, `Lines::next_line`
+//! hands out the lines of the input in order; `Lines::read_input` reads a line exactly where it reads as an assignment;
+//! `Lines::write_output` writes a whole line. Path: verdict → **lines**.
 #![tactic(auto)]
 
 pub mod laws;
@@ -25,5 +28,6 @@ mod word;
 
 pub use lines::Lines;
 pub use player::Player;
+pub use print::MOST_TEXT;
 pub use reader::Taken;
 pub use talking::{End, talk};

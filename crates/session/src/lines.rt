@@ -1,16 +1,18 @@
 //! The lines of a play: what is read and what is printed, with all the room for it.
 
-ghost use Rattle.std.specs.Prelude.{◌≡◌, ◌≤◌, ◌++◌, ◌∷◌, [], true, length, map, string_bytes, vec_len, vec_capacity, IfOk, OnOk, OnErr};
+ghost use Rattle.std.specs.Prelude.{◌≡◌, ◌≤◌, ◌+◌, ◌++◌, ◌∷◌, [], true, length, map, string_bytes, vec_len, vec_capacity, IfOk, OnOk, OnErr};
+ghost use Rattle.std.specs.Fmt.{decimal};
 ghost use Rattle.std.specs.Bool.{OnTrue, OnFalse};
 ghost use Rattle.std.specs.Io.KnownBytes.{Appends};
 ghost use Rattle.sp_outside.specs.Causes.{Rose, HasCause};
 ghost use Rattle.sp_outside.specs.Written.{AppendsFront};
 ghost use Rattle.spec_model.specs.Values.{Assignment, is_assignment};
 ghost use Rattle.spec_model.specs.Views.{variable_data, spec_data};
+ghost use Rattle.session.specs.declared.print.TheConstants.{MOST_TEXT, NUMBERED};
 ghost use Rattle.session.specs.Room.{HasRoom};
 
 use crate::make::{copy_names, copy_vars, room_for};
-use crate::print::{push_bytes, push_line};
+use crate::print::{MOST_TEXT, NUMBERED, push_bytes, push_count, push_line};
 use crate::read::read_line;
 use crate::reader::{Reader, Taken};
 use crate::value::are_values;
@@ -33,6 +35,7 @@ pub struct Lines {
     ghost input_places: { vec_len input ≡ vec_len inputs },
     ghost output_places: { vec_len output ≡ vec_len outputs },
     ghost output_room: { HasRoom (map string_bytes names.items) (map variable_data outputs.items) (vec_capacity printed) },
+    ghost numbered_room: { NUMBERED ≤ vec_capacity printed },
 }
 
 impl Lines {
@@ -50,7 +53,7 @@ impl Lines {
         let names = copy_names(alloc, &spec.names)?;
         let inputs = copy_vars(alloc, &spec.vars, Owner::Env)?;
         let outputs = copy_vars(alloc, &spec.vars, Owner::Sys)?;
-        let room = room_for(&names, &outputs)?;
+        let room = room_for(&names, &outputs)?.max(NUMBERED);
         let input = vec![in alloc; Value::Bool(false); inputs.len()]?;
         let output = vec![in alloc; Value::Bool(false); outputs.len()]?;
         Ok(Lines {
@@ -140,6 +143,30 @@ impl Lines {
         self.printed.clear();
         push_line(&mut self.printed, &self.names, &self.outputs, &self.output);
         push_bytes(&mut self.printed, b"\n");
+        write_line(output, &self.printed)
+    }
+
+    /// Writes a line with a number between two texts, of which the second ends it. `Failed`: the output failed, and a front
+    /// of the line is written. It takes no memory.
+    pub fn write_numbered<O: Sink>(
+        &mut self,
+        before: &[u8],
+        n: u64,
+        after: &[u8],
+        output: &mut O,
+    ) -> Result<(), Failed>
+        requires { length before.now + length after.now ≤ MOST_TEXT }
+        ensures whole { OnOk result (Appends (O.written output.old) (O.written output.new) (before.now ++ (decimal n ++ after.now))) }
+        ensures part { OnErr result (AppendsFront (O.written output.old) (O.written output.new) (before.now ++ (decimal n ++ after.now))) }
+        ensures cause { HasCause (O.faults output.old) (O.faults output.new) result }
+        ensures keeps { KeepsTables self.old self.new }
+        ensures reader { KeepsReader self.old self.new }
+        ensures moves { KeepsMoves self.old self.new }
+    {
+        self.printed.clear();
+        push_bytes(&mut self.printed, before);
+        push_count(&mut self.printed, n);
+        push_bytes(&mut self.printed, after);
         write_line(output, &self.printed)
     }
 }

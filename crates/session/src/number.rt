@@ -22,6 +22,16 @@ fn put_digits(buffer: &mut [u8], n: u64) -> usize
     count + 1
 }
 
+/// Writes a count at the front of `buffer`, and says how many digits it has.
+pub fn put_count(buffer: &mut [u8], n: u64) -> usize
+    requires { MOST_DIGITS ≤ length buffer.old }
+    ensures within { result ≤ length buffer.new }
+    ensures text { take result buffer.new ≡ decimal n }
+    ensures short { length (decimal n) ≤ MOST_DIGITS }
+{
+    put_digits(buffer, n)
+}
+
 /// Writes a whole number at the front of `buffer`, and says how many bytes it has.
 pub fn put_number(buffer: &mut [u8], z: i64) -> usize
     requires { MOST_DIGITS ≤ length buffer.old }

@@ -1,12 +1,19 @@
 //! Printing an assignment into a buffer that has room for it.
 
 ghost use Rattle.std.specs.Prelude.{◌≡◌, ◌+◌, ◌≤◌, ◌++◌, length, map, string_bytes, vec_len, vec_capacity};
+ghost use Rattle.std.specs.Fmt.{decimal};
 ghost use Rattle.spec_model.specs.Views.{variable_data};
 ghost use Rattle.session.specs.Shown.{text_of, item_of, show};
 
-use crate::number::{MOST_DIGITS, put_number};
+use crate::number::{MOST_DIGITS, put_count, put_number};
 use crate::value::name_text;
 use spec_model::value::{Value, Var};
+
+/// How many bytes a line with a number may have besides it, its line feed included.
+pub const MOST_TEXT: usize = 40;
+
+/// The room for such a line.
+pub const NUMBERED: usize = MOST_TEXT + MOST_DIGITS;
 
 /// Adds bytes to what is printed. It takes no memory.
 pub fn push_bytes(out: &mut Vec<u8>, bytes: &[u8])
@@ -15,6 +22,18 @@ pub fn push_bytes(out: &mut Vec<u8>, bytes: &[u8])
     ensures capacity { vec_capacity out.old ≤ vec_capacity out.new }
 {
     out.extend_from_slice(bytes).unwrap();
+}
+
+/// Adds a count in decimal. It takes no memory.
+pub fn push_count(out: &mut Vec<u8>, n: u64)
+    requires room { vec_len out.old + MOST_DIGITS ≤ vec_capacity out.old }
+    ensures items { out.new.items ≡ out.old.items ++ decimal n }
+    ensures short { vec_len out.new ≤ vec_len out.old + MOST_DIGITS }
+    ensures capacity { vec_capacity out.old ≤ vec_capacity out.new }
+{
+    let mut buffer = [0; MOST_DIGITS];
+    let count = put_count(&mut buffer, n);
+    push_bytes(out, &buffer[..count]);
 }
 
 // Adds the text of a value.
