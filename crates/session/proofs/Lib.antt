@@ -10,5 +10,5 @@ mod Slices
 mod Values
 mod Words
 mod Conversation
-mod Turns
+pub mod Turns
 mod Players

@@ -19,6 +19,7 @@ pub trait Player {
 
     /// The first assumption that the input breaks, in text order, or none where it is legal.
     fn broken(&mut self, input: &[Value]) -> Option<Label>
+        requires stands { (h : Run) × stands self.old h }
         requires assigned { is_assignment (input_domains (game self.old)) input.now ≡ true }
         ensures first { (h : Run) → stands self.old h → option_map (λ l. l.line) result ≡ broken_assumption (game self.old) h input.now }
         ensures stays { (h : Run) → stands self.old h ↔ stands self.new h }
@@ -26,6 +27,7 @@ pub trait Player {
 
     /// Writes the output that answers a legal input, and stands for the play with both added.
     fn reply(&mut self, input: &[Value], out: &mut [Value])
+        requires stands { (h : Run) × stands self.old h }
         requires legal { (h : Run) → stands self.old h → legal_input (game self.old) h input.now ≡ true }
         requires room { length out.old ≡ length (output_domains (game self.old)) }
         ensures legal { (h : Run) → stands self.old h → legal_output (game self.old) h input.now out.new ≡ true }

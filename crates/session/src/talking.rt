@@ -34,6 +34,7 @@ pub enum End {
 // Judges the input that was read last.
 fn broken_by<P: Player>(lines: &Lines, play: &mut P) -> Option<Label>
     requires for_spec { AreFor lines.now (P.game play.old) }
+    requires stands { (h : Run) × P.stands play.old h }
     requires assigned { is_assignment (input_domains (P.game play.old)) (input_of lines.now) ≡ true }
     ensures first { (h : Run) → P.stands play.old h → option_map (λ l. l.line) result ≡ broken_assumption (P.game play.old) h (input_of lines.now) }
     ensures stays { (h : Run) → P.stands play.old h ↔ P.stands play.new h }
@@ -45,6 +46,7 @@ fn broken_by<P: Player>(lines: &Lines, play: &mut P) -> Option<Label>
 // Lets the player answer the input that was read last.
 fn reply_to<P: Player>(lines: &mut Lines, play: &mut P)
     requires for_spec { AreFor lines.old (P.game play.old) }
+    requires stands { (h : Run) × P.stands play.old h }
     requires legal { (h : Run) → P.stands play.old h → legal_input (P.game play.old) h (input_of lines.old) ≡ true }
     ensures legal { (h : Run) → P.stands play.old h → legal_output (P.game play.old) h (input_of lines.old) (output_of lines.new) ≡ true }
     ensures stands { (h : Run) → P.stands play.old h → P.stands play.new (after h (input_of lines.old) (output_of lines.new)) }
@@ -70,6 +72,7 @@ fn answer<P: Player, O: Sink>(
         IsAnswered (P.game play.old) h (P.stands play.new) (line_of lines.old) (O.written output.old) (O.written output.new)) }
     ensures ended { IfSome result (λ end. (h : Run) → P.stands play.old h →
         IsNotAnswered (P.game play.old) h count (line_of lines.old) (O.written output.old) (O.written output.new) (Rose (O.faults output.old) (O.faults output.new)) end) }
+    ensures stands { (h : Run) × P.stands play.new h }
     ensures pending { pending_of lines.new ≡ pending_of lines.old }
     ensures for_spec { AreFor lines.new (P.game play.new) }
     ensures same { P.game play.new ≡ P.game play.old }
@@ -119,6 +122,7 @@ fn turn<P: Player, I: Source, O: Sink>(
         SoFar (P.game play.old) (P.stands play.old) left (I.left input.old) written (O.written output.old) (pending_of lines.old) count →
         RunTalk (P.game play.old) limit left (I.left input.new) written (O.written output.new)
         (Rose (I.faults input.old) (I.faults input.new)) (Rose (O.faults output.old) (O.faults output.new)) end) }
+    ensures stands { (h : Run) × P.stands play.new h }
     ensures for_spec { AreFor lines.new (P.game play.new) }
     ensures same { P.game play.new ≡ P.game play.old }
     ensures later_in { I.faults input.old ≤ I.faults input.new }
@@ -152,6 +156,8 @@ pub fn talk<P: Player, I: Source, O: Sink>(
     requires stands { P.stands play.old [] }
     ensures talk { RunTalk (P.game play.old) limit (I.left input.old) (I.left input.new) (O.written output.old) (O.written output.new)
         (Rose (I.faults input.old) (I.faults input.new)) (Rose (O.faults output.old) (O.faults output.new)) result }
+    ensures stands { (h : Run) × P.stands play.new h }
+    ensures same { P.game play.new ≡ P.game play.old }
     ensures later_in { I.faults input.old ≤ I.faults input.new }
     ensures later_out { O.faults output.old ≤ O.faults output.new }
 {

@@ -27,11 +27,9 @@ use Rattle.hidden_game.specs.GameOf.{game_of, binds, said, numbered, lines_for}
 use Rattle.hidden_game.proofs.Agreeing.{moves_agree}
 use Rattle.hidden_game.proofs.Choices.{some_choice, all_alike}
 use Rattle.safety.specs.Solution.{IsShiftCount, IsRoundCount, IsDenialCount}
-use Rattle.spectra.specs.declared.reading.Verdict.{Verdict}
-use Rattle.spectra.specs.declared.reading.Verdict.TheVariants.{Realizable, Unrealizable, Unsupported, TooManyStates}
 use Rattle.spectra.specs.First.{IsInitialLine, IsInitialOnly, answers_all}
 use Rattle.spectra.specs.Reading.{most_variables}
-use Rattle.spectra.specs.Verdict.{IsKept, IsLost, IsFound, IsVerdictOn}
+use Rattle.spectra.specs.Verdict.{IsKept, IsLost, IsWonBySystem, IsWonByEnvironment}
 use Rattle.spectra.proofs.Bounds.{system_wins, environment_wins}
 
 -- ---- how many states there are
@@ -238,9 +236,9 @@ module _ (s : Specification) (only : IsInitialOnly s) (made : WellMade (game_of 
       counted (inl none) = none.1
       counted (inr some) = absurd (some.0 (is_zero n found.shifts))
 
--- what is found of the game is the verdict on the specification
-pub verdict_found : (s : Specification) → length s.variables ≤ most_variables → WellMade (game_of s) → (v : Verdict) → IsFound (game_of s) v → IsVerdictOn s v
-verdict_found s few made (Realizable k) found = (few, record { game = found; initial = λ only. initial_kept s only made k found })
-verdict_found s few made (Unrealizable n m) found = (few, record { game = found; initial = λ only. initial_lost s only made n m found })
-verdict_found s few made Unsupported found = absurd found
-verdict_found s few made TooManyStates found = absurd found
+-- what is found of the game of a specification is found of the specification
+pub won_found : (s : Specification) → WellMade (game_of s) → (k : ℕ) → IsKept (game_of s) k → IsWonBySystem s k
+won_found s made k found = record { game = found; initial = λ only. initial_kept s only made k found }
+
+pub lost_found : (s : Specification) → WellMade (game_of s) → (n m : ℕ) → IsLost (game_of s) n m → IsWonByEnvironment s n m
+lost_found s made n m found = record { game = found; initial = λ only. initial_lost s only made n m found }

@@ -7,4 +7,7 @@ mod MadeGames
 mod InitialGames
 mod Readings
 mod Fronts
+mod Exchanges
+mod Decided
+mod Causes
 mod Statuses

@@ -5,20 +5,11 @@ use Rattle.spectra_lexer.specs.declared.token.Token.{Token}
 use Rattle.spectra_lexer.specs.Tokens.{AreTokens}
 use Rattle.spectra_parser.specs.Data.{TreeData}
 use Rattle.spectra_parser.specs.Texts.{IsText}
-use Rattle.spectra.specs.declared.reading.Verdict.{Verdict}
-use Rattle.spectra.specs.declared.reading.Verdict.TheVariants.{Realizable, Unrealizable, Unsupported, TooManyStates}
 use Rattle.spectra_lexer.proofs.Pieces.{one_list_of_tokens}
 use Rattle.spectra_parser.proofs.Whole.{one_text}
 use Rattle.spectra.specs.Trees.{Means, IsReadFrom}
 use Rattle.spectra.proofs.Extending.{read_once}
 use Rattle.spectra.specs.Reading.{Reads, IsUnsupported}
-use Rattle.spectra.specs.Verdict.{IsVerdict, IsVerdictOn}
-
-pub verdict_from : (text : List ℕ) (s : Specification) (v : Verdict) → Reads text s → IsVerdictOn s v → IsVerdict text v
-verdict_from text s (Realizable k) reads on = (s, reads, on.0, on.1)
-verdict_from text s (Unrealizable n m) reads on = (s, reads, on.0, on.1)
-verdict_from text s Unsupported reads on = absurd on
-verdict_from text s TooManyStates reads on = (s, reads, on)
 
 -- a text without tokens means nothing
 pub no_tokens : (text : List ℕ) → ((tokens : List Token) → AreTokens text tokens → ⊥) → IsUnsupported text

@@ -1,62 +1,88 @@
--- Which status the answer has, by what is asked and told.
-use Rattle.std.proofs.Common.{◌≡◌, ℕ, List, Option, Some, inl, inr, refl, length, ap, subst, arith}
+-- Which status there is, by what is asked and told.
+use Rattle.std.proofs.Common.{◌≡◌, ℕ, ◌<◌, ◌≤◌, List, Option, Some, None, inl, inr, refl, length, ap, sym, subst, arith, ◌∙◌}
 use Rattle.spec_model.specs.Syntax.{Specification}
-use Rattle.spec_model.specs.Commands.{AskVerdict}
+use Rattle.sp_outside.specs.Causes.{Rose}
 use Rattle.sp_outside.specs.Files.{Files, told_file, HasFile, HasNoFile}
+use Rattle.spectra.specs.declared.words.Command.{Command}
 use Rattle.spectra.specs.declared.status.Status.{Status}
 use Rattle.spectra.specs.declared.status.Status.TheVariants.{Done, Other, Words, Refused, Assumption, Budget, BadLine, ShelfFault, InputFault, OutputFault, Memory, NoFile, Limit}
-use Rattle.spectra.specs.Status.{IsUnlessFault}
-use Rattle.spectra.specs.Reading.{IsRefused, MeansOne}
+use Rattle.spectra.specs.Status.{IsCutShort, IsUnlessCut, IsUnlessFault}
+use Rattle.spectra.specs.Commands.{Asks, AskNothing, word_of}
+use Rattle.spectra.specs.Sessions.{Moment, Writes, whole, cut, WantsMemory, Holds}
+use Rattle.spectra.specs.Sessions as sessions
+use Rattle.spectra.specs.Reading.{Reads, IsUnsupported, HasTooManyStates, IsRefused, most_variables}
 use Rattle.spectra.proofs.Readings.{one_meaning}
-use Rattle.spectra.specs.Verdict.{IsWonBySystem, IsWonByEnvironment}
-use Rattle.spectra.specs.Top.{IsFileAnswer, Answers}
+use Rattle.spectra.specs.Top.{Decides, ServesSpecification, ServesText, ServesFile, ServesWords}
+use Rattle.spectra.specs.Top as top
 
 -- words ask for one file alone
-one_file : (words : List (List ℕ)) (name other : List ℕ) → AskVerdict words name → AskVerdict words other → other ≡ name
-one_file words name other asks asks' = let a = asks.file_is in let b = asks'.file_is in cc
+one_file : (words : List (List ℕ)) (command command' : Command) (name other : List ℕ) → Asks words command name → Asks words command' other → other ≡ name
+one_file words command command' name other asks asks' = let a = asks.file_is in let b = asks'.file_is in cc
 
--- a text that is refused has no verdict
-refuted : (text : List ℕ) (P : Specification → Type 0) → IsRefused text → MeansOne text P → ⊥
-refuted text P (inl none) means = none means.0 means.1
-refuted text P (inr many) means = let same = one_meaning text many.0 means.0 many.1 means.1 in let e = ap (λ (s : Specification). length s.variables) same in let few = means.2 in let more = many.2 in omega arith
+module _ (before after : Moment) where
+  -- a line that is written has its status, where the output did not fail
+  written : (line : List ℕ) (expected status : Status) → Writes line expected before after status → IsUnlessCut expected status
+  written line expected _ (whole unread is) = inl refl
+  written line expected _ (cut unread is rose) = inr tt
 
-no_verdict : (text : List ℕ) (P : Specification → Type 0) (told : Option (Option (List ℕ))) → told ≡ Some (Some text) → IsRefused text → HasFile told (λ text. MeansOne text P) → ⊥
-no_verdict text P told is refused has = refuted text P refused (subst (λ (o : Option (Option (List ℕ))). HasFile o (λ text. MeansOne text P)) is has)
+  wanted : (expected status : Status) → WantsMemory before after status → IsUnlessCut expected status
+  wanted expected status wants = inr (subst IsCutShort (sym wants.is) tt)
 
-module _ (name text : List ℕ) (rose : Type 0) (refused : IsRefused text) where
-  told_status : (told : Option (Option (List ℕ))) (line : List ℕ) (status : Status) → told ≡ Some (Some text) → IsFileAnswer name told rose line status → IsUnlessFault Refused status
-  told_status told line Done is answer = absurd (no_verdict text (λ s. IsWonBySystem s answer.0) told is refused answer.1)
-  told_status told line Other is answer = absurd (no_verdict text (λ s. IsWonByEnvironment s answer.0 answer.1) told is refused answer.2)
-  told_status told line Refused is answer = inl refl
-  told_status told line NoFile is answer = absurd (let none = subst HasNoFile is answer.0 in cc)
-  told_status told line ShelfFault is answer = inr (inl refl)
-  told_status told line Words is answer = absurd answer
-  told_status told line Assumption is answer = absurd answer
-  told_status told line Budget is answer = absurd answer
-  told_status told line BadLine is answer = absurd answer
-  told_status told line InputFault is answer = absurd answer
-  told_status told line OutputFault is answer = absurd answer
-  told_status told line Memory is answer = absurd answer
-  told_status told line Limit is answer = absurd answer
+  or_fault : (expected status : Status) → IsUnlessCut expected status → IsUnlessFault expected status
+  or_fault expected status (inl is) = inl is
+  or_fault expected status (inr is) = inr (inr is)
 
--- the status of the answer to words that ask for a file whose text is refused
-module _ (words : List (List ℕ)) (holds : Option Files) (rose : Type 0) (line name text : List ℕ) (asks : AskVerdict words name) (told : told_file holds name ≡ Some (Some text)) (refused : IsRefused text) where
-  of_file : (status : Status) → (other : List ℕ) × AskVerdict words other × IsFileAnswer other (told_file holds other) rose line status → IsUnlessFault Refused status
-  of_file status answer =
-      let same = one_file words name answer.0 asks answer.1 in
-      told_status name text rose refused (told_file holds name) line status told (subst (λ (n : List ℕ). IsFileAnswer n (told_file holds n) rose line status) same answer.2)
+  -- words that are no command get their status
+  pub words_status : (words : List (List ℕ)) (files : Option Files) (failed : Type 0) (status : Status) → ServesWords words files failed before after status → AskNothing words → IsUnlessCut Words status
+  words_status words files failed status (top.no_command nothing writes) none = written _ Words status writes
+  words_status words files failed status (top.asked command name asks serves) none = absurd (none command name asks)
 
-  pub refused_status : (status : Status) → Answers words holds rose line status → IsUnlessFault Refused status
-  refused_status Words answer = absurd (answer.0 name asks)
-  refused_status Done answer = of_file Done answer
-  refused_status Other answer = of_file Other answer
-  refused_status Refused answer = of_file Refused answer
-  refused_status Assumption answer = of_file Assumption answer
-  refused_status Budget answer = of_file Budget answer
-  refused_status BadLine answer = of_file BadLine answer
-  refused_status ShelfFault answer = of_file ShelfFault answer
-  refused_status InputFault answer = of_file InputFault answer
-  refused_status OutputFault answer = of_file OutputFault answer
-  refused_status Memory answer = of_file Memory answer
-  refused_status NoFile answer = of_file NoFile answer
-  refused_status Limit answer = of_file Limit answer
+  -- a text that is refused is refused, unless something failed
+  module _ (command : Command) (name text : List ℕ) (refuses : IsRefused text) where
+    of_text : (status : Status) → ServesText command name before after text status → IsUnlessFault Refused status
+    of_text status (top.refused none writes) = or_fault Refused status (written _ Refused status writes)
+    of_text status (top.no_memory wants) = or_fault Refused status (wanted Refused status wants)
+    of_text status (top.means s reads serves) = by refuses serves
+      where
+        by : IsRefused text → ServesSpecification command name before after s status → IsUnlessFault Refused status
+        by (inl none) serves = absurd (none s reads)
+        by (inr many) (top.too_many more writes) = or_fault Refused status (written _ Refused status writes)
+        by (inr many) (top.no_memory wants) = or_fault Refused status (wanted Refused status wants)
+        by (inr many) (top.few few decides) = absurd (let e = ap (λ (s : Specification). length s.variables) (one_meaning text many.0 s many.1 reads) in let more = many.2 in omega arith)
+
+    of_told : (told : Option (Option (List ℕ))) → told ≡ Some (Some text) → (failed : Type 0) (status : Status) → ServesFile command name before after told failed status → IsUnlessFault Refused status
+    of_told told is failed status (top.no_file none writes) = absurd (let none = subst HasNoFile is none in cc)
+    of_told told is failed status (top.fault rose writes) = faulted (written _ ShelfFault status writes)
+      where
+        faulted : IsUnlessCut ShelfFault status → IsUnlessFault Refused status
+        faulted (inl same) = inr (inl same)
+        faulted (inr short) = inr (inr short)
+    of_told told is failed status (top.of_text other has serves) =
+        let same = subst (λ (o : Option (Option (List ℕ))). HasFile o (λ bytes. bytes ≡ other)) is has in
+        of_text status (subst (λ (t : List ℕ). ServesText command name before after t status) (sym same) serves)
+    of_told told is failed status (top.no_memory wants) = or_fault Refused status (wanted Refused status wants)
+
+  -- a name of no file gets its status, unless something failed
+  of_none : (command : Command) (name : List ℕ) (told : Option (Option (List ℕ))) → told ≡ Some None → (failed : Type 0) (status : Status) → ServesFile command name before after told failed status → IsUnlessFault NoFile status
+  of_none command name told is failed status (top.no_file none writes) = or_fault NoFile status (written _ NoFile status writes)
+  of_none command name told is failed status (top.fault rose writes) = faulted (written _ ShelfFault status writes)
+    where
+      faulted : IsUnlessCut ShelfFault status → IsUnlessFault NoFile status
+      faulted (inl same) = inr (inl same)
+      faulted (inr short) = inr (inr short)
+  of_none command name told is failed status (top.of_text other has serves) = absurd (subst (λ (o : Option (Option (List ℕ))). HasFile o (λ bytes. bytes ≡ other)) is has)
+  of_none command name told is failed status (top.no_memory wants) = or_fault NoFile status (wanted NoFile status wants)
+
+  -- what was asked is served for the file that is asked for
+  module _ (words : List (List ℕ)) (files : Option Files) (failed : Type 0) (command : Command) (name : List ℕ) (asks : Asks words command name) where
+    pub refused_status : (text : List ℕ) → told_file files name ≡ Some (Some text) → IsRefused text → (status : Status) → ServesWords words files failed before after status → IsUnlessFault Refused status
+    refused_status text told refuses status (top.no_command nothing writes) = absurd (nothing command name asks)
+    refused_status text told refuses status (top.asked command' name' asks' serves) =
+        let same = one_file words command command' name name' asks asks' in
+        of_told command' name' text refuses (told_file files name') (ap (told_file files) same ∙ told) failed status serves
+
+    pub no_file_status : told_file files name ≡ Some None → (status : Status) → ServesWords words files failed before after status → IsUnlessFault NoFile status
+    no_file_status told status (top.no_command nothing writes) = absurd (nothing command name asks)
+    no_file_status told status (top.asked command' name' asks' serves) =
+        let same = one_file words command command' name name' asks asks' in
+        of_none command' name' (told_file files name') (ap (told_file files) same ∙ told) failed status serves

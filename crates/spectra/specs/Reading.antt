@@ -27,10 +27,6 @@ most_variables = 10
 abbrev pub HasTooManyStates : List ℕ → Type 0
 HasTooManyStates text = (s : Specification) × Reads text s × (most_variables < length s.variables)
 
--- the text means a specification that has P, with no more variables than that
-abbrev pub MeansOne : List ℕ → (Specification → Type 0) → Type 0
-MeansOne text P = (s : Specification) × Reads text s × (length s.variables ≤ most_variables) × P s
-
 -- the text gets no verdict
 abbrev pub IsRefused : List ℕ → Type 0
 IsRefused text = IsUnsupported text ⊎ HasTooManyStates text

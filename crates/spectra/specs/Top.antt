@@ -1,14 +1,17 @@
--- What the program answers to words and files.
-use Rattle.std.specs.Prelude.{◌≡◌, ◌⊎◌, ℕ, List, [], ◌∷◌, ◌++◌, codes, Option}
+-- What the program does for words and files.
+use Rattle.std.specs.Prelude.{◌≡◌, ℕ, ◌<◌, ◌≤◌, List, [], ◌∷◌, ◌++◌, length, codes, Option}
 use Rattle.std.specs.Fmt.{decimal}
-use Rattle.std.specs.Io.KnownBytes.{Appends}
 use Rattle.sp_outside.specs.Files.{Files, told_file, HasNoFile, HasFile}
-use Rattle.sp_outside.specs.Written.{AppendsFront}
-use Rattle.spec_model.specs.Commands.{AskVerdict, AskNothing}
+use Rattle.spec_model.specs.Syntax.{Specification}
+use Rattle.hidden_game.specs.GameOf.{game_of}
+use Rattle.spectra.specs.declared.words.Command.{Command}
+use Rattle.spectra.specs.declared.words.Command.TheVariants.{Synth, Run}
 use Rattle.spectra.specs.declared.status.Status.{Status}
-use Rattle.spectra.specs.declared.status.Status.TheVariants.{Done, Other, Words, Refused, ShelfFault, OutputFault, Memory, NoFile}
-use Rattle.spectra.specs.Reading.{IsUnsupported, HasTooManyStates, MeansOne}
-use Rattle.spectra.specs.Verdict.{IsWonBySystem, IsWonByEnvironment}
+use Rattle.spectra.specs.declared.status.Status.TheVariants.{Done, Other, Words, Refused, ShelfFault, NoFile}
+use Rattle.spectra.specs.Commands.{Asks, AskNothing}
+use Rattle.spectra.specs.Sessions.{Moment, Writes, WantsMemory, realizable, Holds}
+use Rattle.spectra.specs.Reading.{Reads, IsUnsupported, most_variables}
+use Rattle.spectra.specs.Verdict.{IsKept, IsLost, IsWonBySystem, IsWonByEnvironment}
 
 -- ---- lines, each with its line feed
 
@@ -27,39 +30,51 @@ unsupported name = name ++ codes ":1:1: fault 23 Unsupported\n"
 abbrev pub too_many_states : List ℕ → List ℕ
 too_many_states name = name ++ codes ":1:1: fault 24 TooManyStates\n"
 
-abbrev pub realizable : ℕ → List ℕ
-realizable k = codes "realizable K=" ++ (decimal k ++ 10 ∷ [])
-
 abbrev pub unrealizable : (n m : ℕ) → List ℕ
 unrealizable n m = codes "unrealizable N=" ++ (decimal n ++ (codes " M=" ++ (decimal m ++ 10 ∷ [])))
 
--- ---- answers
+-- ---- what is done for a command
 
--- the line and the status for a text, in a file of this name
-abbrev pub IsTextAnswer : List ℕ → List ℕ → List ℕ → Status → Type 0
-IsTextAnswer name text line Refused = IsUnsupported text × (line ≡ unsupported name) ⊎ HasTooManyStates text × (line ≡ too_many_states name)
-IsTextAnswer name text line Done = (k : ℕ) × MeansOne text (λ s. IsWonBySystem s k) × (line ≡ realizable k)
-IsTextAnswer name text line Other = (n m : ℕ) × MeansOne text (λ s. IsWonByEnvironment s n m) × (line ≡ unrealizable n m)
-IsTextAnswer name text line _ = ⊥
+module _ (command : Command) where
+  -- By who wins: `synth` writes the verdict, and so does `run` where the environment wins; where the system wins, `run` holds a
+  -- session. The number K is one that makes `Won` hold, N and M are ones that make `Lost` hold.
+  module _ (s : Specification) (Won : ℕ → Type 0) (Lost : ℕ → ℕ → Type 0) (before after : Moment) where
+    pub data Decides : Status → Type 0 where
+      won : {status : Status} (k : ℕ) → command ≡ Synth → Won k → Writes (realizable k) Done before after status → Decides status
+      lost : {status : Status} (n m : ℕ) → Lost n m → Writes (unrealizable n m) Other before after status → Decides status
+      held : {status : Status} (k : ℕ) → command ≡ Run → Won k → Holds s k before after status → Decides status
+      no_memory : {status : Status} → WantsMemory before after status → Decides status
 
--- The line and the status for a file of this name; `file` is what is told of it, and `rose` that the shelf failed.
-abbrev pub IsFileAnswer : List ℕ → Option (Option (List ℕ)) → Type 0 → List ℕ → Status → Type 0
-IsFileAnswer name file rose line NoFile = HasNoFile file × (line ≡ no_such_file name)
-IsFileAnswer name file rose line ShelfFault = rose × (line ≡ file_fault name)
-IsFileAnswer name file rose line Refused =
-    HasFile file IsUnsupported × (line ≡ unsupported name) ⊎ HasFile file HasTooManyStates × (line ≡ too_many_states name)
-IsFileAnswer name file rose line Done = (k : ℕ) × HasFile file (λ text. MeansOne text (λ s. IsWonBySystem s k)) × (line ≡ realizable k)
-IsFileAnswer name file rose line Other = (n m : ℕ) × HasFile file (λ text. MeansOne text (λ s. IsWonByEnvironment s n m)) × (line ≡ unrealizable n m)
-IsFileAnswer name file rose line _ = ⊥
+  -- for a game of few states, and for a specification with few variables
+  abbrev pub DecidesGame : Specification → Moment → Moment → Status → Type 0
+  DecidesGame s before after status = Decides s (IsKept (game_of s)) (IsLost (game_of s)) before after status
 
--- the line and the status for the words over the files
-abbrev pub Answers : List (List ℕ) → Option Files → Type 0 → List ℕ → Status → Type 0
-Answers words holds rose line Words = AskNothing words × (line ≡ usage)
-Answers words holds rose line status = (name : List ℕ) × AskVerdict words name × IsFileAnswer name (told_file holds name) rose line status
+  abbrev pub DecidesSpecification : Specification → Moment → Moment → Status → Type 0
+  DecidesSpecification s before after status = Decides s (IsWonBySystem s) (IsWonByEnvironment s) before after status
 
--- What was written at each status: the line of the answer; at an output fault a front of the line of some answer; at
--- want of memory nothing.
-abbrev pub Writes : List (List ℕ) → Option Files → Type 0 → Option (List ℕ) → Option (List ℕ) → Status → Type 0
-Writes words holds rose old new OutputFault = (line : List ℕ) × (status : Status) × Answers words holds rose line status × AppendsFront old new line
-Writes words holds rose old new Memory = Appends old new []
-Writes words holds rose old new status = (line : List ℕ) × Answers words holds rose line status × Appends old new line
+  module _ (name : List ℕ) (before after : Moment) where
+    -- for a specification, in a file of this name
+    pub data ServesSpecification (s : Specification) : Status → Type 0 where
+      too_many : {status : Status} → most_variables < length s.variables → Writes (too_many_states name) Refused before after status → ServesSpecification s status
+      few : {status : Status} → length s.variables ≤ most_variables → DecidesSpecification s before after status → ServesSpecification s status
+      no_memory : {status : Status} → WantsMemory before after status → ServesSpecification s status
+
+    -- for a text
+    pub data ServesText (text : List ℕ) : Status → Type 0 where
+      refused : {status : Status} → IsUnsupported text → Writes (unsupported name) Refused before after status → ServesText text status
+      means : {status : Status} (s : Specification) → Reads text s → ServesSpecification s status → ServesText text status
+      no_memory : {status : Status} → WantsMemory before after status → ServesText text status
+
+    -- for a file, of which this is told; `shelf_failed` is that the shelf's faults rose. Where nothing is told of the file, it is
+    -- served as some text.
+    pub data ServesFile (file : Option (Option (List ℕ))) (shelf_failed : Type 0) : Status → Type 0 where
+      no_file : {status : Status} → HasNoFile file → Writes (no_such_file name) NoFile before after status → ServesFile file shelf_failed status
+      fault : {status : Status} → shelf_failed → Writes (file_fault name) ShelfFault before after status → ServesFile file shelf_failed status
+      of_text : {status : Status} (text : List ℕ) → HasFile file (λ bytes. bytes ≡ text) → ServesText text status → ServesFile file shelf_failed status
+      no_memory : {status : Status} → WantsMemory before after status → ServesFile file shelf_failed status
+
+-- for words, over these files
+module _ (words : List (List ℕ)) (files : Option Files) (shelf_failed : Type 0) (before after : Moment) where
+  pub data ServesWords : Status → Type 0 where
+    no_command : {status : Status} → AskNothing words → Writes usage Words before after status → ServesWords status
+    asked : {status : Status} (command : Command) (name : List ℕ) → Asks words command name → ServesFile command name before after (told_file files name) shelf_failed status → ServesWords status

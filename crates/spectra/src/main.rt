@@ -1,17 +1,22 @@
-//! The program `spectra`: from the words of the command line to a verdict line and a status.
+//! The program `spectra`: from the words of the command line to a verdict line, a session and a status.
 //!
 //! `synth FILE` reads a specification of Boolean variables, initial lines and lines that hold at each position, and says
-//! whether it is realizable. The verdict is decided over sets of its game's states.
+//! whether it is realizable. `run FILE` says the same and, where the system wins, answers each line of the input by one line,
+//! so that the exchanged lines are one play of legal moves. The verdict is decided over sets of its game's states.
 //!
-//! Contract: `top::spectra`. Path: words and bytes → tokens → trees → specification → verdict → **line and status**.
+//! Contract: `top::spectra`. Path: words and bytes → tokens → trees → specification → verdict → **lines and status**.
 #![tactic(auto)]
 
 mod allowed;
-mod answer;
+mod closing;
 mod deciding;
+mod holding;
 mod names;
 mod reading;
+mod replies;
 mod resolve;
+mod saying;
+mod serving;
 mod status;
 mod top;
 mod words;
@@ -45,5 +50,7 @@ fn words_of(rt: &(impl Env + AllocGlobal)) -> Result<Vec<String>, OutOfMemory> {
     }
 }
 
+#[cfg(test)]
+mod run_tests;
 #[cfg(test)]
 mod tests;

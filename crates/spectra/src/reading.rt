@@ -1,4 +1,4 @@
-//! From a text to its verdict.
+//! From a text to the specification that it means.
 
 ghost use Rattle.std.specs.Prelude.{◌≡◌, List, IfOk, IsErrOf};
 ghost use Rattle.spec_model.specs.Views.{spec_data};
@@ -7,40 +7,12 @@ ghost use Rattle.spectra_parser.specs.Data.{TreeData};
 ghost use Rattle.spectra_parser.specs.Views.{tree_data};
 ghost use Rattle.spectra_parser.specs.Texts.{IsText};
 ghost use Rattle.spectra.specs.Reading.{Reads, IsUnsupported};
-ghost use Rattle.spectra.specs.Verdict.{IsVerdict};
 
-use crate::deciding::verdict_on;
 use crate::resolve::{ResolveFault, resolve};
-use sp_outside::OutOfMemory;
 use spec_model::spec::Spec;
 use spectra_lexer::{LexFault, Token, lex};
 use spectra_parser::{SyntaxFault, Tree, parse};
 use std::alloc::Global;
-
-/// What is found of a text.
-#[derive(Clone, Copy, Debug, PartialEq, Eq)]
-pub enum Verdict {
-    /// It means a specification that the system wins, with K.
-    Realizable { k: u64 },
-    /// It means a specification that the environment wins, with N and M.
-    Unrealizable { n: u64, m: u64 },
-    /// It isn't of the form that is built so far.
-    Unsupported,
-    /// It means a specification with too many variables.
-    TooManyStates,
-}
-
-/// The verdict on a text.
-#[tactic(auto, using(crate::proofs::Readings::verdict_from))]
-pub fn verdict_of(alloc: Global, text: &[u8]) -> Result<Verdict, OutOfMemory>
-    ensures { IfOk result (λ v. IsVerdict text.now v) }
-{
-    match read(alloc, text) {
-        Ok(spec) => verdict_on(alloc, &spec),
-        Err(ResolveFault::Unsupported) => Ok(Verdict::Unsupported),
-        Err(ResolveFault::Memory) => Err(OutOfMemory),
-    }
-}
 
 // The tokens of a text.
 fn tokens_of(alloc: Global, text: &[u8]) -> Result<Vec<Token>, ResolveFault>
@@ -75,9 +47,9 @@ fn tree_of(alloc: Global, text: &[u8], tokens: &[Token]) -> Result<Tree, Resolve
     }
 }
 
-// The specification that a text means.
+/// The specification that a text means.
 #[tactic(auto, using(crate::proofs::Readings::refusals))]
-fn read(alloc: Global, text: &[u8]) -> Result<Spec, ResolveFault>
+pub fn read(alloc: Global, text: &[u8]) -> Result<Spec, ResolveFault>
     ensures reads { IfOk result (λ s. Reads text.now (spec_data s)) }
     ensures unsupported { IsErrOf result ResolveFault.Unsupported → IsUnsupported text.now }
 {

@@ -26,7 +26,7 @@ impl Sink for ByteSink {
 }
 
 // The words are cut at spaces.
-fn words_of(alloc: Global, line: &str) -> Result<Vec<String>, Fail> {
+pub fn words_of(alloc: Global, line: &str) -> Result<Vec<String>, Fail> {
     let mut words = Vec::new(alloc);
     for word in line.split(' ') {
         words.push(String::from_str(alloc, word)?)?;
@@ -211,7 +211,7 @@ fn each_text_has_its_line_and_status(rt: HostRuntime) -> Result<(), Fail> {
 }
 
 // The words, the calls of the shelf and of the sink that fail, what is written, and the status.
-const FAULTS: [(&str, &[u64], &[u64], &str, u8); 11] = [
+const FAULTS: [(&str, &[u64], &[u64], &str, u8); 13] = [
     ("spectra synth t.spectra", &[], &[], "realizable K=2\n", 0),
     (
         "spectra synth none.spectra",
@@ -235,11 +235,25 @@ const FAULTS: [(&str, &[u64], &[u64], &str, u8); 11] = [
         2,
     ),
     (
-        "spectra run t.spectra",
+        "spectra walk t.spectra",
         &[],
         &[],
         "usage: spectra COMMAND FILE [--nodes N]\n",
         2,
+    ),
+    (
+        "spectra run none.spectra",
+        &[],
+        &[],
+        "no such file: none.spectra\n",
+        11,
+    ),
+    (
+        "spectra run t.spectra",
+        &[1],
+        &[],
+        "file fault: t.spectra\n",
+        7,
     ),
     (
         "spectra synth -t",

@@ -3,21 +3,26 @@
 ghost use Rattle.std.specs.Prelude.{◌≡◌, Some, None, List, ℕ, map, string_bytes};
 ghost use Rattle.sp_outside.specs.Causes.{Rose};
 ghost use Rattle.sp_outside.specs.Files.{told_file};
-ghost use Rattle.spec_model.specs.Commands.{AskVerdict, AskNothing};
+ghost use Rattle.spectra.specs.declared.words.Command.{Command};
+ghost use Rattle.spectra.specs.Commands.{Asks, AskNothing};
 ghost use Rattle.spectra.specs.Status.{IsUnlessCut, IsUnlessFault};
 ghost use Rattle.spectra.specs.Reading.{IsRefused};
-ghost use Rattle.spectra.specs.Top.{Writes};
+ghost use Rattle.spectra.specs.Sessions.{moment, WantsMemory};
+ghost use Rattle.spectra.specs.Top.{ServesWords};
 
-use crate::answer::answer_words;
+use crate::saying::say;
+use crate::serving::serve_file;
 use crate::status::Status;
-use sp_outside::{Shelf, Sink, Source, write_line};
+use crate::words::asked;
+use sp_outside::{Shelf, Sink, Source};
 use std::alloc::Global;
 
 /// All that the program does. The words are those of the command line, the program's own name first.
 ///
-/// `synth` writes one line: the verdict, or why there is none. The status says which; `ShelfFault`: the shelf failed;
-/// `OutputFault`: the output failed, and a front of the line is written; `Memory`: none was given, and nothing is
-/// written. No call reads the input.
+/// `synth` writes one line: the verdict, or why there is none. `run` writes the same and, where the system wins, answers each
+/// line of the input by one line. The status says how it ended; `ShelfFault`: the shelf failed; `InputFault`: the input
+/// failed; `OutputFault`: the output failed, and a front of what is due is written; `Memory`: none was given, nothing is
+/// written and nothing read.
 pub fn spectra<F: Shelf, I: Source, O: Sink>(
     alloc: Global,
     words: &[String],
@@ -25,28 +30,32 @@ pub fn spectra<F: Shelf, I: Source, O: Sink>(
     input: &mut I,
     output: &mut O,
 ) -> Status
-    // The line that is written and the status are those of the answer to the words.
-    ensures writes { Writes (map string_bytes words.now) (F.holds shelf.old)
-        (Rose (F.faults shelf.old) (F.faults shelf.new)) (O.written output.old) (O.written output.new) result }
+    // What is read and written, and the status, are those that the words and the files ask for.
+    ensures serves { let before = moment (I.left input.old) (O.written output.old) (I.faults input.old) (O.faults output.old) in
+        let after = moment (I.left input.new) (O.written output.new) (I.faults input.new) (O.faults output.new) in
+        ServesWords (map string_bytes words.now) (F.holds shelf.old) (Rose (F.faults shelf.old) (F.faults shelf.new)) before after result }
 
     // Words that are no command get their status, and so do names of no file and texts that are refused.
     ensures words { AskNothing (map string_bytes words.now) → IsUnlessCut Status.Words result }
-    ensures no_file { (name : List ℕ) → AskVerdict (map string_bytes words.now) name →
+    ensures no_file { (command : Command) (name : List ℕ) → Asks (map string_bytes words.now) command name →
         told_file (F.holds shelf.old) name ≡ Some None → IsUnlessFault Status.NoFile result }
-    ensures refused { (name text : List ℕ) → AskVerdict (map string_bytes words.now) name →
+    ensures refused { (command : Command) (name text : List ℕ) → Asks (map string_bytes words.now) command name →
         told_file (F.holds shelf.old) name ≡ Some (Some text) → IsRefused text → IsUnlessFault Status.Refused result }
 
     ensures shelf_fault { result ≡ Status.ShelfFault → Rose (F.faults shelf.old) (F.faults shelf.new) }
+    ensures input_fault { result ≡ Status.InputFault → Rose (I.faults input.old) (I.faults input.new) }
     ensures output_fault { result ≡ Status.OutputFault → Rose (O.faults output.old) (O.faults output.new) }
+    ensures memory { let before = moment (I.left input.old) (O.written output.old) (I.faults input.old) (O.faults output.old) in
+        let after = moment (I.left input.new) (O.written output.new) (I.faults input.new) (O.faults output.new) in
+        result ≡ Status.Memory → WantsMemory before after result }
     ensures keeps { F.holds shelf.new ≡ F.holds shelf.old }
-    ensures unread { input.new ≡ input.old }
 {
-    let _ = input;
-    match answer_words(alloc, words, shelf) {
-        Ok(answer) => match write_line(output, answer.line.as_bytes()) {
-            Ok(()) => answer.status,
-            Err(_) => Status::OutputFault,
-        },
-        Err(_) => Status::Memory,
+    match asked(words) {
+        Some(request) => serve_file(alloc, request, shelf, input, output),
+        None => say(
+            output,
+            b"usage: spectra COMMAND FILE [--nodes N]\n",
+            Status::Words,
+        ),
     }
 }

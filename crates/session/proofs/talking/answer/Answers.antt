@@ -59,3 +59,12 @@ returns-in-Err-clause-ended g c = λ h stands.
       rw (← shown_for c.reply_to.new.lines s y for_reply) c.in-Err.ensures.part,
       c.in-Err.ensures.cause.failed,
     )
+
+pub returns-in-Some-clause-stands : goal.returns-in-Some-clause-stands
+returns-in-Some-clause-stands g c = let some = c.requires.stands in (some.0, (c.broken_by.ensures.stays some.0).0 some.1)
+
+pub returns-in-Ok-clause-stands : goal.returns-in-Ok-clause-stands
+returns-in-Ok-clause-stands g c = let some = c.requires.stands in (_, c.reply_to.ensures.stands some.0 ((c.broken_by.ensures.stays some.0).0 some.1))
+
+pub returns-in-Err-clause-stands : goal.returns-in-Err-clause-stands
+returns-in-Err-clause-stands g c = let some = c.requires.stands in (_, c.reply_to.ensures.stands some.0 ((c.broken_by.ensures.stays some.0).0 some.1))

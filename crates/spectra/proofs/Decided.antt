@@ -1,0 +1,76 @@
+-- What is done for a game, a specification and a file, from what was done for its parts.
+use Rattle.std.proofs.Common.{◌≡◌, ◌⊎◌, ℕ, ◌<◌, List, length, Option, inl, inr, refl, sym, subst}
+use Rattle.std.proofs.KnownBytes.{Appends-nil}
+use Rattle.sp_outside.specs.Files.{HasNoFile}
+use Rattle.spec_model.specs.Syntax.{Specification}
+use Rattle.spec_model.specs.WellMade.{WellMade}
+use Rattle.hidden_game.specs.GameOf.{game_of}
+use Rattle.spectra.specs.declared.words.Command.{Command}
+use Rattle.spectra.specs.declared.words.Command.TheVariants.{Synth, Run}
+use Rattle.spectra.specs.declared.status.Status.{Status}
+use Rattle.spectra.specs.declared.status.Status.TheVariants.{Done, Other, Refused, ShelfFault, Memory, NoFile}
+use Rattle.spectra.specs.Sessions.{Moment, moment, Writes, WantsMemory, realizable, Holds}
+use Rattle.spectra.specs.Reading.{IsUnsupported, most_variables}
+use Rattle.spectra.specs.Verdict.{IsKept, IsLost, IsWonBySystem, IsWonByEnvironment}
+use Rattle.spectra.specs.Top.{Decides, won, lost, held, no_memory, unrealizable, too_many_states, unsupported, no_such_file, file_fault, ServesSpecification, ServesText, ServesFile}
+use Rattle.spectra.specs.Top as top
+use Rattle.spectra.proofs.InitialGames.{won_found, lost_found}
+
+-- nothing was done: no memory was given
+pub nothing_done : (left written : Option (List ℕ)) (reads writes : ℕ) → WantsMemory (moment left written reads writes) (moment left written reads writes) Memory
+nothing_done left written reads writes = record { is = refl; nothing_written = Appends-nil written; unread = refl }
+
+module _ (command : Command) (s : Specification) (Won : ℕ → Type 0) (Lost : ℕ → ℕ → Type 0) (before after : Moment) (status : Status) where
+  synth_won_by : (k : ℕ) → command ≡ Synth → Won k → Writes (realizable k) Done before after status ⊎ WantsMemory before after status → Decides command s Won Lost before after status
+  synth_won_by k is wins (inl writes) = won k is wins writes
+  synth_won_by k is wins (inr wants) = no_memory wants
+
+  run_held_by : (k : ℕ) → command ≡ Run → Won k → Holds s k before after status ⊎ WantsMemory before after status → Decides command s Won Lost before after status
+  run_held_by k is wins (inl holds) = held k is wins holds
+  run_held_by k is wins (inr wants) = no_memory wants
+
+  lost_by : (n m : ℕ) → Lost n m → Writes (unrealizable n m) Other before after status ⊎ WantsMemory before after status → Decides command s Won Lost before after status
+  lost_by n m loses (inl writes) = lost n m loses writes
+  lost_by n m loses (inr wants) = no_memory wants
+
+-- for a game
+pub synth_won : (command : Command) (s : Specification) (before after : Moment) (status : Status) (k : ℕ) → command ≡ Synth → IsKept (game_of s) k →
+    Writes (realizable k) Done before after status ⊎ WantsMemory before after status → Decides command s (IsKept (game_of s)) (IsLost (game_of s)) before after status
+synth_won command s before after status k = synth_won_by command s (IsKept (game_of s)) (IsLost (game_of s)) before after status k
+
+pub run_held : (command : Command) (s : Specification) (before after : Moment) (status : Status) (k : ℕ) → command ≡ Run → IsKept (game_of s) k →
+    Holds s k before after status ⊎ WantsMemory before after status → Decides command s (IsKept (game_of s)) (IsLost (game_of s)) before after status
+run_held command s before after status k = run_held_by command s (IsKept (game_of s)) (IsLost (game_of s)) before after status k
+
+pub is_lost : (command : Command) (s : Specification) (before after : Moment) (status : Status) (n m : ℕ) → IsLost (game_of s) n m →
+    Writes (unrealizable n m) Other before after status ⊎ WantsMemory before after status → Decides command s (IsKept (game_of s)) (IsLost (game_of s)) before after status
+is_lost command s before after status n m = lost_by command s (IsKept (game_of s)) (IsLost (game_of s)) before after status n m
+
+-- for a specification
+pub too_many : (command : Command) (name : List ℕ) (before after : Moment) (s : Specification) (status : Status) → most_variables < length s.variables →
+    Writes (too_many_states name) Refused before after status ⊎ WantsMemory before after status → ServesSpecification command name before after s status
+too_many command name before after s status more (inl writes) = top.too_many more writes
+too_many command name before after s status more (inr wants) = top.no_memory wants
+
+module _ (command : Command) (s : Specification) (made : WellMade (game_of s)) (before after : Moment) where
+  pub decided : (status : Status) → Decides command s (IsKept (game_of s)) (IsLost (game_of s)) before after status → Decides command s (IsWonBySystem s) (IsWonByEnvironment s) before after status
+  decided status (won k is kept writes) = won k is (won_found s made k kept) writes
+  decided status (lost n m lost_so writes) = lost n m (lost_found s made n m lost_so) writes
+  decided status (held k is kept holds) = held k is (won_found s made k kept) holds
+  decided status (no_memory wants) = no_memory wants
+
+-- for a text
+pub refused_text : (command : Command) (name : List ℕ) (before after : Moment) (text : List ℕ) (status : Status) → IsUnsupported text →
+    Writes (unsupported name) Refused before after status ⊎ WantsMemory before after status → ServesText command name before after text status
+refused_text command name before after text status none (inl writes) = top.refused none writes
+refused_text command name before after text status none (inr wants) = top.no_memory wants
+
+-- for a file
+module _ (command : Command) (name : List ℕ) (before after : Moment) (file : Option (Option (List ℕ))) (failed : Type 0) (status : Status) where
+  pub missing_file : HasNoFile file → Writes (no_such_file name) NoFile before after status ⊎ WantsMemory before after status → ServesFile command name before after file failed status
+  missing_file none (inl writes) = top.no_file none writes
+  missing_file none (inr wants) = top.no_memory wants
+
+  pub failed_shelf : failed → Writes (file_fault name) ShelfFault before after status ⊎ WantsMemory before after status → ServesFile command name before after file failed status
+  failed_shelf rose (inl writes) = top.fault rose writes
+  failed_shelf rose (inr wants) = top.no_memory wants

@@ -1,0 +1,19 @@
+use Rattle.std.proofs.Common.{◌≡◌, ◌∙◌, List, ℕ, refl, arith, subst}
+use Rattle.std.specs.Result.{OnErr}
+use Rattle.std.specs.Io.KnownBytes.{Appends}
+use Rattle.sp_outside.specs.Written.{AppendsFront}
+use Rattle.spectra.specs.Sessions.{realizable, cut_at_once}
+use Rattle.spectra.proofs.Exchanges.{session_held}
+use Rattle.spectra.proofs.holding.exchange.Goals as goal
+
+pub returns-in-Ok-clause-holds : goal.returns-in-Ok-clause-holds
+returns-in-Ok-clause-holds g c =
+    let line : c.as_bytes.result.now ≡ realizable c.args.k = c.as_bytes.ensures.value ∙ c.requires.verdict in
+    session_held _ c.args.k _ _ _ _ _ _ _ _ _ _ _ _ _ _
+    (subst (λ (l : List ℕ). Appends (g.O.Sink.written c.args.output.now) (g.O.Sink.written c.write_line.new.output) l) line c.in-Ok.ensures.whole)
+    c.talk-end.ensures.talk c.close.ensures.closes c.write_line.ensures.cause.later c.talk-end.ensures.later_out c.close.ensures.later
+
+pub returns-in-Err-clause-holds : goal.returns-in-Err-clause-holds
+returns-in-Err-clause-holds g c =
+    let line : c.as_bytes.result.now ≡ realizable c.args.k = c.as_bytes.ensures.value ∙ c.requires.verdict in
+    cut_at_once refl (subst (λ (l : List ℕ). AppendsFront (g.O.Sink.written c.args.output.now) (g.O.Sink.written c.write_line.new.output) l) line c.in-Err.ensures.part) c.in-Err.ensures.cause.failed

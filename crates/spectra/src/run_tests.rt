@@ -1,0 +1,286 @@
+//! Whole sessions over files, input and output in memory. Replies and ends are worked out by hand from the lines.
+
+use crate::status::Status;
+use crate::tests::words_of;
+use crate::top::spectra;
+use sp_outside::{Failed, MemoryShelf, MemorySink, MemorySource, Source};
+use std::alloc::Global;
+use std::test::Fail;
+
+/// A source that gives one line at each read.
+#[derive(Drop)]
+struct LineSource<'a> {
+    rest: &'a [u8],
+    reads: u64,
+}
+
+impl<'a> Source for LineSource<'a> {
+    ghost use Rattle.std.specs.Prelude.{None};
+
+    ghost left = { λ _. None };
+
+    ghost faults = { λ _. 0 };
+
+    fn read(&mut self, buf: &mut [u8]) -> Result<usize, Failed> {
+        self.reads = self.reads.saturating_add(1);
+        let mut count = 0;
+        while count < buf.len() && count < self.rest.len() {
+            buf[count] = self.rest[count];
+            count += 1;
+            if buf[count - 1] == b'\n' {
+                break;
+            }
+        }
+        self.rest = &self.rest[count..];
+        Ok(count)
+    }
+}
+
+const ARBITER: &str =
+    "env boolean r0; env boolean r1; sys boolean g0; sys boolean g1; asm alw g0 & r0 -> next(r0) | !next(r1); gar alw !(g0 & g1); gar alw g0 -> r0; gar alw g1 -> r1; gar alw r0 | r1 -> g0 | g1;";
+
+const ECHO: &str = "env boolean r; sys boolean g; gar alw r -> g;";
+
+const LATE: &str = "env boolean a; sys boolean g; asm alw g -> a; gar alw g;";
+
+// The statements after `spec X`, the input, what is written, and the status.
+const SESSIONS: [(&str, &str, &str, u8); 27] = [
+    ("", "", "realizable K=2\n", 0),
+    // Without variables a line of blanks is the input, and the output is the empty line.
+    ("", "\n \t\n", "realizable K=2\n\n\n", 0),
+    ("", "x=1\n", "realizable K=2\nline 1 refused\n", 6),
+    // The reply would be the next request, so that a state is lost after one position; the input isn't read.
+    (
+        "env boolean r; sys boolean g; gar alw g <-> next(r);",
+        "nonsense\n",
+        "unrealizable N=1 M=2\n",
+        1,
+    ),
+    // The assumption reads the present g, so that it is judged at the second input.
+    (
+        LATE,
+        "a=false\na=true\n",
+        "realizable K=2\ng=true\nassumption broken #1\n",
+        4,
+    ),
+    (
+        LATE,
+        "a=true\na=true\n",
+        "realizable K=2\ng=true\ng=true\n",
+        0,
+    ),
+    // No first input is legal.
+    (
+        "env boolean a; asm ini false; gar alw false;",
+        "a=true\n",
+        "realizable K=1\nassumption broken #1\n",
+        4,
+    ),
+    (
+        "env boolean a; asm ini false; gar alw false;",
+        "",
+        "realizable K=1\n",
+        0,
+    ),
+    (
+        ECHO,
+        "r=false\nr=true\n",
+        "realizable K=2\ng=false\ng=true\n",
+        0,
+    ),
+    // Carriage returns before line feeds, and no line feed at the end.
+    (
+        ECHO,
+        "r=false\r\nr=true",
+        "realizable K=2\ng=false\ng=true\n",
+        0,
+    ),
+    (
+        ECHO,
+        " r=true\t \nr=false",
+        "realizable K=2\ng=true\ng=false\n",
+        0,
+    ),
+    // A last piece without a line feed keeps its carriage return.
+    (ECHO, "r=true\r", "realizable K=2\nline 1 refused\n", 6),
+    (ECHO, "r=1 r=1\n", "realizable K=2\nline 1 refused\n", 6),
+    (
+        ECHO,
+        "r=true r=true\n",
+        "realizable K=2\nline 1 refused\n",
+        6,
+    ),
+    (
+        ECHO,
+        "r=true\n\n",
+        "realizable K=2\ng=true\nline 2 refused\n",
+        6,
+    ),
+    (ECHO, "q=true\n", "realizable K=2\nline 1 refused\n", 6),
+    (
+        ECHO,
+        "r=true q=true\n",
+        "realizable K=2\nline 1 refused\n",
+        6,
+    ),
+    (ECHO, "g=true\n", "realizable K=2\nline 1 refused\n", 6),
+    (ECHO, "r=1\n", "realizable K=2\nline 1 refused\n", 6),
+    (ECHO, "r=True\n", "realizable K=2\nline 1 refused\n", 6),
+    (ECHO, "r = true\n", "realizable K=2\nline 1 refused\n", 6),
+    (ECHO, "r=true true\n", "realizable K=2\nline 1 refused\n", 6),
+    // The first legal output, in declared order: an output that is wanted by one client alone, the second client's first.
+    (
+        ARBITER,
+        "r0=false r1=false\nr0=true r1=false\nr1=true r0=true\n",
+        "realizable K=2\ng0=false g1=false\ng0=true g1=false\ng0=false g1=true\n",
+        0,
+    ),
+    // A client that was granted and leaves while the other asks breaks the first line.
+    (
+        ARBITER,
+        "r0=true r1=false\nr0=false r1=true\nr0=true r1=true\n",
+        "realizable K=2\ng0=true g1=false\nassumption broken #1\n",
+        4,
+    ),
+    // Of two broken assumptions the first is named.
+    (
+        "env boolean a; asm ini a; asm alw a;",
+        "a=false\n",
+        "realizable K=2\nassumption broken #1\n",
+        4,
+    ),
+    (
+        "env boolean a; asm ini a; asm alw a | next(a); asm alw !next(a);",
+        "a=true\na=false\na=true\na=false\n",
+        "realizable K=2\n\n\nassumption broken #3\n",
+        4,
+    ),
+    // Each reply has g, though at first an output without g is legal: after it no output is legal.
+    (
+        "env boolean a; sys boolean g; gar alw next(a) | !next(a) -> g;",
+        "a=false\na=true\n",
+        "realizable K=2\ng=true\ng=true\n",
+        0,
+    ),
+];
+
+#[test]
+fn each_session_is_answered(rt: HostRuntime) -> Result<(), Fail> {
+    let alloc = rt.alloc();
+    let words = words_of(alloc, "spectra run t.spectra")?;
+    for (statements, lines, written, number) in SESSIONS {
+        let text = format!(in alloc; "spec X\n{statements}\n")?;
+        let mut shelf = MemoryShelf::make(alloc, &[])?;
+        shelf.put("t.spectra", text.as_bytes())?;
+        let mut input = MemorySource::make(alloc, lines.as_bytes(), &[])?;
+        let mut output = MemorySink::make(alloc, 256, &[])?;
+        let status = spectra(alloc, &words, &mut shelf, &mut input, &mut output);
+        assert_eq!(rt;
+            output.written(),
+            written.as_bytes(),
+            "at {statements} for {lines}"
+        );
+        assert_eq!(rt; status.number(), number, "at {statements} for {lines}");
+    }
+    Ok(())
+}
+
+// What the session of the echo writes for three lines, where some calls fail, and its status.
+fn echoed(alloc: Global, reads: &[u64], writes: &[u64]) -> Result<(MemorySink, Status), Fail> {
+    let words = words_of(alloc, "spectra run t.spectra")?;
+    let text = format!(in alloc; "spec X {ECHO}")?;
+    let mut shelf = MemoryShelf::make(alloc, &[])?;
+    shelf.put("t.spectra", text.as_bytes())?;
+    let mut input = MemorySource::make(alloc, b"r=true\nr=false\nr=true\n", reads)?;
+    let mut output = MemorySink::make(alloc, 256, writes)?;
+    let status = spectra(alloc, &words, &mut shelf, &mut input, &mut output);
+    Ok((output, status))
+}
+
+// The calls of the input and of the output that fail, what is written, and the status. The first read takes all three lines,
+// the second finds the end.
+const FAILING: [(&[u64], &[u64], &str, u8); 9] = [
+    (&[], &[], "realizable K=2\ng=true\ng=false\ng=true\n", 0),
+    (&[1], &[], "realizable K=2\ninput fault\n", 8),
+    (
+        &[2],
+        &[],
+        "realizable K=2\ng=true\ng=false\ng=true\ninput fault\n",
+        8,
+    ),
+    (&[3], &[], "realizable K=2\ng=true\ng=false\ng=true\n", 0),
+    (&[], &[1], "", 9),
+    (&[], &[2], "realizable K=2\n", 9),
+    (&[], &[3], "realizable K=2\ng=true\n", 9),
+    (&[], &[4], "realizable K=2\ng=true\ng=false\n", 9),
+    (&[2], &[5], "realizable K=2\ng=true\ng=false\ng=true\n", 9),
+];
+
+#[test]
+fn each_failing_call_ends_the_session(rt: HostRuntime) -> Result<(), Fail> {
+    let alloc = rt.alloc();
+    for (reads, writes, written, number) in FAILING {
+        let (output, status) = echoed(alloc, reads, writes)?;
+        assert_eq!(rt;
+            output.written(),
+            written.as_bytes(),
+            "with reads {reads:?} and writes {writes:?}"
+        );
+        assert_eq!(rt;
+            status.number(),
+            number,
+            "with reads {reads:?} and writes {writes:?}"
+        );
+    }
+    Ok(())
+}
+
+#[test]
+fn a_line_is_answered_before_the_input_is_read_again(rt: HostRuntime) -> Result<(), Fail> {
+    let alloc = rt.alloc();
+    let words = words_of(alloc, "spectra run t.spectra")?;
+    let text = format!(in alloc; "spec X {ECHO}")?;
+    // the write that fails, and how often the input was read by then: the first write is the verdict's
+    for (write, reads) in [(1u64, 0u64), (2, 1), (3, 2), (4, 3)] {
+        let mut shelf = MemoryShelf::make(alloc, &[])?;
+        shelf.put("t.spectra", text.as_bytes())?;
+        let mut input = LineSource {
+            rest: b"r=true\nr=false\nr=true\nr=false\n",
+            reads: 0,
+        };
+        let mut output = MemorySink::make(alloc, 256, &[write])?;
+        let status = spectra(alloc, &words, &mut shelf, &mut input, &mut output);
+        assert_eq!(rt; status.number(), 9, "at write {write}");
+        assert_eq!(rt; input.reads, reads, "at write {write}");
+    }
+    Ok(())
+}
+
+#[test]
+fn the_longest_line_is_read_and_a_longer_one_is_not(rt: HostRuntime) -> Result<(), Fail> {
+    let alloc = rt.alloc();
+    let words = words_of(alloc, "spectra run t.spectra")?;
+    let text = format!(in alloc; "spec X {ECHO}")?;
+    // blanks behind the item, what is written, and the status: a line has up to 65,536 bytes
+    for (blanks, written, number) in [
+        (65_530usize, "realizable K=2\ng=true\n", 0u8),
+        (65_531, "realizable K=2\nline 1 refused\n", 6),
+    ] {
+        let mut line = Vec::new(alloc);
+        line.extend_from_slice(b"r=true")?;
+        line.resize(6 + blanks, b' ')?;
+        line.push(b'\n')?;
+        let mut shelf = MemoryShelf::make(alloc, &[])?;
+        shelf.put("t.spectra", text.as_bytes())?;
+        let mut input = MemorySource::make(alloc, &line, &[])?;
+        let mut output = MemorySink::make(alloc, 256, &[])?;
+        let status = spectra(alloc, &words, &mut shelf, &mut input, &mut output);
+        assert_eq!(rt;
+            output.written(),
+            written.as_bytes(),
+            "with {blanks} blanks"
+        );
+        assert_eq!(rt; status.number(), number, "with {blanks} blanks");
+    }
+    Ok(())
+}
