@@ -1,14 +1,17 @@
-//! Which bytes make blanks, signs and words, and which words are reserved.
+//! Which texts are signs, and which words are reserved.
 
-ghost use Rattle.std.specs.Prelude.{◌≡◌, ◌≤◌, ℕ, true, List, length, map, take, drop, nat_eq, option_map, IfSome, IfNone};
-ghost use Rattle.std.specs.List.{list_all, list_any, find, starts_with};
-ghost use Rattle.spectra_lexer.specs.Words.{is_blank as blank_test, BeginsWithSign, BeginsWithLongest, is_letter as letter_test, is_part as part_test, is_apart, same_text, is_reserved as reserved_test};
+ghost use Rattle.std.specs.Prelude.{◌≡◌, ◌≤◌, ℕ, List, length, map, take, drop, nat_eq, option_map, IfSome, IfNone};
+ghost use Rattle.std.specs.List.{list_any, find, starts_with};
+ghost use Rattle.spectra_lexer.specs.Words.{BeginsWithSign, BeginsWithLongest, same_text, is_reserved as reserved_test};
 ghost use Rattle.spectra_lexer.specs.Tokens.{kind_of as kind_of_word};
 
 use crate::token::Kind;
 
-/// The signs, none before a longer one.
-pub const SIGNS: [&str; 8] = ["<->", "->", ";", "(", ")", "!", "&", "|"];
+/// The signs, none before a longer one that goes on from it; the frequent ones first.
+pub const SIGNS: [&str; 27] = [
+    ";", "(", ")", "=", ",", "&", "->", ":=", ":", "!=", "!", "|=>", "|", "{", "}", "[", "]", "..",
+    "<->", "<=", "<", ">=", ">", "+", "-", "*", "?",
+];
 
 /// The words that are no names.
 pub const RESERVED: [&str; 47] = [
@@ -61,13 +64,6 @@ pub const RESERVED: [&str; 47] = [
     "T",
 ];
 
-/// Whether a byte only separates tokens.
-pub fn is_blank(byte: u8) -> bool
-    ensures { result ≡ blank_test byte }
-{
-    byte == b' ' || byte == b'\t' || byte == b'\r' || byte == b'\n'
-}
-
 /// How many bytes the first of these takes that a text begins with.
 fn front_size(fronts: &[&str], text: &[u8]) -> Option<usize>
     ensures { result ≡ option_map length
@@ -89,34 +85,6 @@ pub fn sign_size(text: &[u8]) -> Option<usize>
     ensures none { IfNone result ((sign rest : List ℕ) → ¬ BeginsWithSign text.now sign rest) }
 {
     front_size(&SIGNS, text)
-}
-
-/// Whether a word may begin with a byte.
-pub fn is_letter(byte: u8) -> bool
-    ensures { result ≡ letter_test byte }
-{
-    b'a' <= byte && byte <= b'z' || b'A' <= byte && byte <= b'Z' || byte == b'_'
-}
-
-/// Whether a word may go on with a byte.
-pub fn is_part(byte: u8) -> bool
-    ensures { result ≡ part_test byte }
-{
-    is_letter(byte) || b'0' <= byte && byte <= b'9'
-}
-
-/// How many bytes at the front may stand in a word.
-pub fn count_parts(text: &[u8]) -> usize
-    ensures within { result ≤ length text.now }
-    ensures parts { list_all part_test (take result text.now) ≡ true }
-    ensures apart { is_apart (drop result text.now) ≡ true }
-{
-    for (i, &byte) in text.iter().enumerate() {
-        if !is_part(byte) {
-            return i;
-        }
-    }
-    text.len()
 }
 
 /// Whether a word is one of these.
