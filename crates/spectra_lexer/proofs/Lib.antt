@@ -1,6 +1,7 @@
 pub mod Signs
 pub mod Texts
 pub mod Sorts
+pub mod Reserved
 pub mod Unique
 pub mod Parts
 pub mod Walks

@@ -9,11 +9,11 @@ use Rattle.std.proofs.lemmas.Slice.Eq.{starts_is}
 use Rattle.std.proofs.Math.Seq.{take-append_seam}
 use Rattle.spectra_lexer.specs.Words.{same_text, signs, is_sign, BeginsWithSign, BeginsWithLongest}
 
-abbrev is_among : List (List ℕ) → List ℕ → Bool
+abbrev pub is_among : List (List ℕ) → List ℕ → Bool
 is_among table s = list_any (λ t. same_text t s) table
 
 -- what holds of each text of a table holds of each text among them
-each_of : (P : List ℕ → Bool) (table : List (List ℕ)) (s : List ℕ) → list_all P table ≡ true → is_among table s ≡ true → P s ≡ true
+pub each_of : (P : List ℕ → Bool) (table : List (List ℕ)) (s : List ℕ) → list_all P table ≡ true → is_among table s ≡ true → P s ≡ true
 each_of P [] s all among = absurd cc
 each_of P (t ∷ ts) s all among =
     let both = and_parts (P t) (list_all P ts) all in

@@ -64,7 +64,7 @@ longest_in_characters bs s r utf8 l =
       },
     )
 
-agree : (a b : Bool) → (a ≡ true → b ≡ true) → (b ≡ true → a ≡ true) → a ≡ b
+pub agree : (a b : Bool) → (a ≡ true → b ≡ true) → (b ≡ true → a ≡ true) → a ≡ b
 agree true b f g = sym (f refl)
 agree false true f g = g refl
 agree false false f g = refl

@@ -1,6 +1,6 @@
 //! Which texts are signs, and which words are reserved.
 
-ghost use Rattle.std.specs.Prelude.{◌≡◌, ◌≤◌, ℕ, List, length, map, take, drop, nat_eq, option_map, IfSome, IfNone};
+ghost use Rattle.std.specs.Prelude.{◌≡◌, ◌≤◌, ℕ, List, [], slice_index_or, length, map, take, drop, nat_eq, option_map, IfSome, IfNone};
 ghost use Rattle.std.specs.List.{list_any, find, starts_with};
 ghost use Rattle.spectra_lexer.specs.Words.{BeginsWithSign, BeginsWithLongest, same_text, is_reserved as reserved_test};
 ghost use Rattle.spectra_lexer.specs.Tokens.{kind_of as kind_of_word};
@@ -13,55 +13,27 @@ pub const SIGNS: [&str; 27] = [
     "<->", "<=", "<", ">=", ">", "+", "-", "*", "?",
 ];
 
-/// The words that are no names.
-pub const RESERVED: [&str; 47] = [
-    "spec",
-    "module",
-    "import",
-    "env",
-    "sys",
-    "aux",
-    "boolean",
-    "Int",
-    "type",
-    "define",
-    "predicate",
-    "pattern",
-    "var",
-    "monitor",
-    "asm",
-    "assumption",
-    "gar",
-    "guarantee",
-    "ini",
-    "initially",
-    "alw",
-    "always",
-    "G",
-    "trans",
-    "alwEv",
-    "alwaysEventually",
-    "GF",
-    "trig",
-    "next",
-    "true",
-    "false",
-    "not",
-    "and",
-    "or",
-    "implies",
-    "iff",
-    "mod",
-    "PREV",
-    "Y",
-    "ONCE",
-    "O",
-    "HISTORICALLY",
-    "H",
-    "SINCE",
-    "S",
-    "TRIGGERED",
-    "T",
+/// The words that are no names, each in the row of its length.
+pub const RESERVED: [&[&str]; 17] = [
+    &[],
+    &["G", "Y", "O", "H", "S", "T"],
+    &["GF", "or"],
+    &[
+        "env", "sys", "aux", "Int", "var", "asm", "gar", "ini", "alw", "not", "and", "iff", "mod",
+    ],
+    &["spec", "type", "trig", "next", "true", "PREV", "ONCE"],
+    &["trans", "alwEv", "false", "SINCE"],
+    &["module", "import", "define", "always"],
+    &["boolean", "pattern", "monitor", "implies"],
+    &[],
+    &["predicate", "guarantee", "initially", "TRIGGERED"],
+    &["assumption"],
+    &[],
+    &["HISTORICALLY"],
+    &[],
+    &[],
+    &[],
+    &["alwaysEventually"],
 ];
 
 /// How many bytes the first of these takes that a text begins with.
@@ -99,12 +71,22 @@ fn is_among(words: &[&str], word: &[u8]) -> bool
     false
 }
 
+/// Whether a word is in the row of its length.
+fn is_in_row(rows: &[&[&str]], word: &[u8]) -> bool
+    ensures { result ≡ list_any (λ w. same_text w word.now)
+        (slice_index_or (map (λ row. map (λ w. w.now) row.now) rows.now) (length word.now) []) }
+{
+    match rows.get(word.len()) {
+        Some(row) => is_among(row, word),
+        None => false,
+    }
+}
+
 /// Whether a word is no name.
-#[tactic(auto, unfolding(crate::specs::Words::is_reserved))]
 fn is_reserved(word: &[u8]) -> bool
     ensures { result ≡ reserved_test word.now }
 {
-    is_among(&RESERVED, word)
+    is_in_row(&RESERVED, word)
 }
 
 /// A reserved word, or a name.
