@@ -8,7 +8,7 @@ use Rattle.spectra_lexer.specs.declared.spot.Spot.{Spot}
 use Rattle.spectra_lexer.specs.declared.token.Token.{Token}
 use Rattle.spectra_lexer.specs.declared.fault.LexFault.{LexFault}
 use Rattle.spectra_lexer.specs.declared.fault.LexFault.TheVariants.{NotUtf8, BadCharacter, TooLong, Memory}
-use Rattle.spectra_lexer.specs.Tokens.{past, first_spot, without_mark, Lexes}
+use Rattle.spectra_lexer.specs.Tokens.{past, first_spot, without_mark, Lexes, AreTokens}
 use Rattle.spectra_lexer.specs.Faults.{FailsAt, IsPlaced, IsNotUtf8At, IsBadAt}
 use Rattle.spectra_lexer.specs.Progress.{ComesLater}
 use Rattle.spectra_lexer.proofs.Unique.{one_list, reads_or_fails, one_spot}
@@ -66,13 +66,21 @@ pub record Reads (at : Spot) (text : List ℕ) (r : Result (Vec Token Global) Le
   pub bad : (line column : ℕ) → IsErrOf r (BadCharacter line column) → (spot : Spot) × FailsAt at text spot × IsPlaced spot line column
   pub faults : IfErr r ComesLater
 
-pub reads_all : (at : Spot) (text : List ℕ) (r : Result (Vec Token Global) LexFault) → Reads at text r → (tokens : List Token) → Lexes at text tokens
-    → IfOk r (λ found. found.items ≡ tokens) × IfErr r (λ e. e ≡ Memory)
-reads_all at text (Ok found) said tokens d = (one_list said.tokens d, tt)
+pub reads_only : (at : Spot) (text : List ℕ) (r : Result (Vec Token Global) LexFault) → Reads at text r → IfOk r (λ found. (others : List Token) → Lexes at text others → others ≡ found.items)
+reads_only at text (Ok found) said = λ others d. one_list d said.tokens
+reads_only at text (Err fault) said = tt
+
+pub reads_all : (at : Spot) (text : List ℕ) (r : Result (Vec Token Global) LexFault) → Reads at text r → (tokens : List Token) → Lexes at text tokens → IfErr r (λ e. e ≡ Memory)
+reads_all at text (Ok found) said tokens d = tt
 reads_all at text (Err (NotUtf8 line column)) said tokens d = absurd said.faults
 reads_all at text (Err (BadCharacter line column)) said tokens d = absurd (reads_or_fails d (said.bad line column refl).1)
 reads_all at text (Err TooLong) said tokens d = absurd said.faults
-reads_all at text (Err Memory) said tokens d = (tt, refl)
+reads_all at text (Err Memory) said tokens d = refl
+
+pub only_whole : (text : List ℕ) (r : Result (Vec Token Global) LexFault) → IfOk r (λ found. (others : List Token) → Lexes (first_spot (chars text)) (without_mark (chars text)) others → others ≡ found.items)
+    → IfOk r (λ found. (others : List Token) → AreTokens text others → others ≡ found.items)
+only_whole text (Ok found) said = λ others are. said others are.lexed
+only_whole text (Err fault) said = tt
 
 pub refuses : (at : Spot) (text : List ℕ) (r : Result (Vec Token Global) LexFault) → Reads at text r → (spot : Spot) (line column : ℕ) → FailsAt at text spot → IsPlaced spot line column
     → IsErrOf r (BadCharacter line column) ⊎ IsErrOf r Memory

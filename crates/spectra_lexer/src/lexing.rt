@@ -18,20 +18,22 @@ use std::alloc::{AllocError, Global};
 /// The greatest number of bytes of a text.
 pub const MAX_BYTES: usize = 1_048_576;
 
-/// The tokens of a text, the last one `Finish`. `TooLong`: there are more than `MAX_BYTES` bytes. `NotUtf8`: it has a
-/// byte that begins no character, first there. `BadCharacter`: no token, comment or blank begins at the place, the first
-/// such, in a text that is UTF-8. `Memory`: none was given.
+/// The tokens of a text, the last one `Finish`. `TooLong`: it has more than `MAX_BYTES` bytes. `NotUtf8`: it has no
+/// more than that, and a byte that begins no character; the place is that of the first one. `BadCharacter`: it is
+/// UTF-8, and no token, comment or blank begins at the place, the first such. `Memory`: none was given.
 pub fn lex(alloc: Global, text: &[u8]) -> Result<Vec<Token>, LexFault>
     ensures tokens { IfOk result (λ tokens. AreTokens text.now tokens.items) }
+    ensures only { IfOk result (λ tokens. (others : List Token)
+        → AreTokens text.now others → others ≡ tokens.items) }
     ensures too_long { IsErrOf result LexFault.TooLong ↔ IsTooLong text.now }
     ensures not_utf8 { (line column : ℕ)
         → IsErrOf result (LexFault.NotUtf8 line column) ↔ IsNotUtf8At text.now line column }
     ensures bad_character { (line column : ℕ)
         → IsErrOf result (LexFault.BadCharacter line column) → IsBadAt text.now line column }
 
-    // Where memory was given, the other directions hold too.
+    // Where memory is given, the other directions hold too.
     ensures read { (tokens : List Token) → AreTokens text.now tokens
-        → IfOk result (λ found. found.items ≡ tokens) × IfErr result (λ e. e ≡ LexFault.Memory) }
+        → IfErr result (λ fault. fault ≡ LexFault.Memory) }
     ensures refused { (line column : ℕ) → IsBadAt text.now line column
         → IsErrOf result (LexFault.BadCharacter line column) ⊎ IsErrOf result LexFault.Memory }
 {

@@ -9,30 +9,14 @@ fn a_text_ends_in_finish_behind_its_last_character(rt: HostRuntime) -> Result<()
         rt.alloc(),
         &[
             // Nothing but the end.
-            (b"", &[token(Finish, 0, 0, 1, 1)]),
-            (
-                b"spec X",
-                &[
-                    token(Word, 0, 4, 1, 1),
-                    token(Name, 5, 6, 1, 6),
-                    token(Finish, 6, 6, 1, 7),
-                ],
-            ),
+            (b"", "Finish 0..0 1:1;"),
+            (b"spec X", "Word 0..4 1:1; Name 5..6 1:6; Finish 6..6 1:7;"),
             // Behind the last line feed, and behind the last comment.
-            (
-                b"a \n",
-                &[token(Name, 0, 1, 1, 1), token(Finish, 3, 3, 2, 1)],
-            ),
-            (
-                b"a//",
-                &[token(Name, 0, 1, 1, 1), token(Finish, 3, 3, 1, 4)],
-            ),
+            (b"a \n", "Name 0..1 1:1; Finish 3..3 2:1;"),
+            (b"a//", "Name 0..1 1:1; Finish 3..3 1:4;"),
             // A byte order mark at the start takes three bytes and no column.
-            (b"\xef\xbb\xbf", &[token(Finish, 3, 3, 1, 1)]),
-            (
-                b"\xef\xbb\xbfspec",
-                &[token(Word, 3, 7, 1, 1), token(Finish, 7, 7, 1, 5)],
-            ),
+            (b"\xef\xbb\xbf", "Finish 3..3 1:1;"),
+            (b"\xef\xbb\xbfspec", "Word 3..7 1:1; Finish 7..7 1:5;"),
         ],
     )
 }
@@ -43,26 +27,12 @@ fn four_blanks_separate_and_only_a_line_feed_ends_a_line(rt: HostRuntime) -> Res
         &rt,
         rt.alloc(),
         &[
-            (
-                b" \t\r\nG",
-                &[token(Word, 4, 5, 2, 1), token(Finish, 5, 5, 2, 2)],
-            ),
+            (b" \t\r\nG", "Word 4..5 2:1; Finish 5..5 2:2;"),
             // A carriage return alone takes a column.
-            (
-                b"a\rb",
-                &[
-                    token(Name, 0, 1, 1, 1),
-                    token(Name, 2, 3, 1, 3),
-                    token(Finish, 3, 3, 1, 4),
-                ],
-            ),
+            (b"a\rb", "Name 0..1 1:1; Name 2..3 1:3; Finish 3..3 1:4;"),
             (
                 b"\xc3\xa9\nb",
-                &[
-                    token(Name, 0, 2, 1, 1),
-                    token(Name, 3, 4, 2, 1),
-                    token(Finish, 4, 4, 2, 2),
-                ],
+                "Name 0..2 1:1; Name 3..4 2:1; Finish 4..4 2:2;",
             ),
         ],
     )
@@ -76,49 +46,23 @@ fn a_line_comment_ends_with_its_line(rt: HostRuntime) -> Result<(), Fail> {
         &[
             (
                 b"a// b\nc",
-                &[
-                    token(Name, 0, 1, 1, 1),
-                    token(Name, 6, 7, 2, 1),
-                    token(Finish, 7, 7, 2, 2),
-                ],
+                "Name 0..1 1:1; Name 6..7 2:1; Finish 7..7 2:2;",
             ),
             (
                 b"a-- b\nc",
-                &[
-                    token(Name, 0, 1, 1, 1),
-                    token(Name, 6, 7, 2, 1),
-                    token(Finish, 7, 7, 2, 2),
-                ],
+                "Name 0..1 1:1; Name 6..7 2:1; Finish 7..7 2:2;",
             ),
             // A comment is looked for before a sign.
-            (
-                b"a --> b",
-                &[token(Name, 0, 1, 1, 1), token(Finish, 7, 7, 1, 8)],
-            ),
-            (
-                b"<-->",
-                &[token(Sign, 0, 1, 1, 1), token(Finish, 4, 4, 1, 5)],
-            ),
+            (b"a --> b", "Name 0..1 1:1; Finish 7..7 1:8;"),
+            (b"<-->", "Sign 0..1 1:1; Finish 4..4 1:5;"),
             (
                 b"a - -1",
-                &[
-                    token(Name, 0, 1, 1, 1),
-                    token(Sign, 2, 3, 1, 3),
-                    token(Sign, 4, 5, 1, 5),
-                    token(Number, 5, 6, 1, 6),
-                    token(Finish, 6, 6, 1, 7),
-                ],
+                "Name 0..1 1:1; Sign 2..3 1:3; Sign 4..5 1:5; Number 5..6 1:6; Finish 6..6 1:7;",
             ),
             // A carriage return doesn't end it.
-            (
-                b"//\rx\ny",
-                &[token(Name, 5, 6, 2, 1), token(Finish, 6, 6, 2, 2)],
-            ),
+            (b"//\rx\ny", "Name 5..6 2:1; Finish 6..6 2:2;"),
             // Nothing begins inside it.
-            (
-                b"// /* \"\na",
-                &[token(Name, 8, 9, 2, 1), token(Finish, 9, 9, 2, 2)],
-            ),
+            (b"// /* \"\na", "Name 8..9 2:1; Finish 9..9 2:2;"),
         ],
     )
 }
@@ -129,32 +73,14 @@ fn a_block_comment_ends_at_the_next_asterisk_and_slash(rt: HostRuntime) -> Resul
         &rt,
         rt.alloc(),
         &[
-            (
-                b"/**/a",
-                &[token(Name, 4, 5, 1, 5), token(Finish, 5, 5, 1, 6)],
-            ),
-            (
-                b"/***/a",
-                &[token(Name, 5, 6, 1, 6), token(Finish, 6, 6, 1, 7)],
-            ),
+            (b"/**/a", "Name 4..5 1:5; Finish 5..5 1:6;"),
+            (b"/***/a", "Name 5..6 1:6; Finish 6..6 1:7;"),
             // Its opening asterisk doesn't close it.
-            (
-                b"/*/ */a",
-                &[token(Name, 6, 7, 1, 7), token(Finish, 7, 7, 1, 8)],
-            ),
+            (b"/*/ */a", "Name 6..7 1:7; Finish 7..7 1:8;"),
             // Comments don't nest, and nothing else begins inside one.
-            (
-                b"/* /* */ a",
-                &[token(Name, 9, 10, 1, 10), token(Finish, 10, 10, 1, 11)],
-            ),
-            (
-                b"/* // \" */a",
-                &[token(Name, 10, 11, 1, 11), token(Finish, 11, 11, 1, 12)],
-            ),
-            (
-                b"/* \n */ a",
-                &[token(Name, 8, 9, 2, 5), token(Finish, 9, 9, 2, 6)],
-            ),
+            (b"/* /* */ a", "Name 9..10 1:10; Finish 10..10 1:11;"),
+            (b"/* // \" */a", "Name 10..11 1:11; Finish 11..11 1:12;"),
+            (b"/* \n */ a", "Name 8..9 2:5; Finish 9..9 2:6;"),
         ],
     )
 }
@@ -165,32 +91,13 @@ fn a_quoted_text_ends_at_the_next_quotation_mark(rt: HostRuntime) -> Result<(), 
         &rt,
         rt.alloc(),
         &[
-            (
-                b"\"\"",
-                &[token(Text, 0, 2, 1, 1), token(Finish, 2, 2, 1, 3)],
-            ),
-            (
-                b"\"--\"a",
-                &[
-                    token(Text, 0, 4, 1, 1),
-                    token(Name, 4, 5, 1, 5),
-                    token(Finish, 5, 5, 1, 6),
-                ],
-            ),
+            (b"\"\"", "Text 0..2 1:1; Finish 2..2 1:3;"),
+            (b"\"--\"a", "Text 0..4 1:1; Name 4..5 1:5; Finish 5..5 1:6;"),
             // There are no escapes.
-            (
-                b"\"a\\\"",
-                &[token(Text, 0, 4, 1, 1), token(Finish, 4, 4, 1, 5)],
-            ),
+            (b"\"a\\\"", "Text 0..4 1:1; Finish 4..4 1:5;"),
             // A carriage return may stand in it, and so may any character but a line feed.
-            (
-                b"\"a\rb\"",
-                &[token(Text, 0, 5, 1, 1), token(Finish, 5, 5, 1, 6)],
-            ),
-            (
-                b"\"@\xc3\xa9\"",
-                &[token(Text, 0, 5, 1, 1), token(Finish, 5, 5, 1, 5)],
-            ),
+            (b"\"a\rb\"", "Text 0..5 1:1; Finish 5..5 1:6;"),
+            (b"\"@\xc3\xa9\"", "Text 0..5 1:1; Finish 5..5 1:5;"),
         ],
     )
 }

@@ -11,34 +11,14 @@ fn names_go_by_unicode_and_numbers_by_ascii(rt: HostRuntime) -> Result<(), Fail>
             // A column is a character: the first takes two bytes, and the bold x four.
             (
                 b"\xc3\xa91_ 2",
-                &[
-                    token(Name, 0, 4, 1, 1),
-                    token(Number, 5, 6, 1, 5),
-                    token(Finish, 6, 6, 1, 6),
-                ],
+                "Name 0..4 1:1; Number 5..6 1:5; Finish 6..6 1:6;",
             ),
-            (
-                b"\xf0\x9d\x90\xb1y",
-                &[token(Name, 0, 5, 1, 1), token(Finish, 5, 5, 1, 3)],
-            ),
-            (b"_", &[token(Name, 0, 1, 1, 1), token(Finish, 1, 1, 1, 2)]),
+            (b"\xf0\x9d\x90\xb1y", "Name 0..5 1:1; Finish 5..5 1:3;"),
+            (b"_", "Name 0..1 1:1; Finish 1..1 1:2;"),
             // A digit that isn't ASCII, and a combining accent, go on in a name.
-            (
-                b"a\xd9\xa1\xcc\x81",
-                &[token(Name, 0, 5, 1, 1), token(Finish, 5, 5, 1, 4)],
-            ),
-            (
-                b"12ab",
-                &[
-                    token(Number, 0, 2, 1, 1),
-                    token(Name, 2, 4, 1, 3),
-                    token(Finish, 4, 4, 1, 5),
-                ],
-            ),
-            (
-                b"007",
-                &[token(Number, 0, 3, 1, 1), token(Finish, 3, 3, 1, 4)],
-            ),
+            (b"a\xd9\xa1\xcc\x81", "Name 0..5 1:1; Finish 5..5 1:4;"),
+            (b"12ab", "Number 0..2 1:1; Name 2..4 1:3; Finish 4..4 1:5;"),
+            (b"007", "Number 0..3 1:1; Finish 3..3 1:4;"),
         ],
     )
 }
@@ -51,20 +31,11 @@ fn a_reserved_word_is_the_whole_word_in_its_letters(rt: HostRuntime) -> Result<(
         &[
             (
                 b"specs Spec",
-                &[
-                    token(Name, 0, 5, 1, 1),
-                    token(Name, 6, 10, 1, 7),
-                    token(Finish, 10, 10, 1, 11),
-                ],
+                "Name 0..5 1:1; Name 6..10 1:7; Finish 10..10 1:11;",
             ),
             (
                 b"G GF Gx",
-                &[
-                    token(Word, 0, 1, 1, 1),
-                    token(Word, 2, 4, 1, 3),
-                    token(Name, 5, 7, 1, 6),
-                    token(Finish, 7, 7, 1, 8),
-                ],
+                "Word 0..1 1:1; Word 2..4 1:3; Name 5..7 1:6; Finish 7..7 1:8;",
             ),
         ],
     )
@@ -77,7 +48,9 @@ fn each_reserved_word_is_one(rt: HostRuntime) -> Result<(), Fail> {
         gar guarantee ini initially alw always G trans alwEv alwaysEventually GF trig next true false not and or \
         implies iff mod PREV Y ONCE O HISTORICALLY H SINCE S TRIGGERED T";
     let tokens = lex(rt.alloc(), words)?;
-    let reserved = tokens.iter().filter(|token| matches!(token.kind, Word));
+    let reserved = tokens
+        .iter()
+        .filter(|token| matches!(token.kind, Kind::Word));
     assert_eq!(rt; reserved.count(), 47);
     assert_eq!(rt; tokens.len(), 48);
     Ok(())
@@ -91,57 +64,27 @@ fn a_sign_is_the_longest_that_stands_there(rt: HostRuntime) -> Result<(), Fail> 
         &[
             (
                 b"a<->b",
-                &[
-                    token(Name, 0, 1, 1, 1),
-                    token(Sign, 1, 4, 1, 2),
-                    token(Name, 4, 5, 1, 5),
-                    token(Finish, 5, 5, 1, 6),
-                ],
+                "Name 0..1 1:1; Sign 1..4 1:2; Name 4..5 1:5; Finish 5..5 1:6;",
             ),
             (
                 b"<->->-",
-                &[
-                    token(Sign, 0, 3, 1, 1),
-                    token(Sign, 3, 5, 1, 4),
-                    token(Sign, 5, 6, 1, 6),
-                    token(Finish, 6, 6, 1, 7),
-                ],
+                "Sign 0..3 1:1; Sign 3..5 1:4; Sign 5..6 1:6; Finish 6..6 1:7;",
             ),
             (
                 b"<-b",
-                &[
-                    token(Sign, 0, 1, 1, 1),
-                    token(Sign, 1, 2, 1, 2),
-                    token(Name, 2, 3, 1, 3),
-                    token(Finish, 3, 3, 1, 4),
-                ],
+                "Sign 0..1 1:1; Sign 1..2 1:2; Name 2..3 1:3; Finish 3..3 1:4;",
             ),
             (
                 b"|=>|=",
-                &[
-                    token(Sign, 0, 3, 1, 1),
-                    token(Sign, 3, 4, 1, 4),
-                    token(Sign, 4, 5, 1, 5),
-                    token(Finish, 5, 5, 1, 6),
-                ],
+                "Sign 0..3 1:1; Sign 3..4 1:4; Sign 4..5 1:5; Finish 5..5 1:6;",
             ),
             (
                 b":=::=",
-                &[
-                    token(Sign, 0, 2, 1, 1),
-                    token(Sign, 2, 3, 1, 3),
-                    token(Sign, 3, 5, 1, 4),
-                    token(Finish, 5, 5, 1, 6),
-                ],
+                "Sign 0..2 1:1; Sign 2..3 1:3; Sign 3..5 1:4; Finish 5..5 1:6;",
             ),
             (
                 b"1..2",
-                &[
-                    token(Number, 0, 1, 1, 1),
-                    token(Sign, 1, 3, 1, 2),
-                    token(Number, 3, 4, 1, 4),
-                    token(Finish, 4, 4, 1, 5),
-                ],
+                "Number 0..1 1:1; Sign 1..3 1:2; Number 3..4 1:4; Finish 4..4 1:5;",
             ),
         ],
     )
@@ -155,41 +98,15 @@ fn each_sign_is_one(rt: HostRuntime) -> Result<(), Fail> {
         &[
             (
                 b"!=!<=<>=>",
-                &[
-                    token(Sign, 0, 2, 1, 1),
-                    token(Sign, 2, 3, 1, 3),
-                    token(Sign, 3, 5, 1, 4),
-                    token(Sign, 5, 6, 1, 6),
-                    token(Sign, 6, 8, 1, 7),
-                    token(Sign, 8, 9, 1, 9),
-                    token(Finish, 9, 9, 1, 10),
-                ],
+                "Sign 0..2 1:1; Sign 2..3 1:3; Sign 3..5 1:4; Sign 5..6 1:6; Sign 6..8 1:7; Sign 8..9 1:9; Finish 9..9 1:10;",
             ),
             (
                 b"=&|+*?;",
-                &[
-                    token(Sign, 0, 1, 1, 1),
-                    token(Sign, 1, 2, 1, 2),
-                    token(Sign, 2, 3, 1, 3),
-                    token(Sign, 3, 4, 1, 4),
-                    token(Sign, 4, 5, 1, 5),
-                    token(Sign, 5, 6, 1, 6),
-                    token(Sign, 6, 7, 1, 7),
-                    token(Finish, 7, 7, 1, 8),
-                ],
+                "Sign 0..1 1:1; Sign 1..2 1:2; Sign 2..3 1:3; Sign 3..4 1:4; Sign 4..5 1:5; Sign 5..6 1:6; Sign 6..7 1:7; Finish 7..7 1:8;",
             ),
             (
                 b",()[]{}",
-                &[
-                    token(Sign, 0, 1, 1, 1),
-                    token(Sign, 1, 2, 1, 2),
-                    token(Sign, 2, 3, 1, 3),
-                    token(Sign, 3, 4, 1, 4),
-                    token(Sign, 4, 5, 1, 5),
-                    token(Sign, 5, 6, 1, 6),
-                    token(Sign, 6, 7, 1, 7),
-                    token(Finish, 7, 7, 1, 8),
-                ],
+                "Sign 0..1 1:1; Sign 1..2 1:2; Sign 2..3 1:3; Sign 3..4 1:4; Sign 4..5 1:5; Sign 5..6 1:6; Sign 6..7 1:7; Finish 7..7 1:8;",
             ),
         ],
     )
