@@ -60,7 +60,10 @@ module _ (failed : Type 0) (before after : Moment) where
       of_specification s status (top.no_memory wants) = by_wanting status wants
 
       of_text : (text : List ℕ) (status : Status) → ServesText command name before after text status → IsCaused status
-      of_text text status (top.refused none writes) = by_writing _ Refused status tt writes
+      of_text text status (top.not_utf8 line column is writes) = by_writing _ Refused status tt writes
+      of_text text status (top.bad_character line column is writes) = by_writing _ Refused status tt writes
+      of_text text status (top.too_long is writes) = by_writing _ Refused status tt writes
+      of_text text status (top.refused tokens lexed none writes) = by_writing _ Refused status tt writes
       of_text text status (top.means s reads serves) = of_specification s status serves
       of_text text status (top.no_memory wants) = by_wanting status wants
 

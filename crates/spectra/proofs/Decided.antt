@@ -1,9 +1,12 @@
 -- What is done for a game, a specification and a file, from what was done for its parts.
-use Rattle.std.proofs.Common.{◌≡◌, ◌⊎◌, ℕ, ◌<◌, List, length, Option, inl, inr, refl, sym, subst}
+use Rattle.std.proofs.Common.{◌≡◌, ◌⊎◌, ℕ, ◌<◌, List, length, codes, Option, inl, inr, refl, sym, subst}
 use Rattle.std.proofs.KnownBytes.{Appends-nil}
 use Rattle.sp_outside.specs.Files.{HasNoFile}
 use Rattle.spec_model.specs.Syntax.{Specification}
 use Rattle.spec_model.specs.WellMade.{WellMade}
+use Rattle.spectra_lexer.specs.declared.token.Token.{Token}
+use Rattle.spectra_lexer.specs.Tokens.{AreTokens}
+use Rattle.spectra_lexer.specs.Faults.{IsNotUtf8At, IsBadAt, IsTooLong}
 use Rattle.hidden_game.specs.GameOf.{game_of}
 use Rattle.spectra.specs.declared.words.Command.{Command}
 use Rattle.spectra.specs.declared.words.Command.TheVariants.{Synth, Run}
@@ -12,7 +15,7 @@ use Rattle.spectra.specs.declared.status.Status.TheVariants.{Done, Other, Refuse
 use Rattle.spectra.specs.Sessions.{Moment, moment, Writes, WantsMemory, realizable, Holds}
 use Rattle.spectra.specs.Reading.{IsUnsupported, most_variables}
 use Rattle.spectra.specs.Verdict.{IsKept, IsLost, IsWonBySystem, IsWonByEnvironment}
-use Rattle.spectra.specs.Top.{Decides, won, lost, held, no_memory, unrealizable, too_many_states, unsupported, no_such_file, file_fault, ServesSpecification, ServesText, ServesFile}
+use Rattle.spectra.specs.Top.{Decides, won, lost, held, no_memory, unrealizable, too_many_states, unsupported, fault_line, no_such_file, file_fault, ServesSpecification, ServesText, ServesFile}
 use Rattle.spectra.specs.Top as top
 use Rattle.spectra.proofs.InitialGames.{won_found, lost_found}
 
@@ -60,10 +63,26 @@ module _ (command : Command) (s : Specification) (made : WellMade (game_of s)) (
   decided status (no_memory wants) = no_memory wants
 
 -- for a text
-pub refused_text : (command : Command) (name : List ℕ) (before after : Moment) (text : List ℕ) (status : Status) → IsUnsupported text →
+pub refused_text : (command : Command) (name : List ℕ) (before after : Moment) (text : List ℕ) (status : Status) (tokens : List Token) → AreTokens text tokens → IsUnsupported text →
     Writes (unsupported name) Refused before after status ⊎ WantsMemory before after status → ServesText command name before after text status
-refused_text command name before after text status none (inl writes) = top.refused none writes
-refused_text command name before after text status none (inr wants) = top.no_memory wants
+refused_text command name before after text status tokens lexed none (inl writes) = top.refused tokens lexed none writes
+refused_text command name before after text status tokens lexed none (inr wants) = top.no_memory wants
+
+module _ (command : Command) (name : List ℕ) (before after : Moment) (text : List ℕ) (status : Status) where
+  pub broken_text : (line column : ℕ) → IsNotUtf8At text line column →
+      Writes (fault_line name line column (codes "1 NotUtf8\n")) Refused before after status ⊎ WantsMemory before after status → ServesText command name before after text status
+  broken_text line column is (inl writes) = top.not_utf8 line column is writes
+  broken_text line column is (inr wants) = top.no_memory wants
+
+  pub bad_text : (line column : ℕ) → IsBadAt text line column →
+      Writes (fault_line name line column (codes "2 BadCharacter\n")) Refused before after status ⊎ WantsMemory before after status → ServesText command name before after text status
+  bad_text line column is (inl writes) = top.bad_character line column is writes
+  bad_text line column is (inr wants) = top.no_memory wants
+
+  pub long_text : IsTooLong text →
+      Writes (fault_line name 1 1 (codes "3 TooLong\n")) Refused before after status ⊎ WantsMemory before after status → ServesText command name before after text status
+  long_text is (inl writes) = top.too_long is writes
+  long_text is (inr wants) = top.no_memory wants
 
 -- for a file
 module _ (command : Command) (name : List ℕ) (before after : Moment) (file : Option (Option (List ℕ))) (failed : Type 0) (status : Status) where

@@ -6,13 +6,8 @@ use Rattle.sp_outside.specs.Files.{IsFrontOf}
 use Rattle.spectra_lexer.specs.declared.lexing.TheConstants.{MAX_BYTES}
 use Rattle.spectra.specs.declared.words.Command.{Command}
 use Rattle.spectra.specs.declared.status.Status.{Status}
-use Rattle.spectra.specs.Reading.{IsUnsupported}
 use Rattle.spectra.specs.Sessions.{Moment}
-use Rattle.spectra.specs.Top.{ServesText, refused, means, no_memory, ServesFile, of_text}
-
--- a text that is too long means nothing
-too_long : (text : List ℕ) → MAX_BYTES < length text → IsUnsupported text
-too_long text long s reads = let short = reads.lexed.short in omega arith
+use Rattle.spectra.specs.Top.{ServesText, not_utf8, bad_character, too_long, refused, means, no_memory, ServesFile, of_text}
 
 -- the front is the file, or both are too long
 front : (file bytes : List ℕ) → bytes ≡ take (MAX_BYTES + 1) file → (file ≡ bytes) ⊎ ((MAX_BYTES < length bytes) × (MAX_BYTES < length file))
@@ -24,8 +19,11 @@ front file bytes is = elim (cases_lt MAX_BYTES (length file)) [
 module _ (command : Command) (name : List ℕ) (before after : Moment) (status : Status) where
   -- what serves for one text that is too long serves for another
   of_long : (bytes file : List ℕ) → MAX_BYTES < length bytes → MAX_BYTES < length file → ServesText command name before after bytes status → ServesText command name before after file status
-  of_long bytes file long long' (refused none writes) = refused (too_long file long') writes
-  of_long bytes file long long' (means s reads serves) = absurd (too_long bytes long s reads)
+  of_long bytes file long long' (not_utf8 line column is writes) = absurd (let short = is.short in omega arith)
+  of_long bytes file long long' (bad_character line column is writes) = absurd (let short = is.short in omega arith)
+  of_long bytes file long long' (too_long is writes) = too_long long' writes
+  of_long bytes file long long' (refused tokens lexed none writes) = absurd (let short = lexed.short in omega arith)
+  of_long bytes file long long' (means s reads serves) = absurd (let short = reads.lexed.short in omega arith)
   of_long bytes file long long' (no_memory wants) = no_memory wants
 
   -- what serves for what was read of a file serves for the file

@@ -5,17 +5,13 @@ use Rattle.spectra_lexer.specs.declared.token.Token.{Token}
 use Rattle.spectra_lexer.specs.Tokens.{AreTokens}
 use Rattle.spectra_parser.specs.Data.{TreeData}
 use Rattle.spectra_parser.specs.Texts.{IsText}
-use Rattle.spectra_lexer.proofs.Pieces.{one_list_of_tokens}
+use Rattle.spectra_lexer.proofs.Unique.{one_list_of_tokens}
 use Rattle.spectra_parser.proofs.Whole.{one_text}
 use Rattle.spectra.specs.Trees.{Means, IsReadFrom}
 use Rattle.spectra.proofs.Extending.{read_once}
 use Rattle.spectra.specs.Reading.{Reads, IsUnsupported}
 
--- a text without tokens means nothing
-pub no_tokens : (text : List ℕ) → ((tokens : List Token) → AreTokens text tokens → ⊥) → IsUnsupported text
-no_tokens text none s reads = none reads.tokens reads.lexed
-
--- nor does one whose tokens have no tree
+-- a text whose tokens have no tree means nothing
 pub no_tree : (text : List ℕ) (tokens : List Token) → ((others : List Token) → AreTokens text others → others ≡ tokens) →
     ((tree : TreeData) → IsText text tokens tree → ⊥) → IsUnsupported text
 no_tree text tokens only none s reads =
@@ -28,7 +24,7 @@ no_meaning text tokens tree only_tokens only_tree none s reads =
     let parsed = subst (λ (ts : List Token). IsText text ts reads.tree) (only_tokens reads.tokens reads.lexed) reads.parsed in
     none s (subst (λ (t : TreeData). Means t s) (only_tree reads.tree parsed) reads.means)
 
-pub ruleset refusals = (no_tokens, no_tree, no_meaning)
+pub ruleset refusals = (no_tree, no_meaning)
 
 -- no text means two specifications
 pub one_meaning : (text : List ℕ) (s s' : Specification) → Reads text s → Reads text s' → s ≡ s'

@@ -40,7 +40,10 @@ module _ (before after : Moment) where
   -- a text that is refused is refused, unless something failed
   module _ (command : Command) (name text : List ℕ) (refuses : IsRefused text) where
     of_text : (status : Status) → ServesText command name before after text status → IsUnlessFault Refused status
-    of_text status (top.refused none writes) = or_fault Refused status (written _ Refused status writes)
+    of_text status (top.not_utf8 line column is writes) = or_fault Refused status (written _ Refused status writes)
+    of_text status (top.bad_character line column is writes) = or_fault Refused status (written _ Refused status writes)
+    of_text status (top.too_long is writes) = or_fault Refused status (written _ Refused status writes)
+    of_text status (top.refused tokens lexed none writes) = or_fault Refused status (written _ Refused status writes)
     of_text status (top.no_memory wants) = or_fault Refused status (wanted Refused status wants)
     of_text status (top.means s reads serves) = by refuses serves
       where

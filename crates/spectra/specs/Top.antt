@@ -3,6 +3,9 @@ use Rattle.std.specs.Prelude.{◌≡◌, ℕ, ◌<◌, ◌≤◌, List, [], ◌�
 use Rattle.std.specs.Fmt.{decimal}
 use Rattle.sp_outside.specs.Files.{Files, told_file, HasNoFile, HasFile}
 use Rattle.spec_model.specs.Syntax.{Specification}
+use Rattle.spectra_lexer.specs.declared.token.Token.{Token}
+use Rattle.spectra_lexer.specs.Tokens.{AreTokens}
+use Rattle.spectra_lexer.specs.Faults.{IsNotUtf8At, IsBadAt, IsTooLong}
 use Rattle.hidden_game.specs.GameOf.{game_of}
 use Rattle.spectra.specs.declared.words.Command.{Command}
 use Rattle.spectra.specs.declared.words.Command.TheVariants.{Synth, Run}
@@ -23,6 +26,10 @@ no_such_file name = codes "no such file: " ++ name ++ 10 ∷ []
 
 abbrev pub file_fault : List ℕ → List ℕ
 file_fault name = codes "file fault: " ++ name ++ 10 ∷ []
+
+-- a fault of a text: the file's name, the line, the column, the fault's number and its word
+abbrev pub fault_line : (name : List ℕ) (line column : ℕ) (fault : List ℕ) → List ℕ
+fault_line name line column fault = name ++ 58 ∷ (decimal line ++ 58 ∷ (decimal column ++ (codes ": fault " ++ fault)))
 
 abbrev pub unsupported : List ℕ → List ℕ
 unsupported name = name ++ codes ":1:1: fault 23 Unsupported\n"
@@ -59,9 +66,12 @@ module _ (command : Command) where
       few : {status : Status} → length s.variables ≤ most_variables → DecidesSpecification s before after status → ServesSpecification s status
       no_memory : {status : Status} → WantsMemory before after status → ServesSpecification s status
 
-    -- for a text
+    -- for a text: one that has no tokens is refused by its fault, and one that has tokens and means nothing as a whole
     pub data ServesText (text : List ℕ) : Status → Type 0 where
-      refused : {status : Status} → IsUnsupported text → Writes (unsupported name) Refused before after status → ServesText text status
+      not_utf8 : {status : Status} (line column : ℕ) → IsNotUtf8At text line column → Writes (fault_line name line column (codes "1 NotUtf8\n")) Refused before after status → ServesText text status
+      bad_character : {status : Status} (line column : ℕ) → IsBadAt text line column → Writes (fault_line name line column (codes "2 BadCharacter\n")) Refused before after status → ServesText text status
+      too_long : {status : Status} → IsTooLong text → Writes (fault_line name 1 1 (codes "3 TooLong\n")) Refused before after status → ServesText text status
+      refused : {status : Status} (tokens : List Token) → AreTokens text tokens → IsUnsupported text → Writes (unsupported name) Refused before after status → ServesText text status
       means : {status : Status} (s : Specification) → Reads text s → ServesSpecification s status → ServesText text status
       no_memory : {status : Status} → WantsMemory before after status → ServesText text status
 

@@ -2,7 +2,7 @@
 
 ghost use Rattle.std.specs.Prelude.{◌≤◌, List, ℕ, Option};
 ghost use Rattle.spectra.specs.Sessions.{moment, Writes, IsSaid, realizable};
-ghost use Rattle.spectra.specs.Top.{no_such_file, file_fault, unsupported, too_many_states, unrealizable};
+ghost use Rattle.spectra.specs.Top.{no_such_file, file_fault, fault_line, unsupported, too_many_states, unrealizable};
 
 use crate::status::Status;
 use sp_outside::{Sink, write_line};
@@ -36,6 +36,23 @@ pub fn say_shelf_fault<O: Sink>(alloc: Global, name: &str, output: &mut O) -> St
 {
     match format!(in alloc; "file fault: {name}\n") {
         Ok(line) => say(output, line.as_bytes(), Status::ShelfFault),
+        Err(_) => Status::Memory,
+    }
+}
+
+/// Says that the text of this file has a fault at a line and a column: its number and its word.
+pub fn say_fault<O: Sink>(
+    alloc: Global,
+    name: &str,
+    line: u32,
+    column: u32,
+    fault: &str,
+    output: &mut O,
+) -> Status
+    ensures { IsSaid O.written O.faults (fault_line name.now line column fault.now) Status.Refused output.old output.new result }
+{
+    match format!(in alloc; "{name}:{line}:{column}: fault {fault}") {
+        Ok(line) => say(output, line.as_bytes(), Status::Refused),
         Err(_) => Status::Memory,
     }
 }

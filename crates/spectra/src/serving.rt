@@ -1,20 +1,45 @@
 //! What is done for a command and a file.
 
-ghost use Rattle.std.specs.Prelude.{◌≡◌, ◌≤◌};
+ghost use Rattle.std.specs.Prelude.{◌≡◌, List};
 ghost use Rattle.sp_outside.specs.Causes.{Rose};
 ghost use Rattle.sp_outside.specs.Files.{told_file};
+ghost use Rattle.spectra_lexer.specs.Tokens.{AreTokens};
 ghost use Rattle.spectra.specs.Sessions.{moment};
 ghost use Rattle.spectra.specs.Top.{ServesText, ServesFile};
 
 use crate::deciding::serve_specification;
 use crate::reading::read;
 use crate::resolve::ResolveFault;
-use crate::saying::{say_no_file, say_shelf_fault, say_unsupported};
+use crate::saying::{say_fault, say_no_file, say_shelf_fault, say_unsupported};
 use crate::status::Status;
 use crate::words::{Command, Request};
 use sp_outside::{FileFault, Shelf, Sink, Source, read_file};
-use spectra_lexer::MAX_BYTES;
+use spectra_lexer::{LexFault, MAX_BYTES, Token, lex};
 use std::alloc::Global;
+
+// Does what the command wants with a text that has these tokens, in a file of this name.
+fn serve_tokens<I: Source, O: Sink>(
+    alloc: Global,
+    command: Command,
+    name: &str,
+    text: &[u8],
+    tokens: &[Token],
+    input: &mut I,
+    output: &mut O,
+) -> Status
+    requires lexed { AreTokens text.now tokens.now }
+    requires only { (others : List Token) → AreTokens text.now others → others ≡ tokens.now }
+    ensures {
+        let before = moment (I.left input.old) (O.written output.old) (I.faults input.old) (O.faults output.old) in
+        let after = moment (I.left input.new) (O.written output.new) (I.faults input.new) (O.faults output.new) in
+        ServesText command name.now before after text.now result }
+{
+    match read(alloc, text, tokens) {
+        Ok(spec) => serve_specification(alloc, command, name, &spec, input, output),
+        Err(ResolveFault::Unsupported) => say_unsupported(alloc, name, output),
+        Err(ResolveFault::Memory) => Status::Memory,
+    }
+}
 
 // Does what the command wants with a text, in a file of this name.
 fn serve_text<I: Source, O: Sink>(
@@ -25,14 +50,21 @@ fn serve_text<I: Source, O: Sink>(
     input: &mut I,
     output: &mut O,
 ) -> Status
-    ensures { let before = moment (I.left input.old) (O.written output.old) (I.faults input.old) (O.faults output.old) in
+    ensures {
+        let before = moment (I.left input.old) (O.written output.old) (I.faults input.old) (O.faults output.old) in
         let after = moment (I.left input.new) (O.written output.new) (I.faults input.new) (O.faults output.new) in
         ServesText command name.now before after text.now result }
 {
-    match read(alloc, text) {
-        Ok(spec) => serve_specification(alloc, command, name, &spec, input, output),
-        Err(ResolveFault::Unsupported) => say_unsupported(alloc, name, output),
-        Err(ResolveFault::Memory) => Status::Memory,
+    match lex(alloc, text) {
+        Ok(tokens) => serve_tokens(alloc, command, name, text, &tokens, input, output),
+        Err(LexFault::NotUtf8 { line, column }) => {
+            say_fault(alloc, name, line, column, "1 NotUtf8\n", output)
+        }
+        Err(LexFault::BadCharacter { line, column }) => {
+            say_fault(alloc, name, line, column, "2 BadCharacter\n", output)
+        }
+        Err(LexFault::TooLong) => say_fault(alloc, name, 1, 1, "3 TooLong\n", output),
+        Err(LexFault::Memory) => Status::Memory,
     }
 }
 

@@ -1,5 +1,11 @@
-pub mod Characters
 pub mod Signs
-pub mod Pieces
+pub mod Texts
+pub mod Sorts
+pub mod Reserved
+pub mod Unique
+pub mod Parts
+pub mod Walks
+pub mod Closing
 pub mod Steps
+pub mod Outcomes
 pub mod SliceLemmas

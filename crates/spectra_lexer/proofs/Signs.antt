@@ -1,19 +1,19 @@
 -- What signs begin with, and which of them is the longest at the front of a text.
-use Rattle.std.proofs.Common.{◌≡◌, ℕ, zero, suc, ◌<◌, ◌≤◌, ◌&&◌, Bool, true, false, cond, not, leb, eqb, List, [], ◌∷◌, ◌++◌, length, take, drop, Option, Some, None, length-append, refl, sym, ap, subst, ◌∙◌, inl, inr, arith}
+use Rattle.std.proofs.Common.{◌≡◌, ℕ, ◌<◌, ◌≤◌, ◌&&◌, ◌||◌, Bool, true, false, cond, not, leb, eqb, List, [], ◌∷◌, ◌++◌, length, take, drop, Option, Some, None, length-append, refl, sym, ap, subst, ◌∙◌, inl, inr, arith}
 use Rattle.std.specs.List.{list_all, list_any, find, starts_with}
 use Rattle.std.specs.Prelude.{option_map, MatchOption, IfSome, IfNone}
 use Rattle.std.specs.Cmp.Lexicographic.{bytes_decides}
-use Rattle.std.proofs.lemmas.Bool.{and_parts, or_cases, not-true, leb-true, both_ways, true≢false}
+use Rattle.std.proofs.lemmas.Bool.{and_parts, and_from, cases_lt, or_cases, not-true, leb-true, both_ways, true≢false}
 use Rattle.std.proofs.lemmas.Bool.Decides.{Decides-eqb}
 use Rattle.std.proofs.lemmas.Slice.Eq.{starts_is}
 use Rattle.std.proofs.Math.Seq.{take-append_seam}
-use Rattle.spectra_lexer.specs.Words.{is_blank, is_letter, same_text, signs, is_sign, BeginsWithSign, BeginsWithLongest}
+use Rattle.spectra_lexer.specs.Words.{same_text, signs, is_sign, BeginsWithSign, BeginsWithLongest}
 
-abbrev is_among : List (List ℕ) → List ℕ → Bool
+abbrev pub is_among : List (List ℕ) → List ℕ → Bool
 is_among table s = list_any (λ t. same_text t s) table
 
 -- what holds of each text of a table holds of each text among them
-each_of : (P : List ℕ → Bool) (table : List (List ℕ)) (s : List ℕ) → list_all P table ≡ true → is_among table s ≡ true → P s ≡ true
+pub each_of : (P : List ℕ → Bool) (table : List (List ℕ)) (s : List ℕ) → list_all P table ≡ true → is_among table s ≡ true → P s ≡ true
 each_of P [] s all among = absurd cc
 each_of P (t ∷ ts) s all among =
     let both = and_parts (P t) (list_all P ts) all in
@@ -26,31 +26,19 @@ pub each_sign : (P : List ℕ → Bool) (s : List ℕ) → list_all P signs ≡ 
 unfolding is_sign
 each_sign P s all h = each_of P signs s all h
 
--- a first character that is no blank and no letter
-abbrev begins_apart : List ℕ → Bool
-begins_apart [] = false
-begins_apart (c ∷ cs) = not (is_blank c) && not (is_letter c)
+abbrev is_some_text : List ℕ → Bool
+is_some_text [] = false
+is_some_text (c ∷ cs) = true
 
 no_sign : is_sign [] ≡ true → ⊥
-no_sign h = true≢false (sym (each_sign begins_apart [] refl h))
+no_sign h = true≢false (sym (each_sign is_some_text [] refl h))
 
-pub sign_begins : (c : ℕ) (rest s r : List ℕ) → is_sign s ≡ true → c ∷ rest ≡ s ++ r → (is_blank c ≡ false) × (is_letter c ≡ false)
-sign_begins c rest [] r h e = absurd (no_sign h)
-sign_begins c rest (d ∷ s) r h e =
-    let same : c ≡ d = cc in
-    let p = and_parts (not (is_blank d)) (not (is_letter d)) (each_sign begins_apart (d ∷ s) refl h) in
-    rw same (not-true (is_blank d) p.0, not-true (is_letter d) p.1)
-
-pub sign_is_some : (s r : List ℕ) → is_sign s ≡ true → [] ≡ s ++ r → ⊥
-sign_is_some [] r h e = no_sign h
-sign_is_some (c ∷ s) r h e = cc
-
-pub some_bytes : (text : List ℕ) (size : ℕ) → BeginsWithLongest text (take size text) (drop size text) → 0 < size
-some_bytes text zero l = absurd (no_sign l.begins.is)
-some_bytes text (suc n) l = omega arith
+pub some_sign : (s : List ℕ) → is_sign s ≡ true → 0 < length s
+some_sign [] h = absurd (no_sign h)
+some_sign (c ∷ s) h = omega arith
 
 -- two fronts of the same length
-same_front : (v w r s : List ℕ) → length v ≡ length w → v ++ r ≡ w ++ s → (v ≡ w) × (r ≡ s)
+pub same_front : (v w r s : List ℕ) → length v ≡ length w → v ++ r ≡ w ++ s → (v ≡ w) × (r ≡ s)
 same_front [] [] r s n e = (refl, e)
 same_front [] (d ∷ w) r s n e = absurd (omega arith)
 same_front (c ∷ v) [] r s n e = absurd (omega arith)
@@ -69,10 +57,21 @@ one_longest text v w r s a b =
     let same : length v ≡ length w = omega arith in
     same_front v w r s same (sym a.begins.parts ∙ b.begins.parts)
 
--- none stands before a longer one
+-- none stands before a longer one that goes on from it
 abbrev falls : List (List ℕ) → Bool
 falls [] = true
-falls (t ∷ ts) = list_all (λ s. leb (length s) (length t)) ts && falls ts
+falls (t ∷ ts) = list_all (λ s. leb (length s) (length t) || not (starts_with eqb s t)) ts && falls ts
+
+-- of two fronts of a text the longer one goes on from the other
+longer_front : (t s text more : List ℕ) → starts_with eqb text t ≡ true → text ≡ s ++ more → length t ≤ length s → starts_with eqb s t ≡ true
+longer_front [] s text more front e le = refl
+longer_front (c ∷ t) [] text more front e le = absurd (omega arith)
+longer_front (c ∷ t) (d ∷ s) [] more front e le = absurd cc
+longer_front (c ∷ t) (d ∷ s) (b ∷ text) more front e le =
+    let both = and_parts (eqb c b) (starts_with eqb text t) front in
+    let head : b ≡ d = cc in
+    let tail : text ≡ s ++ more = cc in
+    and_from (eqb c d) (starts_with eqb s t) (subst (λ (x : ℕ). eqb c x ≡ true) head both.0) (longer_front t s text more both.1 tail (omega arith))
 
 -- each sign that a text begins with is among these signs
 record AreLeft (text : List ℕ) (ts : List (List ℕ)) : Type 0 where
@@ -97,21 +96,30 @@ module _ (text t : List ℕ) (ts : List (List ℕ)) (left : AreLeft text (t ∷ 
               | inr later ↦ later
             ];
         known = (and_parts (is_sign t) (list_all is_sign ts) left.known).1;
-        falling = (and_parts (list_all (λ s. leb (length s) (length t)) ts) (falls ts) left.falling).1;
+        falling = (and_parts (list_all (λ s. leb (length s) (length t) || not (starts_with eqb s t)) ts) (falls ts) left.falling).1;
       }
 
-  no_longer : (s : List ℕ) → is_among (t ∷ ts) s ≡ true → length s ≤ length t
-  no_longer s among =
-      elim (or_cases (same_text t s) (is_among ts s) among) [
+  no_longer : starts_with eqb text t ≡ true → (s more : List ℕ) → BeginsWithSign text s more → length s ≤ length t
+  no_longer front s more b =
+      elim (or_cases (same_text t s) (is_among ts s) (left.found s more b)) [
         | inl same ↦ let e : length t ≡ length s = ap length ((bytes_decides t s).0 same) in omega arith
-        | inr later ↦ leb-true (length s) (length t) (each_of (λ s. leb (length s) (length t)) ts s (and_parts (list_all (λ s. leb (length s) (length t)) ts) (falls ts) left.falling).0 later)
+        | inr later ↦
+            let fall = (and_parts (list_all (λ s. leb (length s) (length t) || not (starts_with eqb s t)) ts) (falls ts) left.falling).0 in
+            elim (or_cases (leb (length s) (length t)) (not (starts_with eqb s t)) (each_of (λ s. leb (length s) (length t) || not (starts_with eqb s t)) ts s fall later)) [
+              | inl short ↦ leb-true (length s) (length t) short
+              | inr apart ↦
+                  elim (cases_lt (length t) (length s)) [
+                    | inr le ↦ le
+                    | inl lt ↦ absurd (both_ways (starts_with eqb s t) (not-true (starts_with eqb s t) apart) (longer_front t s text more front b.parts (omega arith)))
+                  ]
+            ]
       ]
 
   first_is_longest : starts_with eqb text t ≡ true → BeginsWithLongest text t (drop (length t) text)
   first_is_longest front =
       record {
         begins = record { is = (and_parts (is_sign t) (list_all is_sign ts) left.known).0; parts = begins_is.0 front };
-        longest = λ other more b. no_longer other (left.found other more b);
+        longest = λ other more b. no_longer front other more b;
       }
 
 -- what the first of these that a text begins with says

@@ -1,40 +1,18 @@
--- Which bytes make blanks, signs and words, and which words are reserved.
-use Rattle.std.specs.Prelude.{ℕ, ◌≡◌, ◌≤◌, ◌==◌, ◌&&◌, ◌||◌, nat_le, nat_eq, not, Bool, true, false, List, [], ◌∷◌, ◌++◌, length, codes}
-use Rattle.std.specs.List.{list_any, list_all}
+-- Which texts are signs, and which words are reserved.
+use Rattle.std.specs.Prelude.{ℕ, ◌≡◌, ◌≤◌, nat_eq, Bool, true, List, [], ◌∷◌, ◌++◌, length, codes}
+use Rattle.std.specs.List.{list_any}
 use Rattle.std.specs.Cmp.Lexicographic.{pointwise}
-
--- space, tab, carriage return or line feed
-abbrev pub is_blank : ℕ → Bool
-is_blank c = c == 32 || c == 9 || c == 13 || c == 10
-
-abbrev pub is_digit : ℕ → Bool
-is_digit c = nat_le 48 c && nat_le c 57
-
--- an ASCII letter or _
-abbrev pub is_letter : ℕ → Bool
-is_letter c = nat_le 97 c && nat_le c 122 || nat_le 65 c && nat_le c 90 || c == 95
-
--- what may stand in a word
-abbrev pub is_part : ℕ → Bool
-is_part c = is_letter c || is_digit c
-
--- a run of letters and digits that doesn't begin with a digit
-abbrev pub is_word : List ℕ → Bool
-is_word [] = false
-is_word (c ∷ cs) = is_letter c && list_all is_part cs
-
--- what would make no word before it longer
-abbrev pub is_apart : List ℕ → Bool
-is_apart [] = true
-is_apart (c ∷ cs) = not (is_part c)
 
 -- whether two texts are the same
 abbrev pub same_text : List ℕ → List ℕ → Bool
 same_text = pointwise nat_eq
 
--- the signs
+-- the signs, none before a longer one that goes on from it
 abbrev pub signs : List (List ℕ)
-signs = codes "<->" ∷ codes "->" ∷ codes ";" ∷ codes "(" ∷ codes ")" ∷ codes "!" ∷ codes "&" ∷ codes "|" ∷ []
+signs =
+    codes ";" ∷ codes "(" ∷ codes ")" ∷ codes "=" ∷ codes "," ∷ codes "&" ∷ codes "->" ∷ codes ":=" ∷ codes ":" ∷ codes "!=" ∷
+    codes "!" ∷ codes "|=>" ∷ codes "|" ∷ codes "{" ∷ codes "}" ∷ codes "[" ∷ codes "]" ∷ codes ".." ∷ codes "<->" ∷ codes "<=" ∷
+    codes "<" ∷ codes ">=" ∷ codes ">" ∷ codes "+" ∷ codes "-" ∷ codes "*" ∷ codes "?" ∷ []
 
 -- one of them
 unfoldable pub is_sign : List ℕ → Bool

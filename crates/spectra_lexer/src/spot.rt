@@ -14,35 +14,40 @@ pub struct Spot {
 }
 
 impl Spot {
-    ghost use Rattle.std.specs.Prelude.{◌≡◌, ◌+◌, ◌<◌, ◌^◌};
-    ghost use Rattle.spectra_lexer.specs.Tokens.{start, behind, further, token_at};
+    ghost use Rattle.std.specs.Prelude.{◌≡◌, ◌+◌, ◌≤◌, ◌<◌, ◌^◌};
+    ghost use Rattle.spectra_lexer.specs.Tokens.{behind, token_to};
+    ghost use Rattle.spectra_lexer.specs.Progress.{further};
 
-    /// Where a text begins.
-    pub fn first() -> Spot
-        ensures { result ≡ start }
+    /// Where the characters of a text begin, behind so many bytes.
+    pub fn first(byte: u32) -> Spot
+        ensures { result ≡ record { byte = byte; line = 1; column = 1 } }
     {
         Spot {
-            byte: 0,
+            byte,
             line: FIRST,
             column: FIRST,
         }
     }
 
-    /// The spot behind a character of one byte.
-    pub fn over(self, byte: u8) -> Spot
-        requires byte { self.byte + 1 < 2 ^ 32 }
+    /// The spot behind a character.
+    pub fn over(self, c: char) -> Spot
+        requires byte { self.byte + 4 < 2 ^ 32 }
         requires line { self.line + 1 < 2 ^ 32 }
         requires column { self.column + 1 < 2 ^ 32 }
-        ensures { result ≡ behind byte self }
+        ensures { result ≡ behind c self }
     {
-        if byte == b'\n' {
-            Spot {
-                byte: self.byte + 1,
+        let byte = self.byte + c.len_utf8() as u32;
+        if c == '\n' {
+            return Spot {
+                byte,
                 line: self.line + 1,
                 column: FIRST,
-            }
-        } else {
-            self.skip(1)
+            };
+        }
+        Spot {
+            byte,
+            line: self.line,
+            column: self.column + 1,
         }
     }
 
@@ -59,15 +64,14 @@ impl Spot {
         }
     }
 
-    /// The token of so many bytes that begins here.
-    pub fn token(self, kind: Kind, size: u32) -> Token
-        requires { self.byte + size < 2 ^ 32 }
-        ensures { result ≡ token_at self kind size }
+    /// The token from here to another spot.
+    pub fn token(self, kind: Kind, next: Spot) -> Token
+        ensures { result ≡ token_to self kind next }
     {
         Token {
             kind,
             from: self.byte,
-            to: self.byte + size,
+            to: next.byte,
             line: self.line,
             column: self.column,
         }

@@ -7,9 +7,9 @@ pub enum Kind {
     Word,
     /// A word that isn't reserved.
     Name,
-    /// A run of digits. There are none yet.
+    /// A run of digits.
     Number,
-    /// A quoted text. There are none yet.
+    /// A quoted text, its quotation marks included.
     Text,
     /// A sign.
     Sign,

@@ -1,72 +1,40 @@
-//! Which bytes make blanks, signs and words, and which words are reserved.
+//! Which texts are signs, and which words are reserved.
 
-ghost use Rattle.std.specs.Prelude.{◌≡◌, ◌≤◌, ℕ, true, List, length, map, take, drop, nat_eq, option_map, IfSome, IfNone};
-ghost use Rattle.std.specs.List.{list_all, list_any, find, starts_with};
-ghost use Rattle.spectra_lexer.specs.Words.{is_blank as blank_test, BeginsWithSign, BeginsWithLongest, is_letter as letter_test, is_part as part_test, is_apart, same_text, is_reserved as reserved_test};
+ghost use Rattle.std.specs.Prelude.{◌≡◌, ◌≤◌, ℕ, List, [], slice_index_or, length, map, take, drop, nat_eq, option_map, IfSome, IfNone};
+ghost use Rattle.std.specs.List.{list_any, find, starts_with};
+ghost use Rattle.spectra_lexer.specs.Words.{BeginsWithSign, BeginsWithLongest, same_text, is_reserved as reserved_test};
 ghost use Rattle.spectra_lexer.specs.Tokens.{kind_of as kind_of_word};
 
 use crate::token::Kind;
 
-/// The signs, none before a longer one.
-pub const SIGNS: [&str; 8] = ["<->", "->", ";", "(", ")", "!", "&", "|"];
-
-/// The words that are no names.
-pub const RESERVED: [&str; 47] = [
-    "spec",
-    "module",
-    "import",
-    "env",
-    "sys",
-    "aux",
-    "boolean",
-    "Int",
-    "type",
-    "define",
-    "predicate",
-    "pattern",
-    "var",
-    "monitor",
-    "asm",
-    "assumption",
-    "gar",
-    "guarantee",
-    "ini",
-    "initially",
-    "alw",
-    "always",
-    "G",
-    "trans",
-    "alwEv",
-    "alwaysEventually",
-    "GF",
-    "trig",
-    "next",
-    "true",
-    "false",
-    "not",
-    "and",
-    "or",
-    "implies",
-    "iff",
-    "mod",
-    "PREV",
-    "Y",
-    "ONCE",
-    "O",
-    "HISTORICALLY",
-    "H",
-    "SINCE",
-    "S",
-    "TRIGGERED",
-    "T",
+/// The signs, none before a longer one that goes on from it; the frequent ones first.
+pub const SIGNS: [&str; 27] = [
+    ";", "(", ")", "=", ",", "&", "->", ":=", ":", "!=", "!", "|=>", "|", "{", "}", "[", "]", "..",
+    "<->", "<=", "<", ">=", ">", "+", "-", "*", "?",
 ];
 
-/// Whether a byte only separates tokens.
-pub fn is_blank(byte: u8) -> bool
-    ensures { result ≡ blank_test byte }
-{
-    byte == b' ' || byte == b'\t' || byte == b'\r' || byte == b'\n'
-}
+/// The words that are no names, each in the row of its length.
+pub const RESERVED: [&[&str]; 17] = [
+    &[],
+    &["G", "Y", "O", "H", "S", "T"],
+    &["GF", "or"],
+    &[
+        "env", "sys", "aux", "Int", "var", "asm", "gar", "ini", "alw", "not", "and", "iff", "mod",
+    ],
+    &["spec", "type", "trig", "next", "true", "PREV", "ONCE"],
+    &["trans", "alwEv", "false", "SINCE"],
+    &["module", "import", "define", "always"],
+    &["boolean", "pattern", "monitor", "implies"],
+    &[],
+    &["predicate", "guarantee", "initially", "TRIGGERED"],
+    &["assumption"],
+    &[],
+    &["HISTORICALLY"],
+    &[],
+    &[],
+    &[],
+    &["alwaysEventually"],
+];
 
 /// How many bytes the first of these takes that a text begins with.
 fn front_size(fronts: &[&str], text: &[u8]) -> Option<usize>
@@ -91,34 +59,6 @@ pub fn sign_size(text: &[u8]) -> Option<usize>
     front_size(&SIGNS, text)
 }
 
-/// Whether a word may begin with a byte.
-pub fn is_letter(byte: u8) -> bool
-    ensures { result ≡ letter_test byte }
-{
-    b'a' <= byte && byte <= b'z' || b'A' <= byte && byte <= b'Z' || byte == b'_'
-}
-
-/// Whether a word may go on with a byte.
-pub fn is_part(byte: u8) -> bool
-    ensures { result ≡ part_test byte }
-{
-    is_letter(byte) || b'0' <= byte && byte <= b'9'
-}
-
-/// How many bytes at the front may stand in a word.
-pub fn count_parts(text: &[u8]) -> usize
-    ensures within { result ≤ length text.now }
-    ensures parts { list_all part_test (take result text.now) ≡ true }
-    ensures apart { is_apart (drop result text.now) ≡ true }
-{
-    for (i, &byte) in text.iter().enumerate() {
-        if !is_part(byte) {
-            return i;
-        }
-    }
-    text.len()
-}
-
 /// Whether a word is one of these.
 fn is_among(words: &[&str], word: &[u8]) -> bool
     ensures { result ≡ list_any (λ w. same_text w word.now) (map (λ w. w.now) words.now) }
@@ -131,12 +71,22 @@ fn is_among(words: &[&str], word: &[u8]) -> bool
     false
 }
 
+/// Whether a word is in the row of its length.
+fn is_in_row(rows: &[&[&str]], word: &[u8]) -> bool
+    ensures { result ≡ list_any (λ w. same_text w word.now)
+        (slice_index_or (map (λ row. map (λ w. w.now) row.now) rows.now) (length word.now) []) }
+{
+    match rows.get(word.len()) {
+        Some(row) => is_among(row, word),
+        None => false,
+    }
+}
+
 /// Whether a word is no name.
-#[tactic(auto, unfolding(crate::specs::Words::is_reserved))]
 fn is_reserved(word: &[u8]) -> bool
     ensures { result ≡ reserved_test word.now }
 {
-    is_among(&RESERVED, word)
+    is_in_row(&RESERVED, word)
 }
 
 /// A reserved word, or a name.

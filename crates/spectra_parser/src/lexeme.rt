@@ -1,7 +1,7 @@
 //! A token with its text.
 
 ghost use Rattle.std.specs.Prelude.{◌≡◌, ◌≤◌, ◌-◌, IfOk, take, drop, length};
-ghost use Rattle.std.specs.Str.{IsAscii};
+ghost use Rattle.std.specs.Str.{IsUtf8};
 ghost use Rattle.spectra_lexer.specs.Slices.{AreSlices};
 ghost use Rattle.spectra_parser.specs.Lexemes.{name_of, lexeme as lexeme_lem, lexemes};
 ghost use Rattle.spectra_parser.specs.Tests.{word_test, sign_test, name_test, end_test};
@@ -70,7 +70,7 @@ pub fn name(alloc: Global, token: &Spelled<'_>) -> Result<Name, AllocError>
 fn spell<'a>(text: &'a [u8], token: &Token) -> Spelled<'a>
     requires forward { token.now.from ≤ token.now.to }
     requires within { token.now.to ≤ length text.now }
-    requires ascii { IsAscii (take (token.now.to - token.now.from) (drop token.now.from text.now)) }
+    requires utf8 { IsUtf8 (take (token.now.to - token.now.from) (drop token.now.from text.now)) }
     ensures { lexeme_of result ≡ lexeme_lem text.entry.now token.now }
 {
     let slice = &text[token.from as usize..token.to as usize];

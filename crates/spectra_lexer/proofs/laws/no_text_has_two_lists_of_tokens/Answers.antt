@@ -1,4 +1,4 @@
-use Rattle.spectra_lexer.proofs.Pieces.{one_list_of_tokens}
+use Rattle.spectra_lexer.proofs.Unique.{one_list_of_tokens}
 use Rattle.spectra_lexer.proofs.laws.no_text_has_two_lists_of_tokens.Goals as goal
 
 pub returns : goal.returns

@@ -1,6 +1,5 @@
-use Rattle.std.proofs.Common.{rules, ◌-◌, take, drop, Result, Ok, Err}
+use Rattle.std.proofs.Common.{rules, Result, Ok, Err}
 use Rattle.std.specs.Prelude.{IsOk, MatchResult}
-use Rattle.std.proofs.lemmas.Str.{IsUtf8-from_ascii}
 use Rattle.spectra_parser.proofs.lexeme.spell.Goals as goal
 
 -- the error's case can't be
@@ -9,6 +8,4 @@ ok_only (Ok x) P U V h u = search rules
 ok_only (Err e) P U V h u = absurd (h.0 u)
 
 pub unwrap-requires : goal.unwrap-requires
-unwrap-requires c =
-    let text = take (c.args.token.now.to - c.args.token.now.from) (drop c.args.token.now.from c.args.text.now) in
-    ok_only c.from_utf8.result _ _ _ c.from_utf8.ensures.cases (IsUtf8-from_ascii text c.requires.ascii)
+unwrap-requires c = ok_only c.from_utf8.result _ _ _ c.from_utf8.ensures.cases c.requires.utf8

@@ -1,3 +1,4 @@
+use Rattle.std.proofs.Common.{sym}
 use Rattle.spectra_parser.proofs.Spelling.{slice_at}
 use Rattle.spectra_parser.proofs.lexeme.spell_all.Goals as goal
 
@@ -7,5 +8,7 @@ spell-requires-clause-forward c = (slice_at c.args.text.now 0 c.args.tokens.now 
 pub spell-requires-clause-within : goal.spell-requires-clause-within
 spell-requires-clause-within c = (slice_at c.args.text.now 0 c.args.tokens.now c.loop-token.token-index c.requires c.loop-token-test.true).1.within
 
-pub spell-requires-clause-ascii : goal.spell-requires-clause-ascii
-spell-requires-clause-ascii c = (slice_at c.args.text.now 0 c.args.tokens.now c.loop-token.token-index c.requires c.loop-token-test.true).1.ascii
+pub spell-requires-clause-utf8 : goal.spell-requires-clause-utf8
+spell-requires-clause-utf8 c =
+    let slice = (slice_at c.args.text.now 0 c.args.tokens.now c.loop-token.token-index c.requires c.loop-token-test.true).1 in
+    (slice.characters, (slice.scalars, sym slice.bytes))
