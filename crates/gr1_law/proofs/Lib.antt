@@ -1,0 +1,13 @@
+pub mod Greatest
+pub mod Parts
+pub mod Layering
+pub mod Searching
+pub mod Winning
+pub mod Potential
+pub mod Standing
+pub mod Choosing
+pub mod Present
+pub mod Running
+pub mod Trails
+pub mod Rounds
+pub mod Keeping

@@ -1,3 +1,5 @@
 pub mod Layers
 pub mod Choice
+pub mod Potential
 pub mod GameRules
+pub mod Laws

@@ -1,0 +1,82 @@
+-- Laws over the definitions alone, each of which the function of its name in src/laws.rt proves.
+use Rattle.std.specs.Prelude.{◌≡◌, ℕ, suc, false, ◌+◌, ◌*◌, ◌<◌, ◌≤◌, List, None, Some, length, sum, IsTrue}
+use Rattle.spec_model.specs.Values.{Assignment}
+use Rattle.spec_model.specs.Rules.{Run, EachWithin}
+use Rattle.spec_model.specs.Realizable.{Kept, IsRealizable}
+use Rattle.spec_model.specs.Games.{GameData, state_at, goals_in}
+use Rattle.spec_model.specs.Steps.{Before, is_input, legal_input, states_of}
+use Rattle.spec_model.specs.Sets.{StateSet, system_forces, all_states, count_in}
+use Rattle.gr1_law.specs.Layers.{LayerSets, AreLayers, IsWinning, AreGreatestRanks, goal_sets, goal_set, round_count}
+use Rattle.gr1_law.specs.Choice.{Memory, IsChosen, ChosenPlay}
+use Rattle.gr1_law.specs.Potential.{potential}
+use Rattle.gr1_law.specs.GameRules.{last_state, rules_of_game, IsPlay}
+
+-- the state is in the set; before the first move there is none
+abbrev pub IsIn : StateSet → Before → Type 0
+IsIn z None = Unit {0}
+IsIn z (Some s) = IsTrue (z s)
+
+-- what holds of a run of chosen outputs
+pub record ChosenPlayKeeps (g : GameData) (z : StateSet) (l : LayerSets) (k : ℕ) (h : Run) (b : Before) (m : Memory) : Type 0 where
+  pub legal : IsPlay (rules_of_game g) h
+  pub state : b ≡ last_state g h
+  pub inside : IsIn z b
+  pub kept : Kept (rules_of_game g) k h
+  pub goes_on : (x : Assignment) → IsTrue (is_input g x) → IsTrue (legal_input g b x) → (y : Assignment) × (m' : Memory) × IsChosen g l b m x y m'
+
+-- Where each legal first input has a legal first output into Z, each run of chosen outputs is a play in Z that keeps each
+-- recurring guarantee within K rounds, and an output is chosen after each legal input.
+abbrev pub ChosenPlaysKeep : GameData → Type 0
+ChosenPlaysKeep g =
+    (z : StateSet) (l : LayerSets) (ranks : List ℕ) → IsWinning g z l → AreGreatestRanks g l ranks → IsTrue (system_forces g z None) →
+    (h : Run) (b : Before) (m : Memory) → ChosenPlay g l h b m → ChosenPlayKeeps g z l (round_count ranks) h b m
+
+-- so the game is realizable with K
+abbrev pub WinningIsRealizable : GameData → Type 0
+WinningIsRealizable g =
+    (z : StateSet) (l : LayerSets) (ranks : List ℕ) → IsWinning g z l → AreGreatestRanks g l ranks → IsTrue (system_forces g z None) →
+    IsRealizable (rules_of_game g) (round_count ranks)
+
+-- Of what is remembered at the positions of a run: a goal's potential is at least 1 and at most the ranks together, and each
+-- round, at whose end the run goes on, and in which the goal isn't met, lowers it.
+pub record PotentialFalls (g : GameData) (ranks : List ℕ) (h : Run) (memory : ℕ → Memory) (q : ℕ) : Type 0 where
+  pub at_least : (t : ℕ) → t < length h → 1 ≤ potential ranks q (memory t)
+  pub at_most : (t : ℕ) → t < length h → potential ranks q (memory t) ≤ sum ranks
+  pub lower : (from to : ℕ) → from < to → to < length h → EachWithin (goals_in g g.assume) h from to →
+      ((t : ℕ) → from ≤ t → t < to → goal_set g q (state_at g h t) ≡ false) → potential ranks q (memory to) < potential ranks q (memory from)
+
+-- What is remembered along a run of chosen outputs is such for each goal; after the last position it is what is
+-- remembered at the end.
+pub record IsRemembered (g : GameData) (ranks : List ℕ) (h : Run) (m : Memory) : Type 0 where
+  pub memory : ℕ → Memory
+  pub last : (t : ℕ) → suc t ≡ length h → memory t ≡ m
+  pub falls : (q : ℕ) → q < length (goal_sets g) → PotentialFalls g ranks h memory q
+
+abbrev pub RoundsLower : GameData → Type 0
+RoundsLower g =
+    (z : StateSet) (l : LayerSets) (ranks : List ℕ) → IsWinning g z l → AreGreatestRanks g l ranks → IsTrue (system_forces g z None) →
+    (h : Run) (b : Before) (m : Memory) → ChosenPlay g l h b m → IsRemembered g ranks h m
+
+-- ---- the sets are told by their equations
+
+-- For each set there are layers, and only these: the parts at rank 0 alone are free.
+pub record LayersAreTold (g : GameData) (z : StateSet) : Type 0 where
+  pub some : (l : LayerSets) × AreLayers g z l
+  pub same_y : (l l' : LayerSets) → AreLayers g z l → AreLayers g z l' → (j r : ℕ) → l.y j r ≡ l'.y j r
+  pub same_x : (l l' : LayerSets) → AreLayers g z l → AreLayers g z l' → (j r i : ℕ) → l.x j (suc r) i ≡ l'.x j (suc r) i
+
+-- There is one Z, whichever its layers; so the greatest ranks are one list, and K is one number.
+pub record WinningIsTold (g : GameData) : Type 0 where
+  pub some : (z : StateSet) × (l : LayerSets) × IsWinning g z l
+  pub same : (z z' : StateSet) (l l' : LayerSets) → IsWinning g z l → IsWinning g z' l' → z ≡ z'
+  pub ranks : (z z' : StateSet) (l l' : LayerSets) (ranks ranks' : List ℕ) → IsWinning g z l → IsWinning g z' l' → AreGreatestRanks g l ranks → AreGreatestRanks g l' ranks' → ranks ≡ ranks'
+
+-- no goal has more ranks than there are states
+abbrev pub RanksAreFew : GameData → Type 0
+RanksAreFew g =
+    (z : StateSet) (l : LayerSets) (ranks : List ℕ) → AreLayers g z l → AreGreatestRanks g l ranks →
+    round_count ranks ≤ 1 + length (goal_sets g) * count_in (all_states g) (states_of g)
+
+-- what is remembered and the input determine the output, and what is remembered then
+abbrev pub ChoiceIsOne : GameData → Type 0
+ChoiceIsOne g = (l : LayerSets) (b : Before) (m : Memory) (x y y' : Assignment) (m' m'' : Memory) → IsChosen g l b m x y m' → IsChosen g l b m x y' m'' → (y ≡ y') × (m' ≡ m'')
