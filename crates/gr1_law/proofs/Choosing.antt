@@ -8,10 +8,10 @@ use Rattle.spec_model.specs.Steps.{Before, is_input, is_output, legal_input, leg
 use Rattle.spec_model.specs.Sets.{StateSet, IsPartOf, rest, system_forces, output_into}
 use Rattle.spec_model.proofs.Listed.{outputs_fit}
 use Rattle.gr1_law.specs.Layers.{LayerSets, IsWinning, AreGreatestRanks, IsLeastNumber, goal_sets, goal_set, assumption_sets, assumption_set}
-use Rattle.gr1_law.specs.Choice.{Memory, next_goal, goal_aimed, can_lead, waits, target, IsChosen}
+use Rattle.gr1_law.specs.Choice.{Memory, Standing, next_goal, goal_aimed, can_lead, waits, target, IsChosen}
 use Rattle.gr1_law.proofs.Searching.{least_of, some-found, find-passes, find-every, found-some}
 use Rattle.gr1_law.proofs.Winning.{in_a_part, z_in_last}
-use Rattle.gr1_law.proofs.Standing.{Standing, Ready, Progress, progress, forces_z, part_in_rank, aimed_in, rank_some, can_lead-forced, can_lead_grows}
+use Rattle.gr1_law.proofs.Standing.{Ready, Progress, progress, forces_z, part_in_rank, aimed_in, rank_some, can_lead-forced, can_lead_grows}
 
 -- From a state where the goal aimed at holds, the next goal is aimed at. Else the rank falls, or it stays with the index,
 -- and the index's assumption is false.
@@ -26,7 +26,7 @@ module _ (g : GameData) (z : StateSet) (l : LayerSets) (w : IsWinning g z l) (ra
   forces_z_next (Some s) m ready = forces_z g z l w ranks greatest s m ready
 
   -- a state of a layer has a least part
-  least_part : (j n : ℕ) (s : State) → IsTrue (l.y j n s) → (i : ℕ) × IsLeastNumber (λ i. IsTrue (l.x j n i s)) i
+  pub least_part : (j n : ℕ) (s : State) → IsTrue (l.y j n s) → (i : ℕ) × IsLeastNumber (λ i. IsTrue (l.x j n i s)) i
   least_part j n s e =
       let some = rank_some g z l w j n s e in
       let part = in_a_part g z l w.layers j some.0 s (subst (λ (r : ℕ). IsTrue (l.y j r s)) some.1 e) in
@@ -71,7 +71,7 @@ module _ (g : GameData) (z : StateSet) (l : LayerSets) (w : IsWinning g z l) (ra
             )
 
   -- while waiting some output leads into the part
-  stays_in_part : (b : Before) (m : Memory) (x : Assignment) (r : ℕ) → Ready g z l b m → is_input g x ≡ true → legal_input g b x ≡ true →
+  pub stays_in_part : (b : Before) (m : Memory) (x : Assignment) (r : ℕ) → Ready g z l b m → is_input g x ≡ true → legal_input g b x ≡ true →
       IsLeastNumber (λ r. IsTrue (can_lead g (l.y (goal_aimed g b m) r) b x)) r → waits g b m r ≡ true → can_lead g (l.x m.goal m.rank m.index) b x ≡ true
   stays_in_part None m x r ready input legal least e = absurd (false≢true e)
   stays_in_part (Some s) m x r ready input legal least e = at (goal_set g m.goal s) refl least e
@@ -86,11 +86,15 @@ module _ (g : GameData) (z : StateSet) (l : LayerSets) (w : IsWinning g z l) (ra
               absurd (least.none_before k (omega arith) (can_lead-forced g (l.y m.goal k) (Some s) x input legal forced))
           by_progress (Progress.waiting fails forced in_rank) = can_lead-forced g (l.x m.goal m.rank m.index) (Some s) x input legal forced
 
+  -- some output leads into the last layer of the goal aimed at
+  pub last_leads : (b : Before) (m : Memory) (x : Assignment) → Ready g z l b m → is_input g x ≡ true → legal_input g b x ≡ true → can_lead g (l.y (goal_aimed g b m) (slice_index ranks (goal_aimed g b m))) b x ≡ true
+  last_leads b m x ready input legal =
+      can_lead_grows g z (l.y (goal_aimed g b m) (slice_index ranks (goal_aimed g b m))) b x (z_in_last g z l w ranks greatest (goal_aimed g b m) (aimed_in g z l w b m ready))
+      (can_lead-forced g z b x input legal (forces_z_next b m ready))
+
   pub choice_exists : (b : Before) (m : Memory) (x : Assignment) → Ready g z l b m → is_input g x ≡ true → legal_input g b x ≡ true → (y : Assignment) × (m' : Memory) × IsChosen g l b m x y m'
   choice_exists b m x ready input legal =
-      let in_goals = aimed_in g z l w b m ready in
-      let last = can_lead_grows g z (l.y (goal_aimed g b m) (slice_index ranks (goal_aimed g b m))) b x (z_in_last g z l w ranks greatest (goal_aimed g b m) in_goals) (can_lead-forced g z b x input legal (forces_z_next b m ready)) in
-      let least = least_of (λ r. can_lead g (l.y (goal_aimed g b m) r) b x) (slice_index ranks (goal_aimed g b m)) last in
+      let least = least_of (λ r. can_lead g (l.y (goal_aimed g b m) r) b x) (slice_index ranks (goal_aimed g b m)) (last_leads b m x ready input legal) in
       choice_of_rank b m x least.0 least.1 (stays_in_part b m x least.0 ready input legal least.1)
 
   -- ---- what a choice gives

@@ -10,7 +10,7 @@ use Rattle.spec_model.specs.WellMade.{WellMade}
 use Rattle.gr1_law.specs.Layers.{LayerSets, IsWinning, AreGreatestRanks, round_count}
 use Rattle.gr1_law.specs.Choice.{Memory, first_memory, ChosenPlay}
 use Rattle.gr1_law.specs.GameRules.{rules_of_game, last_state}
-use Rattle.gr1_law.specs.Laws.{IsIn, ChosenPlayKeeps, IsRemembered}
+use Rattle.gr1_law.specs.Laws.{StandsIn, ChosenPlayKeeps, IsRemembered}
 use Rattle.gr1_law.proofs.Winning.{layer_in_z}
 use Rattle.gr1_law.proofs.Standing.{Ready}
 use Rattle.gr1_law.proofs.Choosing.{choice_exists, chosen_output, chosen_legal}
@@ -18,9 +18,9 @@ use Rattle.gr1_law.proofs.Trails.{played}
 use Rattle.gr1_law.proofs.Rounds as rounds
 
 module _ (g : GameData) (made : WellMade g) (z : StateSet) (l : LayerSets) (ranks : List ℕ) (w : IsWinning g z l) (greatest : AreGreatestRanks g l ranks) (start : system_forces g z None ≡ true) where
-  in_z : (b : Before) (m : Memory) → Ready g z l b m → IsIn z b
-  in_z None m ready = tt
-  in_z (Some s) m ready = layer_in_z g z l w ranks greatest m.goal m.rank s ready.rank.here
+  stands : (b : Before) (m : Memory) → Ready g z l b m → StandsIn g z l b m
+  stands None m ready = tt
+  stands (Some s) m ready = (layer_in_z g z l w ranks greatest m.goal m.rank s ready.rank.here, ready)
 
   pub play_keeps : (h : Run) (b : Before) (m : Memory) → ChosenPlay g l h b m → ChosenPlayKeeps g z l (round_count ranks) h b m
   play_keeps h b m play =
@@ -28,7 +28,7 @@ module _ (g : GameData) (made : WellMade g) (z : StateSet) (l : LayerSets) (rank
       record {
         legal = end.legal;
         state = end.state;
-        inside = in_z b m end.ready;
+        stands = stands b m end.ready;
         kept = rounds.kept g z l w ranks greatest h m end.trail made;
         goes_on = λ x input legal. choice_exists g z l w ranks greatest b m x end.ready input legal;
       }

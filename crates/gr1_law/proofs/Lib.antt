@@ -11,3 +11,6 @@ pub mod Running
 pub mod Trails
 pub mod Rounds
 pub mod Keeping
+pub mod Settling
+pub mod Solutions
+pub mod OneChoice

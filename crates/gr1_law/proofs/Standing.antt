@@ -9,8 +9,8 @@ use Rattle.spec_model.specs.Steps.{Before, is_input, legal_input}
 use Rattle.spec_model.specs.Sets.{StateSet, IsPartOf, rest, pre_sys, system_forces, output_into}
 use Rattle.spec_model.proofs.AllStates.{at_assignment}
 use Rattle.spec_model.proofs.SetLaws.{system_forces_grows}
-use Rattle.gr1_law.specs.Layers.{LayerSets, IsWinning, AreGreatestRanks, IsRank, part_value, or_all_states, goal_sets, goal_set, assumption_sets, assumption_set}
-use Rattle.gr1_law.specs.Choice.{Memory, next_goal, goal_aimed, can_lead}
+use Rattle.gr1_law.specs.Layers.{LayerSets, IsWinning, AreGreatestRanks, part_value, or_all_states, goal_sets, goal_set, assumption_set}
+use Rattle.gr1_law.specs.Choice.{Memory, Standing, next_goal, goal_aimed, can_lead}
 use Rattle.gr1_law.proofs.Parts.{InPart, in_part}
 use Rattle.gr1_law.proofs.Searching.{all-every, some-found, find-passes, found-some}
 use Rattle.gr1_law.proofs.Winning.{part_in_layer, part_solves, none_below, layer_in_z}
@@ -50,13 +50,6 @@ next_in g j below = at (suc j == length (goal_sets g)) refl
     at false e = let inner = eqb-false (suc j) (length (goal_sets g)) e in grind (arith, inner, below)
 
 -- ---- the state
-
--- The state has the rank that is remembered for the goal aimed at, and is in the part with the index.
-pub record Standing (g : GameData) (l : LayerSets) (s : State) (m : Memory) : Type 0 where
-  pub goal_in : m.goal < length (goal_sets g)
-  pub index_in : m.index < length (assumption_sets g)
-  pub rank : IsRank l m.goal s m.rank
-  pub part : IsTrue (l.x m.goal m.rank m.index s)
 
 -- before the first move the system can force the first state into Z
 abbrev pub Ready : GameData → StateSet → LayerSets → Before → Memory → Type 0

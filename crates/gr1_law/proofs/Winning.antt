@@ -33,25 +33,23 @@ module _ (g : GameData) (z : StateSet) (l : LayerSets) (of_z : AreLayers g z l) 
   settled_after zero r same = ap (l.y j) (omega arith)
   settled_after (suc k) r same = same ∙ (settled_after k (suc r) (settled_from g z l of_z j r same) ∙ ap (l.y j) (omega arith))
 
-module _ (g : GameData) (z : StateSet) (l : LayerSets) (w : IsWinning g z l) (ranks : List ℕ) (greatest : AreGreatestRanks g l ranks) where
-  abbrev last : ℕ → ℕ
-  last j = slice_index ranks j
-
-  -- no layer has more than the last
-  pub in_last : (j r : ℕ) → j < length (goal_sets g) → IsPartOf (l.y j r) (l.y j (slice_index ranks j))
-  in_last j r below s e = by_cases or_not
+  -- a settled layer has every other
+  pub in_settled : (k r : ℕ) → l.y j k ≡ l.y j (suc k) → IsPartOf (l.y j r) (l.y j k)
+  in_settled k r settled s e = by_cases or_not
     where
-      settled : l.y j (last j) ≡ l.y j (suc (last j))
-      settled = (greatest.each j (omega (arith, greatest.counted))).here
-
-      or_not : (r ≤ last j) ⊎ (last j < r)
+      or_not : (r ≤ k) ⊎ (k < r)
       or_not = grind arith
 
-      by_cases : (r ≤ last j) ⊎ (last j < r) → IsTrue (l.y j (last j) s)
-      by_cases (inl lower) = let e' : (last j - r) + r ≡ last j = omega arith in subst (λ (n : ℕ). IsTrue (l.y j n s)) e' (y_in_later g z l w.layers j (last j - r) r s e)
+      by_cases : (r ≤ k) ⊎ (k < r) → IsTrue (l.y j k s)
+      by_cases (inl lower) = let e' : (k - r) + r ≡ k = omega arith in subst (λ (n : ℕ). IsTrue (l.y j n s)) e' (y_in_later g z l of_z j (k - r) r s e)
       by_cases (inr higher) =
-          let e' : last j + (r - last j) ≡ r = omega arith in
-          subst (λ (t : StateSet). IsTrue (t s)) (sym (settled_after g z l w.layers j (r - last j) (last j) settled)) (subst (λ (n : ℕ). IsTrue (l.y j n s)) (sym e') e)
+          let e' : k + (r - k) ≡ r = omega arith in
+          subst (λ (t : StateSet). IsTrue (t s)) (sym (settled_after (r - k) k settled)) (subst (λ (n : ℕ). IsTrue (l.y j n s)) (sym e') e)
+
+module _ (g : GameData) (z : StateSet) (l : LayerSets) (w : IsWinning g z l) (ranks : List ℕ) (greatest : AreGreatestRanks g l ranks) where
+  -- no layer has more than the last
+  pub in_last : (j r : ℕ) → j < length (goal_sets g) → IsPartOf (l.y j r) (l.y j (slice_index ranks j))
+  in_last j r below = in_settled g z l w.layers j (slice_index ranks j) r (greatest.each j (omega (arith, greatest.counted))).here
 
   pub z_in_last : (j : ℕ) → j < length (goal_sets g) → IsPartOf z (l.y j (slice_index ranks j))
   z_in_last j below s e = let has = (w.solves s).0 e j below in in_last j has.0 below s has.1

@@ -1,12 +1,12 @@
 -- The system's choice of an output, by what it remembers of the play.
-use Rattle.std.specs.Prelude.{◌≡◌, ℕ, suc, Bool, true, false, not, ◌&&◌, ◌==◌, if◌then◌else◌, [], Some, None, length, find, IsTrue}
+use Rattle.std.specs.Prelude.{◌≡◌, ℕ, suc, ◌<◌, Bool, true, false, not, ◌&&◌, ◌==◌, if◌then◌else◌, [], Some, None, length, find, IsTrue}
 use Rattle.std.specs.List.{list_any}
 use Rattle.spec_model.specs.Values.{Assignment}
 use Rattle.spec_model.specs.Rules.{Run, after}
-use Rattle.spec_model.specs.Games.{GameData, outputs_of}
+use Rattle.spec_model.specs.Games.{GameData, State, outputs_of}
 use Rattle.spec_model.specs.Steps.{Before, is_input, reached, legal_input}
 use Rattle.spec_model.specs.Sets.{StateSet, output_into}
-use Rattle.gr1_law.specs.Layers.{LayerSets, goal_sets, goal_set, IsLeastNumber}
+use Rattle.gr1_law.specs.Layers.{LayerSets, goal_sets, goal_set, assumption_sets, IsLeastNumber, IsRank}
 
 -- what is remembered of a play: the goal aimed at last, the state's rank for it, and the number of an assumption
 pub record Memory : Type 0 where
@@ -53,6 +53,13 @@ pub record IsChosen (g : GameData) (l : LayerSets) (b : Before) (m : Memory) (x 
   pub output : find (output_into g (target g l b m m'.goal m'.rank) b x) (outputs_of g) ≡ Some y
   pub kept : waits g b m m'.rank ≡ true → m'.index ≡ m.index
   pub index : waits g b m m'.rank ≡ false → IsLeastNumber (λ i. IsTrue (l.x m'.goal m'.rank i (reached g b x y))) m'.index
+
+-- What is remembered tells of the state: it has the rank for the goal, and is in the part with the index.
+pub record Standing (g : GameData) (l : LayerSets) (s : State) (m : Memory) : Type 0 where
+  pub goal_in : m.goal < length (goal_sets g)
+  pub index_in : m.index < length (assumption_sets g)
+  pub rank : IsRank l m.goal s m.rank
+  pub part : IsTrue (l.x m.goal m.rank m.index s)
 
 -- A run whose outputs are the chosen ones for legal inputs, with its last state, and what is remembered at its end.
 pub data ChosenPlay (g : GameData) (l : LayerSets) : Run → Before → Memory → Type 0 where

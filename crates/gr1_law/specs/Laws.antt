@@ -5,22 +5,22 @@ use Rattle.spec_model.specs.Rules.{Run, EachWithin}
 use Rattle.spec_model.specs.Realizable.{Kept, IsRealizable}
 use Rattle.spec_model.specs.Games.{GameData, state_at, goals_in}
 use Rattle.spec_model.specs.Steps.{Before, is_input, legal_input, states_of}
-use Rattle.spec_model.specs.Sets.{StateSet, system_forces, all_states, count_in}
+use Rattle.spec_model.specs.Sets.{StateSet, system_forces}
 use Rattle.gr1_law.specs.Layers.{LayerSets, AreLayers, IsWinning, AreGreatestRanks, goal_sets, goal_set, round_count}
-use Rattle.gr1_law.specs.Choice.{Memory, IsChosen, ChosenPlay}
+use Rattle.gr1_law.specs.Choice.{Memory, Standing, IsChosen, ChosenPlay}
 use Rattle.gr1_law.specs.Potential.{potential}
 use Rattle.gr1_law.specs.GameRules.{last_state, rules_of_game, IsPlay}
 
--- the state is in the set; before the first move there is none
-abbrev pub IsIn : StateSet → Before → Type 0
-IsIn z None = Unit {0}
-IsIn z (Some s) = IsTrue (z s)
+-- the state is in the set, and what is remembered tells of it; before the first move there is none
+abbrev pub StandsIn : GameData → StateSet → LayerSets → Before → Memory → Type 0
+StandsIn g z l None m = Unit {0}
+StandsIn g z l (Some s) m = IsTrue (z s) × Standing g l s m
 
 -- what holds of a run of chosen outputs
 pub record ChosenPlayKeeps (g : GameData) (z : StateSet) (l : LayerSets) (k : ℕ) (h : Run) (b : Before) (m : Memory) : Type 0 where
   pub legal : IsPlay (rules_of_game g) h
   pub state : b ≡ last_state g h
-  pub inside : IsIn z b
+  pub stands : StandsIn g z l b m
   pub kept : Kept (rules_of_game g) k h
   pub goes_on : (x : Assignment) → IsTrue (is_input g x) → IsTrue (legal_input g b x) → (y : Assignment) × (m' : Memory) × IsChosen g l b m x y m'
 
@@ -75,7 +75,7 @@ pub record WinningIsTold (g : GameData) : Type 0 where
 abbrev pub RanksAreFew : GameData → Type 0
 RanksAreFew g =
     (z : StateSet) (l : LayerSets) (ranks : List ℕ) → AreLayers g z l → AreGreatestRanks g l ranks →
-    round_count ranks ≤ 1 + length (goal_sets g) * count_in (all_states g) (states_of g)
+    round_count ranks ≤ 1 + length (goal_sets g) * length (states_of g)
 
 -- what is remembered and the input determine the output, and what is remembered then
 abbrev pub ChoiceIsOne : GameData → Type 0
