@@ -33,12 +33,12 @@ module _ (g : GameData) (made : WellMade g) (z : StateSet) (l : LayerSets) (rank
         goes_on = λ x input legal. choice_exists g z l w ranks greatest b m x end.ready input legal;
       }
 
-  pub remembered : (h : Run) (b : Before) (m : Memory) → ChosenPlay g l h b m → IsRemembered g ranks h m
+  pub remembered : (h : Run) (b : Before) (m : Memory) → ChosenPlay g l h b m → IsRemembered g l ranks h
   remembered h b m play =
       let end = played g z l w ranks greatest h b m start play in
       record {
         memory = end.trail.memory;
-        last = end.trail.last;
+        chosen = end.trail.chosen;
         falls = λ q in_goals. record {
           at_least = λ t inner. rounds.potential_some g z l w ranks greatest q in_goals _ _ (end.trail.standing t inner);
           at_most = λ t inner. rounds.potential_at_most g z l w ranks greatest q in_goals _ _ (end.trail.standing t inner);

@@ -14,3 +14,4 @@ pub mod Keeping
 pub mod Settling
 pub mod Solutions
 pub mod OneChoice
+pub mod Lights

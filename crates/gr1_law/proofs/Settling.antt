@@ -1,5 +1,5 @@
 -- A goal's layers settle within as many ranks as there are states.
-use Rattle.std.proofs.Common.{◌≡◌, Bool, true, false, if◌then◌else◌, ℕ, zero, suc, ◌+◌, ◌-◌, ◌*◌, ◌<◌, ◌≤◌, ◌⊎◌, inl, inr, List, [], ◌∷◌, length, sum, slice_index, refl, subst, arith, IsTrue}
+use Rattle.std.proofs.Common.{sym, ap, ◌∙◌, nat_le, ◌≡◌, Bool, true, false, if◌then◌else◌, ℕ, zero, suc, ◌+◌, ◌-◌, ◌*◌, ◌<◌, ◌≤◌, ◌⊎◌, inl, inr, List, [], ◌∷◌, length, sum, slice_index, refl, subst, arith, IsTrue}
 use Rattle.std.proofs.lemmas.Bool.{false≢true}
 use Rattle.std.proofs.lemmas.List.Sums.{sum_by-cons}
 use Rattle.spec_model.specs.Games.{GameData, State}
@@ -7,6 +7,8 @@ use Rattle.spec_model.specs.Steps.{states_of}
 use Rattle.spec_model.specs.Sets.{StateSet, all_states, IsPartOf, count_in}
 use Rattle.spec_model.proofs.SetLaws.{same_set}
 use Rattle.gr1_law.specs.Layers.{LayerSets, AreLayers, AreGreatestRanks, IsLeastNumber, goal_sets, round_count}
+use borrow.Author.Tests.{leb-true, le-leb}
+use Rattle.gr1_law.proofs.Searching.{least_of}
 use Rattle.gr1_law.proofs.Layering.{y_in_next, y_in_later}
 use Rattle.gr1_law.proofs.Winning.{layer_inside, in_settled}
 
@@ -66,6 +68,59 @@ module _ (g : GameData) (z : StateSet) (l : LayerSets) (of_z : AreLayers g z l) 
 
   pub least_settled : (k : ℕ) → IsLeastNumber (λ r. l.y j r ≡ l.y j (suc r)) k → k ≤ state_count g
   least_settled k least = let settled = settles in let no_less : settled.0 < k → ⊥ = λ less. least.none_before settled.0 less settled.2 in grind (arith, no_less, settled.1)
+
+  -- the first layer that equals the next is found by counting
+  no_growth : ℕ → Bool
+  no_growth r = nat_le (count_in (l.y j (suc r)) (states_of g)) (count_in (l.y j r) (states_of g))
+
+  settled_where : (r : ℕ) → no_growth r ≡ true → l.y j r ≡ l.y j (suc r)
+  unfolding no_growth
+  settled_where r e = same_set g (l.y j r) (l.y j (suc r)) (y_in_next g z l of_z j r) (layer_inside g z l of_z j (suc r)) (leb-true (size (suc r)) (size r) e)
+
+  where_settled : (r : ℕ) → l.y j r ≡ l.y j (suc r) → no_growth r ≡ true
+  unfolding no_growth
+  where_settled r same = le-leb (size (suc r)) (size r) (let e : size r ≡ size (suc r) = ap (λ (t : StateSet). count_in t (states_of g)) same in omega arith)
+
+  pub some_rank : (k : ℕ) × IsLeastNumber (λ r. l.y j r ≡ l.y j (suc r)) k
+  some_rank =
+      let settled = settles in
+      let least = least_of no_growth settled.0 (where_settled settled.0 settled.2) in
+      (least.0, record { here = settled_where least.0 least.1.here; none_before = λ i less same. least.1.none_before i less (where_settled i same) })
+
+-- ---- the greatest ranks
+
+-- the list of what a function gives for the numbers below n, beginning at one
+listed : (ℕ → ℕ) → (from n : ℕ) → List ℕ
+listed f from zero = []
+listed f from (suc n) = f from ∷ listed f (suc from) n
+
+length-listed : (f : ℕ → ℕ) (from n : ℕ) → length (listed f from n) ≡ n
+unfolding listed
+length-listed f from zero = refl
+length-listed f from (suc n) = ap suc (length-listed f (suc from) n)
+
+slice_index-listed : (f : ℕ → ℕ) (from n k : ℕ) → k < n → slice_index (listed f from n) k ≡ f (from + k)
+unfolding listed
+slice_index-listed f from zero k below = absurd (omega arith)
+slice_index-listed f from (suc n) zero below = ap f (omega arith)
+slice_index-listed f from (suc n) (suc k) below = slice_index-listed f (suc from) n k (omega arith) ∙ ap f (omega arith)
+
+pub some_ranks : (g : GameData) (z : StateSet) (l : LayerSets) → AreLayers g z l → (ranks : List ℕ) × AreGreatestRanks g l ranks
+some_ranks g z l of_z = (
+  listed rank 0 goals,
+  record {
+    counted = length-listed rank 0 goals;
+    each = λ j below.
+        let is : slice_index (listed rank 0 goals) j ≡ rank j = slice_index-listed rank 0 goals j (omega (arith, below, length-listed rank 0 goals)) ∙ ap rank (omega arith) in
+        subst (IsLeastNumber (λ r. l.y j r ≡ l.y j (suc r))) (sym is) (some_rank g z l of_z j).1;
+  },
+)
+  where
+    goals : ℕ
+    goals = length (goal_sets g)
+
+    rank : ℕ → ℕ
+    rank j = (some_rank g z l of_z j).0
 
 -- ---- the bound on K
 

@@ -7,7 +7,7 @@ use Rattle.spec_model.proofs.Duality.{parts_agree}
 use Rattle.gr1_law.specs.Layers.{LayerSets, AreLayers, IsWinning, HasRanks, AreGreatestRanks, IsLeastNumber, goal_sets}
 use Rattle.gr1_law.proofs.Greatest.{greatest_of, greatest_of-greatest}
 use Rattle.gr1_law.proofs.Layering.{layers_of, layers_of-layers, y_grows, x_grows}
-use Rattle.gr1_law.proofs.Winning.{layer_inside}
+use Rattle.gr1_law.proofs.Winning.{layer_inside, in_settled}
 use Rattle.gr1_law.proofs.Standing.{some_goal}
 use Rattle.gr1_law.proofs.Settling.{state_count, in_full}
 
@@ -80,6 +80,20 @@ winning_of_greatest g z greatest =
       );
       above = λ t l' of_t ranked. greatest.above t (λ s e. to_value g t l' of_t s (ranked_inside g t l' of_t s (ranked s e)) (ranked s e));
     }
+
+-- the value is what the goals' last layers have in common, wherever each has settled
+pub common-settled : (g : GameData) (z : StateSet) (l : LayerSets) → AreLayers g z l → (last : ℕ → ℕ) → ((j : ℕ) → j < length (goal_sets g) → l.y j (last j) ≡ l.y j (suc (last j))) →
+    common g (λ j. l.y j (last j)) (length (goal_sets g)) ≡ value_of g z
+common-settled g z l of_z last settled = parts_agree _ _ to from
+  where
+    to : IsPartOf (common g (λ j. l.y j (last j)) (length (goal_sets g))) (value_of g z)
+    to s e = to_value g z l of_z s (common-inside g _ (length (goal_sets g)) s e) (λ j below. (last j, of_common g (λ j. l.y j (last j)) (length (goal_sets g)) s e j below))
+
+    from : IsPartOf (value_of g z) (common g (λ j. l.y j (last j)) (length (goal_sets g)))
+    from s e =
+        in_common g (λ j. l.y j (last j)) (length (goal_sets g)) s (value_of-inside g z s e) (λ j below.
+        let rank = of_value g z s e j below in
+        in_settled g z l of_z j (last j) rank.0 (settled j below) s (y_grows g z z (layers_of g z) l (layers_of-layers g z) of_z (λ s e. e) j rank.0 s rank.1))
 
 pub some_winning : (g : GameData) → (z : StateSet) × (l : LayerSets) × IsWinning g z l
 some_winning g =

@@ -1,6 +1,7 @@
 -- What is remembered at each position of a chosen play.
-use Rattle.std.proofs.Common.{◌≡◌, ℕ, suc, ◌<◌, ◌==◌, ◌⊎◌, inl, inr, Bool, true, if◌then◌else◌, length, List, Some, None, refl, sym, ◌∙◌, ap, subst, arith}
+use Rattle.std.proofs.Common.{[], ◌∷◌, take, ◌≡◌, ℕ, suc, ◌<◌, ◌==◌, ◌⊎◌, inl, inr, Bool, true, if◌then◌else◌, length, List, Some, None, refl, sym, ◌∙◌, ap, subst, arith}
 use Rattle.std.proofs.lemmas.Bool.{and_from}
+use Rattle.std.proofs.lemmas.List.{take-append-le, take_all}
 use borrow.Author.Tests.{eq-eqb, ne_eqb}
 use Rattle.spec_model.specs.Values.{Assignment}
 use Rattle.spec_model.specs.Rules.{Run, Position, after}
@@ -20,6 +21,7 @@ pub record Trail (g : GameData) (l : LayerSets) (h : Run) (m : Memory) : Type 0 
   pub standing : (t : ℕ) → t < length h → Standing g l (state_at g h t) (memory t)
   pub moves : (t : ℕ) → suc t < length h → Lowers g (state_at g h t) (memory t) (memory (suc t))
   pub last : (t : ℕ) → suc t ≡ length h → memory t ≡ m
+  pub chosen : (t : ℕ) → t < length h → ChosenPlay g l (take (suc t) h) (Some (state_at g h t)) (memory t)
 
 -- a chosen play is a play, and its end is known
 pub record Played (g : GameData) (z : StateSet) (l : LayerSets) (h : Run) (b : Before) (m : Memory) : Type 0 where
@@ -42,7 +44,7 @@ unfolding with_last
 with_last-before memory n m t below = ap (λ (b : Bool). if b then m else memory t) (ne_eqb t n (λ same. omega arith))
 
 module _ (g : GameData) (z : StateSet) (l : LayerSets) (w : IsWinning g z l) (ranks : List ℕ) (greatest : AreGreatestRanks g l ranks) where
-  module _ (h : Run) (b : Before) (m : Memory) (x y : Assignment) (m' : Memory) (played : Played g z l h b m) (input : is_input g x ≡ true) (legal : legal_input g b x ≡ true) (c : IsChosen g l b m x y m') where
+  module _ (h : Run) (b : Before) (m : Memory) (x y : Assignment) (m' : Memory) (play : ChosenPlay g l h b m) (played : Played g z l h b m) (input : is_input g x ≡ true) (legal : legal_input g b x ≡ true) (c : IsChosen g l b m x y m') where
     abbrev p : Position
     p = record { input = x; output = y }
 
@@ -94,6 +96,21 @@ module _ (g : GameData) (z : StateSet) (l : LayerSets) (w : IsWinning g z l) (ra
             subst (λ (n : ℕ). Lowers g (state_at g h t) (played.trail.memory t) (memory n)) (sym same)
             (subst (Lowers g (state_at g h t) (played.trail.memory t)) (sym (with_last-here played.trail.memory (length h) m')) (last_move t same))
 
+    chosen : (t : ℕ) → t < length (after h x y) → ChosenPlay g l (take (suc t) (after h x y)) (Some (state_at g (after h x y) t)) (memory t)
+    unfolding memory
+    chosen t below = by_place (earlier_or_last t (subst (λ (n : ℕ). t < n) (length-after h p) below))
+      where
+        by_place : (t < length h) ⊎ (t ≡ length h) → ChosenPlay g l (take (suc t) (after h x y)) (Some (state_at g (after h x y) t)) (memory t)
+        by_place (inl less) =
+            subst (λ (h' : Run). ChosenPlay g l h' (Some (state_at g (after h x y) t)) (memory t)) (sym (take-append-le (suc t) h (p ∷ []) (omega arith)))
+            (subst (λ (s : State). ChosenPlay g l (take (suc t) h) (Some s) (memory t)) (sym (state_at-earlier g h p t less))
+            (subst (ChosenPlay g l (take (suc t) h) (Some (state_at g h t))) (sym (with_last-before played.trail.memory (length h) m' t less)) (played.trail.chosen t less)))
+        by_place (inr same) =
+            subst (λ (t : ℕ). ChosenPlay g l (take (suc t) (after h x y)) (Some (state_at g (after h x y) t)) (memory t)) (sym same)
+            (subst (λ (h' : Run). ChosenPlay g l h' (Some (state_at g (after h x y) (length h))) (memory (length h))) (sym (take_all (suc (length h)) (after h x y) (omega (arith, length-after h p))))
+            (subst (λ (s : State). ChosenPlay g l (after h x y) (Some s) (memory (length h))) (sym new_state)
+            (subst (ChosenPlay g l (after h x y) (Some (reached g b x y))) (sym (with_last-here played.trail.memory (length h) m')) (ChosenPlay.more h b m x y m' play input legal c))))
+
     longer : Played g z l (after h x y) (Some (reached g b x y)) m'
     unfolding memory
     longer =
@@ -107,6 +124,7 @@ module _ (g : GameData) (z : StateSet) (l : LayerSets) (w : IsWinning g z l) (ra
             last = λ t same.
                 let is : t ≡ length h = omega (arith, same, length-after h p) in
                 ap memory is ∙ with_last-here played.trail.memory (length h) m';
+            chosen = chosen;
           };
           legal = IsPlay.more h x y played.legal
               (and_from _ _ input (subst (λ (b : Before). legal_input g b x ≡ true) played.state legal))
@@ -123,7 +141,8 @@ module _ (g : GameData) (z : StateSet) (l : LayerSets) (w : IsWinning g z l) (ra
           standing = λ t below. absurd (omega arith);
           moves = λ t below. absurd (omega arith);
           last = λ t same. refl;
+          chosen = λ t below. absurd (omega arith);
         };
         legal = IsPlay.nothing;
       }
-  played _ _ _ start (ChosenPlay.more h b m x y m' play input legal c) = longer h b m x y m' (played h b m start play) input legal c
+  played _ _ _ start (ChosenPlay.more h b m x y m' play input legal c) = longer h b m x y m' play (played h b m start play) input legal c

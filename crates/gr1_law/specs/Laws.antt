@@ -1,5 +1,5 @@
 -- Laws over the definitions alone, each of which the function of its name in src/laws.rt proves.
-use Rattle.std.specs.Prelude.{◌≡◌, ℕ, suc, false, ◌+◌, ◌*◌, ◌<◌, ◌≤◌, List, None, Some, length, sum, IsTrue}
+use Rattle.std.specs.Prelude.{◌≡◌, ℕ, suc, false, ◌+◌, ◌*◌, ◌<◌, ◌≤◌, List, None, Some, length, take, sum, IsTrue}
 use Rattle.spec_model.specs.Values.{Assignment}
 use Rattle.spec_model.specs.Rules.{Run, EachWithin}
 use Rattle.spec_model.specs.Realizable.{Kept, IsRealizable}
@@ -45,17 +45,16 @@ pub record PotentialFalls (g : GameData) (ranks : List ℕ) (h : Run) (memory : 
   pub lower : (from to : ℕ) → from < to → to < length h → EachWithin (goals_in g g.assume) h from to →
       ((t : ℕ) → from ≤ t → t < to → goal_set g q (state_at g h t) ≡ false) → potential ranks q (memory to) < potential ranks q (memory from)
 
--- What is remembered along a run of chosen outputs is such for each goal; after the last position it is what is
--- remembered at the end.
-pub record IsRemembered (g : GameData) (ranks : List ℕ) (h : Run) (m : Memory) : Type 0 where
+-- What is remembered after each position of a run, where its outputs are the chosen ones; for each goal the potential falls.
+pub record IsRemembered (g : GameData) (l : LayerSets) (ranks : List ℕ) (h : Run) : Type 0 where
   pub memory : ℕ → Memory
-  pub last : (t : ℕ) → suc t ≡ length h → memory t ≡ m
+  pub chosen : (t : ℕ) → t < length h → ChosenPlay g l (take (suc t) h) (Some (state_at g h t)) (memory t)
   pub falls : (q : ℕ) → q < length (goal_sets g) → PotentialFalls g ranks h memory q
 
 abbrev pub RoundsLower : GameData → Type 0
 RoundsLower g =
     (z : StateSet) (l : LayerSets) (ranks : List ℕ) → IsWinning g z l → AreGreatestRanks g l ranks → IsTrue (system_forces g z None) →
-    (h : Run) (b : Before) (m : Memory) → ChosenPlay g l h b m → IsRemembered g ranks h m
+    (h : Run) (b : Before) (m : Memory) → ChosenPlay g l h b m → IsRemembered g l ranks h
 
 -- ---- the sets are told by their equations
 
@@ -65,11 +64,12 @@ pub record LayersAreTold (g : GameData) (z : StateSet) : Type 0 where
   pub same_y : (l l' : LayerSets) → AreLayers g z l → AreLayers g z l' → (j r : ℕ) → l.y j r ≡ l'.y j r
   pub same_x : (l l' : LayerSets) → AreLayers g z l → AreLayers g z l' → (j r i : ℕ) → l.x j (suc r) i ≡ l'.x j (suc r) i
 
--- There is one Z, whichever its layers; so the greatest ranks are one list, and K is one number.
+-- There is one Z, and one list of greatest ranks; so K is one number.
 pub record WinningIsTold (g : GameData) : Type 0 where
   pub some : (z : StateSet) × (l : LayerSets) × IsWinning g z l
+  pub some_ranks : (z : StateSet) (l : LayerSets) → IsWinning g z l → (ranks : List ℕ) × AreGreatestRanks g l ranks
   pub same : (z z' : StateSet) (l l' : LayerSets) → IsWinning g z l → IsWinning g z' l' → z ≡ z'
-  pub ranks : (z z' : StateSet) (l l' : LayerSets) (ranks ranks' : List ℕ) → IsWinning g z l → IsWinning g z' l' → AreGreatestRanks g l ranks → AreGreatestRanks g l' ranks' → ranks ≡ ranks'
+  pub same_ranks : (z z' : StateSet) (l l' : LayerSets) (ranks ranks' : List ℕ) → IsWinning g z l → IsWinning g z' l' → AreGreatestRanks g l ranks → AreGreatestRanks g l' ranks' → ranks ≡ ranks'
 
 -- no goal has more ranks than there are states
 abbrev pub RanksAreFew : GameData → Type 0

@@ -3,3 +3,4 @@ pub mod Choice
 pub mod Potential
 pub mod GameRules
 pub mod Laws
+pub mod Worked

@@ -1,0 +1,17 @@
+//! K of two small games, by hand.
+
+ghost use Rattle.spec_model.specs.Realizable.{IsRealizable};
+ghost use Rattle.gr1_law.specs.GameRules.{rules_of_game};
+ghost use Rattle.gr1_law.specs.Worked.{light, dead_end, HasRounds};
+
+/// Where one output is to be true again and again, K is 3: the ranks are 1 where it is true, and 2 elsewhere.
+pub fn a_recurring_output_has_three_rounds()
+    ensures { HasRounds light 3 }
+{}
+
+/// Where no second input is legal each state has the rank 1. So K is 2, and the sum of the ranks is too few: the first
+/// position is a round, and can't meet the goal.
+pub fn the_sum_of_ranks_is_too_few()
+    ensures rounds { HasRounds dead_end 2 }
+    ensures too_few { IsRealizable (rules_of_game dead_end) 1 → ⊥ }
+{}
