@@ -1,6 +1,6 @@
--- The layers of two small games, state by state.
-use Rattle.std.proofs.Common.{◌≡◌, ℕ, zero, suc, ◌<◌, Bool, true, false, not, ◌||◌, List, [], ◌∷◌, length, slice_index, get_or, None, refl, sym, subst, arith, IsTrue}
-use Rattle.std.proofs.lemmas.Bool.{and_parts, and_from, false≢true}
+-- The layers of three small games, state by state.
+use Rattle.std.proofs.Common.{◌⊎◌, inl, inr, ◌≡◌, ℕ, zero, suc, ◌<◌, Bool, true, false, not, ◌||◌, List, [], ◌∷◌, length, slice_index, get_or, None, Some, refl, sym, ◌∙◌, subst, arith, IsTrue}
+use Rattle.std.proofs.lemmas.Bool.{and_parts, and_from, or_cases, false≢true}
 use Rattle.std.proofs.lemmas.List.Sums.{sum_by-cons}
 use Rattle.spec_model.specs.declared.value.Value.TheVariants as value
 use Rattle.spec_model.specs.Rules.{after}
@@ -8,11 +8,11 @@ use Rattle.spec_model.specs.Syntax.{Variable}
 use Rattle.spec_model.specs.Meaning.{holds_at}
 use Rattle.spec_model.specs.Realizable.{IsRealizable}
 use Rattle.spec_model.specs.Games.{GameData, State, game_reading}
-use Rattle.spec_model.specs.Sets.{StateSet, all_states, IsPartOf, pre_sys, system_forces}
+use Rattle.spec_model.specs.Sets.{StateSet, no_states, all_states, either, rest, IsPartOf, pre_sys, system_forces}
 use Rattle.spec_model.proofs.Duality.{parts_agree}
-use Rattle.gr1_law.specs.Layers.{LayerSets, AreLayers, IsWinning, AreGreatestRanks, HasRanks, IsLeastNumber, assumption_sets, round_count}
+use Rattle.gr1_law.specs.Layers.{LayerSets, AreLayers, IsWinning, AreGreatestRanks, HasRanks, IsLeastNumber, goal_set, assumption_set, assumption_sets, round_count}
 use Rattle.gr1_law.specs.GameRules.{rules_of_game}
-use Rattle.gr1_law.specs.Worked.{light, dead_end, HasRounds}
+use Rattle.gr1_law.specs.Worked.{light, permitted, dead_end, HasRounds}
 use Rattle.gr1_law.proofs.Parts.{InPart, in_part, to_part}
 use Rattle.gr1_law.proofs.Layering.{layers_of, layers_of-layers, y_in_next}
 use Rattle.gr1_law.proofs.Winning.{in_a_part, part_in_layer, part_solves, layer_inside}
@@ -43,6 +43,27 @@ module _ (g : GameData) (z : StateSet) (l : LayerSets) (of_z : AreLayers g z l) 
   none_first-differs : (s : State) → IsTrue (l.y 0 1 s) → l.y 0 0 ≡ l.y 0 1 → ⊥
   none_first-differs s here same = false≢true (subst (λ (t : StateSet). IsTrue (t s)) (of_z.none_first 0) (subst (λ (t : StateSet). IsTrue (t s)) (sym same) here))
 
+  -- a state that the first layer has no reason for
+  not_first : (s : State) → length (assumption_sets g) ≡ 1 → goal_set g 0 s ≡ false → pre_sys g no_states s ≡ false → rest g (assumption_set g 0) s ≡ false → IsTrue (l.y 0 1 s) → ⊥
+  not_first s one unmet stuck held e =
+      let part = in_a_part g z l of_z 0 0 s e in
+      by_reason part.0 (omega (arith, part.1, one)) (in_part g z (l.y 0 0) 0 part.0 (l.x 0 1 part.0) s (part_solves g z l of_z 0 0 part.0 s part.2))
+    where
+      by_reason : (i : ℕ) → i < 1 → InPart g z (l.y 0 0) 0 i (l.x 0 1 i) s → ⊥
+      by_reason i below (InPart.met holds forced) = false≢true (sym unmet ∙ holds)
+      by_reason i below (InPart.lower forced) = false≢true (sym stuck ∙ subst (λ (t : StateSet). pre_sys g t s ≡ true) (of_z.none_first 0) forced)
+      by_reason zero below (InPart.waiting fails forced) = false≢true (sym held ∙ fails)
+      by_reason (suc i) below (InPart.waiting fails forced) = omega arith
+
+  -- the first layer has a state, and misses one; the second has all
+  two_ranks : (near far : State) → IsTrue (l.y 0 1 near) → (IsTrue (l.y 0 1 far) → ⊥) → IsTrue (all_states g far) → IsPartOf (all_states g) (l.y 0 2) → IsLeastNumber (λ r. l.y 0 r ≡ l.y 0 (suc r)) 2
+  two_ranks near far has misses here full = record { here = full-settled 2 full; none_before = before }
+    where
+      before : (r : ℕ) → r < 2 → l.y 0 r ≡ l.y 0 (suc r) → ⊥
+      before zero below = none_first-differs near has
+      before (suc zero) below = λ same. misses (subst (λ (t : StateSet). IsTrue (t far)) (sym same) (full far here))
+      before (suc (suc r)) below = λ same. omega arith
+
 one_rank : (ranks : List ℕ) (n : ℕ) → length ranks ≡ 1 → slice_index ranks 0 ≡ n → round_count ranks ≡ suc n
 one_rank [] n e first = absurd (omega arith)
 one_rank (r ∷ []) n e first = let total = sum_by-cons (λ (n : ℕ). n) r [] in omega (arith, total, first)
@@ -66,24 +87,8 @@ module _ (z : StateSet) (l : LayerSets) (of_z : AreLayers light z l) (start : sy
   all_in_second : IsPartOf (all_states light) (l.y 0 2)
   all_in_second s here = to_layer light z l of_z 1 (omega arith) s (InPart.lower (and_from _ _ here forced))
 
-  dark_not_first : IsTrue (l.y 0 1 (state false false)) → ⊥
-  dark_not_first e =
-      let part = in_a_part light z l of_z 0 0 (state false false) e in
-      by_reason part.0 part.1 (in_part light z (l.y 0 0) 0 part.0 (l.x 0 1 part.0) (state false false) (part_solves light z l of_z 0 0 part.0 (state false false) part.2))
-    where
-      by_reason : (i : ℕ) → i < 1 → InPart light z (l.y 0 0) 0 i (l.x 0 1 i) (state false false) → ⊥
-      by_reason i below (InPart.met holds forced) = false≢true holds
-      by_reason i below (InPart.lower forced) = false≢true (subst (λ (t : StateSet). pre_sys light t (state false false) ≡ true) (of_z.none_first 0) forced)
-      by_reason zero below (InPart.waiting fails forced) = false≢true fails
-      by_reason (suc i) below (InPart.waiting fails forced) = omega arith
-
-  two_ranks : IsLeastNumber (λ r. l.y 0 r ≡ l.y 0 (suc r)) 2
-  two_ranks = record { here = full-settled light z l of_z 2 all_in_second; none_before = before }
-    where
-      before : (r : ℕ) → r < 2 → l.y 0 r ≡ l.y 0 (suc r) → ⊥
-      before zero below = none_first-differs light z l of_z (state false true) (lit false)
-      before (suc zero) below = λ same. dark_not_first (subst (λ (t : StateSet). IsTrue (t (state false false))) (sym same) (all_in_second (state false false) refl))
-      before (suc (suc r)) below = λ same. omega arith
+  light_ranks : IsLeastNumber (λ r. l.y 0 r ≡ l.y 0 (suc r)) 2
+  light_ranks = two_ranks light z l of_z (state false true) (state false false) (lit false) (not_first light z l of_z (state false false) refl refl refl refl) refl all_in_second
 
 light_all : (z : StateSet) (l : LayerSets) → IsWinning light z l → IsPartOf (all_states light) z
 light_all z l w = w.above (all_states light) (layers_of light (all_states light)) told ranked
@@ -100,7 +105,7 @@ light_start z l w = system_forces_grows light (all_states light) z (light_all z 
 
 pub light_count : (z : StateSet) (l : LayerSets) (ranks : List ℕ) → IsWinning light z l → AreGreatestRanks light l ranks → round_count ranks ≡ 3
 light_count z l ranks w greatest =
-    one_rank ranks 2 greatest.counted (least-one (λ r. l.y 0 r ≡ l.y 0 (suc r)) _ 2 (greatest.each 0 (omega (arith, greatest.counted))) (two_ranks z l w.layers (light_start z l w)))
+    one_rank ranks 2 greatest.counted (least-one (λ r. l.y 0 r ≡ l.y 0 (suc r)) _ 2 (greatest.each 0 (omega (arith, greatest.counted))) (light_ranks z l w.layers (light_start z l w)))
 
 -- what is won is realizable with the number that K is
 won : (g : GameData) (k : ℕ) → WellMade g → ((z : StateSet) (l : LayerSets) → IsWinning g z l → system_forces g z None ≡ true) →
@@ -130,6 +135,56 @@ light_made =
 
 pub light_rounds : HasRounds light 3
 light_rounds = won light 3 light_made light_start light_count
+
+-- ---- the light that is permitted now and then
+
+-- where the assumption doesn't hold, or the goal does
+abbrev near : StateSet
+near = either (rest permitted (assumption_set permitted 0)) (goal_set permitted 0)
+
+module _ (z : StateSet) (l : LayerSets) (of_z : AreLayers permitted z l) (full : IsPartOf (all_states permitted) z) where
+  near_in_part : IsPartOf near (l.x 0 1 0)
+  near_in_part = (of_z.greatest 0 0 0).above near (λ s e. to_part permitted z (l.y 0 0) 0 0 near s (reason s (or_cases (rest permitted (assumption_set permitted 0) s) (goal_set permitted 0 s) e)))
+    where
+      reason : (s : State) → (rest permitted (assumption_set permitted 0) s ≡ true) ⊎ (goal_set permitted 0 s ≡ true) → InPart permitted z (l.y 0 0) 0 0 near s
+      reason s (inl fails) = InPart.waiting fails (and_from _ _ (and_parts _ _ fails).0 refl)
+      reason s (inr holds) = InPart.met holds (and_from _ _ (and_parts _ _ holds).0 (system_forces_grows permitted (all_states permitted) z full (Some s) refl))
+
+  near_in_first : IsPartOf near (l.y 0 1)
+  near_in_first s e = part_in_layer permitted z l of_z 0 0 0 (omega arith) s (near_in_part s e)
+
+  permitted_second : IsPartOf (all_states permitted) (l.y 0 2)
+  permitted_second s here = to_layer permitted z l of_z 1 (omega arith) s (InPart.lower (and_from _ _ here (system_forces_grows permitted near (l.y 0 1) near_in_first (Some s) refl)))
+
+  permitted_ranks : IsLeastNumber (λ r. l.y 0 r ≡ l.y 0 (suc r)) 2
+  permitted_ranks = two_ranks permitted z l of_z (state false false) (state true false) (near_in_first (state false false) refl) (not_first permitted z l of_z (state true false) refl refl refl refl) refl permitted_second
+
+permitted_all : (z : StateSet) (l : LayerSets) → IsWinning permitted z l → IsPartOf (all_states permitted) z
+permitted_all z l w = w.above (all_states permitted) (layers_of permitted (all_states permitted)) (layers_of-layers permitted (all_states permitted)) ranked
+  where
+    ranked : (s : State) → IsTrue (all_states permitted s) → HasRanks permitted (layers_of permitted (all_states permitted)) s
+    ranked s here zero below = (2, permitted_second (all_states permitted) (layers_of permitted (all_states permitted)) (layers_of-layers permitted (all_states permitted)) (λ s e. e) s here)
+    ranked s here (suc j) below = absurd (omega arith)
+
+permitted_made : WellMade permitted
+permitted_made =
+    record {
+      few_variables = omega arith;
+      names = refl;
+      domains = refl;
+      hidden = refl;
+      initial_asm = refl;
+      initial_gar = refl;
+      safe_asm = refl;
+      safe_gar = refl;
+      assume = refl;
+      goals = refl;
+    }
+
+pub permitted_rounds : HasRounds permitted 3
+permitted_rounds =
+    won permitted 3 permitted_made (λ z l w. system_forces_grows permitted (all_states permitted) z (permitted_all z l w) None refl) (λ z l ranks w greatest.
+    one_rank ranks 2 greatest.counted (least-one (λ r. l.y 0 r ≡ l.y 0 (suc r)) _ 2 (greatest.each 0 (omega (arith, greatest.counted))) (permitted_ranks z l w.layers (permitted_all z l w))))
 
 -- ---- the dead end
 

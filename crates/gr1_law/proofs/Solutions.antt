@@ -7,9 +7,9 @@ use Rattle.spec_model.proofs.Duality.{parts_agree}
 use Rattle.gr1_law.specs.Layers.{LayerSets, AreLayers, IsWinning, HasRanks, AreGreatestRanks, IsLeastNumber, goal_sets}
 use Rattle.gr1_law.proofs.Greatest.{greatest_of, greatest_of-greatest}
 use Rattle.gr1_law.proofs.Layering.{layers_of, layers_of-layers, y_grows, x_grows}
-use Rattle.gr1_law.proofs.Winning.{layer_inside, in_settled}
+use Rattle.gr1_law.proofs.Winning.{layer_inside, in_settled, layer_in_z, z_in_last}
 use Rattle.gr1_law.proofs.Standing.{some_goal}
-use Rattle.gr1_law.proofs.Settling.{state_count, in_full}
+use Rattle.gr1_law.proofs.Settling.{state_count, in_full, some_ranks}
 
 -- ---- intersections
 
@@ -137,3 +137,11 @@ ranks-one g z z' l l' ranks ranks' w w' greatest greatest' = same_list ranks ran
         least-one (λ r. l'.y j r ≡ l'.y j (suc r)) _ _
         (subst (λ (y : ℕ → StateSet). IsLeastNumber (λ r. y r ≡ y (suc r)) (slice_index ranks j)) (λ i r. y-one g z l l' w.layers of_z j r i) (greatest.each j below))
         (greatest'.each j (omega (arith, below, greatest.counted, greatest'.counted)))
+
+-- ---- its layers
+
+pub layers-inside : (g : GameData) (z : StateSet) (l : LayerSets) → IsWinning g z l → (j r : ℕ) → IsPartOf (l.y j r) z
+layers-inside g z l w = let ranks = some_ranks g z l w.layers in layer_in_z g z l w ranks.0 ranks.1
+
+pub last-one : (g : GameData) (z : StateSet) (l : LayerSets) (ranks : List ℕ) → IsWinning g z l → AreGreatestRanks g l ranks → (j : ℕ) → j < length ranks → l.y j (slice_index ranks j) ≡ z
+last-one g z l ranks w greatest j below = parts_agree _ _ (layer_in_z g z l w ranks greatest j (slice_index ranks j)) (z_in_last g z l w ranks greatest j (omega (arith, below, greatest.counted)))

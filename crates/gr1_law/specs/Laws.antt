@@ -1,11 +1,11 @@
 -- Laws over the definitions alone, each of which the function of its name in src/laws.rt proves.
-use Rattle.std.specs.Prelude.{◌≡◌, ℕ, suc, false, ◌+◌, ◌*◌, ◌<◌, ◌≤◌, List, None, Some, length, take, sum, IsTrue}
+use Rattle.std.specs.Prelude.{◌≡◌, ℕ, suc, false, ◌+◌, ◌*◌, ◌<◌, ◌≤◌, List, None, Some, length, take, slice_index, sum, IsTrue}
 use Rattle.spec_model.specs.Values.{Assignment}
 use Rattle.spec_model.specs.Rules.{Run, EachWithin}
 use Rattle.spec_model.specs.Realizable.{Kept, IsRealizable}
 use Rattle.spec_model.specs.Games.{GameData, state_at, goals_in}
 use Rattle.spec_model.specs.Steps.{Before, is_input, legal_input, states_of}
-use Rattle.spec_model.specs.Sets.{StateSet, system_forces}
+use Rattle.spec_model.specs.Sets.{StateSet, IsPartOf, system_forces}
 use Rattle.gr1_law.specs.Layers.{LayerSets, AreLayers, IsWinning, AreGreatestRanks, goal_sets, goal_set, round_count}
 use Rattle.gr1_law.specs.Choice.{Memory, Standing, IsChosen, ChosenPlay}
 use Rattle.gr1_law.specs.Potential.{potential}
@@ -64,12 +64,14 @@ pub record LayersAreTold (g : GameData) (z : StateSet) : Type 0 where
   pub same_y : (l l' : LayerSets) → AreLayers g z l → AreLayers g z l' → (j r : ℕ) → l.y j r ≡ l'.y j r
   pub same_x : (l l' : LayerSets) → AreLayers g z l → AreLayers g z l' → (j r i : ℕ) → l.x j (suc r) i ≡ l'.x j (suc r) i
 
--- There is one Z, and one list of greatest ranks; so K is one number.
+-- There is one Z, and one list of greatest ranks; so K is one number. Each layer is part of Z, and each goal's last is Z.
 pub record WinningIsTold (g : GameData) : Type 0 where
   pub some : (z : StateSet) × (l : LayerSets) × IsWinning g z l
   pub some_ranks : (z : StateSet) (l : LayerSets) → IsWinning g z l → (ranks : List ℕ) × AreGreatestRanks g l ranks
   pub same : (z z' : StateSet) (l l' : LayerSets) → IsWinning g z l → IsWinning g z' l' → z ≡ z'
   pub same_ranks : (z z' : StateSet) (l l' : LayerSets) (ranks ranks' : List ℕ) → IsWinning g z l → IsWinning g z' l' → AreGreatestRanks g l ranks → AreGreatestRanks g l' ranks' → ranks ≡ ranks'
+  pub layers_inside : (z : StateSet) (l : LayerSets) → IsWinning g z l → (j r : ℕ) → IsPartOf (l.y j r) z
+  pub last_layers : (z : StateSet) (l : LayerSets) (ranks : List ℕ) → IsWinning g z l → AreGreatestRanks g l ranks → (j : ℕ) → j < length ranks → l.y j (slice_index ranks j) ≡ z
 
 -- no goal has more ranks than there are states
 abbrev pub RanksAreFew : GameData → Type 0

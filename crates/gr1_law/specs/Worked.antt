@@ -1,17 +1,17 @@
--- Two small games, whose K is worked out by hand.
+-- Three small games, whose K is worked out by hand.
 use Rattle.std.specs.Prelude.{◌≡◌, ℕ, List, [], ◌∷◌, codes}
 use Rattle.spec_model.specs.declared.value.Owner.TheVariants.{Env, Sys}
 use Rattle.spec_model.specs.Values.{TruthValues}
-use Rattle.spec_model.specs.Syntax.{Formula, Variable, NextOf, Negation, Conjunction, formulas}
+use Rattle.spec_model.specs.Syntax.{Formula, Variable, NextOf, Negation, Conjunction, Implication, formulas}
 use Rattle.spec_model.specs.Realizable.{IsRealizable}
-use Rattle.spec_model.specs.Games.{GameData}
+use Rattle.spec_model.specs.Games.{GameData, GoalData}
 use Rattle.spec_model.specs.Sets.{StateSet}
 use Rattle.gr1_law.specs.Layers.{LayerSets, IsWinning, AreGreatestRanks, round_count}
 use Rattle.gr1_law.specs.GameRules.{rules_of_game}
 
--- `env boolean a; sys boolean g; gar alwEv g;` with lines that are judged at each position
-abbrev pub lighting : (safe_asm safe_gar : List (ℕ × Formula)) → GameData
-lighting safe_asm safe_gar =
+-- `env boolean a; sys boolean g; gar alwEv g;` with assumptions that recur, and lines that are judged at each position
+abbrev pub lighting : (assume : List GoalData) → (safe_asm safe_gar : List (ℕ × Formula)) → GameData
+lighting assume safe_asm safe_gar =
     record {
       variables =
           record { name = codes "a"; owner = Env; domain = TruthValues }
@@ -22,17 +22,21 @@ lighting safe_asm safe_gar =
       initial_gar = [];
       safe_asm = safe_asm;
       safe_gar = safe_gar;
-      assume = [];
+      assume = assume;
       goals = record { label = record { line = 1; part = 0 }; holds = Variable 1 } ∷ [];
     }
 
 -- no more lines: the rank is 1 where g holds, and 2 elsewhere
 abbrev pub light : GameData
-light = lighting [] []
+light = lighting [] [] []
+
+-- `asm alwEv a; gar alw g -> a;`: the rank is 1 where g holds or a doesn't, since g may wait for a, and 2 elsewhere
+abbrev pub permitted : GameData
+permitted = lighting (record { label = record { line = 2; part = 0 }; holds = Variable 0 } ∷ []) [] ((3, Implication (Variable 1) (Variable 0)) ∷ [])
 
 -- `asm alw next(a) & next(!a); gar alw !g;`: no second input is legal, and g never holds; each state has the rank 1
 abbrev pub dead_end : GameData
-dead_end = lighting ((2, Conjunction (formulas (NextOf (Variable 0) ∷ NextOf (Negation (Variable 0)) ∷ []))) ∷ []) ((3, Negation (Variable 1)) ∷ [])
+dead_end = lighting [] ((2, Conjunction (formulas (NextOf (Variable 0) ∷ NextOf (Negation (Variable 0)) ∷ []))) ∷ []) ((3, Negation (Variable 1)) ∷ [])
 
 -- K is this number, and with it the game is realizable
 pub record HasRounds (g : GameData) (k : ℕ) : Type 0 where

@@ -1,12 +1,18 @@
-//! K of two small games, by hand.
+//! K of three small games, by hand.
 
 ghost use Rattle.spec_model.specs.Realizable.{IsRealizable};
 ghost use Rattle.gr1_law.specs.GameRules.{rules_of_game};
-ghost use Rattle.gr1_law.specs.Worked.{light, dead_end, HasRounds};
+ghost use Rattle.gr1_law.specs.Worked.{light, permitted, dead_end, HasRounds};
 
 /// Where one output is to be true again and again, K is 3: the ranks are 1 where it is true, and 2 elsewhere.
 pub fn a_recurring_output_has_three_rounds()
     ensures { HasRounds light 3 }
+{}
+
+/// Where the output is permitted only with an input that recurs, K is 3: the rank is 1 also where the input is false, since
+/// the output may wait for it.
+pub fn a_permitted_output_has_three_rounds()
+    ensures { HasRounds permitted 3 }
 {}
 
 /// Where no second input is legal each state has the rank 1. So K is 2, and the sum of the ranks is too few: the first
