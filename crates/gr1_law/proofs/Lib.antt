@@ -15,3 +15,7 @@ pub mod Settling
 pub mod Solutions
 pub mod OneChoice
 pub mod Lights
+pub mod Carrying
+pub mod StateCounts
+pub mod SafeGames
+pub mod Staying

@@ -4,3 +4,4 @@ pub mod Potential
 pub mod GameRules
 pub mod Laws
 pub mod Worked
+pub mod Specifications
