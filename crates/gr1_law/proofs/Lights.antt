@@ -1,7 +1,6 @@
 -- The layers of three small games, state by state.
-use Rattle.std.proofs.Common.{◌⊎◌, inl, inr, ◌≡◌, ℕ, zero, suc, ◌<◌, Bool, true, false, not, ◌||◌, List, [], ◌∷◌, length, slice_index, get_or, None, Some, refl, sym, ◌∙◌, subst, arith, IsTrue}
+use Rattle.std.proofs.Common.{◌⊎◌, inl, inr, ◌≡◌, ℕ, zero, suc, ◌<◌, Bool, true, false, not, ◌||◌, List, [], ◌∷◌, length, get_or, None, Some, refl, sym, ◌∙◌, subst, arith, IsTrue}
 use Rattle.std.proofs.lemmas.Bool.{and_parts, and_from, or_cases, false≢true}
-use Rattle.std.proofs.lemmas.List.Sums.{sum_by-cons}
 use Rattle.spec_model.specs.declared.value.Value.TheVariants as value
 use Rattle.spec_model.specs.Rules.{after}
 use Rattle.spec_model.specs.Syntax.{Variable}
@@ -12,13 +11,15 @@ use Rattle.spec_model.specs.Sets.{StateSet, no_states, all_states, either, rest,
 use Rattle.spec_model.proofs.Duality.{parts_agree}
 use Rattle.gr1_law.specs.Layers.{LayerSets, AreLayers, IsWinning, AreGreatestRanks, HasRanks, IsLeastNumber, goal_set, assumption_set, assumption_sets, round_count}
 use Rattle.gr1_law.specs.GameRules.{rules_of_game}
-use Rattle.gr1_law.specs.Worked.{light, permitted, dead_end, HasRounds}
+use Rattle.gr1_law.specs.Worked.{light, light_text, permitted, dead_end, HasRounds}
 use Rattle.gr1_law.proofs.Parts.{InPart, in_part, to_part}
 use Rattle.gr1_law.proofs.Layering.{layers_of, layers_of-layers, y_in_next}
 use Rattle.gr1_law.proofs.Winning.{in_a_part, part_in_layer, part_solves, layer_inside}
 use Rattle.gr1_law.proofs.Solutions.{least-one, some_winning}
-use Rattle.gr1_law.proofs.Settling.{some_ranks}
+use Rattle.gr1_law.proofs.Settling.{some_ranks, one_rank}
 use Rattle.gr1_law.proofs.Keeping.{realizable}
+use Rattle.gr1_law.proofs.StateCounts.{system_wins}
+use Rattle.spec_model.specs.Verdicts.{SystemWins}
 use Rattle.spec_model.specs.WellMade.{WellMade}
 use Rattle.spec_model.specs.Values.{Assignment, truth_of}
 use Rattle.spec_model.proofs.SetLaws.{system_forces_grows}
@@ -63,11 +64,6 @@ module _ (g : GameData) (z : StateSet) (l : LayerSets) (of_z : AreLayers g z l) 
       before zero below = none_first-differs near has
       before (suc zero) below = λ same. misses (subst (λ (t : StateSet). IsTrue (t far)) (sym same) (full far here))
       before (suc (suc r)) below = λ same. omega arith
-
-one_rank : (ranks : List ℕ) (n : ℕ) → length ranks ≡ 1 → slice_index ranks 0 ≡ n → round_count ranks ≡ suc n
-one_rank [] n e first = absurd (omega arith)
-one_rank (r ∷ []) n e first = let total = sum_by-cons (λ (n : ℕ). n) r [] in omega (arith, total, first)
-one_rank (r ∷ q ∷ ranks) n e first = absurd (omega arith)
 
 -- ---- the light
 
@@ -135,6 +131,13 @@ light_made =
 
 pub light_rounds : HasRounds light 3
 light_rounds = won light 3 light_made light_start light_count
+
+pub light_text_won : SystemWins light_text 3
+light_text_won =
+    let z = some_winning light in
+    let ranks = some_ranks light z.0 z.1 z.2.layers in
+    subst (SystemWins light_text) (light_count z.0 z.1 ranks.0 z.2 ranks.1)
+    (system_wins light_text refl light_made z.0 z.1 ranks.0 (record { winning = z.2; greatest = ranks.1; forced = light_start z.0 z.1 z.2 }))
 
 -- ---- the light that is permitted now and then
 

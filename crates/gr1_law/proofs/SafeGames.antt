@@ -1,6 +1,5 @@
 -- A game without goals: Z is the greatest set in which the system can stay, and its only rank is at most 1.
-use Rattle.std.proofs.Common.{◌≡◌, ℕ, zero, suc, ◌+◌, ◌<◌, ◌≤◌, inl, inr, Bool, true, false, not, ◌&&◌, List, [], ◌∷◌, length, map, get_or, slice_index, sum, refl, sym, ◌∙◌, ap, subst, arith, IsTrue}
-use Rattle.std.proofs.lemmas.List.Sums.{sum_by-cons}
+use Rattle.std.proofs.Common.{◌≡◌, ℕ, zero, suc, ◌<◌, ◌≤◌, inl, inr, Bool, true, false, not, ◌&&◌, List, [], ◌∷◌, length, map, get_or, slice_index, refl, sym, ◌∙◌, ap, subst, arith, IsTrue}
 use Rattle.spec_model.specs.Games.{GameData, GoalData, State}
 use Rattle.spec_model.specs.Steps.{is_state}
 use Rattle.spec_model.specs.Sets.{StateSet, no_states, all_states, rest, holding, pre_sys, IsPartOf, IsGreatest}
@@ -13,15 +12,11 @@ use Rattle.gr1_law.proofs.Parts.{InPart, in_part, to_part}
 use Rattle.gr1_law.proofs.Layering.{asm_count, layers_of, layers_of-layers}
 use Rattle.gr1_law.proofs.Winning.{in_a_part, part_in_layer, part_solves, none_below}
 use Rattle.gr1_law.proofs.Solutions.{layers-inside, last-one}
+use Rattle.gr1_law.proofs.Settling.{one_rank}
 
 not_both : (b : Bool) → (b && not b) ≡ true → ⊥
 not_both true e = cc
 not_both false e = cc
-
-sum-one : (xs : List ℕ) → length xs ≡ 1 → sum xs ≡ slice_index xs 0
-sum-one [] one = absurd (omega arith)
-sum-one (x ∷ []) one = omega (arith, sum_by-cons (λ (n : ℕ). n) x [])
-sum-one (x ∷ y ∷ xs) one = absurd (omega arith)
 
 module _ (g : GameData) (none : HasNoGoals g) where
   one_goal : goal_sets g ≡ all_states g ∷ []
@@ -90,19 +85,19 @@ module _ (g : GameData) (none : HasNoGoals g) where
     -- ---- K
 
     module _ (ranks : List ℕ) (greatest : AreGreatestRanks g l ranks) where
-      one_rank : length ranks ≡ 1
-      one_rank = greatest.counted ∙ goal_count
+      rank_alone : length ranks ≡ 1
+      rank_alone = greatest.counted ∙ goal_count
 
       least : IsLeastNumber (λ r. l.y 0 r ≡ l.y 0 (suc r)) (slice_index ranks 0)
-      least = greatest.each 0 (omega (arith, one_rank))
+      least = greatest.each 0 (omega (arith, rank_alone))
 
       last : l.y 0 (slice_index ranks 0) ≡ z
-      last = last-one g z l ranks w greatest 0 (omega (arith, one_rank))
+      last = last-one g z l ranks w greatest 0 (omega (arith, rank_alone))
 
       rank_at_most : slice_index ranks 0 ≤ 1
       rank_at_most = let no_more : 1 < slice_index ranks 0 → ⊥ = λ less. least.none_before 1 less (layer_is 0 ∙ sym (layer_is 1)) in grind (arith, no_more)
 
-      by_rank : (r : ℕ) → slice_index ranks 0 ≡ r → r ≤ 1 → IsRoundCount z (1 + r)
+      by_rank : (r : ℕ) → slice_index ranks 0 ≡ r → r ≤ 1 → IsRoundCount z (suc r)
       by_rank zero is few = inl (sym last ∙ (ap (l.y 0) is ∙ w.layers.none_first 0), omega arith)
       by_rank (suc zero) is few = inr (
         (λ empty. least.none_before 0 (omega (arith, is)) (w.layers.none_first 0 ∙ (sym empty ∙ (sym last ∙ ap (l.y 0) is)))),
@@ -111,7 +106,7 @@ module _ (g : GameData) (none : HasNoGoals g) where
       by_rank (suc (suc r)) is few = absurd (omega arith)
 
       pub rounds_counted : IsRoundCount z (round_count ranks)
-      rounds_counted = subst (λ (n : ℕ). IsRoundCount z (1 + n)) (sym (sum-one ranks one_rank)) (by_rank (slice_index ranks 0) refl rank_at_most)
+      rounds_counted = subst (IsRoundCount z) (sym (one_rank ranks (slice_index ranks 0) rank_alone refl)) (by_rank (slice_index ranks 0) refl rank_at_most)
 
 pub special_case : (g : GameData) → HasNoGoals g → SafetyIsASpecialCase g
 special_case g none z l ranks w greatest = (z_is_greatest g none z l w, rounds_counted g none z l w ranks greatest)

@@ -122,6 +122,12 @@ some_ranks g z l of_z = (
     rank : ℕ → ℕ
     rank j = (some_rank g z l of_z j).0
 
+-- of one goal K is one more than its greatest rank
+pub one_rank : (ranks : List ℕ) (n : ℕ) → length ranks ≡ 1 → slice_index ranks 0 ≡ n → round_count ranks ≡ suc n
+one_rank [] n e first = absurd (omega arith)
+one_rank (r ∷ []) n e first = let total = sum_by-cons (λ (n : ℕ). n) r [] in omega (arith, total, first)
+one_rank (r ∷ q ∷ ranks) n e first = absurd (omega arith)
+
 -- ---- the bound on K
 
 sum-at_most : (xs : List ℕ) (most : ℕ) → ((k : ℕ) → k < length xs → slice_index xs k ≤ most) → sum xs ≤ length xs * most

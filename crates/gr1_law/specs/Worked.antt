@@ -1,8 +1,9 @@
 -- Three small games, whose K is worked out by hand.
-use Rattle.std.specs.Prelude.{◌≡◌, ℕ, List, [], ◌∷◌, codes}
+use Rattle.std.specs.Prelude.{◌≡◌, ℕ, List, [], ◌∷◌, None, codes}
 use Rattle.spec_model.specs.declared.value.Owner.TheVariants.{Env, Sys}
+use Rattle.spec_model.specs.declared.spec.Role.TheVariants.{Guarantee}
 use Rattle.spec_model.specs.Values.{TruthValues}
-use Rattle.spec_model.specs.Syntax.{Formula, Variable, NextOf, Negation, Conjunction, Implication, formulas}
+use Rattle.spec_model.specs.Syntax.{Formula, Variable, NextOf, Negation, Conjunction, Implication, formulas, Recurring, Specification}
 use Rattle.spec_model.specs.Realizable.{IsRealizable}
 use Rattle.spec_model.specs.Games.{GameData, GoalData}
 use Rattle.spec_model.specs.Sets.{StateSet}
@@ -29,6 +30,17 @@ lighting assume safe_asm safe_gar =
 -- no more lines: the rank is 1 where g holds, and 2 elsewhere
 abbrev pub light : GameData
 light = lighting [] [] []
+
+-- the specification that says no more
+abbrev pub light_text : Specification
+light_text =
+    record {
+      names = [];
+      variables = light.variables;
+      patterns = [];
+      triggers = [];
+      lines = record { number = 1; name = None; role = Guarantee; content = Recurring (Variable 1) } ∷ [];
+    }
 
 -- `asm alwEv a; gar alw g -> a;`: the rank is 1 where g holds or a doesn't, since g may wait for a, and 2 elsewhere
 abbrev pub permitted : GameData

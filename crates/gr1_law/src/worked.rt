@@ -1,12 +1,14 @@
 //! K of three small games, by hand.
 
 ghost use Rattle.spec_model.specs.Realizable.{IsRealizable};
+ghost use Rattle.spec_model.specs.Verdicts.{SystemWins};
 ghost use Rattle.gr1_law.specs.GameRules.{rules_of_game};
-ghost use Rattle.gr1_law.specs.Worked.{light, permitted, dead_end, HasRounds};
+ghost use Rattle.gr1_law.specs.Worked.{light, light_text, permitted, dead_end, HasRounds};
 
 /// Where one output is to be true again and again, K is 3: the ranks are 1 where it is true, and 2 elsewhere.
 pub fn a_recurring_output_has_three_rounds()
-    ensures { HasRounds light 3 }
+    ensures rounds { HasRounds light 3 }
+    ensures specification { SystemWins light_text 3 }
 {}
 
 /// Where the output is permitted only with an input that recurs, K is 3: the rank is 1 also where the input is false, since
