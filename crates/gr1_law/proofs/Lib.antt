@@ -19,3 +19,4 @@ pub mod Carrying
 pub mod StateCounts
 pub mod SafeGames
 pub mod Staying
+pub mod Lamps

@@ -1,9 +1,10 @@
--- Three small games, whose K is worked out by hand.
-use Rattle.std.specs.Prelude.{◌≡◌, ℕ, List, [], ◌∷◌, None, codes}
+-- Small games and specifications, whose K is worked out by hand.
+use Rattle.std.specs.Prelude.{◌≡◌, ℕ, suc, List, [], ◌∷◌, None, codes}
 use Rattle.spec_model.specs.declared.value.Owner.TheVariants.{Env, Sys}
-use Rattle.spec_model.specs.declared.spec.Role.TheVariants.{Guarantee}
+use Rattle.spec_model.specs.declared.spec.Role.{Role}
+use Rattle.spec_model.specs.declared.spec.Role.TheVariants.{Assumption, Guarantee}
 use Rattle.spec_model.specs.Values.{TruthValues}
-use Rattle.spec_model.specs.Syntax.{Formula, Variable, NextOf, Negation, Conjunction, Implication, formulas, Recurring, Specification}
+use Rattle.spec_model.specs.Syntax.{Formula, Variable, NextOf, Negation, Conjunction, Implication, formulas, Content, Initial, Safety, Recurring, Statement, Specification}
 use Rattle.spec_model.specs.Realizable.{IsRealizable}
 use Rattle.spec_model.specs.Games.{GameData, GoalData}
 use Rattle.spec_model.specs.Sets.{StateSet}
@@ -31,16 +32,28 @@ lighting assume safe_asm safe_gar =
 abbrev pub light : GameData
 light = lighting [] [] []
 
--- the specification that says no more
+-- `env boolean a; sys boolean g;` with lines that are numbered from 1
+abbrev pub lamp : List (Role × Content) → Specification
+lamp lines = record { names = []; variables = light.variables; patterns = []; triggers = []; lines = numbered 1 lines }
+  where
+    numbered : ℕ → List (Role × Content) → List Statement
+    numbered n [] = []
+    numbered n (l ∷ ls) = record { number = n; name = None; role = l.0; content = l.1 } ∷ numbered (suc n) ls
+
+-- `gar alwEv g;`: its game is the light
 abbrev pub light_text : Specification
-light_text =
-    record {
-      names = [];
-      variables = light.variables;
-      patterns = [];
-      triggers = [];
-      lines = record { number = 1; name = None; role = Guarantee; content = Recurring (Variable 1) } ∷ [];
-    }
+light_text = lamp ((Guarantee, Recurring (Variable 1)) ∷ [])
+
+-- `gar alw !g;`: nothing recurs, and the system can stay in each state
+abbrev pub dark_text : Specification
+dark_text = lamp ((Guarantee, Safety (Negation (Variable 1))) ∷ [])
+
+-- `asm ini a & !a; gar alw g & !g;`: the system can stay in no state, but no first input is legal
+abbrev pub never_text : Specification
+never_text = lamp ((Assumption, Initial (and_not 0)) ∷ (Guarantee, Safety (and_not 1)) ∷ [])
+  where
+    and_not : ℕ → Formula
+    and_not k = Conjunction (formulas (Variable k ∷ Negation (Variable k) ∷ []))
 
 -- `asm alwEv a; gar alw g -> a;`: the rank is 1 where g holds or a doesn't, since g may wait for a, and 2 elsewhere
 abbrev pub permitted : GameData
