@@ -1,10 +1,11 @@
--- The game of a specification and the specification have the same legal moves.
-use Rattle.std.specs.Prelude.{◌≡◌, ◌&&◌, [], ◌∷◌, ◌++◌, Some, None}
+-- The game of a specification and the specification have the same legal moves, and the same recurring goals.
+use Rattle.std.specs.Prelude.{◌≡◌, Bool, true, false, ◌&&◌, [], ◌∷◌, ◌++◌, Some, None, IsTrue}
+use Rattle.std.specs.List.{list_all}
 use Rattle.spec_model.specs.Values.{Assignment}
-use Rattle.spec_model.specs.Syntax.{Specification}
+use Rattle.spec_model.specs.Syntax.{Content, Initial, Safety, Recurring, PatternUse, TriggerUse, Specification}
 use Rattle.spec_model.specs.Rules.{Run, Position}
-use Rattle.spec_model.specs.Moves.{legal_input, legal_output}
-use Rattle.spec_model.specs.Games.{State}
+use Rattle.spec_model.specs.Moves.{is_assumption, is_guarantee, goals_of, legal_input, legal_output}
+use Rattle.spec_model.specs.Games.{State, goals_in}
 use Rattle.spec_model.specs.Steps.{Before, is_input, is_output, legal_input as legal_input_from, legal_output as legal_output_from}
 use Rattle.hidden_game.specs.GameOf.{game_of}
 
@@ -23,3 +24,20 @@ pub record MovesAgree (s : Specification) : Type 0 where
       legal_input s h x ≡ (is_input (game_of s) x && legal_input_from (game_of s) b x)
   pub outputs : (h : Run) (b : Before) → IsLast h b → (x y : Assignment) →
       legal_output s h x y ≡ (is_output (game_of s) y && legal_output_from (game_of s) b x y)
+
+-- whether what a line says is an expression: it uses no pattern and is no trigger
+abbrev pub is_plain : Content → Bool
+is_plain (Initial e) = true
+is_plain (Safety e) = true
+is_plain (Recurring e) = true
+is_plain (PatternUse p es) = false
+is_plain (TriggerUse t) = false
+
+-- each line is initial, holds at each position, or recurs
+abbrev pub HasPlainLines : Specification → Type 0
+HasPlainLines s = IsTrue (list_all (λ l. is_plain l.content) s.lines)
+
+-- on all runs the game has the specification's recurring goals, with their labels, in text order
+pub record GoalsAgree (s : Specification) : Type 0 where
+  pub assumptions : goals_of is_assumption s ≡ goals_in (game_of s) (game_of s).assume
+  pub guarantees : goals_of is_guarantee s ≡ goals_in (game_of s) (game_of s).goals

@@ -3,9 +3,15 @@
 ghost use Rattle.spec_model.specs.Syntax.{Specification};
 ghost use Rattle.spec_model.specs.WellMade.{WellMade};
 ghost use Rattle.hidden_game.specs.GameOf.{game_of};
-ghost use Rattle.hidden_game.specs.Agreement.{MovesAgree};
+ghost use Rattle.hidden_game.specs.Agreement.{HasPlainLines, GoalsAgree, MovesAgree};
 
 /// The well-made game of a specification has, after each run, the legal moves of the specification.
 pub fn moves_agree()
     ensures { (s : Specification) → WellMade (game_of s) → MovesAgree s }
+{}
+
+/// Where each line is initial, holds at each position, or recurs, the game of a specification has its recurring goals: they
+/// hold at the same positions of the same runs.
+pub fn goals_agree()
+    ensures { (s : Specification) → HasPlainLines s → GoalsAgree s }
 {}

@@ -1,0 +1,69 @@
+-- Small games and specifications, whose K is worked out by hand.
+use Rattle.std.specs.Prelude.{◌≡◌, ℕ, suc, List, [], ◌∷◌, None, codes}
+use Rattle.spec_model.specs.declared.value.Owner.TheVariants.{Env, Sys}
+use Rattle.spec_model.specs.declared.spec.Role.{Role}
+use Rattle.spec_model.specs.declared.spec.Role.TheVariants.{Assumption, Guarantee}
+use Rattle.spec_model.specs.Values.{TruthValues}
+use Rattle.spec_model.specs.Syntax.{Formula, Variable, NextOf, Negation, Conjunction, Implication, formulas, Content, Initial, Safety, Recurring, Statement, Specification}
+use Rattle.spec_model.specs.Realizable.{IsRealizable}
+use Rattle.spec_model.specs.Games.{GameData, GoalData}
+use Rattle.spec_model.specs.Sets.{StateSet}
+use Rattle.gr1_law.specs.Layers.{LayerSets, IsWinning, AreGreatestRanks, round_count}
+use Rattle.gr1_law.specs.GameRules.{rules_of_game}
+
+-- `env boolean a; sys boolean g; gar alwEv g;` with assumptions that recur, and lines that are judged at each position
+abbrev pub lighting : (assume : List GoalData) → (safe_asm safe_gar : List (ℕ × Formula)) → GameData
+lighting assume safe_asm safe_gar =
+    record {
+      variables =
+          record { name = codes "a"; owner = Env; domain = TruthValues }
+          ∷ record { name = codes "g"; owner = Sys; domain = TruthValues }
+          ∷ [];
+      hidden = [];
+      initial_asm = [];
+      initial_gar = [];
+      safe_asm = safe_asm;
+      safe_gar = safe_gar;
+      assume = assume;
+      goals = record { label = record { line = 1; part = 0 }; holds = Variable 1 } ∷ [];
+    }
+
+-- no more lines: the rank is 1 where g holds, and 2 elsewhere
+abbrev pub light : GameData
+light = lighting [] [] []
+
+-- `env boolean a; sys boolean g;` with lines that are numbered from 1
+abbrev pub lamp : List (Role × Content) → Specification
+lamp lines = record { names = []; variables = light.variables; patterns = []; triggers = []; lines = numbered 1 lines }
+  where
+    numbered : ℕ → List (Role × Content) → List Statement
+    numbered n [] = []
+    numbered n (l ∷ ls) = record { number = n; name = None; role = l.0; content = l.1 } ∷ numbered (suc n) ls
+
+-- `gar alwEv g;`: its game is the light
+abbrev pub light_text : Specification
+light_text = lamp ((Guarantee, Recurring (Variable 1)) ∷ [])
+
+-- `gar alw !g;`: nothing recurs, and the system can stay in each state
+abbrev pub dark_text : Specification
+dark_text = lamp ((Guarantee, Safety (Negation (Variable 1))) ∷ [])
+
+-- `asm ini a & !a; gar alw g & !g;`: the system can stay in no state, but no first input is legal
+abbrev pub never_text : Specification
+never_text = lamp ((Assumption, Initial (and_not 0)) ∷ (Guarantee, Safety (and_not 1)) ∷ [])
+  where
+    and_not : ℕ → Formula
+    and_not k = Conjunction (formulas (Variable k ∷ Negation (Variable k) ∷ []))
+
+-- `asm alwEv a; gar alw g -> a;`: the rank is 1 where g holds or a doesn't, since g may wait for a, and 2 elsewhere
+abbrev pub permitted : GameData
+permitted = lighting (record { label = record { line = 2; part = 0 }; holds = Variable 0 } ∷ []) [] ((3, Implication (Variable 1) (Variable 0)) ∷ [])
+
+-- `asm alw next(a) & next(!a); gar alw !g;`: no second input is legal, and g never holds; each state has the rank 1
+abbrev pub dead_end : GameData
+dead_end = lighting [] ((2, Conjunction (formulas (NextOf (Variable 0) ∷ NextOf (Negation (Variable 0)) ∷ []))) ∷ []) ((3, Negation (Variable 1)) ∷ [])
+
+-- K is this number, and with it the game is realizable
+pub record HasRounds (g : GameData) (k : ℕ) : Type 0 where
+  pub count : (z : StateSet) (l : LayerSets) (ranks : List ℕ) → IsWinning g z l → AreGreatestRanks g l ranks → round_count ranks ≡ k
+  pub realizable : IsRealizable (rules_of_game g) k
