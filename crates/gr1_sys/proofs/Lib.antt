@@ -1,0 +1,12 @@
+mod Greatest
+mod Winning
+mod Holdings
+mod Waits
+mod Lists
+mod Popped
+mod Parted
+mod Climbed
+mod Turned
+mod Givings
+mod Rounds
+mod Won

@@ -1,0 +1,16 @@
+use Rattle.gr1_sys.specs.Held.{all_regions}
+use Rattle.gr1_sys.proofs.Popped.{first_together, rest_together, first_and_rest}
+use Rattle.gr1_sys.proofs.layers.SysLayers.spend_all.Goals as goal
+
+pub spend-requires : goal.spend-requires
+spend-requires g c = first_together (g.G.Regions.kept c.args.g.now) c.args.self.z (all_regions c.args.self.goals.items) c.requires
+
+pub spend_goals-requires : goal.spend_goals-requires
+spend_goals-requires g c =
+    let kept = g.G.Regions.kept in
+    rest_together (kept c.args.g.now) (kept c.spend.new.self) c.args.self.z (all_regions c.args.self.goals.items) (g.met.G.Regions.exact _) c.requires c.spend.ensures.spends
+
+pub returns-clause-spends : goal.returns-clause-spends
+returns-clause-spends g c =
+    let kept = g.G.Regions.kept in
+    first_and_rest (kept c.args.g.now) (kept c.spend.new.self) (kept c.spend_goals.new.g) c.args.self.z (all_regions c.args.self.goals.items) (g.met.G.Regions.exact _) c.requires c.spend.ensures.spends c.spend_goals.ensures.spends

@@ -1,0 +1,61 @@
+use Rattle.std.proofs.Common.{◌≡◌, sym, ◌∙◌, subst}
+use Rattle.std.proofs.lemmas.Bool.{false≢true}
+use Rattle.spec_model.specs.Steps.{states_of}
+use Rattle.spec_model.specs.Sets.{count_in, all_states}
+use Rattle.spec_model.proofs.Fixpoints.{IsFalling}
+use Rattle.regions.specs.Kept.{MakesRegion}
+use Rattle.regions.proofs.Holding.{made_is}
+use Rattle.gr1_sys.specs.Held.{waiting}
+use Rattle.gr1_sys.specs.Solution.{greatest_of}
+use Rattle.gr1_sys.proofs.Holdings.{same_then, dropped}
+use Rattle.gr1_sys.proofs.Waits.{waiting-first, waiting-next, waiting-fewer, waiting-last, turned, still}
+use Rattle.gr1_sys.proofs.parts.greatest_part.Goals as goal
+
+pub loop-next-init : goal.loop-next-init
+loop-next-init g c =
+    let kept = g.G.Regions.kept in
+    let first = kept c.args.g.now in
+    let is = made_is first (kept c.all.new.self) c.in_ok-x.x _ (g.met.G.Regions.exact _) c.in_ok-x.ensures.made in
+    record {
+      made = is.1;
+      same = c.all.ensures.same;
+      falling = subst (IsFalling first.game (waiting first.game (first.set c.args.base.now) (first.set c.args.lapse.now))) (sym is.0) (waiting-first first.game (first.set c.args.base.now) (first.set c.args.lapse.now) (g.met.G.Regions.proper c.args.g.now c.args.base.now c.requires.base));
+    }
+
+pub loop-next-preserved : goal.loop-next-preserved
+loop-next-preserved g c =
+    let kept = g.G.Regions.kept in
+    let first = kept c.args.g.now in
+    let k = kept c.loop-next.g in
+    let inv = c.loop-next.invariant in
+    let is = turned first k (kept c.next_part.new.g) c.loop-next.x c.in_ok-next.next c.args.base.now c.args.lapse.now (g.met.G.Regions.exact _) (g.met.G.Regions.exact _) inv.made inv.same c.requires.base c.requires.lapse c.in_ok-next.ensures.made in
+    record {
+      made = is.1;
+      same = same_then first k (kept c.next_part.new.g) inv.same c.next_part.ensures.same;
+      falling = subst (IsFalling first.game (waiting first.game (first.set c.args.base.now) (first.set c.args.lapse.now))) (sym is.0)
+          (waiting-next first.game (first.set c.args.base.now) (first.set c.args.lapse.now) (g.met.G.Regions.proper c.args.g.now c.args.base.now c.requires.base) (k.set c.loop-next.x) inv.falling);
+    }
+
+pub loop-next-smaller : goal.loop-next-smaller
+loop-next-smaller g c =
+    let kept = g.G.Regions.kept in
+    let first = kept c.args.g.now in
+    let k = kept c.loop-next.g in
+    let inv = c.loop-next.invariant in
+    let is = turned first k (kept c.next_part.new.g) c.loop-next.x c.in_ok-next.next c.args.base.now c.args.lapse.now (g.met.G.Regions.exact _) (g.met.G.Regions.exact _) inv.made inv.same c.requires.base c.requires.lapse c.in_ok-next.ensures.made in
+    let value_is = still first k c.loop-next.x c.args.base.now c.args.lapse.now (g.met.G.Regions.exact _) inv.made inv.same c.requires.base c.requires.lapse in
+    let unsettled : k.set c.loop-next.x ≡ waiting first.game (first.set c.args.base.now) (first.set c.args.lapse.now) (k.set c.loop-next.x) → ⊥ = λ e. false≢true (sym c.if-settled.false ∙ c.in_ok-next.ensures.settled.1 (e ∙ sym value_is)) in
+    let fewer = waiting-fewer first.game (first.set c.args.base.now) (first.set c.args.lapse.now) (g.met.G.Regions.proper c.args.g.now c.args.base.now c.requires.base) (k.set c.loop-next.x) inv.falling unsettled in
+    rw (is.0, c.next_part.ensures.same.game, inv.same.game) fewer
+
+pub returns-then-settled-clause-made : goal.returns-then-settled-clause-made
+returns-then-settled-clause-made g c =
+    let kept = g.G.Regions.kept in
+    let first = kept c.args.g.now in
+    let k = kept c.loop-next.g in
+    let inv = c.loop-next.invariant in
+    let is = turned first k (kept c.next_part.new.g) c.loop-next.x c.in_ok-next.next c.args.base.now c.args.lapse.now (g.met.G.Regions.exact _) (g.met.G.Regions.exact _) inv.made inv.same c.requires.base c.requires.lapse c.in_ok-next.ensures.made in
+    let value_is = still first k c.loop-next.x c.args.base.now c.args.lapse.now (g.met.G.Regions.exact _) inv.made inv.same c.requires.base c.requires.lapse in
+    let settled = c.in_ok-next.ensures.settled.0 c.if-settled.true ∙ value_is in
+    let last = waiting-last first.game (first.set c.args.base.now) (first.set c.args.lapse.now) (g.met.G.Regions.proper c.args.g.now c.args.base.now c.requires.base) (k.set c.loop-next.x) inv.falling settled in
+    subst (λ t. MakesRegion first (kept c.next_part.new.g) c.in_ok-next.next t) (is.0 ∙ (sym settled ∙ last)) is.1

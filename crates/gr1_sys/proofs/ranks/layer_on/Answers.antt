@@ -1,0 +1,39 @@
+use Rattle.std.proofs.Common.{◌≡◌, ◌∙◌, List, length, map, subst, sym, arith}
+use Rattle.spec_model.specs.Steps.{below}
+use Rattle.regions.specs.Kept.{MakesRegion}
+use Rattle.gr1_law.specs.Layers.{union}
+use Rattle.gr1_sys.specs.Held.{HasEach, part_at, set_at}
+use Rattle.gr1_sys.proofs.Lists.{held_each, together_as, made_and_spent_all, length_map, length_below}
+use Rattle.gr1_sys.proofs.Parted.{layer_made}
+use Rattle.gr1_sys.proofs.ranks.layer_on.Goals as goal
+
+pub union_of-requires-clause-xs : goal.union_of-requires-clause-xs
+union_of-requires-clause-xs g c =
+    let made = c.in_ok-x.ensures.made in
+    let k = g.G.Regions.kept c.solutions.new.g in
+    subst (HasEach k) (sym c.deref.ensures.value) (held_each k c.in_ok-x.x.items _ made.counted (λ w. omega (arith, made.held w)))
+
+pub spend_all-requires : goal.spend_all-requires
+spend_all-requires g c =
+    let made = c.in_ok-x.ensures.made in
+    together_as (g.G.Regions.kept c.union_of.new.g) c.in_ok-x.x.items _ (g.met.G.Regions.exact _) made.counted (λ w. omega (arith, made.held w, c.in-Err.ensures.halted w))
+
+pub returns-in-Ok-clause-made : goal.returns-in-Ok-clause-made
+returns-in-Ok-clause-made g c =
+    let kept = g.G.Regions.kept in
+    let k = kept c.args.g.now in
+    let k1 = kept c.solutions.new.g in
+    let k2 = kept c.union_of.new.g in
+    layer_made k k1 k2 c.in_ok-x.x.items c.in-Ok.y (part_at k c.args.base.now c.args.lapses.now) (length c.args.lapses.now) (g.met.G.Regions.exact _) c.in_ok-x.ensures.made
+    (subst (λ (xs : List _). MakesRegion k1 k2 c.in-Ok.y (union (set_at k1 xs) (length xs))) c.deref.ensures.value c.in-Ok.ensures.made)
+
+pub returns-in-Ok-clause-parts : goal.returns-in-Ok-clause-parts
+returns-in-Ok-clause-parts g c =
+    let f = part_at (g.G.Regions.kept c.args.g.now) c.args.base.now c.args.lapses.now in
+    let counted : length c.in_ok-x.x.items ≡ length c.args.lapses.now = c.in_ok-x.ensures.made.counted ∙ (length_map f (below (length c.args.lapses.now)) ∙ length_below (length c.args.lapses.now)) in
+    omega (arith, counted)
+
+pub returns-in-Err-clause-halted : goal.returns-in-Err-clause-halted
+returns-in-Err-clause-halted g c =
+    let kept = g.G.Regions.kept in
+    made_and_spent_all (kept c.args.g.now) (kept c.solutions.new.g) (kept c.union_of.new.g) (kept c.spend_all.new.g) c.in_ok-x.x.items _ (g.met.G.Regions.exact _) c.in_ok-x.ensures.made c.in-Err.ensures.halted c.spend_all.ensures.spends

@@ -1,0 +1,61 @@
+use Rattle.std.proofs.Common.{◌≡◌, ◌∙◌, ◌∷◌, sym, arith}
+use Rattle.gr1_sys.specs.Held.{all_regions}
+use Rattle.gr1_sys.proofs.Lists.{together_stays, takes_all}
+use Rattle.gr1_sys.proofs.Popped.{first_together, rest_together, first_and_rest}
+use Rattle.gr1_sys.proofs.Rounds.{without_later, spent_later}
+use Rattle.gr1_sys.proofs.solving.decide.Goals as goal
+
+pub start_sys-requires-clause-t : goal.start_sys-requires-clause-t
+start_sys-requires-clause-t g c = first_together (g.G.Regions.kept c.args.g.now) c.args.z (all_regions c.args.goals.items) c.requires.held
+
+pub counted-requires : goal.counted-requires
+counted-requires g c =
+    let kept = g.G.Regions.kept in
+    record { held = together_stays (kept c.args.g.now) (kept c.start_sys.new.self) (c.args.z ∷ all_regions c.args.goals.items) (g.met.G.Regions.exact _) (λ w. omega (arith, c.in-Ok-true.ensures.stays.held w)) c.requires.held }
+
+pub spend-requires : goal.spend-requires
+spend-requires g c =
+    let kept = g.G.Regions.kept in
+    first_together (kept c.start_sys.new.self) c.args.z (all_regions c.args.goals.items)
+    (together_stays (kept c.args.g.now) (kept c.start_sys.new.self) (c.args.z ∷ all_regions c.args.goals.items) (g.met.G.Regions.exact _) (λ w. omega (arith, c.in-Ok-false.ensures.stays.held w)) c.requires.held)
+
+pub spend_goals-requires : goal.spend_goals-requires
+spend_goals-requires g c =
+    let kept = g.G.Regions.kept in
+    rest_together (kept c.start_sys.new.self) (kept c.spend.new.self) c.args.z (all_regions c.args.goals.items) (g.met.G.Regions.exact _)
+    (together_stays (kept c.args.g.now) (kept c.start_sys.new.self) (c.args.z ∷ all_regions c.args.goals.items) (g.met.G.Regions.exact _) (λ w. omega (arith, c.in-Ok-false.ensures.stays.held w)) c.requires.held) c.spend.ensures.spends
+
+pub spend-requires-in-Err : goal.spend-requires-in-Err
+spend-requires-in-Err g c =
+    let kept = g.G.Regions.kept in
+    first_together (kept c.start_sys.new.self) c.args.z (all_regions c.args.goals.items)
+    (together_stays (kept c.args.g.now) (kept c.start_sys.new.self) (c.args.z ∷ all_regions c.args.goals.items) (g.met.G.Regions.exact _) (λ w. omega (arith, c.in-Err.ensures.halted.held w)) c.requires.held)
+
+pub spend_goals-requires-in-Err : goal.spend_goals-requires-in-Err
+spend_goals-requires-in-Err g c =
+    let kept = g.G.Regions.kept in
+    rest_together (kept c.start_sys.new.self) (kept c.spend-in-Err.new.self) c.args.z (all_regions c.args.goals.items) (g.met.G.Regions.exact _)
+    (together_stays (kept c.args.g.now) (kept c.start_sys.new.self) (c.args.z ∷ all_regions c.args.goals.items) (g.met.G.Regions.exact _) (λ w. omega (arith, c.in-Err.ensures.halted.held w)) c.requires.held) c.spend-in-Err.ensures.spends
+
+pub returns-in-Err-counted-clause-halted : goal.returns-in-Err-counted-clause-halted
+returns-in-Err-counted-clause-halted g c =
+    let kept = g.G.Regions.kept in
+    without_later (kept c.args.g.now) (kept c.start_sys.new.self) (kept c.counted.new.g) (c.args.z ∷ all_regions c.args.goals.items) (g.met.G.Regions.exact _) c.requires.held c.in-Ok-true.ensures.stays.held c.in-Err-counted.ensures.halted
+
+pub returns-in-Ok-false-clause-decided : goal.returns-in-Ok-false-clause-decided
+returns-in-Ok-false-clause-decided g c =
+    let kept = g.G.Regions.kept in
+    let k1 = kept c.start_sys.new.self in
+    let held = together_stays (kept c.args.g.now) k1 (c.args.z ∷ all_regions c.args.goals.items) (g.met.G.Regions.exact _) (λ w. omega (arith, c.in-Ok-false.ensures.stays.held w)) c.requires.held in (
+      spent_later (kept c.args.g.now) k1 (kept c.spend_goals.new.g) (c.args.z ∷ all_regions c.args.goals.items) (g.met.G.Regions.exact _) c.requires.held c.in-Ok-false.ensures.stays
+          (first_and_rest k1 (kept c.spend.new.self) (kept c.spend_goals.new.g) c.args.z (all_regions c.args.goals.items) (g.met.G.Regions.exact _) held c.spend.ensures.spends c.spend_goals.ensures.spends),
+      cc (c.in-Ok-false.ensures.answer, c.in-Ok-false.field-0-test),
+    )
+
+pub returns-in-Err-clause-halted : goal.returns-in-Err-clause-halted
+returns-in-Err-clause-halted g c =
+    let kept = g.G.Regions.kept in
+    let k1 = kept c.start_sys.new.self in
+    let held = together_stays (kept c.args.g.now) k1 (c.args.z ∷ all_regions c.args.goals.items) (g.met.G.Regions.exact _) (λ w. omega (arith, c.in-Err.ensures.halted.held w)) c.requires.held in
+    takes_all (kept c.args.g.now) k1 (kept c.spend_goals-in-Err.new.g) (c.args.z ∷ all_regions c.args.goals.items) (g.met.G.Regions.exact _) c.requires.held c.in-Err.ensures.halted.held
+    (first_and_rest k1 (kept c.spend-in-Err.new.self) (kept c.spend_goals-in-Err.new.g) c.args.z (all_regions c.args.goals.items) (g.met.G.Regions.exact _) held c.spend-in-Err.ensures.spends c.spend_goals-in-Err.ensures.spends)

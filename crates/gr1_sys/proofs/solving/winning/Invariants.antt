@@ -1,0 +1,22 @@
+use Rattle.spec_model.specs.Steps.{states_of}
+use Rattle.spec_model.specs.Sets.{count_in}
+use Rattle.spec_model.proofs.Fixpoints.{IsFalling}
+use Rattle.regions.specs.Kept.{MakesRegion, IsSameGame}
+use Rattle.gr1_sys.specs.Solution.{following}
+use Rattle.gr1_sys.proofs.solving.winning.Given as goal
+
+-- one region more is held than at first, and its set is on the way down
+abbrev pub invariant-loop-z : goal.invariant-loop-z
+invariant-loop-z g l =
+    let kept = g.G.Regions.kept in
+    let first = kept l.fn.g in
+    let z = (kept l.g).set l.z in
+    record {
+      made : MakesRegion first (kept l.g) l.z z;
+      same : IsSameGame first (kept l.g);
+      falling : IsFalling first.game (following first.game) z;
+    }
+
+-- how many states are left
+abbrev pub decreases-loop-z : goal.decreases-loop-z
+decreases-loop-z g l = let k = g.G.Regions.kept l.g in count_in (k.set l.z) (states_of k.game)

@@ -1,0 +1,27 @@
+use Rattle.std.proofs.Common.{◌≡◌, [], ◌∙◌, ap, subst}
+use Rattle.gr1_sys.specs.Held.{layer_regions, goal_regions, all_regions}
+use Rattle.gr1_sys.proofs.Holdings.{same_then}
+use Rattle.gr1_sys.proofs.Popped.{IsLeft, last_together, last_spent, all_spent, one_together, one_spent, none_left, goal_regions-push, all_regions-push}
+use Rattle.gr1_sys.proofs.spending.spend_layers.Goals as goal
+
+pub spend_layer-requires : goal.spend_layer-requires
+spend_layer-requires g c =
+    let kept = g.G.Regions.kept in
+    let is_left = subst (IsLeft (kept c.args.g.now) (kept c.loop-l.g) (goal_regions c.args.ls.items)) (ap goal_regions c.in-Some.ensures.items ∙ goal_regions-push c.pop.new.self.items c.in-Some.l) c.loop-l.invariant.left in
+    last_together (kept c.args.g.now) (kept c.loop-l.g) (goal_regions c.args.ls.items) (goal_regions c.pop.new.self.items) (layer_regions c.in-Some.l) (g.met.G.Regions.exact _) c.requires is_left
+
+pub loop-l-preserved : goal.loop-l-preserved
+loop-l-preserved g c =
+    let kept = g.G.Regions.kept in
+    let is_left = subst (IsLeft (kept c.args.g.now) (kept c.loop-l.g) (goal_regions c.args.ls.items)) (ap goal_regions c.in-Some.ensures.items ∙ goal_regions-push c.pop.new.self.items c.in-Some.l) c.loop-l.invariant.left in
+    record {
+      left = last_spent (kept c.args.g.now) (kept c.loop-l.g) (kept c.spend_layer.new.g) (goal_regions c.args.ls.items) (goal_regions c.pop.new.self.items) (layer_regions c.in-Some.l) (g.met.G.Regions.exact _) c.requires is_left c.spend_layer.ensures.spends;
+      jam = c.spend_layer.ensures.spends.jam ∙ c.loop-l.invariant.jam;
+      same = same_then (kept c.args.g.now) (kept c.loop-l.g) (kept c.spend_layer.new.g) c.loop-l.invariant.same c.spend_layer.ensures.same;
+    }
+
+pub returns-clause-spends : goal.returns-clause-spends
+returns-clause-spends g c =
+    let kept = g.G.Regions.kept in
+    let nothing : c.loop-l.ls.items ≡ [] = none_left c.loop-l.ls c.in_default.ensures.cases.0 in
+    all_spent (kept c.args.g.now) (kept c.loop-l.g) (goal_regions c.args.ls.items) (subst (λ left. IsLeft (kept c.args.g.now) (kept c.loop-l.g) (goal_regions c.args.ls.items) (goal_regions left)) nothing c.loop-l.invariant.left) c.loop-l.invariant.jam

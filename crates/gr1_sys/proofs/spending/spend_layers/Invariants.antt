@@ -1,0 +1,18 @@
+use Rattle.std.proofs.Common.{◌≡◌, ℕ, ◌+◌, map}
+use Rattle.regions.specs.Kept.{Item, Meaning, weight, IsSameGame}
+use Rattle.gr1_sys.specs.Held.{weight_as, goal_regions, all_regions}
+use Rattle.gr1_sys.proofs.spending.spend_layers.Given as goal
+
+-- what is held besides what is left was held at first but for what was given
+abbrev pub invariant-loop-l : goal.invariant-loop-l
+invariant-loop-l g l =
+    let kept = g.G.Regions.kept in
+    let first = kept l.fn.g in
+    record {
+      left : (w : _) → weight (kept l.g) w + weight_as (goal_regions l.fn.ls.items) (map first.set (goal_regions l.fn.ls.items)) w ≡ weight first w + weight_as (goal_regions l.ls.items) (map first.set (goal_regions l.ls.items)) w;
+      jam : (kept l.g).jam ≡ first.jam;
+      same : IsSameGame first (kept l.g);
+    }
+
+abbrev pub decreases-loop-l : goal.decreases-loop-l
+decreases-loop-l g l = goal.left-loop-l g l

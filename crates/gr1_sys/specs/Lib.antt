@@ -1,0 +1,4 @@
+pub mod Held
+pub mod Givens
+pub mod Solved
+pub mod Solution

@@ -1,0 +1,51 @@
+//! Regions joined in place.
+
+ghost use Rattle.std.specs.Prelude.{◌≡◌, None, IfOk, OnErr};
+ghost use Rattle.spec_model.specs.Sets.{either, both};
+ghost use Rattle.regions.specs.Kept.{Region, States, HasRegion, HoldsWithout, IsSameGame, Replaces};
+
+use regions::{Halt, Regions};
+
+/// The states of `a` or `b`, in the place of `a`, which is spent on a halt too.
+pub fn or_in<G: Regions>(g: &mut G, a: G::R, b: &G::R) -> Result<G::R, Halt>
+    requires free { (G.kept g.old).jam ≡ None }
+    requires a { HasRegion (G.kept g.old) a }
+    requires b { HasRegion (G.kept g.old) b.now }
+    ensures made { let k = G.kept g.old in
+        IfOk result (λ r. Replaces k (G.kept g.new) (Region a) (States (k.set a)) (Region r) (States (either (k.set a) (k.set b.now)))) }
+    ensures halted { let k = G.kept g.old in OnErr result (HoldsWithout k (G.kept g.new) (Region a) (States (k.set a))) }
+    ensures same { IsSameGame (G.kept g.old) (G.kept g.new) }
+{
+    match g.or(&a, b) {
+        Ok(joined) => {
+            g.spend(a);
+            Ok(joined)
+        }
+        Err(halt) => {
+            g.spend(a);
+            Err(halt)
+        }
+    }
+}
+
+/// The states of `a` and `b`, in the place of `a`, which is spent on a halt too.
+pub fn and_in<G: Regions>(g: &mut G, a: G::R, b: &G::R) -> Result<G::R, Halt>
+    requires free { (G.kept g.old).jam ≡ None }
+    requires a { HasRegion (G.kept g.old) a }
+    requires b { HasRegion (G.kept g.old) b.now }
+    ensures made { let k = G.kept g.old in
+        IfOk result (λ r. Replaces k (G.kept g.new) (Region a) (States (k.set a)) (Region r) (States (both (k.set a) (k.set b.now)))) }
+    ensures halted { let k = G.kept g.old in OnErr result (HoldsWithout k (G.kept g.new) (Region a) (States (k.set a))) }
+    ensures same { IsSameGame (G.kept g.old) (G.kept g.new) }
+{
+    match g.and(&a, b) {
+        Ok(common) => {
+            g.spend(a);
+            Ok(common)
+        }
+        Err(halt) => {
+            g.spend(a);
+            Err(halt)
+        }
+    }
+}

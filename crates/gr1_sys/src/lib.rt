@@ -1,0 +1,21 @@
+//! The system's winning states and their layers, over any regions.
+//!
+//! The winning states Z are a greatest set, each goal's layers least sets for Z, and the parts of a layer greatest sets
+//! above the layer below (Bloem et al. 2012, solving GR(1) games). Each round of the solver holds one value of Z and the
+//! layers for it: those of earlier values are spent.
+//!
+//! Contract: `solve_sys` and `SysLayers::k`. Path: regions → **layers** → controller.
+#![tactic(auto)]
+
+mod climbing;
+mod givens;
+mod joining;
+mod layers;
+mod parts;
+mod ranks;
+mod solving;
+mod spending;
+mod turns;
+
+pub use layers::{SysLayer, SysLayers};
+pub use solving::solve_sys;

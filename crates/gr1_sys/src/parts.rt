@@ -1,0 +1,79 @@
+//! The parts of a layer: where the play can wait while an assumption is false.
+
+ghost use Rattle.std.specs.Prelude.{◌≡◌, ◌↔◌, [], None, Some, IfOk, OnErr, IsTrue, length, map};
+ghost use Rattle.spec_model.specs.Steps.{below};
+ghost use Rattle.spec_model.specs.Sets.{either, both, pre_sys};
+ghost use Rattle.regions.specs.Kept.{Region, States, HasRegion, HoldsBesides, HoldsWithout, MakesRegion, IsSameGame, Replaces};
+ghost use Rattle.gr1_law.specs.Layers.{union};
+ghost use Rattle.gr1_sys.specs.Solution.{greatest_of};
+ghost use Rattle.gr1_sys.specs.Held.{waiting, HasEach, HasTogether, HoldsWithoutAll, SpendsAll, MakesRegions, set_at};
+
+use crate::joining::{and_in, or_in};
+use regions::{Halt, Regions};
+
+/// The value of the part's equation at `x`.
+fn part_step<G: Regions>(g: &mut G, base: &G::R, lapse: &G::R, x: &G::R) -> Result<G::R, Halt>
+    requires free { (G.kept g.old).jam ≡ None }
+    requires base { HasRegion (G.kept g.old) base.now }
+    requires lapse { HasRegion (G.kept g.old) lapse.now }
+    requires x { HasRegion (G.kept g.old) x.now }
+    ensures made { let k = G.kept g.old in
+        IfOk result (λ r. MakesRegion k (G.kept g.new) r (waiting k.game (k.set base.now) (k.set lapse.now) (k.set x.now))) }
+    ensures halted { OnErr result (HoldsBesides (G.kept g.old) (G.kept g.new) []) }
+    ensures same { IsSameGame (G.kept g.old) (G.kept g.new) }
+{
+    let forced = g.pre_sys(x)?;
+    let waits = and_in(g, forced, lapse)?;
+    or_in(g, waits, base)
+}
+
+/// The value of the part's equation in the place of `x`, and whether they are the same.
+fn next_part<G: Regions>(
+    g: &mut G,
+    base: &G::R,
+    lapse: &G::R,
+    x: G::R,
+) -> Result<(G::R, bool), Halt>
+    requires free { (G.kept g.old).jam ≡ None }
+    requires base { HasRegion (G.kept g.old) base.now }
+    requires lapse { HasRegion (G.kept g.old) lapse.now }
+    requires x { HasRegion (G.kept g.old) x }
+    ensures made { let k = G.kept g.old in
+        IfOk result (λ r. Replaces k (G.kept g.new) (Region x) (States (k.set x)) (Region r.0) (States (waiting k.game (k.set base.now) (k.set lapse.now) (k.set x)))) }
+    ensures settled { let k = G.kept g.old in
+        IfOk result (λ r. IsTrue r.1 ↔ k.set x ≡ waiting k.game (k.set base.now) (k.set lapse.now) (k.set x)) }
+    ensures halted { let k = G.kept g.old in OnErr result (HoldsWithout k (G.kept g.new) (Region x) (States (k.set x))) }
+    ensures same { IsSameGame (G.kept g.old) (G.kept g.new) }
+{
+    match part_step(g, base, lapse, &x) {
+        Ok(next) => {
+            let settled = g.same(&x, &next);
+            g.spend(x);
+            Ok((next, settled))
+        }
+        Err(halt) => {
+            g.spend(x);
+            Err(halt)
+        }
+    }
+}
+
+/// The greatest set that is its own value: the base, and where the play can wait for it while the assumption is false.
+pub fn greatest_part<G: Regions>(g: &mut G, base: &G::R, lapse: &G::R) -> Result<G::R, Halt>
+    requires free { (G.kept g.old).jam ≡ None }
+    requires base { HasRegion (G.kept g.old) base.now }
+    requires lapse { HasRegion (G.kept g.old) lapse.now }
+    ensures made { let k = G.kept g.old in
+        IfOk result (λ x. MakesRegion k (G.kept g.new) x (greatest_of k.game (waiting k.game (k.set base.now) (k.set lapse.now)))) }
+    ensures halted { OnErr result (HoldsBesides (G.kept g.old) (G.kept g.new) []) }
+    ensures same { IsSameGame (G.kept g.old) (G.kept g.new) }
+{
+    let mut x = g.all()?;
+    loop {
+        let (next, settled) = next_part(g, base, lapse, x)?;
+        x = next;
+        if settled {
+            return Ok(x);
+        }
+    }
+}
