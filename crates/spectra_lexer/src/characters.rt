@@ -34,6 +34,7 @@ pub fn is_blank(c: char) -> bool
     c == ' ' || c == '\t' || c == '\r' || c == '\n'
 }
 
+/// Whether a character is an ASCII digit.
 pub fn is_digit(c: char) -> bool
     ensures { result ≡ digit_test c }
 {

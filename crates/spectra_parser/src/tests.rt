@@ -227,7 +227,7 @@ fn texts_of_no_form_are_refused(rt: HostRuntime) {
         b"spec X gar alwEv a;",
         b"spec X gar initially a;",
         b"spec X assumption ini a;",
-        b"spec X // comment",
+        b"spec X /* comment",
         b"spec X gar alw a -> b -> c;",
         b"spec X gar alw a -> b <-> c;",
         b"spec X gar alw a <-> b -> c;",
