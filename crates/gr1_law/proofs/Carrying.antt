@@ -3,6 +3,7 @@ use Rattle.std.proofs.Common.{◌≡◌, ℕ, ◌&&◌, ◌⊎◌, inl, inr, tru
 use Rattle.std.proofs.lemmas.Bool.{and_parts, and_from}
 use Rattle.spec_model.specs.Values.{Assignment}
 use Rattle.spec_model.specs.Syntax.{Specification}
+use Rattle.spec_model.specs.Plays.{IsPlay}
 use Rattle.spec_model.specs.Rules.{Run, Position, Rules}
 use Rattle.spec_model.specs.Moves.{legal_input, legal_output}
 use Rattle.spec_model.specs.Realizable.{Kept, IsRealizable}
@@ -15,7 +16,7 @@ use Rattle.hidden_game.proofs.Agreeing.{moves_agree}
 use Rattle.hidden_game.proofs.Recurrences.{goals_agree}
 use Rattle.gr1_law.specs.Layers.{LayerSets, round_count}
 use Rattle.gr1_law.specs.Choice.{Memory, IsChosen, ChosenPlay}
-use Rattle.gr1_law.specs.GameRules.{last_state, IsPlay}
+use Rattle.gr1_law.specs.GameRules.{last_state}
 use Rattle.gr1_law.specs.Laws.{ChosenPlayKeeps}
 use Rattle.gr1_law.specs.Specifications.{RulesAgree, IsWonWith, SpecificationIsRealizable, ChosenPlaysKeepTheSpecification}
 use Rattle.gr1_law.proofs.Running.{last_state-after}

@@ -4,13 +4,14 @@ use Rattle.std.proofs.lemmas.Bool.{and_from}
 use Rattle.std.proofs.lemmas.List.{take-append-le, take_all}
 use borrow.Author.Tests.{eq-eqb, ne_eqb}
 use Rattle.spec_model.specs.Values.{Assignment}
+use Rattle.spec_model.specs.Plays.{IsPlay}
 use Rattle.spec_model.specs.Rules.{Run, Position, after}
 use Rattle.spec_model.specs.Games.{GameData, State, state_at}
 use Rattle.spec_model.specs.Steps.{Before, is_input, legal_input, legal_output, reached}
 use Rattle.spec_model.specs.Sets.{StateSet, system_forces}
 use Rattle.gr1_law.specs.Layers.{LayerSets, IsWinning, AreGreatestRanks}
 use Rattle.gr1_law.specs.Choice.{Memory, Standing, first_memory, IsChosen, ChosenPlay}
-use Rattle.gr1_law.specs.GameRules.{last_state, before_at, rules_of_game, IsPlay}
+use Rattle.gr1_law.specs.GameRules.{last_state, before_at, rules_of_game}
 use Rattle.gr1_law.proofs.Standing.{Ready}
 use Rattle.gr1_law.proofs.Choosing.{Lowers, lowers, standing_next, chosen_output, chosen_legal}
 use Rattle.gr1_law.proofs.Running.{length-after, state_at-earlier, state_at-last, last_state-after}

@@ -1,7 +1,7 @@
 -- A game as its players see it, over runs with their hidden values.
 use Rattle.std.specs.Prelude.{ℕ, zero, suc, ◌&&◌, Some, None, [], length, IsTrue}
 use Rattle.spec_model.specs.Values.{Assignment}
-use Rattle.spec_model.specs.Rules.{Run, after, Rules}
+use Rattle.spec_model.specs.Rules.{Run, Rules}
 use Rattle.spec_model.specs.Games.{GameData, state_at, goals_in}
 use Rattle.spec_model.specs.Steps.{Before, is_input, is_output, legal_input, legal_output}
 
@@ -23,8 +23,3 @@ rules_of_game g =
       assumptions = goals_in g g.assume;
       guarantees = goals_in g g.goals;
     }
-
--- a run all of whose moves are legal
-pub data IsPlay (r : Rules) : Run → Type 0 where
-  nothing : IsPlay r []
-  more : (h : Run) (x y : Assignment) → IsPlay r h → IsTrue (r.legal_input h x) → IsTrue (r.legal_output h x y) → IsPlay r (after h x y)

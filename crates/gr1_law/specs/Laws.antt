@@ -1,6 +1,7 @@
 -- Laws over the definitions alone, each of which the function of its name in src/laws.rt proves.
 use Rattle.std.specs.Prelude.{◌≡◌, ℕ, suc, false, ◌+◌, ◌*◌, ◌<◌, ◌≤◌, List, None, Some, length, take, slice_index, sum, IsTrue}
 use Rattle.spec_model.specs.Values.{Assignment}
+use Rattle.spec_model.specs.Plays.{IsPlay}
 use Rattle.spec_model.specs.Rules.{Run, EachWithin}
 use Rattle.spec_model.specs.Realizable.{Kept, IsRealizable}
 use Rattle.spec_model.specs.Games.{GameData, state_at, goals_in}
@@ -9,7 +10,7 @@ use Rattle.spec_model.specs.Sets.{StateSet, IsPartOf, system_forces}
 use Rattle.gr1_law.specs.Layers.{LayerSets, AreLayers, IsWinning, AreGreatestRanks, goal_sets, goal_set, round_count}
 use Rattle.gr1_law.specs.Choice.{Memory, Standing, IsChosen, ChosenPlay}
 use Rattle.gr1_law.specs.Potential.{potential}
-use Rattle.gr1_law.specs.GameRules.{last_state, rules_of_game, IsPlay}
+use Rattle.gr1_law.specs.GameRules.{last_state, rules_of_game}
 
 -- the state is in the set, and what is remembered tells of it; before the first move there is none
 abbrev pub StandsIn : GameData → StateSet → LayerSets → Before → Memory → Type 0

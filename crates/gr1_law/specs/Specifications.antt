@@ -2,6 +2,7 @@
 use Rattle.std.specs.Prelude.{◌≡◌, ℕ, List, [], None, IsTrue}
 use Rattle.spec_model.specs.Values.{Assignment}
 use Rattle.spec_model.specs.Syntax.{Specification}
+use Rattle.spec_model.specs.Plays.{IsPlay}
 use Rattle.spec_model.specs.Rules.{Run}
 use Rattle.spec_model.specs.Moves.{is_assumption, is_guarantee, goals_of, legal_input, legal_output, rules_of}
 use Rattle.spec_model.specs.Realizable.{Kept, IsRealizable}
@@ -14,7 +15,7 @@ use Rattle.hidden_game.specs.Agreement.{IsLast}
 use Rattle.safety.specs.Solution.{IsRoundCount}
 use Rattle.gr1_law.specs.Layers.{LayerSets, IsWinning, AreGreatestRanks, round_count}
 use Rattle.gr1_law.specs.Choice.{Memory, IsChosen, ChosenPlay}
-use Rattle.gr1_law.specs.GameRules.{rules_of_game, IsPlay}
+use Rattle.gr1_law.specs.GameRules.{rules_of_game}
 
 -- the game of a specification has its legal moves and its recurring goals
 abbrev pub RulesAgree : Specification → Type 0

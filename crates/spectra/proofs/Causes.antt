@@ -1,7 +1,7 @@
 -- What causes the statuses that tell of a failure.
-use Rattle.std.proofs.Common.{◌≡◌, ℕ, List, Option, Some, None, refl, sym, subst}
+use Rattle.std.proofs.Common.{◌≡◌, ℕ, List, Option, sym, subst}
 use Rattle.sp_outside.specs.Causes.{Rose}
-use Rattle.sp_outside.specs.Files.{Files, HasFile}
+use Rattle.sp_outside.specs.Files.{Files}
 use Rattle.spec_model.specs.Syntax.{Specification}
 use Rattle.session.specs.declared.talking.End.{End}
 use Rattle.session.specs.declared.talking.End.TheVariants as ends

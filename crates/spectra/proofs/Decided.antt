@@ -1,5 +1,5 @@
 -- What is done for a game, a specification and a file, from what was done for its parts.
-use Rattle.std.proofs.Common.{◌≡◌, ◌⊎◌, ℕ, ◌<◌, List, length, codes, Option, inl, inr, refl, sym, subst}
+use Rattle.std.proofs.Common.{◌≡◌, ◌⊎◌, ℕ, ◌<◌, List, length, codes, Option, inl, inr, refl}
 use Rattle.std.proofs.KnownBytes.{Appends-nil}
 use Rattle.sp_outside.specs.Files.{HasNoFile}
 use Rattle.spec_model.specs.Syntax.{Specification}
@@ -8,6 +8,8 @@ use Rattle.spectra_lexer.specs.declared.token.Token.{Token}
 use Rattle.spectra_lexer.specs.Tokens.{AreTokens}
 use Rattle.spectra_lexer.specs.Faults.{IsNotUtf8At, IsBadAt, IsTooLong}
 use Rattle.hidden_game.specs.GameOf.{game_of}
+use Rattle.hidden_game.specs.Agreement.{HasPlainLines}
+use Rattle.gr1_law.specs.Specifications.{NothingRecurs}
 use Rattle.spectra.specs.declared.words.Command.{Command}
 use Rattle.spectra.specs.declared.words.Command.TheVariants.{Synth, Run}
 use Rattle.spectra.specs.declared.status.Status.{Status}
@@ -55,11 +57,11 @@ pub too_many : (command : Command) (name : List ℕ) (before after : Moment) (s 
 too_many command name before after s status more (inl writes) = top.too_many more writes
 too_many command name before after s status more (inr wants) = top.no_memory wants
 
-module _ (command : Command) (s : Specification) (made : WellMade (game_of s)) (before after : Moment) where
+module _ (command : Command) (s : Specification) (plain : HasPlainLines s) (nothing : NothingRecurs s) (made : WellMade (game_of s)) (before after : Moment) where
   pub decided : (status : Status) → Decides command s (IsKept (game_of s)) (IsLost (game_of s)) before after status → Decides command s (IsWonBySystem s) (IsWonByEnvironment s) before after status
-  decided status (won k is kept writes) = won k is (won_found s made k kept) writes
+  decided status (won k is kept writes) = won k is (won_found s plain nothing made k kept) writes
   decided status (lost n m lost_so writes) = lost n m (lost_found s made n m lost_so) writes
-  decided status (held k is kept holds) = held k is (won_found s made k kept) holds
+  decided status (held k is kept holds) = held k is (won_found s plain nothing made k kept) holds
   decided status (no_memory wants) = no_memory wants
 
 -- for a text

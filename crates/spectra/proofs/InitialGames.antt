@@ -26,6 +26,9 @@ use Rattle.hidden_game.specs.declared.expanding.Time.TheVariants.{Always}
 use Rattle.hidden_game.specs.GameOf.{game_of, binds, said, numbered, lines_for}
 use Rattle.hidden_game.proofs.Agreeing.{moves_agree}
 use Rattle.hidden_game.proofs.Choices.{some_choice, all_alike}
+use Rattle.hidden_game.specs.Agreement.{HasPlainLines}
+use Rattle.gr1_law.specs.Specifications.{NothingRecurs}
+use Rattle.gr1_law.proofs.Staying.{staying_wins}
 use Rattle.safety.specs.Solution.{IsShiftCount, IsRoundCount, IsDenialCount}
 use Rattle.spectra.specs.First.{IsInitialLine, IsInitialOnly, answers_all}
 use Rattle.spectra.specs.Reading.{most_variables}
@@ -237,8 +240,13 @@ module _ (s : Specification) (only : IsInitialOnly s) (made : WellMade (game_of 
       counted (inr some) = absurd (some.0 (is_zero n found.shifts))
 
 -- what is found of the game of a specification is found of the specification
-pub won_found : (s : Specification) → WellMade (game_of s) → (k : ℕ) → IsKept (game_of s) k → IsWonBySystem s k
-won_found s made k found = record { game = found; initial = λ only. initial_kept s only made k found }
+pub won_found : (s : Specification) → HasPlainLines s → NothingRecurs s → WellMade (game_of s) → (k : ℕ) → IsKept (game_of s) k → IsWonBySystem s k
+won_found s plain nothing made k found =
+    record {
+      game = found;
+      wins = staying_wins s plain made nothing found.kept k found.greatest found.forced found.rounds;
+      initial = λ only. (initial_kept s only made k found).0;
+    }
 
 pub lost_found : (s : Specification) → WellMade (game_of s) → (n m : ℕ) → IsLost (game_of s) n m → IsWonByEnvironment s n m
 lost_found s made n m found = record { game = found; initial = λ only. initial_lost s only made n m found }

@@ -10,4 +10,5 @@ mod Fronts
 mod Exchanges
 mod Decided
 mod Causes
+mod Recurring
 mod Statuses

@@ -1,16 +1,14 @@
 -- Which status there is, by what is asked and told.
-use Rattle.std.proofs.Common.{◌≡◌, ℕ, ◌<◌, ◌≤◌, List, Option, Some, None, inl, inr, refl, length, ap, sym, subst, arith, ◌∙◌}
+use Rattle.std.proofs.Common.{◌≡◌, ℕ, List, Option, Some, None, inl, inr, refl, length, ap, sym, subst, arith, ◌∙◌}
 use Rattle.spec_model.specs.Syntax.{Specification}
-use Rattle.sp_outside.specs.Causes.{Rose}
 use Rattle.sp_outside.specs.Files.{Files, told_file, HasFile, HasNoFile}
 use Rattle.spectra.specs.declared.words.Command.{Command}
 use Rattle.spectra.specs.declared.status.Status.{Status}
-use Rattle.spectra.specs.declared.status.Status.TheVariants.{Done, Other, Words, Refused, Assumption, Budget, BadLine, ShelfFault, InputFault, OutputFault, Memory, NoFile, Limit}
+use Rattle.spectra.specs.declared.status.Status.TheVariants.{Words, Refused, ShelfFault, NoFile}
 use Rattle.spectra.specs.Status.{IsCutShort, IsUnlessCut, IsUnlessFault}
-use Rattle.spectra.specs.Commands.{Asks, AskNothing, word_of}
-use Rattle.spectra.specs.Sessions.{Moment, Writes, whole, cut, WantsMemory, Holds}
-use Rattle.spectra.specs.Sessions as sessions
-use Rattle.spectra.specs.Reading.{Reads, IsUnsupported, HasTooManyStates, IsRefused, most_variables}
+use Rattle.spectra.specs.Commands.{Asks, AskNothing}
+use Rattle.spectra.specs.Sessions.{Moment, Writes, whole, cut, WantsMemory}
+use Rattle.spectra.specs.Reading.{IsRefused}
 use Rattle.spectra.proofs.Readings.{one_meaning}
 use Rattle.spectra.specs.Top.{Decides, ServesSpecification, ServesText, ServesFile, ServesWords}
 use Rattle.spectra.specs.Top as top

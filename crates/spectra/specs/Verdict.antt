@@ -21,10 +21,11 @@ pub record IsLost (g : GameData) (n m : ℕ) : Type 0 where
   pub shifts : IsShiftCount g n
   pub denials : IsDenialCount n m
 
--- The system wins the specification's game. Where all lines are initial, K is 2, and it wins the specification with it.
+-- The system wins the specification with K: it can keep the play in the game's set. Where all lines are initial, K is 2.
 pub record IsWonBySystem (s : Specification) (k : ℕ) : Type 0 where
   pub game : IsKept (game_of s) k
-  pub initial : IsInitialOnly s → (k ≡ 2) × SystemWins s 2
+  pub wins : SystemWins s k
+  pub initial : IsInitialOnly s → k ≡ 2
 
 -- The environment wins it. Where all lines are initial, N is 0 and M is 1, and it wins the specification with them.
 pub record IsWonByEnvironment (s : Specification) (n m : ℕ) : Type 0 where

@@ -8,6 +8,8 @@ ghost use Rattle.spec_model.specs.Steps.{states_of};
 ghost use Rattle.spec_model.specs.WellMade.{WellMade};
 ghost use Rattle.spec_model.specs.GameViews.{game_data};
 ghost use Rattle.hidden_game.specs.GameOf.{game_of};
+ghost use Rattle.hidden_game.specs.Agreement.{HasPlainLines};
+ghost use Rattle.gr1_law.specs.Specifications.{NothingRecurs};
 ghost use Rattle.regions.specs.Kept.{HasRegion};
 ghost use Rattle.safety_play.specs.Standing.{CanStayIn};
 ghost use Rattle.spectra.specs.Reading.{most_variables};
@@ -107,7 +109,7 @@ fn decide_game<I: Source, O: Sink>(
     }
 }
 
-/// Does what the command wants with a specification of Boolean variables, whose game is well made.
+/// Does what the command wants with a specification of Boolean variables in which nothing recurs, whose game is well made.
 pub fn serve_specification<I: Source, O: Sink>(
     alloc: Global,
     command: Command,
@@ -117,6 +119,8 @@ pub fn serve_specification<I: Source, O: Sink>(
     output: &mut O,
 ) -> Status
     requires booleans { AllByRecursion (λ v. v.domain ≡ TruthValues) (spec_data spec.now).variables }
+    requires plain { HasPlainLines (spec_data spec.now) }
+    requires nothing_recurs { NothingRecurs (spec_data spec.now) }
     requires made { length (spec_data spec.now).variables ≤ most_variables → WellMade (game_of (spec_data spec.now)) }
     ensures { let before = moment (I.left input.old) (O.written output.old) (I.faults input.old) (O.faults output.old) in
         let after = moment (I.left input.new) (O.written output.new) (I.faults input.new) (O.faults output.new) in

@@ -29,8 +29,7 @@ fn serve_tokens<I: Source, O: Sink>(
 ) -> Status
     requires lexed { AreTokens text.now tokens.now }
     requires only { (others : List Token) → AreTokens text.now others → others ≡ tokens.now }
-    ensures {
-        let before = moment (I.left input.old) (O.written output.old) (I.faults input.old) (O.faults output.old) in
+    ensures { let before = moment (I.left input.old) (O.written output.old) (I.faults input.old) (O.faults output.old) in
         let after = moment (I.left input.new) (O.written output.new) (I.faults input.new) (O.faults output.new) in
         ServesText command name.now before after text.now result }
 {
@@ -50,8 +49,7 @@ fn serve_text<I: Source, O: Sink>(
     input: &mut I,
     output: &mut O,
 ) -> Status
-    ensures {
-        let before = moment (I.left input.old) (O.written output.old) (I.faults input.old) (O.faults output.old) in
+    ensures { let before = moment (I.left input.old) (O.written output.old) (I.faults input.old) (O.faults output.old) in
         let after = moment (I.left input.new) (O.written output.new) (I.faults input.new) (O.faults output.new) in
         ServesText command name.now before after text.now result }
 {

@@ -35,7 +35,7 @@ pub fn words_of(alloc: Global, line: &str) -> Result<Vec<String>, Fail> {
 }
 
 // The statements after `spec X`, the line, and the status.
-const TEXTS: [(&str, &str, u8); 35] = [
+const TEXTS: [(&str, &str, u8); 39] = [
     (
         "env boolean a; sys boolean g; gar ini a & g;",
         "unrealizable N=0 M=1\n",
@@ -124,11 +124,24 @@ const TEXTS: [(&str, &str, u8); 35] = [
         "t.spectra:1:1: fault 23 Unsupported\n",
         3,
     ),
+    ("sys boolean g; // a comment", "realizable K=2\n", 0),
     (
-        "sys boolean g; // a comment",
-        "t.spectra:1:1: fault 23 Unsupported\n",
+        "sys boolean g; /* a comment",
+        "t.spectra:2:16: fault 2 BadCharacter\n",
         3,
     ),
+    (
+        "sys boolean g; gar ini $;",
+        "t.spectra:2:24: fault 2 BadCharacter\n",
+        3,
+    ),
+    // A column is a character, and a name may have letters beyond ASCII.
+    (
+        "sys boolean né; gar ini né & #;",
+        "t.spectra:2:30: fault 2 BadCharacter\n",
+        3,
+    ),
+    ("sys boolean né; gar ini né; -- c", "realizable K=2\n", 0),
     ("sys boolean g; gar ini !!(g);", "realizable K=2\n", 0),
     // Safety lines: the reply g is next(r), which isn't known yet; so every state is lost after one position.
     (
@@ -333,8 +346,11 @@ fn a_sink_that_takes_one_byte_at_a_time_gets_the_whole_line(rt: HostRuntime) -> 
 fn the_longest_text_is_read_and_a_longer_one_is_not(rt: HostRuntime) -> Result<(), Fail> {
     let alloc = rt.alloc();
     let words = words_of(alloc, "spectra synth t.spectra")?;
-    // the number of blanks behind the header, and the status
-    for (blanks, number) in [(1_048_570usize, 0u8), (1_048_571, 3)] {
+    // the number of blanks behind the header, what is written, and the status
+    for (blanks, written, number) in [
+        (1_048_570usize, "realizable K=2\n", 0u8),
+        (1_048_571, "t.spectra:1:1: fault 3 TooLong\n", 3),
+    ] {
         let mut text = vec![in alloc; b' '; blanks]?;
         text.extend_from_slice(b"spec X")?;
         let mut shelf = MemoryShelf::make(alloc, &[])?;
@@ -342,7 +358,33 @@ fn the_longest_text_is_read_and_a_longer_one_is_not(rt: HostRuntime) -> Result<(
         let mut input = MemorySource::make(alloc, b"", &[])?;
         let mut output = MemorySink::make(alloc, 64, &[])?;
         let status = spectra(alloc, &words, &mut shelf, &mut input, &mut output);
+        assert_eq!(rt; output.written(), written.as_bytes(), "at {blanks}");
         assert_eq!(rt; status.number(), number, "at {blanks}");
+    }
+    Ok(())
+}
+
+#[test]
+fn bytes_that_begin_no_character_are_named(rt: HostRuntime) -> Result<(), Fail> {
+    let alloc = rt.alloc();
+    let words = words_of(alloc, "spectra synth t.spectra")?;
+    // the bytes, and the place of the first that begins no character: columns count characters
+    let cases: [(&[u8], &str); 3] = [
+        (b"\xFF", "t.spectra:1:1: fault 1 NotUtf8\n"),
+        (
+            b"spec X\n \xC3\xA9\x80;",
+            "t.spectra:2:3: fault 1 NotUtf8\n",
+        ),
+        (b"spec $ \xC3", "t.spectra:1:8: fault 1 NotUtf8\n"),
+    ];
+    for (text, written) in cases {
+        let mut shelf = MemoryShelf::make(alloc, &[])?;
+        shelf.put("t.spectra", text)?;
+        let mut input = MemorySource::make(alloc, b"", &[])?;
+        let mut output = MemorySink::make(alloc, 64, &[])?;
+        let status = spectra(alloc, &words, &mut shelf, &mut input, &mut output);
+        assert_eq!(rt; output.written(), written.as_bytes(), "at {text:?}");
+        assert_eq!(rt; status.number(), 3, "at {text:?}");
     }
     Ok(())
 }

@@ -1,4 +1,4 @@
-use Rattle.std.proofs.Common.{refl, sym, subst}
+use Rattle.std.proofs.Common.{sym, subst}
 use Rattle.std.proofs.KnownBytes.{Appends-nil}
 use Rattle.sp_outside.specs.Causes.{Rose}
 use Rattle.session.specs.declared.talking.End.{End}

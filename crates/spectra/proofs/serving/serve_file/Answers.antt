@@ -1,4 +1,4 @@
-use Rattle.std.proofs.Common.{refl, rules}
+use Rattle.std.proofs.Common.{rules}
 use Rattle.spectra.specs.Top as top
 use Rattle.spectra.proofs.Fronts.{file_served}
 use Rattle.spectra.proofs.Decided.{nothing_done, missing_file, failed_shelf}

@@ -4,10 +4,10 @@ use Rattle.spectra.proofs.Decided.{nothing_done, broken_text, bad_text, long_tex
 use Rattle.spectra.proofs.serving.serve_text.Goals as goal
 
 pub returns-in-Err-NotUtf8 : goal.returns-in-Err-NotUtf8
-returns-in-Err-NotUtf8 g c = broken_text _ _ _ _ _ _ c.in-Err-NotUtf8.line c.in-Err-NotUtf8.column (search rules) (c.say_fault.ensures _ _)
+returns-in-Err-NotUtf8 g c = broken_text _ _ _ _ _ _ _ _ (search rules) (c.say_fault.ensures _ _)
 
 pub returns-in-Err-BadCharacter : goal.returns-in-Err-BadCharacter
-returns-in-Err-BadCharacter g c = bad_text _ _ _ _ _ _ c.in-Err-BadCharacter.line c.in-Err-BadCharacter.column (search rules) (c.say_fault-in-Err-BadCharacter.ensures _ _)
+returns-in-Err-BadCharacter g c = bad_text _ _ _ _ _ _ _ _ (search rules) (c.say_fault-in-Err-BadCharacter.ensures _ _)
 
 pub returns-in-Err-TooLong : goal.returns-in-Err-TooLong
 returns-in-Err-TooLong g c = long_text _ _ _ _ _ _ (search rules) (c.say_fault-in-Err-TooLong.ensures _ _)

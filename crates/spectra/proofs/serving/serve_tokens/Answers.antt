@@ -2,6 +2,7 @@ use Rattle.std.proofs.Common.{rules, arith}
 use Rattle.spectra.specs.Top as top
 use Rattle.spectra.proofs.Forms.{means_booleans}
 use Rattle.spectra.proofs.MadeGames.{means_made}
+use Rattle.spectra.proofs.Recurring.{means_plain, means_nothing_recurs}
 use Rattle.spectra.proofs.Decided.{nothing_done, refused_text}
 use Rattle.spectra.proofs.serving.serve_tokens.Goals as goal
 
@@ -10,6 +11,12 @@ serve_specification-requires-clause-booleans g c = let reads = c.in-Ok.ensures.r
 
 pub serve_specification-requires-clause-made : goal.serve_specification-requires-clause-made
 serve_specification-requires-clause-made g c = let reads = c.in-Ok.ensures.reads in λ few. means_made reads.tree _ reads.means (omega (arith, few))
+
+pub serve_specification-requires-clause-plain : goal.serve_specification-requires-clause-plain
+serve_specification-requires-clause-plain g c = let reads = c.in-Ok.ensures.reads in means_plain reads.tree _ reads.means
+
+pub serve_specification-requires-clause-nothing_recurs : goal.serve_specification-requires-clause-nothing_recurs
+serve_specification-requires-clause-nothing_recurs g c = let reads = c.in-Ok.ensures.reads in means_nothing_recurs reads.tree _ reads.means
 
 pub returns-in-Ok : goal.returns-in-Ok
 returns-in-Ok g c = top.means _ c.in-Ok.ensures.reads c.serve_specification.ensures
