@@ -1,15 +1,15 @@
 -- The layers of one goal, while they are made.
-use Rattle.std.proofs.Common.{◌≡◌, ℕ, zero, suc, ◌+◌, ◌-◌, ◌≤◌, ◌<◌, ◌⊎◌, inl, inr, Bool, true, false, List, [], ◌∷◌, ◌++◌, map, length, None, vec_len, ap, sym, ◌∙◌, refl, subst, arith}
+use Rattle.std.proofs.Common.{◌≡◌, ℕ, zero, suc, ◌+◌, ◌-◌, ◌<◌, ◌⊎◌, inl, inr, Bool, true, false, List, [], ◌∷◌, ◌++◌, length, None, vec_len, ap, sym, ◌∙◌, refl, subst, arith}
 use Rattle.std.proofs.lemmas.List.{append-nil, append_assoc}
 use Rattle.spec_model.specs.Games.{GameData}
 use Rattle.spec_model.specs.Steps.{states_of}
 use Rattle.spec_model.specs.Sets.{StateSet, no_states, both, pre_sys, count_in}
-use Rattle.regions.specs.Kept.{Kept, Item, Region, Meaning, States, weight, HasRegion, HoldsBesides, IsExact}
+use Rattle.regions.specs.Kept.{Kept, HasRegion, HoldsBesides, IsExact}
 use Rattle.gr1_law.specs.Layers.{goal_set, assumption_sets}
 use Rattle.gr1_sys.specs.declared.layers.SysLayer.{SysLayer}
 use Rattle.gr1_sys.specs.Solution.{layer_of}
 use Rattle.gr1_sys.specs.Held.{MakesRegions, HasEach, SpendsAll, rank_sets, flatten, layer_regions, goal_regions, last_region, HaveParts, Grows, Climbs, HasClimbed}
-use Rattle.gr1_sys.proofs.Lists.{as_held, held_each, set_kept, region_stays, makes_both, makes_still, made_and_spent_all, each_append, length_push}
+use Rattle.gr1_sys.proofs.Lists.{as_held, set_kept, makes_both, makes_still, made_and_spent_all, each_append, length_push}
 use Rattle.gr1_sys.proofs.Parted.{nothing_made}
 use Rattle.gr1_sys.proofs.Popped.{goal_regions-push}
 use Rattle.gr1_sys.proofs.Winning.{layer_of-more}

@@ -1,22 +1,20 @@
 -- The sets that are made first.
-use Rattle.std.proofs.Common.{◌≡◌, ℕ, zero, suc, ◌+◌, ◌≤◌, ◌<◌, Bool, true, false, not, ◌&&◌, List, [], ◌∷◌, ◌++◌, map, length, get_or, slice_get, Some, None, vec_len, ◌==◌, ap, sym, ◌∙◌, refl, subst, arith}
+use Rattle.std.proofs.Common.{◌≡◌, ℕ, zero, suc, ◌<◌, Bool, true, false, not, ◌&&◌, List, [], ◌∷◌, ◌++◌, map, length, get_or, slice_get, Some, vec_len, ◌==◌, ap, sym, ◌∙◌, refl, arith}
 use Rattle.std.proofs.lemmas.List.{get_or-map, map-append, nil_from_length, ext_get_or}
 use Rattle.std.proofs.lemmas.Bool.Decides.{nat_tests}
-use Rattle.std.proofs.lemmas.Bool.{false≢true}
 use Rattle.spec_model.specs.declared.game.Game.{Game}
 use Rattle.spec_model.specs.GameViews.{game_data, goal_data}
-use Rattle.spec_model.specs.Games.{GameData, GoalData, State}
+use Rattle.spec_model.specs.Games.{GameData, GoalData}
 use Rattle.spec_model.specs.Steps.{below, is_state}
 use Rattle.spec_model.specs.Sets.{StateSet, no_states, all_states, rest, holding}
 use Rattle.regions.specs.declared.types.Recur.TheVariants.{Assumption, Guarantee}
 use Rattle.regions.specs.Rules.{states_holding}
-use Rattle.regions.specs.Kept.{Kept, Item, Region, Meaning, States, weight, HasRegion, HoldsBesides, MakesRegion, Spends, IsExact, IsSameGame}
+use Rattle.regions.specs.Kept.{Kept, Region, MakesRegion, Spends, IsExact, IsSameGame}
 use Rattle.gr1_law.specs.Layers.{or_all_states, goal_sets, assumption_sets}
 use Rattle.gr1_sys.specs.declared.givens.Given.{Given}
-use Rattle.gr1_sys.specs.declared.givens.Wanted.{Wanted}
 use Rattle.gr1_sys.specs.declared.givens.Wanted.TheVariants.{Goals, Lapses}
 use Rattle.gr1_sys.specs.Givens.{wanted, given_regions, given_sets}
-use Rattle.gr1_sys.specs.Held.{weight_as, MakesRegions, HasEach, HasTogether, SpendsAll, IsGiven}
+use Rattle.gr1_sys.specs.Held.{MakesRegions, HasTogether, SpendsAll, IsGiven}
 use Rattle.gr1_sys.proofs.Lists.{length_map, length_below, as_held, held_each, each_append, weight_as-more, weight_as_map-append, together_as, spent_as}
 use Rattle.regions.proofs.Holding.{spent}
 use Rattle.gr1_sys.proofs.Turned.{split_same}

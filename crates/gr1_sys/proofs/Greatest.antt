@@ -1,5 +1,5 @@
 -- The iterates of an equation reach its greatest set within as many turns as there are states, and so do those from none up.
-use Rattle.std.proofs.Common.{◌≡◌, ℕ, zero, suc, ◌+◌, ◌<◌, ◌≤◌, ◌-◌, Bool, true, false, List, [], ◌∷◌, length, if◌then◌else◌, refl, sym, ◌∙◌, ap, subst, arith, ◌⊎◌, inl, inr, IsTrue}
+use Rattle.std.proofs.Common.{◌≡◌, ℕ, zero, suc, ◌+◌, ◌<◌, ◌≤◌, ◌-◌, Bool, true, false, List, [], ◌∷◌, length, if◌then◌else◌, sym, ◌∙◌, ap, subst, arith, ◌⊎◌, inl, inr, IsTrue}
 use Rattle.spec_model.specs.Games.{GameData, State}
 use Rattle.spec_model.specs.Steps.{states_of}
 use Rattle.spec_model.specs.Sets.{StateSet, no_states, all_states, IsPartOf, IsGreatest, count_in}

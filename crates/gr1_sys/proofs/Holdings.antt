@@ -1,7 +1,7 @@
 -- What is held after a few calls, and what regions stand for then.
-use Rattle.std.proofs.Common.{◌≡◌, ℕ, ◌+◌, ◌≤◌, List, [], ◌∷◌, ◌∙◌, Result, Ok, Err, None, OnErr, IfOk, IfErr, ap, sym, subst, arith}
+use Rattle.std.proofs.Common.{[], ◌∷◌, ◌∙◌, Result, Ok, Err, OnErr, IfOk, subst, arith}
 use Rattle.spec_model.specs.Sets.{StateSet}
-use Rattle.regions.specs.Kept.{Kept, Item, Region, Meaning, States, weight, HasRegion, HoldsBesides, HoldsWithout, MakesRegion, Spends, Replaces, IsExact, IsSameGame}
+use Rattle.regions.specs.Kept.{Kept, Region, States, HasRegion, HoldsBesides, HoldsWithout, MakesRegion, Spends, Replaces, IsExact, IsSameGame}
 use Rattle.regions.proofs.Holding.{held_as, set_is, set_stays, spent}
 
 -- what holds anyway holds on an error

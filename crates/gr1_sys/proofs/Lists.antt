@@ -4,8 +4,8 @@ use Rattle.std.proofs.lemmas.List.{get_or-map, map-append}
 use Rattle.std.proofs.lemmas.List.Sums.{sum-map, sum_by_more, sum_by_more_le}
 use Rattle.spec_model.specs.Steps.{below}
 use Rattle.spec_model.specs.Sets.{StateSet, no_states}
-use Rattle.regions.specs.Kept.{Kept, Item, Region, Meaning, States, weight, HasRegion, HoldsBesides, MakesRegion, Spends, IsExact}
-use Rattle.regions.proofs.Holding.{held_as, set_is, spent}
+use Rattle.regions.specs.Kept.{Kept, Item, Region, Meaning, States, weight, HasRegion, HoldsBesides, MakesRegion, IsExact}
+use Rattle.regions.proofs.Holding.{held_as, set_is}
 use Rattle.gr1_sys.specs.Held.{weight_as, HasEach, HasTogether, MakesRegions, HoldsWithoutAll, SpendsAll, set_at, part_at, waiting}
 use Rattle.gr1_sys.specs.Solution.{greatest_of}
 

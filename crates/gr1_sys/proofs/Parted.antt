@@ -1,16 +1,15 @@
 -- The parts of a layer as lists, and as the equations have them.
-use Rattle.std.proofs.Common.{◌≡◌, ℕ, zero, suc, ◌+◌, ◌-◌, ◌≤◌, ◌<◌, ◌⊎◌, inl, inr, List, [], ◌∷◌, ◌++◌, map, length, get_or, slice_get, Option, Some, None, vec_len, ap, sym, ◌∙◌, refl, subst, arith}
+use Rattle.std.proofs.Common.{◌≡◌, ℕ, zero, suc, ◌+◌, ◌-◌, ◌≤◌, ◌<◌, ◌⊎◌, inl, inr, List, [], ◌∷◌, ◌++◌, map, length, get_or, slice_get, Some, None, ap, sym, ◌∙◌, refl, subst, arith}
 use Rattle.std.proofs.lemmas.List.{get_or-map, map-append, get_or_append_left, get_or-append_right}
-use Rattle.spec_model.specs.Games.{GameData}
 use Rattle.spec_model.specs.Steps.{below}
 use Rattle.spec_model.specs.Sets.{StateSet, no_states, both, either, rest, pre_sys}
-use Rattle.regions.specs.Kept.{Kept, Item, Region, Meaning, States, weight, HasRegion, HoldsBesides, MakesRegion, Spends, IsExact, IsSameGame}
+use Rattle.regions.specs.Kept.{Kept, Item, Region, Meaning, weight, HoldsBesides, MakesRegion, Spends, IsExact, IsSameGame}
 use Rattle.regions.proofs.Holding.{set_is, spent}
-use Rattle.gr1_law.specs.Layers.{goal_set, assumption_set, goal_sets, assumption_sets, union, part_value}
+use Rattle.gr1_law.specs.Layers.{goal_set, assumption_set, goal_sets, assumption_sets, union}
 use Rattle.gr1_sys.specs.declared.layers.SysLayer.{SysLayer}
 use Rattle.gr1_sys.specs.declared.givens.Given.{Given}
 use Rattle.gr1_sys.specs.Solution.{greatest_of, part_of, layer_of}
-use Rattle.gr1_sys.specs.Held.{weight_as, MakesRegions, HasEach, set_at, part_at, waiting, layer_sets, rank_sets, layer_regions, last_region, IsGiven}
+use Rattle.gr1_sys.specs.Held.{weight_as, MakesRegions, set_at, part_at, waiting, layer_sets, rank_sets, last_region, IsGiven}
 use Rattle.gr1_sys.proofs.Lists.{length_map, length_below, as_held, sets_stay, weight_as-more, region_stays, set_kept, each_stays}
 use Rattle.gr1_sys.proofs.Waits.{waiting_is}
 

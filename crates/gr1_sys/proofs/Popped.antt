@@ -1,9 +1,8 @@
 -- Regions that are spent one after the other, from the last.
-use Rattle.std.proofs.Common.{◌≡◌, ℕ, ◌+◌, ◌≤◌, List, [], ◌∷◌, ◌++◌, map, length, Vec, vec_len, ap, sym, ◌∙◌, refl, subst, arith}
+use Rattle.std.proofs.Common.{◌≡◌, ℕ, ◌+◌, List, [], ◌∷◌, ◌++◌, map, Vec, vec_len, ap, sym, ◌∙◌, arith}
 use Rattle.std.proofs.lemmas.List.{append_assoc, append-nil, nil_from_length}
 use Rattle.std.specs.declared.alloc.Global.{Global}
-use Rattle.spec_model.specs.Sets.{StateSet}
-use Rattle.regions.specs.Kept.{Kept, Item, Region, Meaning, States, weight, HasRegion, Spends, IsExact}
+use Rattle.regions.specs.Kept.{Kept, Item, Region, Meaning, weight, HasRegion, Spends, IsExact}
 use Rattle.gr1_sys.specs.declared.layers.SysLayer.{SysLayer}
 use Rattle.gr1_sys.specs.Held.{weight_as, HasTogether, SpendsAll, layer_regions, goal_regions, all_regions}
 use Rattle.gr1_sys.proofs.Lists.{weight_as-one, weight_as-none, weight_as-more, weight_as_map-append, length_map, together_as, spent_as}

@@ -1,13 +1,10 @@
 -- What is held after one value of Z was looked at.
-use Rattle.std.proofs.Common.{◌≡◌, ℕ, suc, ◌+◌, ◌≤◌, ◌<◌, List, [], ◌∷◌, ◌++◌, map, length, None, Vec, ap, sym, ◌∙◌, refl, subst, arith}
-use Rattle.std.specs.declared.alloc.Global.{Global}
-use Rattle.spec_model.specs.Sets.{StateSet, pre_sys}
-use Rattle.regions.specs.Kept.{Kept, Item, Region, Meaning, States, weight, HasRegion, HoldsBesides, MakesRegion, Spends, Replaces, Stays, IsExact, IsSameGame}
+use Rattle.std.proofs.Common.{◌≡◌, ℕ, ◌+◌, List, [], ◌∷◌, map, sym, ◌∙◌, subst, arith}
+use Rattle.spec_model.specs.Sets.{StateSet}
+use Rattle.regions.specs.Kept.{Kept, Item, Region, Meaning, States, weight, HasRegion, HoldsBesides, MakesRegion, Spends, Stays, IsExact}
 use Rattle.regions.proofs.Holding.{set_is, spent}
-use Rattle.gr1_sys.specs.Solution.{following}
-use Rattle.gr1_sys.specs.Held.{weight_as, MakesRegions, HasEach, HasTogether, SpendsAll, HoldsWithoutAll}
-use Rattle.gr1_sys.proofs.Holdings.{replaces}
-use Rattle.gr1_sys.proofs.Lists.{weight_as-more, length_map, as_held, held_each, set_kept, region_stays, together_as, spent_as}
+use Rattle.gr1_sys.specs.Held.{weight_as, MakesRegions, HasTogether, SpendsAll, HoldsWithoutAll}
+use Rattle.gr1_sys.proofs.Lists.{weight_as-more, length_map, as_held, set_kept, together_as, spent_as}
 
 module _ {R M : Type 0} where
   more_than : (k k1 : Kept R M) (r : R) (rs : List R) (s : StateSet) (ss : List StateSet) → MakesRegions k k1 (r ∷ rs) (s ∷ ss) → (w : Item R M → Meaning → ℕ) → weight k1 w ≡ w (Region r) (States s) + weight_as rs ss w + weight k w

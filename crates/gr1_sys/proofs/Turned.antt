@@ -5,13 +5,13 @@ use Rattle.std.specs.declared.alloc.Global.{Global}
 use Rattle.spec_model.specs.Games.{GameData}
 use Rattle.spec_model.specs.Steps.{below, states_of}
 use Rattle.spec_model.specs.Sets.{StateSet, no_states, both, pre_sys}
-use Rattle.regions.specs.Kept.{Kept, Item, Region, Meaning, States, weight, HasRegion, HoldsBesides, MakesRegion, Spends, IsExact, IsSameGame}
-use Rattle.regions.proofs.Holding.{set_is, spent}
-use Rattle.gr1_law.specs.Layers.{goal_sets, goal_set, assumption_sets, union, IsLeastNumber}
+use Rattle.regions.specs.Kept.{Kept, Item, Region, Meaning, weight, HasRegion, MakesRegion, Spends, IsExact, IsSameGame}
+use Rattle.regions.proofs.Holding.{set_is}
+use Rattle.gr1_law.specs.Layers.{goal_sets, goal_set, assumption_sets, IsLeastNumber}
 use Rattle.gr1_sys.specs.declared.layers.SysLayer.{SysLayer}
 use Rattle.gr1_sys.specs.declared.givens.Given.{Given}
 use Rattle.gr1_sys.specs.Solution.{part_of, layer_of, meet, following}
-use Rattle.gr1_sys.specs.Held.{MakesRegions, HasEach, IsGiven, Reaches, rank_sets, flatten, sets_of, ranks_of, layer_regions, goal_regions, all_regions, last_region, last_set, set_at, HaveParts, AllHaveParts, HasClimbed, HaveClimbed, TurnsTo}
+use Rattle.gr1_sys.specs.Held.{MakesRegions, HasEach, IsGiven, rank_sets, flatten, sets_of, ranks_of, layer_regions, goal_regions, all_regions, last_region, last_set, HaveParts, AllHaveParts, HasClimbed, HaveClimbed, TurnsTo}
 use Rattle.gr1_sys.proofs.Lists.{length_map, length_below, length_push, length_both, as_held, set_kept, set_at_is, makes_both, each_append, one_of, weight_as-more}
 use Rattle.gr1_sys.proofs.Parted.{nothing_made, made_above}
 use Rattle.gr1_sys.proofs.Popped.{all_regions-push}

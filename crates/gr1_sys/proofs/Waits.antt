@@ -1,13 +1,13 @@
 -- The equation of a layer's part, at the regions that stand for its sets.
-use Rattle.std.proofs.Common.{◌≡◌, ℕ, ◌<◌, ◌&&◌, ◌||◌, Bool, true, false, [], ◌∷◌, length, refl, sym, ◌∙◌, ap, subst, arith}
+use Rattle.std.proofs.Common.{◌≡◌, ℕ, ◌<◌, ◌&&◌, ◌||◌, Bool, true, false, [], ◌∷◌, refl, ◌∙◌, ap, subst}
 use Rattle.std.proofs.lemmas.Bool.{and_parts}
 use Rattle.spec_model.specs.Games.{GameData}
 use Rattle.spec_model.specs.Steps.{states_of}
-use Rattle.spec_model.specs.Sets.{StateSet, all_states, both, either, rest, pre_sys, IsPartOf, IsGreatest, count_in}
+use Rattle.spec_model.specs.Sets.{StateSet, all_states, both, either, rest, pre_sys, IsPartOf, count_in}
 use Rattle.spec_model.proofs.SetLaws.{pre_sys_grows, pre_sys-inside}
 use Rattle.spec_model.proofs.Fixpoints.{IsFalling, falling-first, falling-next, falling-last, falling-fewer, greatest-one}
 use Rattle.regions.specs.Kept.{Kept, Region, States, HasRegion, MakesRegion, Replaces, IsExact, IsSameGame}
-use Rattle.regions.proofs.Holding.{set_is, set_stays, made_is, replaced_is}
+use Rattle.regions.proofs.Holding.{set_stays, replaced_is}
 use Rattle.gr1_law.specs.Layers.{goal_set, assumption_set, part_value}
 use Rattle.gr1_sys.specs.Solution.{greatest_of}
 use Rattle.gr1_sys.specs.Held.{waiting}

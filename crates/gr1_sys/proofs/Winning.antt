@@ -1,13 +1,13 @@
 -- The layers as functions are those that the equations ask for, and Z is the greatest set that equals what follows it.
-use Rattle.std.proofs.Common.{◌≡◌, ℕ, zero, suc, ◌+◌, ◌<◌, ◌≤◌, ◌-◌, List, [], ◌∷◌, map, Bool, true, false, ◌&&◌, ◌||◌, length, refl, sym, ◌∙◌, ap, subst, arith, ◌⊎◌, inl, inr, IsTrue}
+use Rattle.std.proofs.Common.{◌≡◌, ℕ, zero, suc, ◌<◌, ◌-◌, List, [], ◌∷◌, map, Bool, true, false, ◌||◌, length, refl, sym, ◌∙◌, ap, subst, arith, ◌⊎◌, inl, inr, IsTrue}
 use Rattle.std.proofs.lemmas.Bool.{and_parts, and_from, or_cases, false≢true}
 use Rattle.spec_model.specs.Games.{GameData, State}
 use Rattle.spec_model.specs.Steps.{states_of}
-use Rattle.spec_model.specs.Sets.{StateSet, no_states, all_states, both, either, rest, holding, pre_sys, IsPartOf, IsGreatest, count_in}
+use Rattle.spec_model.specs.Sets.{StateSet, all_states, both, either, rest, holding, pre_sys, IsPartOf, IsGreatest, count_in}
 use Rattle.spec_model.proofs.SetLaws.{pre_sys_grows, pre_sys-inside}
 use Rattle.spec_model.proofs.Fixpoints.{greatest-one, rising-more}
 use Rattle.gr1_law.specs.Layers.{LayerSets, goal_sets, assumption_sets, or_all_states, goal_set, assumption_set, union, part_value, AreLayers, HasRanks, IsWinning}
-use Rattle.gr1_sys.specs.Solution.{greatest_of, part_of, layer_of, layers_for, meet, following}
+use Rattle.gr1_sys.specs.Solution.{part_of, layer_of, layers_for, meet, following}
 use Rattle.gr1_sys.proofs.Greatest.{greatest_of-greatest, count_at_most, up-rises, up-in_last, up-last}
 
 -- ---- growth

@@ -1,17 +1,17 @@
 -- Z with its layers, as they are held and shown.
-use Rattle.std.proofs.Common.{◌≡◌, ℕ, zero, suc, ◌+◌, ◌≤◌, ◌<◌, List, [], ◌∷◌, ◌++◌, map, length, get_or, slice_get, slice_index, Option, Some, None, MatchOption, true, false, Vec, vec_len, ap, sym, ◌∙◌, refl, subst, arith}
+use Rattle.std.proofs.Common.{◌≡◌, ℕ, zero, suc, ◌+◌, ◌<◌, List, [], ◌∷◌, map, length, get_or, slice_get, slice_index, Option, Some, None, MatchOption, Vec, vec_len, ap, sym, ◌∙◌, subst, arith}
 use Rattle.std.proofs.lemmas.List.{map-append}
 use Rattle.std.specs.declared.alloc.Global.{Global}
-use Rattle.spec_model.specs.Games.{GameData, State}
+use Rattle.spec_model.specs.Games.{GameData}
 use Rattle.spec_model.specs.Steps.{below}
 use Rattle.spec_model.specs.Sets.{StateSet, system_forces, IsGreatest}
-use Rattle.spec_model.proofs.Fixpoints.{IsFalling, falling-last, greatest-one}
+use Rattle.spec_model.proofs.Fixpoints.{IsFalling, falling-last}
 use Rattle.spec_model.proofs.Duality.{parts_agree}
-use Rattle.regions.specs.Kept.{Kept, Item, Region, Meaning, States, weight, HasRegion, HoldsBesides, MakesRegion, Stays, IsExact}
-use Rattle.gr1_law.specs.Layers.{LayerSets, goal_sets, assumption_sets, IsLeastNumber, AreGreatestRanks, IsWinning}
+use Rattle.regions.specs.Kept.{Kept, Item, Meaning, weight, MakesRegion, IsExact}
+use Rattle.gr1_law.specs.Layers.{LayerSets, goal_sets, assumption_sets, IsLeastNumber, IsWinning}
 use Rattle.gr1_sys.specs.declared.layers.SysLayer.{SysLayer}
 use Rattle.gr1_sys.specs.Solution.{part_of, layer_of, layers_for, following}
-use Rattle.gr1_sys.specs.Held.{weight_as, MakesRegions, HasTogether, SpendsAll, rank_sets, flatten, sets_of, ranks_of, layer_regions, goal_regions, all_regions, HaveParts, AllHaveParts}
+use Rattle.gr1_sys.specs.Held.{weight_as, MakesRegions, SpendsAll, rank_sets, flatten, sets_of, ranks_of, layer_regions, goal_regions, all_regions, HaveParts, AllHaveParts}
 use Rattle.gr1_sys.specs.Solved.{HoldsLayers, HasWon, IsLost, IsForced, IsDropped, WonBySystem}
 use Rattle.gr1_sys.proofs.Lists.{length_map, length_below, weight_as-more, as_held, set_kept, made_and_spent_all, makes_still}
 use Rattle.gr1_sys.proofs.Turned.{split_same, goal_stands}

@@ -1,10 +1,10 @@
 -- The system's winning states, as a solver holds them.
-use Rattle.std.specs.Prelude.{◌≡◌, ℕ, suc, ◌+◌, ◌<◌, true, false, List, ◌∷◌, length, map, slice_get, slice_index, Option, Some, None, Vec}
+use Rattle.std.specs.Prelude.{◌≡◌, ℕ, suc, ◌+◌, ◌<◌, true, false, List, ◌∷◌, length, map, slice_get, slice_index, Some, None, Vec}
 use Rattle.std.specs.declared.alloc.Global.{Global}
 use Rattle.spec_model.specs.Games.{GameData}
 use Rattle.spec_model.specs.Steps.{below}
 use Rattle.spec_model.specs.Sets.{StateSet, system_forces, IsGreatest}
-use Rattle.regions.specs.Kept.{Kept, Item, Region, Meaning, States, HoldsBesides, MakesRegion, Replaces, Stays, weight}
+use Rattle.regions.specs.Kept.{Kept, Item, Region, Meaning, States, Replaces, Stays, weight}
 use Rattle.gr1_law.specs.Layers.{LayerSets, goal_sets, assumption_sets, IsLeastNumber, AreGreatestRanks, IsWinning}
 use Rattle.gr1_sys.specs.declared.layers.SysLayer.{SysLayer}
 use Rattle.gr1_sys.specs.declared.solving.Step.{Step}

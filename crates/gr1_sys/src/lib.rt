@@ -19,3 +19,6 @@ mod turns;
 
 pub use layers::{SysLayer, SysLayers};
 pub use solving::solve_sys;
+
+#[cfg(test)]
+mod tests;

@@ -1,4 +1,4 @@
-use Rattle.std.proofs.Common.{◌≡◌, ◌∙◌, ◌++◌, ◌∷◌, [], List, length, ap, subst, sym, refl, arith}
+use Rattle.std.proofs.Common.{◌∙◌, length, subst, refl, arith}
 use Rattle.gr1_sys.specs.Held.{Grows, goal_regions, last_region}
 use Rattle.gr1_sys.proofs.Holdings.{on_err, same_then}
 use Rattle.gr1_sys.proofs.Lists.{region_stays, set_kept, together_as, made_and_taken_all}

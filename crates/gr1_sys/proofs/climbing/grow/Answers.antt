@@ -1,7 +1,7 @@
-use Rattle.std.proofs.Common.{◌≡◌, ◌∙◌, ◌++◌, ◌∷◌, [], List, true, ap, subst, sym, arith}
+use Rattle.std.proofs.Common.{◌∙◌, ◌++◌, ◌∷◌, [], List, ap, subst, sym, arith}
 use Rattle.std.proofs.lemmas.Bool.{false≢true}
 use Rattle.regions.specs.Kept.{HasRegion}
-use Rattle.gr1_sys.specs.Held.{HasTogether, HoldsWithoutAll, SpendsAll, rank_sets, layer_regions, goal_regions, last_region}
+use Rattle.gr1_sys.specs.Held.{HasTogether, SpendsAll, rank_sets, layer_regions, goal_regions, last_region}
 use Rattle.gr1_sys.proofs.Lists.{held_each, together_each, together_as, together_stays, takes_all, region_stays}
 use Rattle.gr1_sys.proofs.Climbed.{last_region_held, compared, next_spent}
 use Rattle.gr1_sys.proofs.climbing.grow.Goals as goal

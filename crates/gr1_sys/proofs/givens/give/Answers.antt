@@ -1,4 +1,4 @@
-use Rattle.std.proofs.Common.{◌≡◌, ◌∙◌, ◌∷◌, ap, sym, subst, arith}
+use Rattle.std.proofs.Common.{◌∷◌, subst, arith}
 use Rattle.spec_model.specs.Sets.{no_states}
 use Rattle.gr1_sys.specs.declared.givens.Wanted.TheVariants.{Goals, Lapses}
 use Rattle.gr1_sys.specs.Held.{MakesRegions}

@@ -1,4 +1,4 @@
-use Rattle.std.proofs.Common.{◌≡◌, ◌∙◌, ap, subst, sym, arith}
+use Rattle.std.proofs.Common.{◌∙◌, ap, subst, sym, arith}
 use Rattle.std.proofs.lemmas.Result.{IfOk-weaker}
 use Rattle.spec_model.specs.Sets.{rest}
 use Rattle.regions.specs.Kept.{MakesRegion}

@@ -1,4 +1,4 @@
-use Rattle.std.proofs.Common.{◌≡◌, ◌∷◌, [], arith}
+use Rattle.std.proofs.Common.{arith}
 use Rattle.gr1_sys.proofs.Lists.{together_as, made_and_spent_all}
 use Rattle.gr1_sys.proofs.Givings.{one_before}
 use Rattle.gr1_sys.proofs.givens.with_goals.Goals as goal

@@ -1,13 +1,10 @@
 use Rattle.std.proofs.Common.{◌≡◌, sym, ◌∙◌, subst}
 use Rattle.std.proofs.lemmas.Bool.{false≢true}
-use Rattle.spec_model.specs.Steps.{states_of}
-use Rattle.spec_model.specs.Sets.{count_in, all_states}
 use Rattle.spec_model.proofs.Fixpoints.{IsFalling}
 use Rattle.regions.specs.Kept.{MakesRegion}
 use Rattle.regions.proofs.Holding.{made_is}
 use Rattle.gr1_sys.specs.Held.{waiting}
-use Rattle.gr1_sys.specs.Solution.{greatest_of}
-use Rattle.gr1_sys.proofs.Holdings.{same_then, dropped}
+use Rattle.gr1_sys.proofs.Holdings.{same_then}
 use Rattle.gr1_sys.proofs.Waits.{waiting-first, waiting-next, waiting-fewer, waiting-last, turned, still}
 use Rattle.gr1_sys.proofs.parts.greatest_part.Goals as goal
 

@@ -1,5 +1,4 @@
-use Rattle.std.proofs.Common.{◌≡◌, ◌∙◌, List, length, ap, subst, sym, arith}
-use Rattle.regions.specs.Kept.{MakesRegion}
+use Rattle.std.proofs.Common.{◌∙◌, List, length, ap, subst, sym, arith}
 use Rattle.gr1_sys.specs.Held.{HasEach, MakesRegions, part_at, layer_sets, layer_regions}
 use Rattle.gr1_sys.proofs.Lists.{each_stays}
 use Rattle.gr1_sys.proofs.Parted.{rank_made, made_above, halted_above, given_counted}

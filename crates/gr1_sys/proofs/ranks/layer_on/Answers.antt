@@ -1,4 +1,4 @@
-use Rattle.std.proofs.Common.{◌≡◌, ◌∙◌, List, length, map, subst, sym, arith}
+use Rattle.std.proofs.Common.{◌≡◌, ◌∙◌, List, length, subst, sym, arith}
 use Rattle.spec_model.specs.Steps.{below}
 use Rattle.regions.specs.Kept.{MakesRegion}
 use Rattle.gr1_law.specs.Layers.{union}

@@ -1,9 +1,8 @@
-use Rattle.std.proofs.Common.{◌≡◌, ◌∙◌, suc, ◌+◌, ◌++◌, [], ◌∷◌, List, map, ap, subst, sym, refl, arith}
+use Rattle.std.proofs.Common.{◌∙◌, ◌+◌, ◌++◌, [], ◌∷◌, List, map, ap, subst, sym, refl, arith}
 use Rattle.spec_model.specs.Steps.{below}
-use Rattle.spec_model.specs.Sets.{StateSet}
 use Rattle.regions.specs.Kept.{MakesRegion}
 use Rattle.gr1_sys.specs.Held.{MakesRegions, part_at}
-use Rattle.gr1_sys.proofs.Holdings.{on_err, same_then, dropped, replaced_as}
+use Rattle.gr1_sys.proofs.Holdings.{same_then}
 use Rattle.gr1_sys.proofs.Lists.{one_of, region_stays, part_stays, together_as, makes_more, made_and_spent_all}
 use Rattle.gr1_sys.proofs.Parted.{nothing_made, map_below-more}
 use Rattle.gr1_sys.proofs.ranks.solutions.Goals as goal

@@ -1,4 +1,4 @@
-use Rattle.std.proofs.Common.{◌≡◌, suc, ◌+◌, ap, subst, sym, arith}
+use Rattle.std.proofs.Common.{◌≡◌, suc, ◌+◌, subst, sym, arith}
 use Rattle.spec_model.specs.Sets.{either}
 use Rattle.regions.specs.Kept.{MakesRegion}
 use Rattle.gr1_law.specs.Layers.{union}

@@ -1,4 +1,3 @@
-use Rattle.std.proofs.Common.{arith}
 use Rattle.gr1_sys.specs.Held.{all_regions}
 use Rattle.gr1_sys.proofs.Popped.{first_together, rest_together, first_and_rest}
 use Rattle.gr1_sys.proofs.solving.counted.Goals as goal

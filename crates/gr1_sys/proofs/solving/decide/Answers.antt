@@ -1,4 +1,4 @@
-use Rattle.std.proofs.Common.{◌≡◌, ◌∙◌, ◌∷◌, sym, arith}
+use Rattle.std.proofs.Common.{◌∷◌, arith}
 use Rattle.gr1_sys.specs.Held.{all_regions}
 use Rattle.gr1_sys.proofs.Lists.{together_stays, takes_all}
 use Rattle.gr1_sys.proofs.Popped.{first_together, rest_together, first_and_rest}

@@ -1,4 +1,4 @@
-use Rattle.std.proofs.Common.{◌≡◌, ap, arith, take, vec_len, sum, refl}
+use Rattle.std.proofs.Common.{ap, arith, vec_len, sum, refl}
 use Rattle.std.proofs.lemmas.Bool.{false≢true}
 use Rattle.std.proofs.lemmas.List.{take_all}
 use Rattle.gr1_sys.specs.Held.{ranks_of}

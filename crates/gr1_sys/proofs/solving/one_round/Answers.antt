@@ -1,4 +1,4 @@
-use Rattle.std.proofs.Common.{◌≡◌, ◌∙◌, sym, refl, arith}
+use Rattle.std.proofs.Common.{◌∙◌, sym, refl, arith}
 use Rattle.std.proofs.lemmas.Bool.{false≢true}
 use Rattle.gr1_sys.specs.Solution.{following}
 use Rattle.gr1_sys.specs.Held.{all_regions, sets_of, rank_sets}

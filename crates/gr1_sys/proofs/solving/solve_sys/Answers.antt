@@ -1,6 +1,6 @@
-use Rattle.std.proofs.Common.{◌≡◌, ◌∙◌, ◌∷◌, sym, arith}
+use Rattle.std.proofs.Common.{◌∙◌, ◌∷◌, arith}
 use Rattle.std.proofs.lemmas.Result.{IfOk-weaker, on_err_weaker}
-use Rattle.gr1_sys.specs.Givens.{given_regions, given_sets}
+use Rattle.gr1_sys.specs.Givens.{given_regions}
 use Rattle.gr1_sys.specs.Held.{all_regions, sets_of, rank_sets}
 use Rattle.gr1_sys.proofs.Lists.{together_as, made_and_spent_all, made_and_taken_all}
 use Rattle.gr1_sys.proofs.Givings.{is_given}

@@ -1,4 +1,4 @@
-use Rattle.std.proofs.Common.{◌≡◌, [], ◌∷◌, ◌∙◌, ap, subst}
+use Rattle.std.proofs.Common.{◌≡◌, [], ◌∷◌, ◌∙◌, subst}
 use Rattle.gr1_sys.proofs.Holdings.{same_then}
 use Rattle.gr1_sys.proofs.Popped.{IsLeft, last_together, last_spent, all_spent, one_together, one_spent, none_left}
 use Rattle.gr1_sys.proofs.spending.spend_all.Goals as goal

@@ -1,6 +1,6 @@
-use Rattle.std.proofs.Common.{◌≡◌, ℕ, ◌+◌, map}
-use Rattle.regions.specs.Kept.{Item, Meaning, weight, IsSameGame}
-use Rattle.gr1_sys.specs.Held.{weight_as, goal_regions, all_regions}
+use Rattle.std.proofs.Common.{◌≡◌, ◌+◌, map}
+use Rattle.regions.specs.Kept.{weight, IsSameGame}
+use Rattle.gr1_sys.specs.Held.{weight_as, all_regions}
 use Rattle.gr1_sys.proofs.spending.spend_goals.Given as goal
 
 -- what is held besides what is left was held at first but for what was given

@@ -1,7 +1,7 @@
 use Rattle.std.proofs.Common.{◌≡◌, [], ◌∙◌, ap, subst}
-use Rattle.gr1_sys.specs.Held.{layer_regions, goal_regions, all_regions}
+use Rattle.gr1_sys.specs.Held.{layer_regions, goal_regions}
 use Rattle.gr1_sys.proofs.Holdings.{same_then}
-use Rattle.gr1_sys.proofs.Popped.{IsLeft, last_together, last_spent, all_spent, one_together, one_spent, none_left, goal_regions-push, all_regions-push}
+use Rattle.gr1_sys.proofs.Popped.{IsLeft, last_together, last_spent, all_spent, none_left, goal_regions-push}
 use Rattle.gr1_sys.proofs.spending.spend_layers.Goals as goal
 
 pub spend_layer-requires : goal.spend_layer-requires

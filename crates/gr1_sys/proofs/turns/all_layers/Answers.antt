@@ -1,4 +1,4 @@
-use Rattle.std.proofs.Common.{◌≡◌, ◌∙◌, ◌+◌, ◌++◌, ◌∷◌, [], List, length, ap, subst, sym, refl, arith}
+use Rattle.std.proofs.Common.{◌≡◌, ◌∙◌, ◌+◌, List, length, ap, subst, sym, refl, arith}
 use Rattle.spec_model.specs.Sets.{pre_sys}
 use Rattle.gr1_sys.specs.Held.{HasClimbed, HaveClimbed, all_regions}
 use Rattle.gr1_sys.proofs.Holdings.{same_then}

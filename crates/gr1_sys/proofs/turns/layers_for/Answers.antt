@@ -1,4 +1,4 @@
-use Rattle.std.proofs.Common.{◌≡◌, ◌∙◌, arith}
+use Rattle.std.proofs.Common.{arith}
 use Rattle.gr1_sys.proofs.Parted.{given_stays, halted_above}
 use Rattle.gr1_sys.proofs.Turned.{above_held, ready_is, all_climbed_above}
 use Rattle.gr1_sys.proofs.turns.layers_for.Goals as goal

@@ -1,4 +1,4 @@
-use Rattle.std.proofs.Common.{◌≡◌, ◌∙◌, arith}
+use Rattle.std.proofs.Common.{arith}
 use Rattle.gr1_sys.proofs.Parted.{given_stays, halted_above}
 use Rattle.gr1_sys.proofs.Turned.{above_held, reach_is, climbed_above}
 use Rattle.gr1_sys.proofs.turns.layers_of.Goals as goal

@@ -1,6 +1,5 @@
-use Rattle.std.proofs.Common.{◌≡◌, ◌∙◌, List, length, ap, subst, sym, arith}
+use Rattle.std.proofs.Common.{◌∙◌, List, length, ap, subst, sym, arith}
 use Rattle.regions.specs.Kept.{MakesRegion}
-use Rattle.gr1_law.specs.Layers.{goal_sets}
 use Rattle.gr1_sys.specs.Solution.{meet}
 use Rattle.gr1_sys.specs.Held.{HasEach, all_regions, last_set}
 use Rattle.gr1_sys.proofs.Lists.{region_stays, set_kept, held_each, together_as, made_and_spent_all, length_map}
