@@ -1,7 +1,7 @@
-//! Who wins a game without recurring lines, and the system's replies in it.
+//! Who wins a game without recurring lines, and with which numbers.
 //!
 //! The system wins where each legal first input has a legal first output into Z, the greatest set of states in which it
-//! can stay for ever (Bloem et al. 2012, safety games). A reply is the first legal output that leads into Z.
+//! can stay for ever (Bloem et al. 2012, safety games).
 //!
 //! Contract: `solve`. Path: regions → **layers of a safety game** → verdict.
 #![tactic(auto)]

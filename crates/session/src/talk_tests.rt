@@ -103,58 +103,59 @@ fn free(alloc: Global) -> Result<Spec, AllocError>
     with_lines(alloc, Vec::new(alloc))
 }
 
+// The input, the limit, the calls of the input and of the output that fail, the end, and what is written
+const TALKS: [(&str, u64, &[u64], &[u64], End, &str); 10] = [
+    ("", 9, &[], &[], End::Finished, ""),
+    (
+        "r=true\nr=false\n",
+        9,
+        &[],
+        &[],
+        End::Finished,
+        "g=true\ng=false\n",
+    ),
+    (
+        "r=true\r\nr=false",
+        9,
+        &[],
+        &[],
+        End::Finished,
+        "g=true\ng=false\n",
+    ),
+    (
+        "r=true\nr=false\n",
+        2,
+        &[],
+        &[],
+        End::StateLimit,
+        "g=true\ng=false\n",
+    ),
+    (
+        "r=true\nr=false",
+        2,
+        &[],
+        &[],
+        End::StateLimit,
+        "g=true\ng=false\n",
+    ),
+    ("r=true\nr=1\n", 9, &[], &[], End::BadLine(2), "g=true\n"),
+    ("\n", 9, &[], &[], End::BadLine(1), ""),
+    ("r=true\n", 9, &[1], &[], End::ReadFault, ""),
+    ("r=true\n", 9, &[2], &[], End::ReadFault, "g=true\n"),
+    (
+        "r=true\nr=false\n",
+        9,
+        &[],
+        &[2],
+        End::WriteFault,
+        "g=true\n",
+    ),
+];
+
 #[test]
 fn each_line_is_answered_until_the_talk_ends(rt: HostRuntime) -> Result<(), Fail> {
     let alloc = rt.alloc();
-    // the input, the limit, the calls of the input and of the output that fail, the end, and what is written
-    let cases: [(&str, u64, &[u64], &[u64], End, &str); 10] = [
-        ("", 9, &[], &[], End::Finished, ""),
-        (
-            "r=true\nr=false\n",
-            9,
-            &[],
-            &[],
-            End::Finished,
-            "g=true\ng=false\n",
-        ),
-        (
-            "r=true\r\nr=false",
-            9,
-            &[],
-            &[],
-            End::Finished,
-            "g=true\ng=false\n",
-        ),
-        (
-            "r=true\nr=false\n",
-            2,
-            &[],
-            &[],
-            End::StateLimit,
-            "g=true\ng=false\n",
-        ),
-        (
-            "r=true\nr=false",
-            2,
-            &[],
-            &[],
-            End::StateLimit,
-            "g=true\ng=false\n",
-        ),
-        ("r=true\nr=1\n", 9, &[], &[], End::BadLine(2), "g=true\n"),
-        ("\n", 9, &[], &[], End::BadLine(1), ""),
-        ("r=true\n", 9, &[1], &[], End::ReadFault, ""),
-        ("r=true\n", 9, &[2], &[], End::ReadFault, "g=true\n"),
-        (
-            "r=true\nr=false\n",
-            9,
-            &[],
-            &[2],
-            End::WriteFault,
-            "g=true\n",
-        ),
-    ];
-    for (input, limit, reads, writes, end, text) in cases {
+    for (input, limit, reads, writes, end, text) in TALKS {
         let (ended, sink) = echoed(alloc, input.as_bytes(), limit, reads, writes)?;
         assert_eq!(rt; ended, end, "at {input}");
         assert_eq!(rt; sink.written(), text.as_bytes(), "at {input}");

@@ -130,127 +130,129 @@ fn shown(alloc: Global, text: &[u8]) -> Result<String, Fail> {
 }
 
 // Each expression begins at column 16, and the columns are counted by hand from there.
+const TREES: [(&[u8], &str); 16] = [
+    (
+        b"spec X gar ini !a | (b) & true;",
+        "8 Guarantee Initial (16@19 Or 19 (16@16 Not (17@17 a))(21@25 And 25 (21@22 b)(27@27 true)))",
+    ),
+    (
+        b"spec X asm ini a & b & c;",
+        "8 Assumption Initial (16@18 And 18 22 (16@16 a)(20@20 b)(24@24 c))",
+    ),
+    (b"spec X asm alw a;", "8 Assumption Always (16@16 a)"),
+    (b"spec X gar alw false;", "8 Guarantee Always (16@16 false)"),
+    (
+        b"spec X gar alw a -> b | c;",
+        "8 Guarantee Always (16@18 Implies (16@16 a)(21@23 Or 23 (21@21 b)(25@25 c)))",
+    ),
+    (
+        b"spec X gar alw a | b <-> c & d;",
+        "8 Guarantee Always (16@22 Iff (16@18 Or 18 (16@16 a)(20@20 b))(26@28 And 28 (26@26 c)(30@30 d)))",
+    ),
+    (
+        b"spec X gar alw a->b;",
+        "8 Guarantee Always (16@17 Implies (16@16 a)(19@19 b))",
+    ),
+    (
+        b"spec X gar alw a<->b;",
+        "8 Guarantee Always (16@17 Iff (16@16 a)(20@20 b))",
+    ),
+    (
+        b"spec X gar alw (a -> b) -> c;",
+        "8 Guarantee Always (16@25 Implies (16@19 Implies (17@17 a)(22@22 b))(28@28 c))",
+    ),
+    (
+        b"spec X gar alw a -> (b <-> c);",
+        "8 Guarantee Always (16@18 Implies (16@16 a)(21@24 Iff (22@22 b)(28@28 c)))",
+    ),
+    (
+        b"spec X gar alw next(a);",
+        "8 Guarantee Always (16@16 next (21@21 a))",
+    ),
+    (
+        b"spec X gar alw next (a);",
+        "8 Guarantee Always (16@16 next (22@22 a))",
+    ),
+    (
+        b"spec X gar alw !next(a);",
+        "8 Guarantee Always (16@16 Not (17@17 next (22@22 a)))",
+    ),
+    (
+        b"spec X gar alw next(next(a));",
+        "8 Guarantee Always (16@16 next (21@21 next (26@26 a)))",
+    ),
+    (
+        b"spec X gar alw (next((a) -> b)) & c;",
+        "8 Guarantee Always (16@33 And 33 (16@17 next (22@26 Implies (22@23 a)(29@29 b)))(35@35 c))",
+    ),
+    (
+        b"spec X gar ini next(a) <-> b;",
+        "8 Guarantee Initial (16@24 Iff (16@16 next (21@21 a))(28@28 b))",
+    ),
+];
+
 #[test]
 fn a_line_has_its_tree(rt: HostRuntime) -> Result<(), Fail> {
-    let cases: [(&[u8], &str); 16] = [
-        (
-            b"spec X gar ini !a | (b) & true;",
-            "8 Guarantee Initial (16@19 Or 19 (16@16 Not (17@17 a))(21@25 And 25 (21@22 b)(27@27 true)))",
-        ),
-        (
-            b"spec X asm ini a & b & c;",
-            "8 Assumption Initial (16@18 And 18 22 (16@16 a)(20@20 b)(24@24 c))",
-        ),
-        (b"spec X asm alw a;", "8 Assumption Always (16@16 a)"),
-        (b"spec X gar alw false;", "8 Guarantee Always (16@16 false)"),
-        (
-            b"spec X gar alw a -> b | c;",
-            "8 Guarantee Always (16@18 Implies (16@16 a)(21@23 Or 23 (21@21 b)(25@25 c)))",
-        ),
-        (
-            b"spec X gar alw a | b <-> c & d;",
-            "8 Guarantee Always (16@22 Iff (16@18 Or 18 (16@16 a)(20@20 b))(26@28 And 28 (26@26 c)(30@30 d)))",
-        ),
-        (
-            b"spec X gar alw a->b;",
-            "8 Guarantee Always (16@17 Implies (16@16 a)(19@19 b))",
-        ),
-        (
-            b"spec X gar alw a<->b;",
-            "8 Guarantee Always (16@17 Iff (16@16 a)(20@20 b))",
-        ),
-        (
-            b"spec X gar alw (a -> b) -> c;",
-            "8 Guarantee Always (16@25 Implies (16@19 Implies (17@17 a)(22@22 b))(28@28 c))",
-        ),
-        (
-            b"spec X gar alw a -> (b <-> c);",
-            "8 Guarantee Always (16@18 Implies (16@16 a)(21@24 Iff (22@22 b)(28@28 c)))",
-        ),
-        (
-            b"spec X gar alw next(a);",
-            "8 Guarantee Always (16@16 next (21@21 a))",
-        ),
-        (
-            b"spec X gar alw next (a);",
-            "8 Guarantee Always (16@16 next (22@22 a))",
-        ),
-        (
-            b"spec X gar alw !next(a);",
-            "8 Guarantee Always (16@16 Not (17@17 next (22@22 a)))",
-        ),
-        (
-            b"spec X gar alw next(next(a));",
-            "8 Guarantee Always (16@16 next (21@21 next (26@26 a)))",
-        ),
-        (
-            b"spec X gar alw (next((a) -> b)) & c;",
-            "8 Guarantee Always (16@33 And 33 (16@17 next (22@26 Implies (22@23 a)(29@29 b)))(35@35 c))",
-        ),
-        (
-            b"spec X gar ini next(a) <-> b;",
-            "8 Guarantee Initial (16@24 Iff (16@16 next (21@21 a))(28@28 b))",
-        ),
-    ];
-    for (text, expected) in cases {
+    for (text, expected) in TREES {
         let found = shown(rt.alloc(), text)?;
         assert_eq!(rt; found.as_str(), expected, "{text:?}");
     }
     Ok(())
 }
 
+const REFUSED: [&[u8]; 47] = [
+    b"",
+    b"spec",
+    b"spec X Y",
+    b"spec env",
+    b"spec 1a",
+    b"module X",
+    b"env boolean a;",
+    b"spec X env boolean a",
+    b"spec X env a;",
+    b"spec X env boolean ini;",
+    b"spec X gar ini a & | b;",
+    b"spec X gar ini a b;",
+    b"spec X gar ini (a;",
+    b"spec X gar ini a);",
+    b"spec X gar ini a !b;",
+    b"spec X gar ini not a;",
+    b"spec X gar alw;",
+    b"spec X gar a;",
+    b"spec X gar ini alw a;",
+    b"spec X gar always a;",
+    b"spec X gar G a;",
+    b"spec X gar trans a;",
+    b"spec X gar alwEv a;",
+    b"spec X gar initially a;",
+    b"spec X assumption ini a;",
+    b"spec X /* comment",
+    b"spec X gar alw a -> b -> c;",
+    b"spec X gar alw a -> b <-> c;",
+    b"spec X gar alw a <-> b -> c;",
+    b"spec X gar alw (a -> b -> c);",
+    b"spec X gar alw next(a -> b -> c);",
+    b"spec X gar alw a ->;",
+    b"spec X gar alw -> a;",
+    b"spec X gar alw a -> -> b;",
+    b"spec X gar alw !-> a;",
+    b"spec X gar alw a-b;",
+    b"spec X gar alw a--b;",
+    b"spec X gar alw a<-b;",
+    b"spec X gar alw a implies b;",
+    b"spec X gar alw next a;",
+    b"spec X gar alw next;",
+    b"spec X gar alw next();",
+    b"spec X gar alw next(a;",
+    b"spec X gar alw next(a));",
+    b"spec X gar alw next!(a);",
+    b"spec X gar alw a next(b);",
+    b"spec X env boolean next;",
+];
+
 #[test]
 fn texts_of_no_form_are_refused(rt: HostRuntime) {
-    let cases: [&[u8]; 47] = [
-        b"",
-        b"spec",
-        b"spec X Y",
-        b"spec env",
-        b"spec 1a",
-        b"module X",
-        b"env boolean a;",
-        b"spec X env boolean a",
-        b"spec X env a;",
-        b"spec X env boolean ini;",
-        b"spec X gar ini a & | b;",
-        b"spec X gar ini a b;",
-        b"spec X gar ini (a;",
-        b"spec X gar ini a);",
-        b"spec X gar ini a !b;",
-        b"spec X gar ini not a;",
-        b"spec X gar alw;",
-        b"spec X gar a;",
-        b"spec X gar ini alw a;",
-        b"spec X gar always a;",
-        b"spec X gar G a;",
-        b"spec X gar trans a;",
-        b"spec X gar alwEv a;",
-        b"spec X gar initially a;",
-        b"spec X assumption ini a;",
-        b"spec X /* comment",
-        b"spec X gar alw a -> b -> c;",
-        b"spec X gar alw a -> b <-> c;",
-        b"spec X gar alw a <-> b -> c;",
-        b"spec X gar alw (a -> b -> c);",
-        b"spec X gar alw next(a -> b -> c);",
-        b"spec X gar alw a ->;",
-        b"spec X gar alw -> a;",
-        b"spec X gar alw a -> -> b;",
-        b"spec X gar alw !-> a;",
-        b"spec X gar alw a-b;",
-        b"spec X gar alw a--b;",
-        b"spec X gar alw a<-b;",
-        b"spec X gar alw a implies b;",
-        b"spec X gar alw next a;",
-        b"spec X gar alw next;",
-        b"spec X gar alw next();",
-        b"spec X gar alw next(a;",
-        b"spec X gar alw next(a));",
-        b"spec X gar alw next!(a);",
-        b"spec X gar alw a next(b);",
-        b"spec X env boolean next;",
-    ];
-    for text in cases {
+    for text in REFUSED {
         assert!(rt;
             matches!(read(rt.alloc(), text), Err(SyntaxFault::Unsupported(0))),
             "{text:?}"
