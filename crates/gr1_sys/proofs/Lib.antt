@@ -1,6 +1,8 @@
 mod Greatest
 mod Winning
 mod Holdings
+mod Told
+mod Naming
 mod Waits
 mod Lists
 mod Popped

@@ -20,7 +20,7 @@ use Rattle.gr1_sys.proofs.Winning.{layer_of-last}
 less_or_last : (i n : ℕ) → i < n + 1 → (i < n) ⊎ (i ≡ n)
 less_or_last i n before = grind (arith, before)
 
-meet-same : (g : GameData) (f h : ℕ → StateSet) (n : ℕ) → ((i : ℕ) → i < n → f i ≡ h i) → meet g f n ≡ meet g h n
+pub meet-same : (g : GameData) (f h : ℕ → StateSet) (n : ℕ) → ((i : ℕ) → i < n → f i ≡ h i) → meet g f n ≡ meet g h n
 meet-same g f h zero same = refl
 meet-same g f h (suc n) same = ap (λ t. both t (f n)) (meet-same g f h n (λ i before. same i (omega arith))) ∙ ap (λ t. both (meet g h n) t) (same n (omega arith))
 
@@ -167,14 +167,23 @@ module _ {G R M : Type 0} where
       counted : (v : Vec (SysLayer G R M) Global) → vec_len v ≡ length v.items
       counted v = omega arith
 
+  -- likewise, once the layers of all goals are made
+  pub last_sets_stand : (g : GameData) (first k : Kept R M) (none : R) (z : StateSet) (goals : List (Vec (SysLayer G R M) Global)) → IsExact k → k.set none ≡ no_states → HaveClimbed g first k z goals →
+      (j : ℕ) → j < length goals → last_set k none goals j ≡ layer_of g z j (length (states_of g))
+  last_sets_stand g first k none z goals exact empty climbed j before = by_goals goals refl
+    where
+      by_goals : (vs : List (Vec (SysLayer G R M) Global)) → goals ≡ vs → last_set k none goals j ≡ layer_of g z j (length (states_of g))
+      by_goals [] e = absurd (omega (arith, before, ap (λ (vs : List (Vec (SysLayer G R M) Global)). length vs) e))
+      by_goals (v ∷ vs) e =
+          last_set_stands g k none z goals empty climbed.parts (as_held k (all_regions goals) (sets_of (rank_sets g z) goals) exact climbed.made.counted (λ w. omega (arith, climbed.made.held w))) climbed.greatest j v before
+
   -- the layers of a turn with the value that follows
   pub turns_to : (k k1 k2 : Kept R M) (none : R) (z : StateSet) (goals : List (Vec (SysLayer G R M) Global)) (next : R) → IsExact k1 → k1.game ≡ k.game → k1.set none ≡ no_states →
       HaveClimbed k.game k k1 z goals → length goals ≡ length (goal_sets k.game) → MakesRegion k1 k2 next (meet k1.game (last_set k1 none goals) (length goals)) → TurnsTo k k2 z goals next
   turns_to k k1 k2 none z goals next exact same empty climbed counted met =
-      let are = as_held k1 (all_regions goals) (sets_of (rank_sets k.game z) goals) exact climbed.made.counted (λ w. omega (arith, climbed.made.held w)) in
       let met_is : meet k1.game (last_set k1 none goals) (length goals) ≡ following k.game z =
       ap (λ h. meet h (last_set k1 none goals) (length goals)) same ∙ (ap (meet k.game (last_set k1 none goals)) counted ∙
-      meet-same k.game (last_set k1 none goals) (λ j. layer_of k.game z j (length (states_of k.game))) (length (goal_sets k.game)) (λ j before. at_goal are j (omega (arith, before, counted)))) in
+      meet-same k.game (last_set k1 none goals) (λ j. layer_of k.game z j (length (states_of k.game))) (length (goal_sets k.game)) (λ j before. last_sets_stand k.game k k1 none z goals exact empty climbed j (omega (arith, before, counted)))) in
       let made : MakesRegion k1 k2 next (following k.game z) = subst (MakesRegion k1 k2 next) met_is met in
       record {
         made = record {
@@ -186,13 +195,6 @@ module _ {G R M : Type 0} where
         counted = counted;
         greatest = climbed.greatest;
       }
-    where
-      at_goal : map k1.set (all_regions goals) ≡ sets_of (rank_sets k.game z) goals → (j : ℕ) → j < length goals → last_set k1 none goals j ≡ layer_of k.game z j (length (states_of k.game))
-      at_goal are j before = by_goals goals refl
-        where
-          by_goals : (vs : List (Vec (SysLayer G R M) Global)) → goals ≡ vs → last_set k1 none goals j ≡ layer_of k.game z j (length (states_of k.game))
-          by_goals [] e = absurd (omega (arith, before, ap (λ (vs : List (Vec (SysLayer G R M) Global)). length vs) e))
-          by_goals (v ∷ vs) e = last_set_stands k.game k1 none z goals empty climbed.parts are climbed.greatest j v before
 
   -- one of the goals that are given
   pub goal_is : (first k : Kept R M) (given : Given G R M) (listed : List R) (item : R) (i : ℕ) → IsExact k → IsSameGame first k → ((w : Item R M → Meaning → ℕ) → weight first w ≤ weight k w) → IsGiven first given →

@@ -2,4 +2,5 @@ pub mod Held
 pub mod Givens
 pub mod Solved
 pub mod Solution
+pub mod Moment
 pub mod Examples

@@ -1,8 +1,9 @@
 //! The regions that a solver makes first and keeps to its end.
 
-ghost use Rattle.std.specs.Prelude.{◌≡◌, ◌<◌, ◌∷◌, [], None, IfOk, OnErr, length, get_or};
-ghost use Rattle.spec_model.specs.Sets.{no_states};
+ghost use Rattle.std.specs.Prelude.{◌≡◌, ◌<◌, ◌∷◌, [], None, IfOk, IfErr, OnErr, length, get_or};
+ghost use Rattle.spec_model.specs.Sets.{StateSet, no_states};
 ghost use Rattle.regions.specs.Kept.{HasRegion, HoldsBesides, MakesRegion, IsSameGame};
+ghost use Rattle.gr1_sys.specs.Moment.{TellsHalt};
 ghost use Rattle.gr1_sys.specs.Held.{HasTogether, MakesRegions, SpendsAll};
 ghost use Rattle.gr1_sys.specs.Givens.{wanted, given_regions, given_sets};
 
@@ -43,6 +44,7 @@ fn goal_region<G: Regions>(g: &mut G, j: usize) -> Result<G::R, Halt>
     requires there { j < length (wanted (G.kept g.old).game Wanted.Goals) }
     ensures made { let k = G.kept g.old in IfOk result (λ r. MakesRegion k (G.kept g.new) r (get_or (wanted k.game Wanted.Goals) j no_states)) }
     ensures halted { OnErr result (HoldsBesides (G.kept g.old) (G.kept g.new) []) }
+    ensures told { (z : StateSet) → IfErr result (TellsHalt (G.kept g.old) (G.kept g.new) z) }
     ensures same { IsSameGame (G.kept g.old) (G.kept g.new) }
 {
     if g.game().goals.is_empty() {
@@ -58,6 +60,7 @@ fn lapse_region<G: Regions>(g: &mut G, i: usize) -> Result<G::R, Halt>
     requires there { i < length (wanted (G.kept g.old).game Wanted.Lapses) }
     ensures made { let k = G.kept g.old in IfOk result (λ r. MakesRegion k (G.kept g.new) r (get_or (wanted k.game Wanted.Lapses) i no_states)) }
     ensures halted { OnErr result (HoldsBesides (G.kept g.old) (G.kept g.new) []) }
+    ensures told { (z : StateSet) → IfErr result (TellsHalt (G.kept g.old) (G.kept g.new) z) }
     ensures same { IsSameGame (G.kept g.old) (G.kept g.new) }
 {
     if g.game().assume.is_empty() {
@@ -82,6 +85,7 @@ fn region_of<G: Regions>(g: &mut G, kind: Wanted, i: usize) -> Result<G::R, Halt
     requires there { i < length (wanted (G.kept g.old).game kind) }
     ensures made { let k = G.kept g.old in IfOk result (λ r. MakesRegion k (G.kept g.new) r (get_or (wanted k.game kind) i no_states)) }
     ensures halted { OnErr result (HoldsBesides (G.kept g.old) (G.kept g.new) []) }
+    ensures told { (z : StateSet) → IfErr result (TellsHalt (G.kept g.old) (G.kept g.new) z) }
     ensures same { IsSameGame (G.kept g.old) (G.kept g.new) }
 {
     match kind {
@@ -95,6 +99,7 @@ fn regions_of<G: Regions>(alloc: Global, g: &mut G, kind: Wanted) -> Result<Vec<
     requires free { (G.kept g.old).jam ≡ None }
     ensures made { let k = G.kept g.old in IfOk result (λ rs. MakesRegions k (G.kept g.new) rs.items (wanted k.game kind)) }
     ensures halted { OnErr result (HoldsBesides (G.kept g.old) (G.kept g.new) []) }
+    ensures told { (z : StateSet) → IfErr result (TellsHalt (G.kept g.old) (G.kept g.new) z) }
     ensures same { IsSameGame (G.kept g.old) (G.kept g.new) }
 {
     let n = count(g, kind);
@@ -119,6 +124,7 @@ pub fn give<G: Regions>(alloc: Global, g: &mut G) -> Result<Given<G>, Halt>
     ensures made { let k = G.kept g.old in IfOk result (λ given. MakesRegions k (G.kept g.new) (given_regions given) (given_sets k.game)) }
     ensures counted { let k = G.kept g.old in IfOk result (λ given. length given.goals.items ≡ length (wanted k.game Wanted.Goals)) }
     ensures halted { OnErr result (HoldsBesides (G.kept g.old) (G.kept g.new) []) }
+    ensures told { (z : StateSet) → IfErr result (TellsHalt (G.kept g.old) (G.kept g.new) z) }
     ensures same { IsSameGame (G.kept g.old) (G.kept g.new) }
 {
     let goals = regions_of(alloc, g, Wanted::Goals)?;
@@ -140,6 +146,7 @@ fn with_goals<G: Regions>(alloc: Global, g: &mut G) -> Result<(G::R, Vec<G::R>),
     requires free { (G.kept g.old).jam ≡ None }
     ensures made { let k = G.kept g.old in IfOk result (λ r. MakesRegions k (G.kept g.new) (r.0 ∷ r.1.items) (no_states ∷ wanted k.game Wanted.Lapses)) }
     ensures halted { OnErr result (HoldsBesides (G.kept g.old) (G.kept g.new) []) }
+    ensures told { (z : StateSet) → IfErr result (TellsHalt (G.kept g.old) (G.kept g.new) z) }
     ensures same { IsSameGame (G.kept g.old) (G.kept g.new) }
 {
     let lapses = regions_of(alloc, g, Wanted::Lapses)?;

@@ -1,8 +1,8 @@
 //! Regions joined in place.
 
-ghost use Rattle.std.specs.Prelude.{◌≡◌, None, IfOk, OnErr};
+ghost use Rattle.std.specs.Prelude.{◌≡◌, [], ◌∷◌, None, IfOk, IfErr, OnErr};
 ghost use Rattle.spec_model.specs.Sets.{either, both};
-ghost use Rattle.regions.specs.Kept.{Region, States, HasRegion, HoldsWithout, IsSameGame, Replaces};
+ghost use Rattle.regions.specs.Kept.{And, Or, Region, States, HasRegion, HoldsWithout, IsSameGame, Replaces, jam_after};
 
 use regions::{Halt, Regions};
 
@@ -14,6 +14,7 @@ pub fn or_in<G: Regions>(g: &mut G, a: G::R, b: &G::R) -> Result<G::R, Halt>
     ensures made { let k = G.kept g.old in
         IfOk result (λ r. Replaces k (G.kept g.new) (Region a) (States (k.set a)) (Region r) (States (either (k.set a) (k.set b.now)))) }
     ensures halted { let k = G.kept g.old in OnErr result (HoldsWithout k (G.kept g.new) (Region a) (States (k.set a))) }
+    ensures told { let k = G.kept g.old in IfErr result (λ halt. (G.kept g.new).jam ≡ jam_after k Or (States (k.set a) ∷ States (k.set b.now) ∷ []) halt) }
     ensures same { IsSameGame (G.kept g.old) (G.kept g.new) }
 {
     match g.or(&a, b) {
@@ -36,6 +37,7 @@ pub fn and_in<G: Regions>(g: &mut G, a: G::R, b: &G::R) -> Result<G::R, Halt>
     ensures made { let k = G.kept g.old in
         IfOk result (λ r. Replaces k (G.kept g.new) (Region a) (States (k.set a)) (Region r) (States (both (k.set a) (k.set b.now)))) }
     ensures halted { let k = G.kept g.old in OnErr result (HoldsWithout k (G.kept g.new) (Region a) (States (k.set a))) }
+    ensures told { let k = G.kept g.old in IfErr result (λ halt. (G.kept g.new).jam ≡ jam_after k And (States (k.set a) ∷ States (k.set b.now) ∷ []) halt) }
     ensures same { IsSameGame (G.kept g.old) (G.kept g.new) }
 {
     match g.and(&a, b) {

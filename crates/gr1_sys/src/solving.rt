@@ -1,9 +1,10 @@
 //! The system's winning states, with their layers.
 
-ghost use Rattle.std.specs.Prelude.{◌≡◌, ◌↔◌, ◌+◌, ◌≤◌, [], ◌∷◌, None, Some, IfOk, OnErr, IsTrue, MatchOption, sum};
+ghost use Rattle.std.specs.Prelude.{◌≡◌, ◌↔◌, ◌+◌, ◌≤◌, [], ◌∷◌, None, Some, IfOk, IfErr, OnErr, IsTrue, MatchOption, sum};
 ghost use Rattle.spec_model.specs.Sets.{StateSet, system_forces, IsGreatest};
 ghost use Rattle.regions.specs.Kept.{Region, States, HasRegion, HoldsBesides, HoldsWithout, IsSameGame, Stays};
 ghost use Rattle.gr1_sys.specs.Solution.{following};
+ghost use Rattle.gr1_sys.specs.Moment.{IsValueOfZ, TellsHalt, TellsOneMoment};
 ghost use Rattle.gr1_sys.specs.Held.{HasTogether, HoldsWithoutAll, MakesRegions, IsGiven, ranks_of, all_regions};
 ghost use Rattle.gr1_sys.specs.Solved.{Steps, HasWon, IsForced, IsDropped, IsLost, WonBySystem};
 
@@ -37,6 +38,7 @@ fn one_round<G: Regions>(
     requires given { IsGiven (G.kept g.old) given.now }
     ensures steps { let k = G.kept g.old in IfOk result (λ s. Steps k (G.kept g.new) z (k.set z) s) }
     ensures halted { let k = G.kept g.old in OnErr result (HoldsWithout k (G.kept g.new) (Region z) (States (k.set z))) }
+    ensures told { let k = G.kept g.old in IfErr result (TellsHalt k (G.kept g.new) (k.set z)) }
     ensures same { IsSameGame (G.kept g.old) (G.kept g.new) }
 {
     match turn(alloc, g, &z, given) {
@@ -66,7 +68,9 @@ fn winning<G: Regions>(
     requires free { (G.kept g.old).jam ≡ None }
     requires given { IsGiven (G.kept g.old) given.now }
     ensures won { IfOk result (λ r. HasWon (G.kept g.old) (G.kept g.new) r.0 r.1.items) }
+    ensures value { IfOk result (λ r. IsValueOfZ (G.kept g.old).game ((G.kept g.new).set r.0)) }
     ensures halted { OnErr result (HoldsBesides (G.kept g.old) (G.kept g.new) []) }
+    ensures told { IfErr result (TellsOneMoment (G.kept g.old) (G.kept g.new)) }
     ensures same { IsSameGame (G.kept g.old) (G.kept g.new) }
 {
     let mut z = g.all()?;
@@ -102,6 +106,7 @@ fn counted<G: Regions>(
     ensures layers { IfOk result (λ l. (l.z ≡ z) × (l.goals.items ≡ goals.items)) }
     ensures stays { IfOk result (λ _. Stays (G.kept g.old) (G.kept g.new)) }
     ensures halted { OnErr result (HoldsWithoutAll (G.kept g.old) (G.kept g.new) (z ∷ all_regions goals.items)) }
+    ensures told { IfErr result (λ halt. (halt ≡ Halt.Memory) × ((G.kept g.new).jam ≡ (G.kept g.old).jam)) }
     ensures same { IsSameGame (G.kept g.old) (G.kept g.new) }
 {
     if fits(&goals) {
@@ -123,6 +128,7 @@ fn decide<G: Regions>(
     requires held { HasTogether (G.kept g.old) (z ∷ all_regions goals.items) }
     ensures decided { let k = G.kept g.old in IfOk result (λ o. MatchOption o (IsDropped k (G.kept g.new) z (all_regions goals.items)) (λ l. (l.z ≡ z) × ((l.goals.items ≡ goals.items) × IsForced k (G.kept g.new) z))) }
     ensures halted { OnErr result (HoldsWithoutAll (G.kept g.old) (G.kept g.new) (z ∷ all_regions goals.items)) }
+    ensures told { let k = G.kept g.old in IfErr result (TellsHalt k (G.kept g.new) (k.set z)) }
     ensures same { IsSameGame (G.kept g.old) (G.kept g.new) }
 {
     match g.start_sys(&z) {
@@ -146,11 +152,13 @@ fn decide<G: Regions>(
 /// The layers of the system's winning states, which must be spent; none exactly where some legal first input has no legal
 /// first output into these states. Nothing else is held after the call than before.
 ///
-/// `Budget`: a call of `g` answered it. `Memory`: none was given, or K passes 2^64 - 1.
+/// `Budget`: a call of `g` answered it, and what it tells was held then are, besides what was held before, sets of one
+/// moment: there is one value of Z, and each is of its equations. `Memory`: none was given, or K passes 2^64 - 1.
 pub fn solve_sys<G: Regions>(alloc: Global, g: &mut G) -> Result<Option<SysLayers<G>>, Halt>
     requires free { (G.kept g.old).jam ≡ None }
     ensures solved { let k = G.kept g.old in IfOk result (λ o. MatchOption o (IsLost k (G.kept g.new)) (λ l. (sets : _) × WonBySystem k (G.kept g.new) l.z l.goals.items sets)) }
     ensures halted { OnErr result (HoldsBesides (G.kept g.old) (G.kept g.new) []) }
+    ensures told { IfErr result (TellsOneMoment (G.kept g.old) (G.kept g.new)) }
     ensures same { IsSameGame (G.kept g.old) (G.kept g.new) }
 {
     let given = give(alloc, g)?;

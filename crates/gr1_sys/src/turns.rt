@@ -1,10 +1,12 @@
 //! The layers of each goal for one value of Z, and the value that follows.
 
-ghost use Rattle.std.specs.Prelude.{◌≡◌, ℕ, [], ◌∷◌, None, IfOk, OnErr, length};
+ghost use Rattle.std.specs.Prelude.{◌≡◌, ◌<◌, ℕ, [], ◌∷◌, None, IfOk, IfErr, OnErr, length};
+ghost use Rattle.spec_model.specs.Steps.{states_of};
 ghost use Rattle.spec_model.specs.Sets.{StateSet, pre_sys};
 ghost use Rattle.regions.specs.Kept.{HasRegion, HoldsBesides, MakesRegion, IsSameGame};
 ghost use Rattle.gr1_law.specs.Layers.{goal_set};
-ghost use Rattle.gr1_sys.specs.Solution.{meet, following};
+ghost use Rattle.gr1_sys.specs.Solution.{layer_of, meet, following};
+ghost use Rattle.gr1_sys.specs.Moment.{TellsHalt};
 ghost use Rattle.gr1_sys.specs.Held.{HasEach, MakesRegions, IsGiven, HasClimbed, HaveClimbed, all_regions, last_set, TurnsTo};
 
 use crate::climbing::goal_layers;
@@ -33,6 +35,7 @@ fn layers_of<G: Regions>(
     ensures climbed { let k = G.kept g.old in (z : StateSet) (j : ℕ) → k.set goal.now ≡ goal_set k.game j → k.set ready.now ≡ pre_sys k.game z →
         IfOk result (λ layers. HasClimbed k.game k (G.kept g.new) z j layers.items) }
     ensures halted { OnErr result (HoldsBesides (G.kept g.old) (G.kept g.new) []) }
+    ensures told { let k = G.kept g.old in (z : StateSet) (j : ℕ) → k.set goal.now ≡ goal_set k.game j → k.set ready.now ≡ pre_sys k.game z → IfErr result (TellsHalt k (G.kept g.new) z) }
     ensures same { IsSameGame (G.kept g.old) (G.kept g.new) }
 {
     let reach = g.and(goal, ready)?;
@@ -62,6 +65,7 @@ fn all_layers<G: Regions>(
     ensures climbed { let k = G.kept g.old in (z : StateSet) → k.set ready.now ≡ pre_sys k.game z →
         IfOk result (λ goals. HaveClimbed k.game k (G.kept g.new) z goals.items × (length goals.items ≡ length given.now.goals.items)) }
     ensures halted { OnErr result (HoldsBesides (G.kept g.old) (G.kept g.new) []) }
+    ensures told { let k = G.kept g.old in (z : StateSet) → k.set ready.now ≡ pre_sys k.game z → IfErr result (TellsHalt k (G.kept g.new) z) }
     ensures same { IsSameGame (G.kept g.old) (G.kept g.new) }
 {
     let Ok(mut goals) = Vec::with_capacity(alloc, given.goals.len()) else {
@@ -92,6 +96,7 @@ fn layers_for<G: Regions>(
     ensures climbed { let k = G.kept g.old in
         IfOk result (λ goals. HaveClimbed k.game k (G.kept g.new) (k.set z.now) goals.items × (length goals.items ≡ length given.now.goals.items)) }
     ensures halted { OnErr result (HoldsBesides (G.kept g.old) (G.kept g.new) []) }
+    ensures told { let k = G.kept g.old in IfErr result (TellsHalt k (G.kept g.new) (k.set z.now)) }
     ensures same { IsSameGame (G.kept g.old) (G.kept g.new) }
 {
     let ready = g.pre_sys(z)?;
@@ -115,6 +120,7 @@ fn common<G: Regions>(g: &mut G, none: &G::R, goals: &[Vec<SysLayer<G>>]) -> Res
     ensures made { let k = G.kept g.old in
         IfOk result (λ r. MakesRegion k (G.kept g.new) r (meet k.game (last_set k none.now goals.now) (length goals.now))) }
     ensures halted { OnErr result (HoldsBesides (G.kept g.old) (G.kept g.new) []) }
+    ensures told { let k = G.kept g.old in (z : StateSet) → ((j : ℕ) → j < length goals.now → last_set k none.now goals.now j ≡ layer_of k.game z j (length (states_of k.game))) → IfErr result (TellsHalt k (G.kept g.new) z) }
     ensures same { IsSameGame (G.kept g.old) (G.kept g.new) }
 {
     let mut met = g.all()?;
@@ -136,6 +142,7 @@ pub fn turn<G: Regions>(
     requires given { IsGiven (G.kept g.old) given.now }
     ensures turned { let k = G.kept g.old in IfOk result (λ r. TurnsTo k (G.kept g.new) (k.set z.now) r.0.items r.1) }
     ensures halted { OnErr result (HoldsBesides (G.kept g.old) (G.kept g.new) []) }
+    ensures told { let k = G.kept g.old in IfErr result (TellsHalt k (G.kept g.new) (k.set z.now)) }
     ensures same { IsSameGame (G.kept g.old) (G.kept g.new) }
 {
     let goals = layers_for(alloc, g, z, given)?;

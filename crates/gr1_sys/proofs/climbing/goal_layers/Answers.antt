@@ -1,9 +1,15 @@
-use Rattle.std.proofs.Common.{◌∙◌, length, subst, refl, arith}
-use Rattle.gr1_sys.specs.Held.{Grows, goal_regions, last_region}
+use Rattle.std.proofs.Common.{◌∙◌, length, subst, refl, arith, ap, sym}
+use Rattle.gr1_sys.specs.Held.{Grows, rank_sets, flatten, goal_regions, last_region}
 use Rattle.gr1_sys.proofs.Holdings.{on_err, same_then}
 use Rattle.gr1_sys.proofs.Lists.{region_stays, set_kept, together_as, made_and_taken_all}
 use Rattle.gr1_sys.proofs.Parted.{given_stays}
 use Rattle.gr1_sys.proofs.Climbed.{climbs_first, climbs_next, climbs_fewer, climbed, grows_at}
+use Rattle.spec_model.specs.Sets.{both, pre_sys}
+use Rattle.gr1_law.specs.Layers.{goal_set}
+use Rattle.gr1_sys.specs.Solution.{layer_of}
+use Rattle.gr1_sys.specs.Moment.{TellsHalt}
+use Rattle.gr1_sys.proofs.Told.{handed_on, past_many}
+use Rattle.gr1_sys.proofs.Naming.{rank_named, flatten_named}
 use Rattle.gr1_sys.proofs.climbing.goal_layers.Goals as goal
 
 pub loop-more-init : goal.loop-more-init
@@ -85,3 +91,20 @@ loop-more-preserved g c =
           climbs_next first.game first k new c.args.given.now.none z j ls c.in_ok-more.more.items (g.met.G.Regions.exact _) climbs (subst (Grows first.game k new z j ls (length ls) c.in_ok-more.more.items) c.if-settled.false grown);
       same = same_then first k new c.loop-more.invariant.same c.grow.ensures.same;
     }
+
+pub returns-in_err-more-clause-told : goal.returns-in_err-more-clause-told
+returns-in_err-more-clause-told g c = λ z j reach_is.
+    let kept = g.G.Regions.kept in
+    let first = kept c.args.g.now in
+    let k = kept c.loop-more.g in
+    let new = kept c.grow.new.g in
+    let ls = c.loop-more.layers.items in
+    let n = length ls in
+    let game = c.loop-more.invariant.same.game in
+    let climbs = c.loop-more.invariant.climbs z j reach_is in
+    let reach_kept = set_kept first k c.args.reach.now (g.met.G.Regions.exact _) (λ w. omega (arith, climbs.made.held w)) c.requires.reach in
+    let reach_now = reach_kept ∙ (reach_is ∙ ap (λ h. both (goal_set h j) (pre_sys h z)) (sym game)) in
+    let last_now = climbs.last ∙ ap (λ h. layer_of h z j n) (sym game) in
+    handed_on c.from_residual.result c.in_err-more.field-0.0 (TellsHalt first new z) c.from_residual.ensures.1
+    (past_many first k new new z (goal_regions ls) (flatten (rank_sets first.game z j) n) c.in_err-more.field-0.0 game climbs.made (flatten_named first.game z (rank_sets first.game z j) n (λ r. rank_named first.game z j r)) refl
+    (c.in_err-more.ensures.told z j n reach_now last_now))

@@ -4,6 +4,7 @@ use Rattle.regions.specs.Kept.{HasRegion}
 use Rattle.gr1_sys.specs.Held.{HasTogether, SpendsAll, rank_sets, layer_regions, goal_regions, last_region}
 use Rattle.gr1_sys.proofs.Lists.{held_each, together_each, together_as, together_stays, takes_all, region_stays}
 use Rattle.gr1_sys.proofs.Climbed.{last_region_held, compared, next_spent}
+use Rattle.gr1_sys.proofs.Told.{still_told}
 use Rattle.gr1_sys.proofs.climbing.grow.Goals as goal
 
 pub layer_above-requires-clause-below : goal.layer_above-requires-clause-below
@@ -81,3 +82,10 @@ returns-in-Err-clause-halted g c =
     let kept = g.G.Regions.kept in
     takes_all (kept c.args.g.now) (kept c.layer_above.new.g) (kept c.spend_layers-in-Err.new.g) (goal_regions c.args.layers.items) (g.met.G.Regions.exact _) c.requires.layers c.in-Err.ensures.halted
     (subst (λ (ls : List _). SpendsAll (kept c.layer_above.new.g) (kept c.spend_layers-in-Err.new.g) (goal_regions ls)) c.reserve.ensures.items c.spend_layers-in-Err.ensures.spends)
+
+pub returns-in-Err-clause-told : goal.returns-in-Err-clause-told
+returns-in-Err-clause-told g c = λ z j n reach_is last_is.
+    let kept = g.G.Regions.kept in
+    let k = kept c.args.g.now in
+    let below_is = c.last_layer.ensures ∙ ap (last_region c.args.given.now.none) (c.deref.ensures.value ∙ c.reserve.ensures.items) in
+    still_told k (kept c.layer_above.new.g) (kept c.spend_layers-in-Err.new.g) z c.in-Err.halt c.spend_layers-in-Err.ensures.spends.jam (c.in-Err.ensures.told z j n reach_is (ap k.set below_is ∙ last_is))

@@ -4,6 +4,9 @@ use Rattle.gr1_sys.specs.declared.givens.Wanted.TheVariants.{Goals, Lapses}
 use Rattle.gr1_sys.specs.Held.{MakesRegions}
 use Rattle.gr1_sys.specs.Givens.{wanted}
 use Rattle.gr1_sys.proofs.Lists.{together_as, made_and_spent_all, makes_both}
+use Rattle.gr1_sys.specs.Moment.{TellsHalt}
+use Rattle.gr1_sys.proofs.Told.{handed_on, past_many}
+use Rattle.gr1_sys.proofs.Naming.{wanted_named}
 use Rattle.gr1_sys.proofs.givens.give.Goals as goal
 
 pub spend_all-requires : goal.spend_all-requires
@@ -27,3 +30,14 @@ returns-in-Err-clause-halted g c =
 
 pub returns-in-Ok-clause-counted : goal.returns-in-Ok-clause-counted
 returns-in-Ok-clause-counted g c = c.in_ok-goals.ensures.made.counted
+
+pub returns-in_err-goals-clause-told : goal.returns-in_err-goals-clause-told
+returns-in_err-goals-clause-told g c = λ z.
+    let kept = g.G.Regions.kept in
+    handed_on c.from_residual.result c.in_err-goals.field-0.0 (TellsHalt (kept c.args.g.now) (kept c.regions_of.new.g) z) c.from_residual.ensures.1 (c.in_err-goals.ensures.told z)
+
+pub returns-in-Err-clause-told : goal.returns-in-Err-clause-told
+returns-in-Err-clause-told g c = λ z.
+    let kept = g.G.Regions.kept in
+    let k = kept c.args.g.now in
+    past_many k (kept c.regions_of.new.g) (kept c.with_goals.new.g) (kept c.spend_all.new.g) z c.in_ok-goals.goals.items (wanted k.game Goals) c.in-Err.halt c.regions_of.ensures.same.game c.in_ok-goals.ensures.made (wanted_named k.game z Goals) c.spend_all.ensures.spends.jam (c.in-Err.ensures.told z)

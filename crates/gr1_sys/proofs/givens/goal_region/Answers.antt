@@ -1,7 +1,9 @@
-use Rattle.std.proofs.Common.{◌∙◌, subst, sym}
-use Rattle.std.proofs.lemmas.Result.{IfOk-weaker}
+use Rattle.std.proofs.Common.{◌∙◌, subst, sym, []}
+use Rattle.std.proofs.lemmas.Result.{IfOk-weaker, IfErr-weaker}
 use Rattle.regions.specs.Kept.{MakesRegion}
 use Rattle.gr1_sys.proofs.Givings.{goal_alone, goal_there}
+use Rattle.regions.specs.Kept.{All, Holding}
+use Rattle.gr1_sys.proofs.Told.{told}
 use Rattle.gr1_sys.proofs.givens.goal_region.Goals as goal
 
 pub returns-then-is_empty-clause-made : goal.returns-then-is_empty-clause-made
@@ -18,3 +20,13 @@ returns-else-is_empty-clause-made g c =
     let kept = g.G.Regions.kept in
     let k = kept c.args.g.now in
     IfOk-weaker c.holding.result _ _ (λ r made. subst (MakesRegion k (kept c.holding.new.self) r) (goal_there c.game.result.now k.game c.game.ensures (sym c.is_empty.ensures ∙ c.if-is_empty.false) c.args.j c.requires.there).1 made) c.holding.ensures.made
+
+pub returns-then-is_empty-clause-told : goal.returns-then-is_empty-clause-told
+returns-then-is_empty-clause-told g c = λ z.
+    let kept = g.G.Regions.kept in
+    IfErr-weaker c.all.result _ _ (λ halt halts. told (kept c.args.g.now) (kept c.all.new.self) z All [] halt halts.jam tt tt) c.all.ensures.halted
+
+pub returns-else-is_empty-clause-told : goal.returns-else-is_empty-clause-told
+returns-else-is_empty-clause-told g c = λ z.
+    let kept = g.G.Regions.kept in
+    IfErr-weaker c.holding.result _ _ (λ halt halts. told (kept c.args.g.now) (kept c.holding.new.self) z Holding [] halt halts.jam tt tt) c.holding.ensures.halted

@@ -1,3 +1,4 @@
+use Rattle.std.proofs.Common.{◌∙◌}
 use Rattle.gr1_sys.proofs.Holdings.{replaces, takes}
 use Rattle.gr1_sys.proofs.joining.and_in.Goals as goal
 
@@ -6,3 +7,6 @@ returns-in-Ok-clause-made g c = replaces _ _ _ c.args.a c.in-Ok.common _ (g.met.
 
 pub returns-in-Err-clause-halted : goal.returns-in-Err-clause-halted
 returns-in-Err-clause-halted g c = takes _ _ _ c.args.a (g.met.G.Regions.exact _) c.requires.a c.in-Err.ensures.halted.held c.spend-in-Err.ensures.spends
+
+pub returns-in-Err-clause-told : goal.returns-in-Err-clause-told
+returns-in-Err-clause-told g c = c.spend-in-Err.ensures.spends.jam ∙ c.in-Err.ensures.halted.jam

@@ -1,4 +1,4 @@
-use Rattle.std.proofs.Common.{◌≡◌, sym, ◌∙◌, subst}
+use Rattle.std.proofs.Common.{◌≡◌, sym, ◌∙◌, subst, ap, suc, refl, [], arith}
 use Rattle.std.proofs.lemmas.Bool.{false≢true}
 use Rattle.spec_model.proofs.Fixpoints.{IsFalling}
 use Rattle.regions.specs.Kept.{MakesRegion}
@@ -6,6 +6,10 @@ use Rattle.regions.proofs.Holding.{made_is}
 use Rattle.gr1_sys.specs.Held.{waiting}
 use Rattle.gr1_sys.proofs.Holdings.{same_then}
 use Rattle.gr1_sys.proofs.Waits.{waiting-first, waiting-next, waiting-fewer, waiting-last, turned, still}
+use Rattle.regions.specs.Kept.{All}
+use Rattle.gr1_sys.specs.Moment.{TellsHalt, iterated, part, part_iterate}
+use Rattle.gr1_sys.proofs.Told.{handed_on, told, past_one}
+use Rattle.gr1_sys.proofs.Naming.{part_iterated, part_still}
 use Rattle.gr1_sys.proofs.parts.greatest_part.Goals as goal
 
 pub loop-next-init : goal.loop-next-init
@@ -17,6 +21,7 @@ loop-next-init g c =
       made = is.1;
       same = c.all.ensures.same;
       falling = subst (IsFalling first.game (waiting first.game (first.set c.args.base.now) (first.set c.args.lapse.now))) (sym is.0) (waiting-first first.game (first.set c.args.base.now) (first.set c.args.lapse.now) (g.met.G.Regions.proper c.args.g.now c.args.base.now c.requires.base));
+      iterates = (0, is.0);
     }
 
 pub loop-next-preserved : goal.loop-next-preserved
@@ -31,6 +36,7 @@ loop-next-preserved g c =
       same = same_then first k (kept c.next_part.new.g) inv.same c.next_part.ensures.same;
       falling = subst (IsFalling first.game (waiting first.game (first.set c.args.base.now) (first.set c.args.lapse.now))) (sym is.0)
           (waiting-next first.game (first.set c.args.base.now) (first.set c.args.lapse.now) (g.met.G.Regions.proper c.args.g.now c.args.base.now c.requires.base) (k.set c.loop-next.x) inv.falling);
+      iterates = (suc inv.iterates.0, is.0 ∙ ap (waiting first.game (first.set c.args.base.now) (first.set c.args.lapse.now)) inv.iterates.1);
     }
 
 pub loop-next-smaller : goal.loop-next-smaller
@@ -56,3 +62,23 @@ returns-then-settled-clause-made g c =
     let settled = c.in_ok-next.ensures.settled.0 c.if-settled.true ∙ value_is in
     let last = waiting-last first.game (first.set c.args.base.now) (first.set c.args.lapse.now) (g.met.G.Regions.proper c.args.g.now c.args.base.now c.requires.base) (k.set c.loop-next.x) inv.falling settled in
     subst (λ t. MakesRegion first (kept c.next_part.new.g) c.in_ok-next.next t) (is.0 ∙ (sym settled ∙ last)) is.1
+
+pub returns-in_err-x-clause-told : goal.returns-in_err-x-clause-told
+returns-in_err-x-clause-told g c = λ z j r i are.
+    let kept = g.G.Regions.kept in
+    let k = kept c.args.g.now in
+    handed_on c.from_residual.result c.in_err-x.field-0.0 (TellsHalt k (kept c.all.new.self) z) c.from_residual.ensures.1
+    (told k (kept c.all.new.self) z All [] c.in_err-x.field-0.0 c.in_err-x.ensures.halted.jam tt tt)
+
+pub returns-in_err-next-clause-told : goal.returns-in_err-next-clause-told
+returns-in_err-next-clause-told g c = λ z j r i are.
+    let kept = g.G.Regions.kept in
+    let first = kept c.args.g.now in
+    let k = kept c.loop-next.g in
+    let inv = c.loop-next.invariant in
+    let n = inv.iterates.0 in
+    let is = part_iterated first.game z j r i n (first.set c.args.base.now) (first.set c.args.lapse.now) (k.set c.loop-next.x) are inv.iterates.1 in
+    let here = part_still first k z j r i c.args.base.now c.args.lapse.now (g.met.G.Regions.exact _) inv.same.game (λ w. omega (arith, inv.made.held w)) c.requires.base c.requires.lapse are in
+    handed_on c.from_residual-in_err-next.result c.in_err-next.field-0.0 (TellsHalt first (kept c.next_part.new.g) z) c.from_residual-in_err-next.ensures.1
+    (past_one first k (kept c.next_part.new.g) (kept c.next_part.new.g) z c.loop-next.x (k.set c.loop-next.x) c.in_err-next.field-0.0 inv.same.game inv.made (iterated (part j r i n is)) refl
+    (c.in_err-next.ensures.told z j r i n here (is ∙ ap (λ h. part_iterate h z j r i n) (sym inv.same.game))))

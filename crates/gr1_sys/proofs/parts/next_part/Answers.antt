@@ -2,6 +2,7 @@ use Rattle.std.proofs.Common.{arith}
 use Rattle.regions.proofs.Holding.{held_as, set_is}
 use Rattle.gr1_sys.proofs.Holdings.{replaces, takes}
 use Rattle.gr1_sys.specs.Held.{waiting}
+use Rattle.gr1_sys.proofs.Told.{still_told}
 use Rattle.gr1_sys.proofs.parts.next_part.Goals as goal
 
 pub returns-in-Ok-clause-made : goal.returns-in-Ok-clause-made
@@ -18,3 +19,8 @@ returns-in-Ok-clause-settled g c =
 
 pub returns-in-Err-clause-halted : goal.returns-in-Err-clause-halted
 returns-in-Err-clause-halted g c = takes _ _ _ c.args.x (g.met.G.Regions.exact _) c.requires.x c.in-Err.ensures.halted c.spend-in-Err.ensures.spends
+
+pub returns-in-Err-clause-told : goal.returns-in-Err-clause-told
+returns-in-Err-clause-told g c = λ z j r i n are is.
+    let kept = g.G.Regions.kept in
+    still_told (kept c.args.g.now) (kept c.part_step.new.g) (kept c.spend-in-Err.new.self) z c.in-Err.halt c.spend-in-Err.ensures.spends.jam (c.in-Err.ensures.told z j r i n are is)

@@ -1,3 +1,4 @@
+use Rattle.std.proofs.Common.{◌∙◌, refl}
 use Rattle.gr1_sys.specs.Held.{all_regions}
 use Rattle.gr1_sys.proofs.Popped.{first_together, rest_together, first_and_rest}
 use Rattle.gr1_sys.proofs.solving.counted.Goals as goal
@@ -14,3 +15,6 @@ pub returns-else-fits-clause-halted : goal.returns-else-fits-clause-halted
 returns-else-fits-clause-halted g c =
     let kept = g.G.Regions.kept in
     (first_and_rest (kept c.args.g.now) (kept c.spend.new.self) (kept c.spend_goals.new.g) c.args.z (all_regions c.args.goals.items) (g.met.G.Regions.exact _) c.requires.held c.spend.ensures.spends c.spend_goals.ensures.spends).held
+
+pub returns-else-fits-clause-told : goal.returns-else-fits-clause-told
+returns-else-fits-clause-told g c = (refl, c.spend_goals.ensures.spends.jam ∙ c.spend.ensures.spends.jam)

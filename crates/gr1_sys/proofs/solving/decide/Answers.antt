@@ -1,8 +1,11 @@
-use Rattle.std.proofs.Common.{◌∷◌, arith}
+use Rattle.std.proofs.Common.{◌∷◌, arith, ◌∙◌, [], refl, sym, subst}
 use Rattle.gr1_sys.specs.Held.{all_regions}
 use Rattle.gr1_sys.proofs.Lists.{together_stays, takes_all}
 use Rattle.gr1_sys.proofs.Popped.{first_together, rest_together, first_and_rest}
 use Rattle.gr1_sys.proofs.Rounds.{without_later, spent_later}
+use Rattle.regions.specs.Kept.{StartSys, States}
+use Rattle.gr1_sys.specs.Moment.{TellsHalt, iterated, this_value}
+use Rattle.gr1_sys.proofs.Told.{told, still_told}
 use Rattle.gr1_sys.proofs.solving.decide.Goals as goal
 
 pub start_sys-requires-clause-t : goal.start_sys-requires-clause-t
@@ -59,3 +62,19 @@ returns-in-Err-clause-halted g c =
     let held = together_stays (kept c.args.g.now) k1 (c.args.z ∷ all_regions c.args.goals.items) (g.met.G.Regions.exact _) (λ w. omega (arith, c.in-Err.ensures.halted.held w)) c.requires.held in
     takes_all (kept c.args.g.now) k1 (kept c.spend_goals-in-Err.new.g) (c.args.z ∷ all_regions c.args.goals.items) (g.met.G.Regions.exact _) c.requires.held c.in-Err.ensures.halted.held
     (first_and_rest k1 (kept c.spend-in-Err.new.self) (kept c.spend_goals-in-Err.new.g) c.args.z (all_regions c.args.goals.items) (g.met.G.Regions.exact _) held c.spend-in-Err.ensures.spends c.spend_goals-in-Err.ensures.spends)
+
+pub returns-in-Err-counted-clause-told : goal.returns-in-Err-counted-clause-told
+returns-in-Err-counted-clause-told g c =
+    let kept = g.G.Regions.kept in
+    let k = kept c.args.g.now in
+    let refused = c.in-Err-counted.ensures.told in
+    subst (TellsHalt k (kept c.counted.new.g) (k.set c.args.z)) (sym refused.0) (refused.1 ∙ (c.in-Ok-true.ensures.stays.jam ∙ c.requires.free))
+
+pub returns-in-Err-clause-told : goal.returns-in-Err-clause-told
+returns-in-Err-clause-told g c =
+    let kept = g.G.Regions.kept in
+    let k = kept c.args.g.now in
+    let k1 = kept c.start_sys.new.self in
+    let z = k.set c.args.z in
+    still_told k k1 (kept c.spend_goals-in-Err.new.g) z c.in-Err.halt (c.spend_goals-in-Err.ensures.spends.jam ∙ c.spend-in-Err.ensures.spends.jam)
+    (told k k1 z StartSys (States z ∷ []) c.in-Err.halt c.in-Err.ensures.halted.jam (iterated (this_value refl), tt) (this_value refl, tt))

@@ -5,6 +5,7 @@ use Rattle.gr1_sys.specs.Held.{all_regions, sets_of, rank_sets}
 use Rattle.gr1_sys.proofs.Holdings.{replaces, takes}
 use Rattle.gr1_sys.proofs.Lists.{region_stays}
 use Rattle.gr1_sys.proofs.Rounds.{first_held, others_together, others_left, first_left, compared}
+use Rattle.gr1_sys.proofs.Told.{still_told}
 use Rattle.gr1_sys.proofs.solving.one_round.Goals as goal
 
 pub same-requires-clause-b : goal.same-requires-clause-b
@@ -61,3 +62,9 @@ pub returns-in-Err-clause-halted : goal.returns-in-Err-clause-halted
 returns-in-Err-clause-halted g c =
     let kept = g.G.Regions.kept in
     takes (kept c.args.g.now) (kept c.turn.new.g) (kept c.spend-in-Err.new.self) c.args.z (g.met.G.Regions.exact _) c.requires.z c.in-Err.ensures.halted c.spend-in-Err.ensures.spends
+
+pub returns-in-Err-clause-told : goal.returns-in-Err-clause-told
+returns-in-Err-clause-told g c =
+    let kept = g.G.Regions.kept in
+    let k = kept c.args.g.now in
+    still_told k (kept c.turn.new.g) (kept c.spend-in-Err.new.self) (k.set c.args.z) c.in-Err.halt c.spend-in-Err.ensures.spends.jam c.in-Err.ensures.told

@@ -1,10 +1,15 @@
-use Rattle.std.proofs.Common.{◌∙◌, ◌∷◌, arith}
-use Rattle.std.proofs.lemmas.Result.{IfOk-weaker, on_err_weaker}
-use Rattle.gr1_sys.specs.Givens.{given_regions}
+use Rattle.std.proofs.Common.{◌∙◌, ◌∷◌, arith, refl, subst}
+use Rattle.std.proofs.lemmas.Result.{IfOk-weaker, IfErr-weaker, on_err_weaker}
+use Rattle.gr1_sys.specs.Givens.{given_regions, given_sets}
 use Rattle.gr1_sys.specs.Held.{all_regions, sets_of, rank_sets}
 use Rattle.gr1_sys.proofs.Lists.{together_as, made_and_spent_all, made_and_taken_all}
 use Rattle.gr1_sys.proofs.Givings.{is_given}
 use Rattle.gr1_sys.proofs.Won.{layers_left, lost, won, match_weaker}
+use Rattle.spec_model.specs.Sets.{all_states}
+use Rattle.gr1_sys.specs.Moment.{IsValueOfZ, TellsHalt, TellsOneMoment, iterated, this_value}
+use Rattle.gr1_sys.proofs.Rounds.{first_is}
+use Rattle.gr1_sys.proofs.Told.{handed_on, past_many, of_value, moment_past}
+use Rattle.gr1_sys.proofs.Naming.{rank_named, goals_named, given_named}
 use Rattle.gr1_sys.proofs.solving.solve_sys.Goals as goal
 
 pub winning-requires-clause-given : goal.winning-requires-clause-given
@@ -53,3 +58,37 @@ pub returns-in-Err-clause-halted : goal.returns-in-Err-clause-halted
 returns-in-Err-clause-halted g c =
     let kept = g.G.Regions.kept in
     made_and_spent_all (kept c.args.g.now) (kept c.give.new.g) (kept c.winning.new.g) (kept c.spend_given-in-Err.new.g) (given_regions c.in_ok-given.given) _ (g.met.G.Regions.exact _) c.in_ok-given.ensures.made c.in-Err.ensures.halted c.spend_given-in-Err.ensures.spends
+
+pub returns-in_err-given-clause-told : goal.returns-in_err-given-clause-told
+returns-in_err-given-clause-told g c =
+    let kept = g.G.Regions.kept in
+    let k = kept c.args.g.now in
+    let new = kept c.give.new.g in
+    let z = all_states k.game in
+    let halt = c.in_err-given.field-0.0 in
+    handed_on c.from_residual.result halt (TellsOneMoment k new) c.from_residual.ensures.1 (of_value k new z halt (0, refl) (c.in_err-given.ensures.told z))
+
+pub returns-in-Err-clause-told : goal.returns-in-Err-clause-told
+returns-in-Err-clause-told g c =
+    let kept = g.G.Regions.kept in
+    let k = kept c.args.g.now in
+    moment_past k (kept c.give.new.g) (kept c.winning.new.g) (kept c.spend_given-in-Err.new.g) (given_regions c.in_ok-given.given) (given_sets k.game) c.in-Err.halt c.give.ensures.same.game c.in_ok-given.ensures.made (λ z. given_named k.game z) c.spend_given-in-Err.ensures.spends.jam c.in-Err.ensures.told
+
+pub returns-in-Ok-clause-told : goal.returns-in-Ok-clause-told
+returns-in-Ok-clause-told g c =
+    let kept = g.G.Regions.kept in
+    let k = kept c.args.g.now in
+    let k2 = kept c.winning.new.g in
+    let k3 = kept c.spend_given.new.g in
+    let k4 = kept c.decide.new.g in
+    let z = k2.set c.in-Ok.z in
+    let goals = c.in-Ok.goals.items in
+    let left = layers_left k (kept c.give.new.g) k2 k3 (given_regions c.in_ok-given.given) _ c.in-Ok.z goals (g.met.G.Regions.exact _) c.give.ensures.same.game c.in_ok-given.ensures.made c.in-Ok.ensures.won c.spend_given.ensures.spends in
+    let game = c.spend_given.ensures.same.game ∙ (c.winning.ensures.same.game ∙ c.give.ensures.same.game) in
+    let made = left.0.made in
+    let z_is = first_is k k3 c.in-Ok.z (all_regions goals) z (sets_of (rank_sets k.game z) goals) (g.met.G.Regions.exact _) made in
+    let value = subst (λ h. IsValueOfZ h z) c.give.ensures.same.game c.in-Ok.ensures.value in
+    IfErr-weaker c.decide.result _ _
+    (λ halt tells. of_value k k4 z halt value
+    (past_many k k3 k4 k4 z (c.in-Ok.z ∷ all_regions goals) (z ∷ sets_of (rank_sets k.game z) goals) halt game made (iterated (this_value refl), goals_named k.game z (rank_sets k.game z) goals (λ j r. rank_named k.game z j r)) refl
+    (subst (λ t. TellsHalt k3 k4 t halt) z_is tells))) c.decide.ensures.told

@@ -1,12 +1,17 @@
-use Rattle.std.proofs.Common.{◌∙◌, ap, sym, subst, arith}
+use Rattle.std.proofs.Common.{◌∙◌, ap, sym, subst, arith, [], refl, suc}
 use Rattle.spec_model.proofs.Fixpoints.{IsFalling, falling-first, falling-next, falling-fewer}
 use Rattle.regions.proofs.Holding.{made_is, replaced_is}
 use Rattle.gr1_sys.specs.Solution.{following}
 use Rattle.gr1_sys.specs.Solved.{Steps}
 use Rattle.gr1_sys.proofs.Holdings.{same_then}
+use Rattle.gr1_sys.proofs.Lists.{set_kept}
 use Rattle.gr1_sys.proofs.Parted.{given_stays}
 use Rattle.gr1_sys.proofs.Winning.{following-grows, following-inside}
 use Rattle.gr1_sys.proofs.Won.{won_is}
+use Rattle.regions.specs.Kept.{All}
+use Rattle.spec_model.specs.Sets.{all_states}
+use Rattle.gr1_sys.specs.Moment.{IsValueOfZ, TellsOneMoment, iterated, this_value}
+use Rattle.gr1_sys.proofs.Told.{handed_on, told, past_one, of_value}
 use Rattle.gr1_sys.proofs.solving.winning.Goals as goal
 
 pub loop-z-init : goal.loop-z-init
@@ -18,6 +23,7 @@ loop-z-init g c =
       made = is.1;
       same = c.all.ensures.same;
       falling = subst (IsFalling first.game (following first.game)) (sym is.0) (falling-first first.game (following first.game) (following-grows first.game) (following-inside first.game));
+      value = (0, is.0);
     }
 
 pub one_round-requires-clause-given : goal.one_round-requires-clause-given
@@ -39,6 +45,7 @@ loop-z-preserved g c =
       made = is.1;
       same = same_then first k new inv.same c.one_round.ensures.same;
       falling = subst (IsFalling first.game (following first.game)) (sym next_is) (falling-next first.game (following first.game) (following-grows first.game) (following-inside first.game) (k.set c.loop-z.z) inv.falling);
+      value = (suc inv.value.0, next_is ∙ ap (following first.game) inv.value.1);
     }
 
 pub loop-z-smaller : goal.loop-z-smaller
@@ -63,3 +70,35 @@ returns-in-Settled-clause-won g c =
     let inv = c.loop-z.invariant in
     let steps = subst (Steps k new c.loop-z.z (k.set c.loop-z.z)) c.in-Settled.is c.in_ok-z-2.ensures.steps in
     won_is first k new c.loop-z.z c.in-Settled.z c.in-Settled.goals.items (g.met.G.Regions.exact _) inv.same.game inv.made inv.falling steps.0 steps.1
+
+pub returns-in-Settled-clause-value : goal.returns-in-Settled-clause-value
+returns-in-Settled-clause-value g c =
+    let kept = g.G.Regions.kept in
+    let first = kept c.args.g.now in
+    let k = kept c.loop-z.g in
+    let new = kept c.one_round.new.g in
+    let inv = c.loop-z.invariant in
+    let steps = subst (Steps k new c.loop-z.z (k.set c.loop-z.z)) c.in-Settled.is c.in_ok-z-2.ensures.steps in
+    let same = set_kept k new c.loop-z.z (g.met.G.Regions.exact _) (λ w. omega (arith, steps.1.1.0.held w)) (λ w. omega (arith, inv.made.held (λ i m. w i))) in
+    subst (λ r. IsValueOfZ first.game (new.set r)) (sym steps.0) (subst (IsValueOfZ first.game) (sym same) inv.value)
+
+pub returns-in_err-z-clause-told : goal.returns-in_err-z-clause-told
+returns-in_err-z-clause-told g c =
+    let kept = g.G.Regions.kept in
+    let k = kept c.args.g.now in
+    let new = kept c.all.new.self in
+    let halt = c.in_err-z.field-0.0 in
+    handed_on c.from_residual.result halt (TellsOneMoment k new) c.from_residual.ensures.1
+    (of_value k new (all_states k.game) halt (0, refl) (told k new (all_states k.game) All [] halt c.in_err-z.ensures.halted.jam tt tt))
+
+pub returns-in_err-z-2-clause-told : goal.returns-in_err-z-2-clause-told
+returns-in_err-z-2-clause-told g c =
+    let kept = g.G.Regions.kept in
+    let first = kept c.args.g.now in
+    let k = kept c.loop-z.g in
+    let new = kept c.one_round.new.g in
+    let inv = c.loop-z.invariant in
+    let z = k.set c.loop-z.z in
+    let halt = c.in_err-z-2.field-0.0 in
+    handed_on c.from_residual-in_err-z-2.result halt (TellsOneMoment first new) c.from_residual-in_err-z-2.ensures.1
+    (of_value first new z halt inv.value (past_one first k new new z c.loop-z.z z halt inv.same.game inv.made (iterated (this_value refl)) refl c.in_err-z-2.ensures.told))

@@ -3,9 +3,10 @@ use Rattle.spec_model.specs.Sets.{count_in}
 use Rattle.spec_model.proofs.Fixpoints.{IsFalling}
 use Rattle.regions.specs.Kept.{MakesRegion, IsSameGame}
 use Rattle.gr1_sys.specs.Solution.{following}
+use Rattle.gr1_sys.specs.Moment.{IsValueOfZ}
 use Rattle.gr1_sys.proofs.solving.winning.Given as goal
 
--- one region more is held than at first, and its set is on the way down
+-- one region more is held than at first, and its set is a value of Z on the way down
 abbrev pub invariant-loop-z : goal.invariant-loop-z
 invariant-loop-z g l =
     let kept = g.G.Regions.kept in
@@ -15,6 +16,7 @@ invariant-loop-z g l =
       made : MakesRegion first (kept l.g) l.z z;
       same : IsSameGame first (kept l.g);
       falling : IsFalling first.game (following first.game) z;
+      value : IsValueOfZ first.game z;
     }
 
 -- how many states are left

@@ -1,10 +1,12 @@
 use Rattle.std.proofs.Common.{◌≡◌, ◌∙◌, ◌+◌, List, length, ap, subst, sym, refl, arith}
 use Rattle.spec_model.specs.Sets.{pre_sys}
-use Rattle.gr1_sys.specs.Held.{HasClimbed, HaveClimbed, all_regions}
+use Rattle.gr1_sys.specs.Held.{HasClimbed, HaveClimbed, rank_sets, sets_of, all_regions}
 use Rattle.gr1_sys.proofs.Holdings.{same_then}
 use Rattle.gr1_sys.proofs.Lists.{region_stays, set_kept, together_as, made_and_spent_all}
 use Rattle.gr1_sys.proofs.Parted.{given_stays}
 use Rattle.gr1_sys.proofs.Turned.{none_climbed, more_climbed, goal_is}
+use Rattle.gr1_sys.proofs.Told.{past_many}
+use Rattle.gr1_sys.proofs.Naming.{rank_named, goals_named}
 use Rattle.gr1_sys.proofs.turns.all_layers.Goals as goal
 
 pub loop-goal-init : goal.loop-goal-init
@@ -92,3 +94,16 @@ loop-goal-preserved g c =
 pub returns-clause-climbed : goal.returns-clause-climbed
 returns-clause-climbed g c = λ z ready_is.
     (c.loop-goal.invariant.climbed z ready_is, omega (arith, c.loop-goal.invariant.counted, c.loop-goal-test.false, c.loop-goal.auto, c.deref-goal-items.ensures.value))
+
+pub returns-in-Err-clause-told : goal.returns-in-Err-clause-told
+returns-in-Err-clause-told g c = λ z ready_is.
+    let kept = g.G.Regions.kept in
+    let first = kept c.args.g.now in
+    let k = kept c.loop-goal.g in
+    let inv = c.loop-goal.invariant in
+    let climbed = inv.climbed z ready_is in
+    let goals = c.loop-goal.goals.items in
+    let is = goal_is first k c.args.given.now c.deref-goal-items.result.now c.goal-item.result c.loop-goal.goal-index (g.met.G.Regions.exact _) inv.same (λ w. omega (arith, climbed.made.held w)) c.requires.given c.deref-goal-items.ensures.value c.loop-goal-test.true c.goal-item.is in
+    let ready_now = set_kept first k c.args.ready.now (g.met.G.Regions.exact _) (λ w. omega (arith, climbed.made.held w)) c.requires.ready ∙ (ready_is ∙ ap (λ h. pre_sys h z) (sym inv.same.game)) in
+    past_many first k (kept c.layers_of.new.g) (kept c.spend_goals.new.g) z (all_regions goals) (sets_of (rank_sets first.game z) goals) c.in-Err.halt inv.same.game climbed.made (goals_named first.game z (rank_sets first.game z) goals (λ j r. rank_named first.game z j r)) c.spend_goals.ensures.spends.jam
+    (c.in-Err.ensures.told z c.loop-goal.goal-index is.1 ready_now)
