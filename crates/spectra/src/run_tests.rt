@@ -7,32 +7,25 @@ use sp_outside::{Failed, MemoryShelf, MemorySink, MemorySource, Source};
 use std::alloc::Global;
 use std::test::Fail;
 
-/// A source that gives one line at each read.
+/// A source that gives one byte at each read, and counts the reads.
 #[derive(Drop)]
-struct LineSource<'a> {
-    rest: &'a [u8],
+struct ByteSource {
+    inner: MemorySource,
     reads: u64,
 }
 
-impl<'a> Source for LineSource<'a> {
+impl Source for ByteSource {
     ghost use Rattle.std.specs.Prelude.{None};
+    ghost use Rattle.sp_outside.specs.Memory.{source_plan};
 
     ghost left = { λ _. None };
 
-    ghost faults = { λ _. 0 };
+    ghost faults = { λ s. (source_plan s.inner).faults };
 
     fn read(&mut self, buf: &mut [u8]) -> Result<usize, Failed> {
         self.reads = self.reads.saturating_add(1);
-        let mut count = 0;
-        while count < buf.len() && count < self.rest.len() {
-            buf[count] = self.rest[count];
-            count += 1;
-            if buf[count - 1] == b'\n' {
-                break;
-            }
-        }
-        self.rest = &self.rest[count..];
-        Ok(count)
+        let room = buf.len().min(1);
+        self.inner.read(&mut buf[..room])
     }
 }
 
@@ -240,12 +233,13 @@ fn a_line_is_answered_before_the_input_is_read_again(rt: HostRuntime) -> Result<
     let alloc = rt.alloc();
     let words = words_of(alloc, "spectra run t.spectra")?;
     let text = format!(in alloc; "spec X {ECHO}")?;
-    // the write that fails, and how often the input was read by then: the first write is the verdict's
-    for (write, reads) in [(1u64, 0u64), (2, 1), (3, 2), (4, 3)] {
+    // The write that fails, and how many bytes of the input were read by then: the first write is the verdict's, and the lines
+    // have 7, 8 and 7 bytes.
+    for (write, reads) in [(1u64, 0u64), (2, 7), (3, 15), (4, 22)] {
         let mut shelf = MemoryShelf::make(alloc, &[])?;
         shelf.put("t.spectra", text.as_bytes())?;
-        let mut input = LineSource {
-            rest: b"r=true\nr=false\nr=true\nr=false\n",
+        let mut input = ByteSource {
+            inner: MemorySource::make(alloc, b"r=true\nr=false\nr=true\nr=false\n", &[])?,
             reads: 0,
         };
         let mut output = MemorySink::make(alloc, 256, &[write])?;
