@@ -3,34 +3,14 @@ use Rattle.std.proofs.Common.{◌≡◌, ℕ, ◌*◌, ◌^◌, Bool, true, ◌=
 use Rattle.std.specs.List.{list_all}
 use Rattle.std.proofs.lemmas.Bool.{and_parts, and_from}
 use Rattle.std.proofs.lemmas.List.{length-map}
-use borrow.Author.Tests.{ltb-true, lt-ltb, eqb-true}
-use Rattle.spec_model.specs.declared.expr.Expr.{Expr}
-use Rattle.spec_model.specs.declared.game.Hidden.{Hidden}
-use Rattle.spec_model.specs.Syntax.{Formula}
-use Rattle.spec_model.specs.Views.{formula}
-use Rattle.spec_model.specs.GameViews.{hidden_data}
+use borrow.Author.Tests.{ltb-true, lt-ltb}
 use Rattle.spec_model.specs.Typing.{Scope}
 use Rattle.spec_model.specs.Moves.{is_env}
 use Rattle.spec_model.specs.Games.{GameData, HiddenData, inputs_of, outputs_of}
 use Rattle.spec_model.specs.Steps.{states_of, hidden_values}
-use Rattle.spec_model.specs.WellMade.{WellMade, is_table, are_tables, cell_count}
-use Rattle.game_values.specs.Whole.{IsWhole, AreWhole}
+use Rattle.spec_model.specs.WellMade.{WellMade, is_table, are_tables}
 use Rattle.game_states.proofs.StateNumbers.{length-states}
 use Rattle.game_states.proofs.Counts.{min_times, owned_filled, hidden_filled}
-
-table_whole : (sc : Scope) (h : Hidden) → is_table sc (hidden_data h) ≡ true → IsWhole h
-table_whole sc h e =
-    let one = and_parts (nat_lt h.first h.values) _ e in
-    let two = and_parts (list_all (λ v. nat_lt v h.values) h.next.items) _ one.1 in
-    let three = and_parts (length h.next.items == cell_count (hidden_data h)) _ two.1 in
-    let first = ltb-true h.first h.values one.0 in
-    (omega (arith, first), eqb-true (length h.next.items) (cell_count (hidden_data h)) three.0 ∙ ap (λ n. h.values * 2 ^ n) (length-map h.atoms.items formula))
-
-pub tables_whole : (sc : Scope) (hs : List Hidden) → are_tables sc (map hidden_data hs) ≡ true → AreWhole hs
-tables_whole sc [] e = tt
-tables_whole sc (h ∷ hs) e =
-    let parts = and_parts (is_table sc (hidden_data h)) _ e in
-    (table_whole sc h parts.0, tables_whole _ hs parts.1)
 
 pub tables_filled : (sc : Scope) (hs : List HiddenData) → are_tables sc hs ≡ true → list_all (λ h. nat_lt 0 h.values) hs ≡ true
 tables_filled sc [] e = refl
@@ -38,10 +18,6 @@ tables_filled sc (h ∷ hs) e =
     let parts = and_parts (is_table sc h) _ e in
     let first = ltb-true h.first h.values (and_parts (nat_lt h.first h.values) _ parts.0).0 in
     and_from _ _ (lt-ltb 0 h.values (omega (arith, first))) (tables_filled _ hs parts.1)
-
-pub map-flags : (f : Formula → Bool) (ls : List (ℕ × Expr)) → map (λ (l : ℕ × Expr). f (formula l.1)) ls ≡ map (λ (l : ℕ × Formula). f l.1) (map (λ (l : ℕ × Expr). (l.0, formula l.1)) ls)
-map-flags f [] = refl
-map-flags f (l ∷ ls) = ap (λ r. f (formula l.1) ∷ r) (map-flags f ls)
 
 -- the count, cut off at each step, is that of all states
 pub count_is : (g : GameData) → WellMade g → (o m n : ℕ) → o ≡ min 1025 (1 * length (outputs_of g)) → m ≡ min 1025 (o * length (inputs_of g)) → n ≡ min 1025 (m * length (hidden_values g.hidden)) → n ≡ min 1025 (length (states_of g))

@@ -5,3 +5,4 @@ pub mod Letters
 pub mod Typed
 pub mod TableSteps
 pub mod Belows
+pub mod WholeTables

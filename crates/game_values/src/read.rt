@@ -32,7 +32,7 @@ pub fn count_outputs(vars: &[Var]) -> usize
 }
 
 /// The value of a variable, where these are the moves.
-fn variable(vars: &[Var], input: &[Value], output: &[Value], k: usize) -> Value
+pub fn variable(vars: &[Var], input: &[Value], output: &[Value], k: usize) -> Value
     ensures { result ≡ value_among (map variable_data vars.now) (record { input = input.now; output = output.now }) k }
 {
     if k < vars.len() {
@@ -62,7 +62,8 @@ pub fn declared(
     Ok(all)
 }
 
-fn bit(b: bool) -> usize
+/// 1 for true, 0 for false.
+pub fn bit(b: bool) -> usize
     ensures { result ≡ (if b then 1 else 0) }
 {
     if b { 1 } else { 0 }
@@ -90,7 +91,8 @@ pub fn bit_in(table: &[bool], cell: usize) -> bool
     cell < table.len() && table[cell]
 }
 
-fn number_in(numbers: &[u16], cell: usize) -> u16
+/// The number at a place, or 0 where there is none.
+pub fn number_in(numbers: &[u16], cell: usize) -> u16
     ensures { result ≡ slice_index numbers.now cell }
 {
     if cell < numbers.len() {

@@ -9,6 +9,6 @@ mod Popped
 mod Parted
 mod Climbed
 mod Turned
-mod Givings
+pub mod Givings
 mod Rounds
 mod Won

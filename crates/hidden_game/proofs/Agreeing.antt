@@ -57,7 +57,7 @@ module _ (vs : List VariableData) (x y y' : Assignment) where
 
 -- ---- what a formula over steps reads at present
 
-reads_both : (test : ℕ → Bool) (ks ms : List ℕ) → list_any test (ks ++ ms) ≡ (list_any test ks || list_any test ms)
+pub reads_both : (test : ℕ → Bool) (ks ms : List ℕ) → list_any test (ks ++ ms) ≡ (list_any test ks || list_any test ms)
 reads_both test [] ms = refl
 reads_both test (k ∷ ks) ms = first (test k) (reads_both test ks ms)
   where
@@ -132,41 +132,41 @@ module _ (s : Specification) (x y : Assignment) where
         by_whole false e suits = input_shared s.variables x z y k suits
 
     -- a line that is judged at the position itself
-    here : (h : Run) (b : Before) (e : Formula) → Suits s.variables whole true false e →
+    here : (h : Run) (b : Before) (e : Formula) → Suits s.variables [] whole true false e →
         holds_at (reading_of s (h ++ made ∷ [])) e (length h) ≡ line_holds (game_of s) false b (reached (game_of s) b x y) e
-    here h b e suits = ap truth_of (value_now s.variables whole true false _ _ (length h) 0 share e suits)
+    here h b e suits = ap truth_of (value_now s.variables [] whole true false _ _ (length h) 0 share e suits)
       where
-        share : Share s.variables whole true false (reading_of s (h ++ made ∷ [])) (step_reading (game_of s) (reached (game_of s) b x y) (reached (game_of s) b x y)) (length h) 0
+        share : Share s.variables [] whole true false (reading_of s (h ++ made ∷ [])) (step_reading (game_of s) (reached (game_of s) b x y) (reached (game_of s) b x y)) (length h) 0
         share =
             record {
               variable = λ k suits. ap (λ p. value_among s.variables p k) (last_of h made) ∙ made_same k suits;
-              entry = λ t n. refl;
+              entry = λ t n suits. refl;
               next_variable = λ never. absurd (cc);
             }
 
     -- a line that is judged at the position before
-    late : (h : Run) (p : Position) (e : Formula) → Suits s.variables true whole true e →
+    late : (h : Run) (p : Position) (e : Formula) → Suits s.variables [] true whole true e →
         holds_at (reading_of s ((h ++ p ∷ []) ++ made ∷ [])) e (length h) ≡ line_holds (game_of s) true (Some (state_of p)) (reached (game_of s) (Some (state_of p)) x y) e
-    late h p e suits = ap truth_of (value_now s.variables true whole true _ _ (length h) 0 share e suits)
+    late h p e suits = ap truth_of (value_now s.variables [] true whole true _ _ (length h) 0 share e suits)
       where
-        share : Share s.variables true whole true (reading_of s ((h ++ p ∷ []) ++ made ∷ [])) (step_reading (game_of s) (state_of p) (reached (game_of s) (Some (state_of p)) x y)) (length h) 0
+        share : Share s.variables [] true whole true (reading_of s ((h ++ p ∷ []) ++ made ∷ [])) (step_reading (game_of s) (state_of p) (reached (game_of s) (Some (state_of p)) x y)) (length h) 0
         share =
             record {
               variable = λ k suits. ap (λ q. value_among s.variables q k) (one_earlier h p made);
-              entry = λ t n. refl;
+              entry = λ t n suits. refl;
               next_variable = λ there k suits. ap (λ q. value_among s.variables q k) (last_later h p made) ∙ made_same k suits;
             }
 
     -- ---- how a line is judged after a run
 
     -- at the first position
-    first_judged : (h : Run) (b : Before) → IsLast h b → (e : Formula) → Suits s.variables whole true false e →
+    first_judged : (h : Run) (b : Before) → IsLast h b → (e : Formula) → Suits s.variables [] whole true false e →
         not (fails_at (reading_of s (h ++ made ∷ [])) e (at_first (length h))) ≡ (is_some b || line_holds (game_of s) false b (reached (game_of s) b x y) e)
     first_judged h None is e suits = ap (λ (r : Run). not (fails_at (reading_of s (r ++ made ∷ [])) e (at_first (length r)))) is ∙ (twice _ ∙ here [] None e suits)
     first_judged h (Some st) is e suits = ap (λ n. not (fails_at (reading_of s (h ++ made ∷ [])) e (at_first n))) (ap length is.2 ∙ length_after is.0 is.1)
 
     -- at each position, or at the one before where it waits
-    judged : (h : Run) (b : Before) → IsLast h b → (e : Formula) (waits : Bool) → (waits ≡ false → Suits s.variables whole true false e) → (waits ≡ true → Suits s.variables true whole true e) →
+    judged : (h : Run) (b : Before) → IsLast h b → (e : Formula) (waits : Bool) → (waits ≡ false → Suits s.variables [] whole true false e) → (waits ≡ true → Suits s.variables [] true whole true e) →
         not (fails_at (reading_of s (h ++ made ∷ [])) e (if waits then one_before (length h) else Some (length h))) ≡ line_holds (game_of s) waits b (reached (game_of s) b x y) e
     judged h b is e false suits suits_late = twice _ ∙ here h b e (suits refl)
     judged h None is e true suits suits_late = ap (λ n. not (fails_at (reading_of s (h ++ made ∷ [])) e (one_before n))) (ap length is)

@@ -3,3 +3,9 @@ pub mod Lines
 pub mod Choices
 pub mod Agreeing
 pub mod Recurrences
+pub mod Sights
+pub mod Least
+pub mod AnyOutput
+pub mod FirstBroken
+pub mod SeenMoves
+pub mod Breaking

@@ -1,5 +1,5 @@
 -- A formula over one position and the next has one value in two readings that have the same of what it reads.
-use Rattle.std.proofs.Common.{◌≡◌, ℕ, suc, Bool, true, false, not, ◌&&◌, ◌||◌, List, [], ◌∷◌, refl, ap}
+use Rattle.std.proofs.Common.{◌≡◌, ℕ, suc, Bool, true, false, not, ◌&&◌, ◌||◌, List, [], ◌∷◌, get_or, refl, ap}
 use Rattle.std.specs.List.{list_all, list_any}
 use Rattle.std.proofs.lemmas.Bool.{and_parts}
 use Rattle.spec_model.specs.declared.value.Value.TheVariants as value
@@ -38,14 +38,14 @@ some_same t t' [] (g ∷ gs) h = absurd h
 some_same t t' (f ∷ fs) [] h = absurd h
 some_same t t' (f ∷ fs) (g ∷ gs) h = let e = h.0 in let rest = some_same t t' fs gs h.1 in cc
 
--- What two readings share at two places: entries and inputs, and outputs where `now` says so; at the next places, if
--- there are any, inputs, and outputs where `next` says so.
-pub record Share (vs : List VariableData) (now next later : Bool) (r r' : Reading) (t t' : ℕ) : Type 0 where
+-- What two readings share at two places: inputs, and the entries of tables that read no output; where `now` says so, all
+-- outputs and entries. At the next places, if there are any: inputs, and outputs where `next` says so.
+pub record Share (vs : List VariableData) (tables : List Bool) (now next later : Bool) (r r' : Reading) (t t' : ℕ) : Type 0 where
   pub variable : (k : ℕ) → (now || not (is_output_variable vs k)) ≡ true → r.variable k t ≡ r'.variable k t'
-  pub entry : (h n : ℕ) → r.entry h n t ≡ r'.entry h n t'
+  pub entry : (h n : ℕ) → (now || not (get_or tables h false)) ≡ true → r.entry h n t ≡ r'.entry h n t'
   pub next_variable : later ≡ true → (k : ℕ) → (next || not (is_output_variable vs k)) ≡ true → r.variable k (suc t) ≡ r'.variable k (suc t')
 
-module _ (vs : List VariableData) (now next later : Bool) where
+module _ (vs : List VariableData) (tables : List Bool) (now next later : Bool) where
   -- The formula reads no past, and only what is shared: by whether it reads an output now, or next, and whether it reads on.
   abbrev Fits : (step reads awaits reads_on : Bool) → Type 0
   Fits step reads awaits reads_on = (step ≡ true) × ((now || not reads) ≡ true) × ((next || not awaits) ≡ true) × ((later || not reads_on) ≡ true)
@@ -59,15 +59,15 @@ module _ (vs : List VariableData) (now next later : Bool) where
       ((s.0, p.0, q.0, u.0), (s.1, p.1, q.1, u.1))
 
   abbrev pub Suits : Formula → Type 0
-  Suits e = Fits (is_stepwise false e) (reads_output vs [] e) (awaits_output vs false e) (has_next e)
+  Suits e = Fits (is_stepwise false e) (reads_output vs tables e) (awaits_output vs false e) (has_next e)
 
   abbrev AllSuit : Formulas → Type 0
-  AllSuit es = Fits (are_stepwise false es) (some_reads_output vs [] es) (some_awaits_output vs false es) (some_has_next es)
+  AllSuit es = Fits (are_stepwise false es) (some_reads_output vs tables es) (some_awaits_output vs false es) (some_has_next es)
 
-  suits_both : (a b : Formula) → Fits (is_stepwise false a && is_stepwise false b) (reads_output vs [] a || reads_output vs [] b) (awaits_output vs false a || awaits_output vs false b) (has_next a || has_next b) → Suits a × Suits b
-  suits_both a b h = fits_both (is_stepwise false a) (is_stepwise false b) (reads_output vs [] a) (reads_output vs [] b) (awaits_output vs false a) (awaits_output vs false b) (has_next a) (has_next b) h
+  suits_both : (a b : Formula) → Fits (is_stepwise false a && is_stepwise false b) (reads_output vs tables a || reads_output vs tables b) (awaits_output vs false a || awaits_output vs false b) (has_next a || has_next b) → Suits a × Suits b
+  suits_both a b h = fits_both (is_stepwise false a) (is_stepwise false b) (reads_output vs tables a) (reads_output vs tables b) (awaits_output vs false a) (awaits_output vs false b) (has_next a) (has_next b) h
 
-module _ (vs : List VariableData) (now next later : Bool) (r r' : Reading) (t t' : ℕ) (share : Share vs now next later r r' t t') where
+module _ (vs : List VariableData) (tables : List Bool) (now next later : Bool) (r r' : Reading) (t t' : ℕ) (share : Share vs tables now next later r r' t t') where
   -- under `next`
   module _ (there : later ≡ true) where
     mutual
@@ -96,25 +96,25 @@ module _ (vs : List VariableData) (now next later : Bool) (r r' : Reading) (t t'
           (ap truth_of (value_next e s.0 p.0), truths_next es s.1 p.1)
 
   mutual
-    pub value_now : (e : Formula) → Suits vs now next later e → value_at r e t ≡ value_at r' e t'
+    pub value_now : (e : Formula) → Suits vs tables now next later e → value_at r e t ≡ value_at r' e t'
     value_now (Constant v) h = refl
     value_now (Variable k) h = share.variable k h.1
     value_now (NextOf e) h = value_next (is_later later h.3) e h.0 h.2
     value_now (Negation e) h = let p = value_now e h in cc
     value_now (Conjunction es) h = ap (λ b. value.Bool b) (all_same t t' _ _ (truths_now es h))
     value_now (Disjunction es) h = ap (λ b. value.Bool b) (some_same t t' _ _ (truths_now es h))
-    value_now (Implication a b) h = let s = suits_both vs now next later a b h in let p = value_now a s.0 in let q = value_now b s.1 in cc
-    value_now (Equivalence a b) h = let s = suits_both vs now next later a b h in let p = value_now a s.0 in let q = value_now b s.1 in cc
-    value_now (Comparison c a b) h = let s = suits_both vs now next later a b h in let p = value_now a s.0 in let q = value_now b s.1 in cc
-    value_now (Sum a b) h = let s = suits_both vs now next later a b h in let p = value_now a s.0 in let q = value_now b s.1 in cc
-    value_now (Difference a b) h = let s = suits_both vs now next later a b h in let p = value_now a s.0 in let q = value_now b s.1 in cc
-    value_now (Product a b) h = let s = suits_both vs now next later a b h in let p = value_now a s.0 in let q = value_now b s.1 in cc
+    value_now (Implication a b) h = let s = suits_both vs tables now next later a b h in let p = value_now a s.0 in let q = value_now b s.1 in cc
+    value_now (Equivalence a b) h = let s = suits_both vs tables now next later a b h in let p = value_now a s.0 in let q = value_now b s.1 in cc
+    value_now (Comparison c a b) h = let s = suits_both vs tables now next later a b h in let p = value_now a s.0 in let q = value_now b s.1 in cc
+    value_now (Sum a b) h = let s = suits_both vs tables now next later a b h in let p = value_now a s.0 in let q = value_now b s.1 in cc
+    value_now (Difference a b) h = let s = suits_both vs tables now next later a b h in let p = value_now a s.0 in let q = value_now b s.1 in cc
+    value_now (Product a b) h = let s = suits_both vs tables now next later a b h in let p = value_now a s.0 in let q = value_now b s.1 in cc
     value_now (Remainder a n) h = let p = value_now a h in cc
     value_now (PastOf op es) h = let never = h.0 in absurd (cc)
-    value_now (Entry k n) h = ap (λ b. value.Bool b) (share.entry k n)
+    value_now (Entry k n) h = ap (λ b. value.Bool b) (share.entry k n h.1)
 
-    truths_now : (es : Formulas) → AllSuit vs now next later es → SameAt t t' (truths_at r es) (truths_at r' es)
+    truths_now : (es : Formulas) → AllSuit vs tables now next later es → SameAt t t' (truths_at r es) (truths_at r' es)
     truths_now Formulas.none h = tt
     truths_now (Formulas.one_more e es) h =
-        let s = fits_both vs now next later (is_stepwise false e) (are_stepwise false es) (reads_output vs [] e) (some_reads_output vs [] es) (awaits_output vs false e) (some_awaits_output vs false es) (has_next e) (some_has_next es) h in
+        let s = fits_both vs tables now next later (is_stepwise false e) (are_stepwise false es) (reads_output vs tables e) (some_reads_output vs tables es) (awaits_output vs false e) (some_awaits_output vs false es) (has_next e) (some_has_next es) h in
         (ap truth_of (value_now e s.0), truths_now es s.1)

@@ -8,10 +8,15 @@
 #![tactic(auto)]
 
 mod expanding;
+mod judging;
 mod laws;
+mod reading;
+mod sight;
 
 pub use expanding::expand;
-pub use laws::{goals_agree, moves_agree};
+pub use judging::InputJudge;
+pub use laws::{breaks_agree, goals_agree, moves_agree};
+pub use reading::{first_hidden, next_hidden};
 
 #[cfg(test)]
 mod tests;

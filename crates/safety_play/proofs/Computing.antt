@@ -31,10 +31,10 @@ is_later true h = refl
 is_later false h = absurd (false≢true h)
 
 -- What is safe in one reading can be computed in another that has the same of what is read.
-module _ (vs : List VariableData) (now next later : Bool) (r r' : Reading) (t len : ℕ) (share : Share vs now next later r r' t 0) (room : later ≡ true → t < len) where
+module _ (vs : List VariableData) (now next later : Bool) (r r' : Reading) (t len : ℕ) (share : Share vs [] now next later r r' t 0) (room : later ≡ true → t < len) where
   module _ (there : later ≡ true) where
     same_next : (e : Formula) → is_stepwise true e ≡ true → (next || not (awaits_output vs true e)) ≡ true → value_at r e (suc t) ≡ value_at r' e 1
-    same_next e step fits = value_now vs now next later r r' t 0 share (NextOf e) (step, or_true now, fits, or_not_true later there)
+    same_next e step fits = value_now vs [] now next later r r' t 0 share (NextOf e) (step, or_true now, fits, or_not_true later there)
 
     mutual
       next_computable : (e : Formula) → is_stepwise true e ≡ true → (next || not (awaits_output vs true e)) ≡ true → IsSafe r' e 1 → IsComputable r len e (suc t)
@@ -70,14 +70,14 @@ module _ (vs : List VariableData) (now next later : Bool) (r r' : Reading) (t le
       let u = both_not later d d' h.3 in
       ((s.0, p.0, q.0, u.0), (s.1, p.1, q.1, u.1))
 
-  two_fit : (a b : Formula) → Fits (is_stepwise false a && is_stepwise false b) (reads_output vs [] a || reads_output vs [] b) (awaits_output vs false a || awaits_output vs false b) (has_next a || has_next b) → Suits vs now next later a × Suits vs now next later b
+  two_fit : (a b : Formula) → Fits (is_stepwise false a && is_stepwise false b) (reads_output vs [] a || reads_output vs [] b) (awaits_output vs false a || awaits_output vs false b) (has_next a || has_next b) → Suits vs [] now next later a × Suits vs [] now next later b
   two_fit a b h = both_fit (is_stepwise false a) (is_stepwise false b) (reads_output vs [] a) (reads_output vs [] b) (awaits_output vs false a) (awaits_output vs false b) (has_next a) (has_next b) h
 
-  same_now : (e : Formula) → Suits vs now next later e → value_at r e t ≡ value_at r' e 0
-  same_now e h = value_now vs now next later r r' t 0 share e h
+  same_now : (e : Formula) → Suits vs [] now next later e → value_at r e t ≡ value_at r' e 0
+  same_now e h = value_now vs [] now next later r r' t 0 share e h
 
   mutual
-    pub computable : (e : Formula) → Suits vs now next later e → IsSafe r' e 0 → IsComputable r len e t
+    pub computable : (e : Formula) → Suits vs [] now next later e → IsSafe r' e 0 → IsComputable r len e t
     computable (Constant v) h safe = tt
     computable (Variable k) h safe = tt
     computable (NextOf e) h safe = let there = is_later later h.3 in (room there, subst (IsComputable r len e) (one_later t) (next_computable there e h.0 h.2 safe))

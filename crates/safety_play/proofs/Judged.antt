@@ -56,7 +56,7 @@ module _ (s : Specification) (made : WellMade (game_of s)) (x : Assignment) (inp
         computable s.variables false true false (reading_of s (after_input h x)) (step_reading (game_of s) (state_of full) (state_of full)) (length h) len
         (record {
           variable = λ k own. here k ∙ input_shared s.variables x [] y k own;
-          entry = λ t n. refl;
+          entry = λ t n suits. refl;
           next_variable = λ never. absurd (false≢true never);
         })
         (λ never. absurd (false≢true never)) e
@@ -70,7 +70,7 @@ module _ (s : Specification) (made : WellMade (game_of s)) (x : Assignment) (inp
       computable s.variables true false true (reading_of s (after_input (p ∷ []) x)) (step_reading (game_of s) (state_of p) (state_of full)) 0 2
       (record {
         variable = λ k own. refl;
-        entry = λ t n. refl;
+        entry = λ t n suits. refl;
         next_variable = λ there k own. input_shared s.variables x [] y k own;
       })
       (λ there. omega arith) e

@@ -1,6 +1,6 @@
 use Rattle.std.proofs.Common.{◌≡◌, Bool, List, IfOk, subst}
 use Rattle.spec_model.specs.Moves.{has_next}
-use Rattle.game_states.proofs.MakeLaws.{map-flags}
+use Rattle.game_values.proofs.WholeTables.{map-flags}
 use Rattle.game_states.proofs.make.late.Goals as goal
 
 pub returns : goal.returns

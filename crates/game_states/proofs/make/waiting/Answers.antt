@@ -1,7 +1,7 @@
 use Rattle.std.proofs.Common.{◌≡◌, Bool, List, IfOk, subst}
 use Rattle.spec_model.specs.GameViews.{game_data}
 use Rattle.spec_model.specs.Steps.{waits_for_output}
-use Rattle.game_states.proofs.MakeLaws.{tables_whole, map-flags}
+use Rattle.game_values.proofs.WholeTables.{tables_whole, map-flags}
 use Rattle.game_states.proofs.make.waiting.Goals as goal
 
 pub waits-requires : goal.waits-requires

@@ -1,0 +1,16 @@
+mod Holdings
+mod Reaching
+mod Chosen
+mod Leading
+mod Placing
+mod Settled
+mod Playing
+mod Sounding
+mod Turned
+mod Went
+mod Laters
+mod Owning
+mod Makings
+mod Begun
+pub mod Serving
+mod ExampleMoves

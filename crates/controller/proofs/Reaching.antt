@@ -1,0 +1,102 @@
+-- The first of several sets that a legal output leads into, and the first region that has a state.
+use Rattle.std.proofs.Common.{◌≡◌, ℕ, ◌+◌, ◌<◌, ◌≤◌, ◌⊎◌, inl, inr, Bool, true, false, List, length, get_or, find, Option, Some, None, ap, sym, ◌∙◌, subst, arith, IsTrue}
+use Rattle.std.proofs.lemmas.Bool.{false≢true}
+use Rattle.spec_model.specs.declared.value.Value.{Value}
+use Rattle.spec_model.specs.Values.{Assignment}
+use Rattle.spec_model.specs.Games.{GameData, State, listed, outputs_of}
+use Rattle.spec_model.specs.Steps.{Before, is_state}
+use Rattle.spec_model.specs.Sets.{StateSet}
+use Rattle.regions.specs.declared.types.When.{When}
+use Rattle.regions.specs.Kept.{Kept, Region, Move, Outputs, States, HasMove, HasRegion, IsHeldAs, GivesOutputs, IsExact, Stays, IsSameGame}
+use Rattle.regions.specs.Rules.{AreBefore, Found, outputs_into}
+use Rattle.regions.proofs.Holding.{choice_is, set_is}
+use Rattle.gr1_law.specs.Layers.{IsLeastNumber, goal_set}
+use Rattle.gr1_law.specs.Choice.{Memory}
+use Rattle.controller.specs.declared.aims.Aim.{Aim}
+use Rattle.controller.specs.Aims.{leading, AimsLead, RegionsAre, LeadSomewhere, AreSomewhere}
+use Rattle.controller.specs.Turns.{first_into, IsFirstReached}
+use Rattle.controller.proofs.Holdings.{nothing_done, same_game, held_stays, has_move, has_region, gives, aim_at, region_at}
+
+next_or_here : (n r : ℕ) → n ≤ r → (n + 1 ≤ r) ⊎ (n ≡ r)
+next_or_here n r le = grind (arith, le)
+
+-- what is written is what there is
+pub found_only : {o : Option Assignment} (answer : Bool) (out reply : Assignment) → Found answer out o → o ≡ Some reply → out ≡ reply
+found_only true out reply found is = let e : Some out ≡ Some reply = sym found ∙ is in cc
+found_only false out reply found is = absurd (let e : None ≡ Some reply = sym found ∙ is in cc)
+
+module _ (g : GameData) (when : When) (y : ℕ → StateSet) (b : Before) (x : Assignment) (r : ℕ) (reply : Assignment) (is : IsFirstReached g when y b x r reply) (n : ℕ) (le : n ≤ r) (out : Assignment) where
+  pub not_before : (answer : Bool) → answer ≡ false → Found answer out (first_into g when (y n) b x) → n + 1 ≤ r
+  not_before true not_so found = absurd (false≢true (sym not_so))
+  not_before false not_so found =
+      elim (next_or_here n r le) [
+        | inl more ↦ more
+        | inr here ↦ absurd (let e : Some reply ≡ None = sym is.here ∙ (ap (λ (i : ℕ). first_into g when (y i) b x) (sym here) ∙ found) in cc)
+      ]
+
+  pub is_reached : (answer : Bool) → answer ≡ true → Found answer out (first_into g when (y n) b x) → (n ≡ r) × (out ≡ reply)
+  is_reached false so found = absurd (false≢true so)
+  is_reached true so found =
+      elim (next_or_here n r le) [
+        | inl more ↦ absurd (let e : Some out ≡ None = sym found ∙ is.none_before n (omega (arith, more)) in cc)
+        | inr here ↦ (here, (let e : Some out ≡ Some reply = sym found ∙ (ap (λ (i : ℕ). first_into g when (y i) b x) here ∙ is.here) in cc))
+      ]
+
+module _ {G R M : Type 0} (first k : Kept R M) (exact : IsExact k) (stays : Stays first k) (same : IsSameGame first k) where
+  module _ (aims : List (Aim G R M)) (n : ℕ) (below : n < length aims) (d : Aim G R M) where
+    abbrev m : M
+    m = (get_or aims n d).layer
+
+    pub aim_held : LeadSomewhere first aims → HasMove k m
+    aim_held some = has_move k m (leading first.game some.0 (some.1 n)) (held_stays first k (Move m) (leading first.game some.0 (some.1 n)) stays (aim_at first some.0 aims some.1 some.2 some.3 n below d).0)
+
+    pub aim_gives : LeadSomewhere first aims → GivesOutputs k m
+    aim_gives some =
+        gives k m some.0 (some.1 n) exact (held_stays first k (Move m) (leading k.game some.0 (some.1 n)) stays
+        (subst (λ (g : GameData). IsHeldAs first (Move m) (leading g some.0 (some.1 n))) (sym same.game) (aim_at first some.0 aims some.1 some.2 some.3 n below d).0))
+
+    pub found_at : (when : When) (y : ℕ → StateSet) (x : ℕ → ℕ → StateSet) (b : Before) (values : List Value) (input out : Assignment) (answer : Bool) →
+        ((when : When) (t : StateSet) (b : Before) → k.choice m ≡ Outputs (outputs_into k.game when t) → AreBefore k.game when b values → Found answer out (find (outputs_into k.game when t b input) (outputs_of k.game))) →
+        AimsLead first when aims y x → AreBefore first.game when b values → Found answer out (first_into first.game when (y n) b input)
+    found_at when y x b values input out answer call lead before =
+        subst (λ (g : GameData). Found answer out (first_into g when (y n) b input)) same.game
+        (call when (y n) b
+        (choice_is k m (leading k.game when (y n)) exact (held_stays first k (Move m) (leading k.game when (y n)) stays
+        (subst (λ (g : GameData). IsHeldAs first (Move m) (leading g when (y n))) (sym same.game) (aim_at first when aims y x lead n below d).0)))
+        (subst (λ (g : GameData). AreBefore g when b values) (sym same.game) before))
+
+module _ {R M : Type 0} (first k : Kept R M) (exact : IsExact k) (stays : Stays first k) (same : IsSameGame first k) where
+  module _ (rs : List R) (n : ℕ) (below : n < length rs) (r : R) (is : r ≡ get_or rs n r) where
+    pub region_held : AreSomewhere first rs → HasRegion k r
+    region_held some = has_region k r (States (some.0 n)) (held_stays first k (Region r) (States (some.0 n)) stays (region_at first rs some.0 some.1 n below r is))
+
+    pub has_at : (sets : ℕ → StateSet) (s : State) (values : List Value) (answer : Bool) →
+        ((s : State) → is_state k.game s ≡ true → listed s ≡ values → answer ≡ k.set r s) →
+        RegionsAre first rs sets → is_state first.game s ≡ true → listed s ≡ values → answer ≡ sets n s
+    has_at sets s values answer call are inside lists =
+        call s (subst (λ (g : GameData). is_state g s ≡ true) (sym same.game) inside) lists
+        ∙ ap (λ (t : StateSet). t s) (set_is k r (sets n) exact (held_stays first k (Region r) (States (sets n)) stays (region_at first rs sets are n below r is)))
+
+-- whether the goal remembered holds
+pub has_goal : {R M : Type 0} (k : Kept R M) → IsExact k → (rs : List R) (n : ℕ) → n < length rs → (r : R) → r ≡ get_or rs n r → (s : State) (m : Memory) → m.goal ≡ n → (values : List Value) (answer : Bool) →
+    ((s : State) → is_state k.game s ≡ true → listed s ≡ values → answer ≡ k.set r s) →
+    RegionsAre k rs (goal_set k.game) → is_state k.game s ≡ true → listed s ≡ values → answer ≡ goal_set k.game m.goal s
+has_goal k exact rs n below r is s m goal_is values answer call are inside lists =
+    has_at k k exact (nothing_done k) (same_game k) rs n below r is (goal_set k.game) s values answer call are inside lists ∙ ap (λ j. goal_set k.game j s) (sym goal_is)
+
+-- ---- the least of several parts that has a state
+
+module _ (sets : ℕ → StateSet) (s : State) (i n : ℕ) (least : IsLeastNumber (λ m. IsTrue (sets m s)) i) (le : n ≤ i) where
+  pub later_part : (answer : Bool) → answer ≡ false → answer ≡ sets n s → n + 1 ≤ i
+  later_part answer not_so is =
+      elim (next_or_here n i le) [
+        | inl more ↦ more
+        | inr here ↦ absurd (false≢true (sym not_so ∙ (is ∙ (ap (λ (m : ℕ). sets m s) here ∙ least.here))))
+      ]
+
+  pub this_part : (answer : Bool) → answer ≡ true → answer ≡ sets n s → n ≡ i
+  this_part answer so is =
+      elim (next_or_here n i le) [
+        | inl more ↦ absurd (least.none_before n (omega (arith, more)) (sym is ∙ so))
+        | inr here ↦ here
+      ]

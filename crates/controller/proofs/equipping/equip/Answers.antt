@@ -1,0 +1,76 @@
+use Rattle.std.proofs.Common.{◌≡◌, ◌∙◌, ◌+◌, ◌<◌, ◌++◌, ◌∷◌, [], List, map, take, length, vec_len, get_or, IfErr, ap, subst, sym, refl, arith}
+use Rattle.std.proofs.lemmas.List.{map-append, take_all, take_more}
+use Rattle.std.proofs.lemmas.Result.{IfOk-weaker, IfErr-weaker, err_from_is_err_and}
+use Rattle.spec_model.specs.Games.{GameData}
+use Rattle.spec_model.specs.Sets.{StateSet, no_states}
+use Rattle.regions.specs.Kept.{Item, Region, Move, Meaning, States, All, Holding, HasRegion, MakesRegion, Makes, IsSameGame}
+use Rattle.regions.specs.declared.types.When.TheVariants.{First, Later}
+use Rattle.gr1_law.specs.Layers.{goal_set, goal_sets}
+use Rattle.gr1_sys.specs.Held.{HasEach, goal_regions, all_regions}
+use Rattle.gr1_sys.proofs.Givings.{goal_alone, goal_there}
+use Rattle.controller.specs.Aims.{leading}
+use Rattle.controller.specs.Owned.{MakesAll, region_items, aims_items, all_aims_items}
+use Rattle.controller.specs.Made.{Every, IsOfLayers, AreOfLayers, TellsHalt, AreLike, AreAllLike, leadings, regions_for, first_layers, move_meanings}
+use Rattle.controller.proofs.Holdings.{same_then}
+use Rattle.controller.proofs.Makings.{has_every, has_each, each_stays, of_layers_stay, leadings_stay, nothing_made, makes_one, makes_both, makes_next, still_all, made_and_spent, named, named_goals, some_goal, told, told_after, told_still, every_first, first_is, moves_stay_told, counted_regions, all_goals_named}
+use Rattle.controller.proofs.equipping.equip.Goals as goal
+
+pub goal_regions-requires-clause-count : goal.goal_regions-requires-clause-count
+goal_regions-requires-clause-count g c = c.requires.count
+
+pub moves_of-requires-clause-free : goal.moves_of-requires-clause-free
+moves_of-requires-clause-free g c = c.in_ok-holds.ensures.made.jam
+
+pub moves_of-requires-clause-some : goal.moves_of-requires-clause-some
+moves_of-requires-clause-some g c = omega (arith, c.requires.count, some_goal (g.G.Regions.kept c.args.g.now).game)
+
+pub moves_of-requires-clause-layers : goal.moves_of-requires-clause-layers
+moves_of-requires-clause-layers g c =
+    let kept = g.G.Regions.kept in
+    let made = c.in_ok-holds.ensures.made in
+    each_stays (kept c.args.g.now) (kept c.goal_regions.new.g) (g.met.G.Regions.exact _) (λ w. omega (arith, made.held w)) (all_regions c.args.layers.now) c.requires.layers
+
+pub returns-in-Ok-clause-made : goal.returns-in-Ok-clause-made
+returns-in-Ok-clause-made g c =
+    let kept = g.G.Regions.kept in
+    let first = kept c.args.g.now in
+    let k = kept c.goal_regions.new.g in
+    let new = kept c.moves_of.new.g in
+    let layers = c.args.layers.now in
+    let made = c.in_ok-holds.ensures.made in
+    let stays = moves_stay_told first k (g.met.G.Regions.exact _) (λ w. omega (arith, made.held w)) layers c.goal_regions.ensures.same c.requires.layers in
+    makes_both first k new (region_items c.in_ok-holds.holds.items) (aims_items c.in-Ok.first.items ++ all_aims_items c.in-Ok.goals.items) (map States (goal_sets first.game)) (move_meanings first layers) made
+    (subst (MakesAll k new (aims_items c.in-Ok.first.items ++ all_aims_items c.in-Ok.goals.items)) stays c.in-Ok.ensures.made)
+
+pub returns-in-Ok-clause-counted : goal.returns-in-Ok-clause-counted
+returns-in-Ok-clause-counted g c = counted_regions _ c.in_ok-holds.holds.items (goal_sets (g.G.Regions.kept c.args.g.now).game) c.in_ok-holds.ensures.made.counted
+
+pub spend_regions-requires : goal.spend_regions-requires
+spend_regions-requires g c =
+    let kept = g.G.Regions.kept in
+    still_all (kept c.args.g.now) (kept c.goal_regions.new.g) (kept c.moves_of.new.g) (region_items c.in_ok-holds.holds.items) _ (g.met.G.Regions.exact _) c.in_ok-holds.ensures.made c.in-Err.ensures.halted
+
+pub returns-in-Err-clause-halted : goal.returns-in-Err-clause-halted
+returns-in-Err-clause-halted g c =
+    let kept = g.G.Regions.kept in
+    made_and_spent (kept c.args.g.now) (kept c.goal_regions.new.g) (kept c.moves_of.new.g) (kept c.spend_regions.new.g) (region_items c.in_ok-holds.holds.items) _ (g.met.G.Regions.exact _) c.in_ok-holds.ensures.made c.in-Err.ensures.halted c.spend_regions.ensures.spends
+
+pub returns-in-Err-clause-told : goal.returns-in-Err-clause-told
+returns-in-Err-clause-told g c = λ l all.
+    let kept = g.G.Regions.kept in
+    let first = kept c.args.g.now in
+    let k = kept c.goal_regions.new.g in
+    let new = kept c.moves_of.new.g in
+    let layers = c.args.layers.now in
+    let made = c.in_ok-holds.ensures.made in
+    told_still first new (kept c.spend_regions.new.g) l c.in-Err.halt c.spend_regions.ensures.spends.jam
+    (told_after first k new l (region_items c.in_ok-holds.holds.items) (map States (goal_sets first.game)) c.in-Err.halt made c.goal_regions.ensures.same
+    (all_goals_named first.game l)
+    (c.in-Err.ensures.told l (of_layers_stay first k (g.met.G.Regions.exact _) (λ w. omega (arith, made.held w)) l (all_regions layers) c.requires.layers all)))
+
+pub returns-in_err-holds-clause-told : goal.returns-in_err-holds-clause-told
+returns-in_err-holds-clause-told g c = λ l all.
+    let kept = g.G.Regions.kept in
+    let k = kept c.args.g.now in
+    let p = err_from_is_err_and c.from_residual.result c.from_residual.ensures.1 in
+    subst (λ r. IfErr r (TellsHalt k (kept c.goal_regions.new.g) l)) (sym p.1) (subst (TellsHalt k (kept c.goal_regions.new.g) l) (sym p.2) (c.in_err-holds.ensures.told l))

@@ -1,0 +1,91 @@
+use Rattle.std.proofs.Common.{◌≡◌, ◌∙◌, ◌+◌, ◌++◌, ◌∷◌, [], List, map, take, length, vec_len, IfErr, ap, subst, sym, refl, arith}
+use Rattle.std.proofs.lemmas.List.{map-append, take_all}
+use Rattle.regions.specs.Kept.{Item, Move, Meaning, States, OutMoves, HasRegion, IsSameGame}
+use Rattle.regions.specs.declared.types.When.TheVariants.{Later}
+use Rattle.gr1_sys.specs.Held.{HasEach, goal_regions, all_regions}
+use Rattle.controller.specs.Aims.{leading}
+use Rattle.controller.specs.Owned.{MakesAll, move_items, aim_items, aims_items, all_aims_items}
+use Rattle.controller.specs.Made.{Every, IsOfLayers, the_set, AreOfLayers, AreLike, AreAllLike, leadings, parts_for, regions_for}
+use Rattle.controller.proofs.Holdings.{same_then}
+use Rattle.controller.proofs.Owning.{length_map, aims_items-push, all_aims_items-push}
+use Rattle.controller.proofs.Makings.{every_at, every_take, every_layer, every_goal, every_layers_take, every_goals_take, take_next, has_every, has_each, region_stays, set_stays, each_stays, of_layers_stay, leading_stays, leadings_stay, nothing_made, makes_one, makes_next, makes_before, still_all, made_and_spent, named, told, told_after, told_still, regions_for-push, all_regions-push, later_regions, like_push, all_like_push}
+use Rattle.controller.proofs.making.moves_into.Goals as goal
+
+pub loop-r-init : goal.loop-r-init
+loop-r-init g c =
+    let first = g.G.Regions.kept c.args.g.now in
+    record {
+      made = subst (λ (ms : List _). MakesAll first first (move_items ms) []) (sym c.in-Ok.ensures.items) (nothing_made first c.requires.free);
+      counted = c.in-Ok.ensures.len;
+      room = omega (arith, c.in-Ok.ensures.capacity);
+      same = record { game = refl; bound = refl };
+    }
+
+pub out_moves-requires-clause-free : goal.out_moves-requires-clause-free
+out_moves-requires-clause-free g c = c.loop-r.invariant.made.jam
+
+pub out_moves-requires-clause-t : goal.out_moves-requires-clause-t
+out_moves-requires-clause-t g c =
+    let kept = g.G.Regions.kept in
+    let first = kept c.args.g.now in
+    let made = c.loop-r.invariant.made in
+    region_stays first (kept c.loop-r.g) (g.met.G.Regions.exact _) (λ w. omega (arith, made.held w)) c.r-item.result
+    (every_at (HasRegion first) c.args.regions.now c.loop-r.r-index c.r-item.result (has_every first c.args.regions.now c.requires.regions) c.loop-r-test.true c.r-item.is)
+
+pub loop-r-preserved : goal.loop-r-preserved
+loop-r-preserved g c =
+    let kept = g.G.Regions.kept in
+    let first = kept c.args.g.now in
+    let k = kept c.loop-r.g in
+    let new = kept c.out_moves.new.self in
+    let inv = c.loop-r.invariant in
+    let made = inv.made in
+    let r = c.r-item.result in
+    let m = c.in-Ok-out_moves.m in
+    let when = c.args.when in
+    let regions = c.args.regions.now in
+    let here = every_at (HasRegion first) regions c.loop-r.r-index r (has_every first regions c.requires.regions) c.loop-r-test.true c.r-item.is in
+    let stays = leading_stays first k (g.met.G.Regions.exact _) (λ w. omega (arith, made.held w)) when r inv.same here in
+    let part : MakesAll k new (Move m ∷ []) (leading first.game when (first.set r) ∷ []) =
+    subst (λ (n : Meaning). MakesAll k new (Move m ∷ []) (n ∷ [])) stays (makes_one k new (Move m) (leading k.game when (k.set r)) c.in-Ok-out_moves.ensures.made) in
+    let f : _ → Meaning = λ r. leading first.game when (first.set r) in
+    record {
+      made = makes_next first k new (move_items c.loop-r.moves.items) (Move m ∷ []) _ (leadings first when (take c.loop-r.r-index regions)) (leading first.game when (first.set r) ∷ []) _
+          (ap move_items c.push_reserved.ensures.items ∙ map-append Move c.loop-r.moves.items (m ∷ []))
+          (ap (map f) (take_next regions c.loop-r.r-index r c.loop-r-test.true c.r-item.is) ∙ map-append f (take c.loop-r.r-index regions) (r ∷ [])) made part;
+      counted = c.push_reserved.ensures.len ∙ ap (λ n. n + 1) inv.counted;
+      room = omega (arith, inv.room, c.push_reserved.ensures.capacity);
+      same = same_then first k new inv.same c.out_moves.ensures.same;
+    }
+
+pub spend_moves-requires : goal.spend_moves-requires
+spend_moves-requires g c =
+    let kept = g.G.Regions.kept in
+    still_all (kept c.args.g.now) (kept c.loop-r.g) (kept c.out_moves.new.self) (move_items c.loop-r.moves.items) _ (g.met.G.Regions.exact _) c.loop-r.invariant.made c.in-Err.ensures.halted.held
+
+pub returns-in-Err-clause-halted : goal.returns-in-Err-clause-halted
+returns-in-Err-clause-halted g c =
+    let kept = g.G.Regions.kept in
+    made_and_spent (kept c.args.g.now) (kept c.loop-r.g) (kept c.out_moves.new.self) (kept c.spend_moves.new.g) (move_items c.loop-r.moves.items) _ (g.met.G.Regions.exact _) c.loop-r.invariant.made c.in-Err.ensures.halted.held c.spend_moves.ensures.spends
+
+pub returns-in-Err-clause-told : goal.returns-in-Err-clause-told
+returns-in-Err-clause-told g c = λ l all.
+    let kept = g.G.Regions.kept in
+    let first = kept c.args.g.now in
+    let k = kept c.loop-r.g in
+    let new = kept c.out_moves.new.self in
+    let made = c.loop-r.invariant.made in
+    let r = c.r-item.result in
+    let regions = c.args.regions.now in
+    let here = every_at (HasRegion first) regions c.loop-r.r-index r (has_every first regions c.requires.regions) c.loop-r-test.true c.r-item.is in
+    let set_is = set_stays first k (g.met.G.Regions.exact _) (λ w. omega (arith, made.held w)) r here in
+    let of = every_at (λ r. IsOfLayers l (first.set r)) regions c.loop-r.r-index r all c.loop-r-test.true c.r-item.is in
+    told_still first new (kept c.spend_moves.new.g) l c.in-Err.halt c.spend_moves.ensures.spends.jam
+    (told first k new l (move_items c.loop-r.moves.items) (leadings first c.args.when (take c.loop-r.r-index regions)) OutMoves (States (k.set r) ∷ []) c.in-Err.halt made c.in-Err.ensures.halted
+    (named first c.args.when l (take c.loop-r.r-index regions) (every_take (λ r. IsOfLayers l (first.set r)) c.loop-r.r-index regions all)) (the_set (first.set r) of (ap States set_is), tt))
+
+pub returns-clause-made : goal.returns-clause-made
+returns-clause-made g c =
+    let first = g.G.Regions.kept c.args.g.now in
+    let regions = c.args.regions.now in
+    subst (λ (rs : List _). MakesAll first (g.G.Regions.kept c.loop-r.g) (move_items c.loop-r.moves.items) (leadings first c.args.when rs)) (take_all c.loop-r.r-index regions (omega (arith, c.loop-r-test.false))) c.loop-r.invariant.made

@@ -1,0 +1,117 @@
+//! The states of the goals, and all moves of a strategy.
+
+ghost use Rattle.std.specs.Prelude.{◌≡◌, ◌<◌, ◌++◌, [], None, Some, length, map, IfOk, IfErr, OnErr};
+ghost use Rattle.regions.specs.Kept.{States, HoldsBesides, MakesRegion, IsSameGame};
+ghost use Rattle.regions.specs.declared.types.When.TheVariants.{First};
+ghost use Rattle.gr1_law.specs.Layers.{LayerSets, goal_set, goal_sets};
+ghost use Rattle.gr1_sys.specs.Held.{HasEach, all_regions};
+ghost use Rattle.controller.specs.Owned.{MakesAll, region_items, aims_items, all_aims_items, made_items};
+ghost use Rattle.controller.specs.Made.{AreOfLayers, TellsHalt, AreLike, AreAllLike, first_layers, move_meanings, made_meanings};
+
+use crate::aims::Aim;
+use crate::making::{aims_into, later_aims};
+use crate::spending::{spend_aims, spend_regions};
+use gr1_sys::SysLayer;
+use regions::{Halt, Recur, Regions, When};
+use std::alloc::Global;
+
+/// The states of a goal, by its number. Where the game has no goal, the single one is true.
+fn goal_region<G: Regions>(g: &mut G, j: usize) -> Result<G::R, Halt>
+    requires free { (G.kept g.old).jam ≡ None }
+    requires there { j < length (goal_sets (G.kept g.old).game) }
+    ensures made { let k = G.kept g.old in IfOk result (λ r. MakesRegion k (G.kept g.new) r (goal_set k.game j)) }
+    ensures halted { OnErr result (HoldsBesides (G.kept g.old) (G.kept g.new) []) }
+    ensures told { (l : LayerSets) → IfErr result (TellsHalt (G.kept g.old) (G.kept g.new) l) }
+    ensures same { IsSameGame (G.kept g.old) (G.kept g.new) }
+{
+    if g.game().goals.is_empty() {
+        g.all()
+    } else {
+        g.holding(Recur::Guarantee(j))
+    }
+}
+
+/// The states of each goal.
+fn goal_regions<G: Regions>(alloc: Global, g: &mut G, n: usize) -> Result<Vec<G::R>, Halt>
+    requires free { (G.kept g.old).jam ≡ None }
+    requires count { n ≡ length (goal_sets (G.kept g.old).game) }
+    ensures made { let k = G.kept g.old in IfOk result (λ rs. MakesAll k (G.kept g.new) (region_items rs.items) (map States (goal_sets k.game))) }
+    ensures halted { OnErr result (HoldsBesides (G.kept g.old) (G.kept g.new) []) }
+    ensures told { (l : LayerSets) → IfErr result (TellsHalt (G.kept g.old) (G.kept g.new) l) }
+    ensures same { IsSameGame (G.kept g.old) (G.kept g.new) }
+{
+    let Ok(mut holds) = Vec::with_capacity(alloc, n) else {
+        return Err(Halt::Memory);
+    };
+    for j in 0..n {
+        match goal_region(g, j) {
+            Ok(r) => holds.push_reserved(r),
+            Err(halt) => {
+                spend_regions(g, holds);
+                return Err(halt);
+            }
+        }
+    }
+    Ok(holds)
+}
+
+/// The layers of the first goal.
+fn layers_of_first<G: Regions>(layers: &[Vec<SysLayer<G>>]) -> &[SysLayer<G>]
+    requires { 0 < length layers.now }
+    ensures { result.now ≡ first_layers layers.now }
+{
+    &layers[0]
+}
+
+/// The first moves into each layer of the first goal, and the later ones into each layer of each goal.
+fn moves_of<G: Regions>(
+    alloc: Global,
+    g: &mut G,
+    layers: &[Vec<SysLayer<G>>],
+) -> Result<(Vec<Aim<G>>, Vec<Vec<Aim<G>>>), Halt>
+    requires free { (G.kept g.old).jam ≡ None }
+    requires some { 0 < length layers.now }
+    requires layers { HasEach (G.kept g.old) (all_regions layers.now) }
+    ensures made { let k = G.kept g.old in IfOk result (λ m. MakesAll k (G.kept g.new) (aims_items m.0.items ++ all_aims_items m.1.items) (move_meanings k layers.now)) }
+    ensures first { IfOk result (λ m. AreLike First m.0.items (first_layers layers.now)) }
+    ensures alike { IfOk result (λ m. AreAllLike m.1.items layers.now) }
+    ensures halted { OnErr result (HoldsBesides (G.kept g.old) (G.kept g.new) []) }
+    ensures told { let k = G.kept g.old in (l : LayerSets) → AreOfLayers l k (all_regions layers.now) → IfErr result (TellsHalt k (G.kept g.new) l) }
+    ensures same { IsSameGame (G.kept g.old) (G.kept g.new) }
+{
+    let first = aims_into(alloc, g, When::First, layers_of_first::<G>(layers))?;
+    match later_aims(alloc, g, layers) {
+        Ok(goals) => Ok((first, goals)),
+        Err(halt) => {
+            spend_aims(g, first);
+            Err(halt)
+        }
+    }
+}
+
+/// The moves, and the states of each goal.
+pub fn equip<G: Regions>(
+    alloc: Global,
+    g: &mut G,
+    layers: &[Vec<SysLayer<G>>],
+) -> Result<(Vec<Aim<G>>, Vec<Vec<Aim<G>>>, Vec<G::R>), Halt>
+    requires free { (G.kept g.old).jam ≡ None }
+    requires count { length layers.now ≡ length (goal_sets (G.kept g.old).game) }
+    requires layers { HasEach (G.kept g.old) (all_regions layers.now) }
+    ensures made { let k = G.kept g.old in IfOk result (λ m. MakesAll k (G.kept g.new) (made_items m.0.items m.1.items m.2.items) (made_meanings k layers.now)) }
+    ensures first { IfOk result (λ m. AreLike First m.0.items (first_layers layers.now)) }
+    ensures alike { IfOk result (λ m. AreAllLike m.1.items layers.now) }
+    ensures counted { let k = G.kept g.old in IfOk result (λ m. length m.2.items ≡ length (goal_sets k.game)) }
+    ensures halted { OnErr result (HoldsBesides (G.kept g.old) (G.kept g.new) []) }
+    ensures told { let k = G.kept g.old in (l : LayerSets) → AreOfLayers l k (all_regions layers.now) → IfErr result (TellsHalt k (G.kept g.new) l) }
+    ensures same { IsSameGame (G.kept g.old) (G.kept g.new) }
+{
+    let holds = goal_regions(alloc, g, layers.len())?;
+    match moves_of(alloc, g, layers) {
+        Ok((first, goals)) => Ok((first, goals, holds)),
+        Err(halt) => {
+            spend_regions(g, holds);
+            Err(halt)
+        }
+    }
+}

@@ -1,0 +1,25 @@
+//! The system's strategy of a game with recurring lines, one position after the other.
+//!
+//! The play stays in the winning states and turns to the recurring guarantees one after the other: the output leads to
+//! the least rank for the goal aimed at, and while neither goal nor rank changes the play waits for one violated
+//! assumption (Bloem et al. 2012, solving GR(1) games; that this assumption is kept is this project's own).
+//!
+//! Contract: `Controller`, for each play that it stands for. Only `Controller::make` takes memory: it makes the moves into
+//! each layer and each part, so that a position tries moves and reads regions, and makes none.
+//! Path: layers → **controller** → lines.
+#![tactic(auto)]
+
+mod aims;
+mod choosing;
+mod controller;
+mod equipping;
+mod making;
+mod place;
+mod settling;
+mod spending;
+mod turning;
+
+pub use controller::Controller;
+
+#[cfg(test)]
+mod tests;

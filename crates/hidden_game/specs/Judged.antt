@@ -1,0 +1,84 @@
+-- Which assumption an input breaks first in a game.
+use Rattle.std.specs.Prelude.{ℕ, ◌≡◌, ◌≤◌, Bool, true, false, not, ◌++◌, if◌then◌else◌, min, List, [], ◌∷◌, get_or, drop, map, Option, Some, None, is_some, option_map, pos, IfSome, IsTrue, length}
+use Rattle.std.specs.List.{list_any, AllByRecursion}
+use Rattle.spec_model.specs.declared.value.Value.{Value}
+use Rattle.spec_model.specs.declared.value.Value.TheVariants as value
+use Rattle.spec_model.specs.declared.expr.Expr.{Expr}
+use Rattle.spec_model.specs.declared.game.Label.{Label}
+use Rattle.spec_model.specs.Values.{Assignment}
+use Rattle.spec_model.specs.Syntax.{Formula}
+use Rattle.spec_model.specs.Views.{formula}
+use Rattle.spec_model.specs.Meaning.{Reading, holds_at}
+use Rattle.spec_model.specs.Games.{GameData, outputs_of}
+use Rattle.spec_model.specs.Steps.{Before, reached, line_holds, waits_for_output, is_output}
+use Rattle.game_values.specs.Moments.{IsSafe}
+use Rattle.hidden_game.specs.declared.sight.Sight.{Sight}
+use Rattle.hidden_game.specs.declared.judging.Move.{Move}
+use Rattle.hidden_game.specs.declared.judging.InputJudge.{InputJudge}
+use Rattle.hidden_game.specs.Sights.{reading_in}
+
+-- ---- the first broken line
+
+-- the numbers of the lines that pass a test
+abbrev pub numbers_where : (Formula → Bool) → List (ℕ × Formula) → List ℕ
+numbers_where test [] = []
+numbers_where test (l ∷ ls) = if test l.1 then l.0 ∷ numbers_where test ls else numbers_where test ls
+
+-- whether some output after the input makes a line false that is judged at the move
+abbrev pub breaks : GameData → (late : Bool) → Before → Assignment → Formula → Bool
+breaks g late b x e = list_any (λ y. not (line_holds g late b (reached g b x y) e)) (outputs_of g)
+
+-- the numbers of the assumptions that the input breaks: an initial one at the first move alone
+abbrev pub broken_by : GameData → Before → Assignment → List ℕ
+broken_by g b x =
+    (if is_some b then [] else numbers_where (breaks g false b x) g.initial_asm)
+    ++ numbers_where (λ e. breaks g (waits_for_output g e) b x e) g.safe_asm
+
+abbrev pub lesser : Option ℕ → Option ℕ → Option ℕ
+lesser None n = n
+lesser (Some m) None = Some m
+lesser (Some m) (Some n) = Some (min m n)
+
+-- the least of several numbers, if there are any
+abbrev pub least : List ℕ → Option ℕ
+least [] = None
+least (n ∷ ns) = lesser (Some n) (least ns)
+
+-- the line with a number, as it has one part
+abbrev pub line_label : ℕ → Label
+line_label n = record { line = n; part = 0 }
+
+-- the first assumption that the input breaks: numbers rise in text order
+abbrev pub first_broken : GameData → Before → Assignment → Option Label
+first_broken g b x = option_map line_label (least (broken_by g b x))
+
+-- ---- what the program looks at
+
+-- a formula at the position that a move makes, or where it is late at the state before; at the first move a late one is not judged
+abbrev pub judged : Reading → Option Reading → (late : Bool) → Formula → Bool
+judged made before false e = holds_at made e 0
+judged made None true e = true
+judged made (Some r) true e = holds_at r e 0
+
+abbrev pub judged_in : Move → (late : Bool) → Formula → Bool
+judged_in m = judged (reading_in m.made) (option_map reading_in m.before)
+
+-- the numbers of the lines that are false; which of them are late is given beside them
+abbrev pub numbers_false : (Bool → Formula → Bool) → List Bool → List (ℕ × Formula) → List ℕ
+numbers_false test flags [] = []
+numbers_false test flags (l ∷ ls) = (if test (get_or flags 0 false) l.1 then [] else l.0 ∷ []) ++ numbers_false test (drop 1 flags) ls
+
+-- the formula may be asked for at the position and at the state before
+abbrev pub IsSafeIn : Move → Formula → Type 0
+IsSafeIn m e = IsSafe (reading_in m.made) e 0 × IfSome m.before (λ s. IsSafe (reading_in s) e 0)
+
+abbrev pub AreSafeIn : Move → List (ℕ × Expr) → Type 0
+AreSafeIn m ls = AllByRecursion (λ l. IsSafeIn m (formula l.1)) ls
+
+-- ---- what a judge keeps
+
+-- it knows which safety assumptions wait for the output, and an output; the cells of the tables have room
+pub record IsJudgeOf (g : GameData) (j : InputJudge) : Type 0 where
+  pub few : length g.hidden ≤ 1024
+  pub waits : j.waits.items ≡ map (λ l. waits_for_output g l.1) g.safe_asm
+  pub output : IsTrue (is_output g j.output.items)
