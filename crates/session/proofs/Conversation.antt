@@ -15,6 +15,7 @@ use Rattle.session.specs.Reading.{Reads, AreGiven}
 use Rattle.session.specs.Room.{domains}
 use Rattle.session.specs.declared.lines.Lines.{Lines}
 use Rattle.session.specs.Views.{AreFor, KeepsTables, names_of, input_variables, output_variables}
+use Rattle.session.specs.Players.{Serves}
 use Rattle.session.specs.Talks.{ReadsInput, shown_output}
 
 -- the domains of an owner's variables
@@ -62,10 +63,23 @@ room_for lines s for_spec =
     let of_domains = length-map (outputs_of s) (λ (v : VariableData). v.domain) in
     omega (arith, lines.output_places, lines.output.ok, lines.outputs.ok, vars, same, ds, of_domains)
 
-pub for_after : (old new : Lines) (s z : Specification) → AreFor old s → KeepsTables old new → z ≡ s → AreFor new z
-for_after old new s z for_spec keeps same =
-    subst (AreFor new) (sym same)
-    (record { names = keeps.names ∙ for_spec.names; inputs = keeps.inputs ∙ for_spec.inputs; outputs = keeps.outputs ∙ for_spec.outputs })
+pub for_after : (old new : Lines) (s : Specification) → AreFor old s → KeepsTables old new → AreFor new s
+for_after old new s for_spec keeps =
+    record { names = keeps.names ∙ for_spec.names; inputs = keeps.inputs ∙ for_spec.inputs; outputs = keeps.outputs ∙ for_spec.outputs }
+
+-- what is kept twice is kept
+pub kept_on : (first second third : Lines) → KeepsTables first second → KeepsTables second third → KeepsTables first third
+kept_on first second third one two = record { names = two.names ∙ one.names; inputs = two.inputs ∙ one.inputs; outputs = two.outputs ∙ one.outputs }
+
+pub serves_after : (Stands : Specification → ℕ → Run → Type 0) (old new : Lines) → Serves Stands old → KeepsTables old new → Serves Stands new
+serves_after Stands old new some keeps =
+    record {
+      spec = some.spec;
+      rounds = some.rounds;
+      play = some.play;
+      for_spec = for_after old new some.spec some.for_spec keeps;
+      stands = some.stands;
+    }
 
 pub reads_for : (lines : Lines) (s : Specification) (line : List ℕ) (x : Assignment) → AreFor lines s → Reads (names_of lines) (input_variables lines) line x → ReadsInput s line x
 reads_for lines s line x for_spec reads =

@@ -12,3 +12,5 @@ mod Words
 mod Conversation
 pub mod Turns
 mod Players
+mod Strategic
+mod Playable

@@ -14,6 +14,7 @@ use Rattle.session.specs.declared.talking.End.TheVariants as ends
 use Rattle.session.specs.InputLines.{Line, input_lines}
 use Rattle.session.specs.Taking.{Takes, GivesLine, IsEndIf, BeginsTooLong}
 use Rattle.spec_model.specs.Plays.{IsPlay, nothing, more}
+use Rattle.spec_model.specs.Realizable.{Kept}
 use Rattle.spec_model.specs.Moves.{rules_of}
 use Rattle.session.specs.Talks.{ReadsInput, shown_output, AreInputs, shown_outputs, IsNext, EndsSo, RunTalk, SoFar, IsAnswered, IsNotAnswered, IsLastEnd}
 use Rattle.session.proofs.HandingLemmas.{pushed, one_more, all_told}
@@ -36,8 +37,8 @@ length_more h x y = length-append h (record { input = x; output = y } ∷ [])
 nothing_more : (a b c : Option (List ℕ)) (text : List ℕ) → Appends a b text → Appends b c [] → Appends a c text
 nothing_more a b c text first second = subst (Appends a c) (append-nil text) (Appends-trans a b c text [] first second)
 
-module _ (s : Specification) (Stands : Run → Type 0) (left0 left1 left2 written0 written1 : Option (List ℕ)) (before line after_it : List ℕ) (count limit : ℕ)
-    (so : SoFar s Stands left0 left1 written0 written1 before count) (what : Taken) (takes : Takes left1 left2 before line after_it what) where
+module _ (s : Specification) (k : ℕ) (Stands : Run → Type 0) (left0 left1 left2 written0 written1 : Option (List ℕ)) (before line after_it : List ℕ) (count limit : ℕ)
+    (so : SoFar s k Stands left0 left1 written0 written1 before count) (what : Taken) (takes : Takes left1 left2 before line after_it what) where
   abbrev given' : List ℕ
   given' = so.given ++ takes.got
 
@@ -72,7 +73,7 @@ module _ (s : Specification) (Stands : Run → Type 0) (left0 left1 left2 writte
 
   -- ---- an answered line
 
-  module _ (Stands' : Run → Type 0) (written2 : Option (List ℕ)) (answered : IsAnswered s so.play Stands' line written1 written2) where
+  module _ (Stands' : Run → Type 0) (written2 : Option (List ℕ)) (answered : IsAnswered s k so.play Stands' line written1 written2) where
     abbrev play' : Run
     play' = after so.play answered.input answered.output
 
@@ -85,7 +86,7 @@ module _ (s : Specification) (Stands : Run → Type 0) (left0 left1 left2 writte
     legal_more : IsPlay (rules_of s) play'
     legal_more = more so.play answered.input answered.output so.legal answered.legal_in answered.legal_out
 
-    pub goes_on : (what ≡ taken.Line) → SoFar s Stands' left0 left2 written0 written2 after_it (count + 1)
+    pub goes_on : (what ≡ taken.Line) → SoFar s k Stands' left0 left2 written0 written2 after_it (count + 1)
     goes_on is =
         record {
           given = given';
@@ -95,12 +96,13 @@ module _ (s : Specification) (Stands : Run → Type 0) (left0 left1 left2 writte
           play = play';
           inputs = inputs_more s so.handed so.play line answered.input answered.output so.inputs answered.read;
           legal = legal_more;
+          kept = answered.kept;
           counted = counted_more;
           wrote = wrote_more;
           stands = answered.stands;
         }
 
-    pub is_last : (what ≡ taken.Last) → count < limit → (rose_in rose_out : Type 0) (end : End) → IsLastEnd (count + 1) limit end → RunTalk s limit left0 left2 written0 written2 rose_in rose_out end
+    pub is_last : (what ≡ taken.Last) → count < limit → (rose_in rose_out : Type 0) (end : End) → IsLastEnd (count + 1) limit end → RunTalk s k limit left0 left2 written0 written2 rose_in rose_out end
     is_last is below rose_in rose_out ends.Finished last =
         record {
           given = given';
@@ -109,6 +111,7 @@ module _ (s : Specification) (Stands : Run → Type 0) (left0 left1 left2 writte
           play = play';
           inputs = inputs_more s so.handed so.play line answered.input answered.output so.inputs answered.read;
           legal = legal_more;
+          kept = answered.kept;
           few = omega (arith, counted_more, below);
           wrote = wrote_more;
           ends = (subst (λ w. IsEndIf w left2) is takes.ended, told_last is, (omega (arith, counted_more, last)));
@@ -121,6 +124,7 @@ module _ (s : Specification) (Stands : Run → Type 0) (left0 left1 left2 writte
           play = play';
           inputs = inputs_more s so.handed so.play line answered.input answered.output so.inputs answered.read;
           legal = legal_more;
+          kept = answered.kept;
           few = omega (arith, counted_more, below);
           wrote = wrote_more;
           ends = omega (arith, counted_more, last);
@@ -132,7 +136,7 @@ module _ (s : Specification) (Stands : Run → Type 0) (left0 left1 left2 writte
 
   -- ---- a line that is not answered
 
-  pub not_answered : IsNext given' left2 so.handed (Some line) → count < limit → (written2 : Option (List ℕ)) (rose_in rose_out : Type 0) (end : End) → IsNotAnswered s so.play count line written1 written2 rose_out end → RunTalk s limit left0 left2 written0 written2 rose_in rose_out end
+  pub not_answered : IsNext given' left2 so.handed (Some line) → count < limit → (written2 : Option (List ℕ)) (rose_in rose_out : Type 0) (end : End) → IsNotAnswered s k so.play count line written1 written2 rose_out end → RunTalk s k limit left0 left2 written0 written2 rose_in rose_out end
   not_answered next below written2 rose_in rose_out (ends.BadLine n) why =
       record {
         given = given';
@@ -141,6 +145,7 @@ module _ (s : Specification) (Stands : Run → Type 0) (left0 left1 left2 writte
         play = so.play;
         inputs = so.inputs;
         legal = so.legal;
+        kept = so.kept;
         few = omega (arith, so.counted, below);
         wrote = nothing_more written0 written1 written2 (shown_outputs s so.play) so.wrote why.2;
         ends = (Some line, next, why.0, (omega (arith, so.counted, why.1)), (omega (arith, so.counted, below)));
@@ -153,6 +158,7 @@ module _ (s : Specification) (Stands : Run → Type 0) (left0 left1 left2 writte
         play = so.play;
         inputs = so.inputs;
         legal = so.legal;
+        kept = so.kept;
         few = omega (arith, so.counted, below);
         wrote = nothing_more written0 written1 written2 (shown_outputs s so.play) so.wrote why.3;
         ends = (line, why.0, next, why.1, why.2, (omega (arith, so.counted, below)));
@@ -166,14 +172,15 @@ module _ (s : Specification) (Stands : Run → Type 0) (left0 left1 left2 writte
         play = after so.play why.0 why.1;
         inputs = inputs_more s so.handed so.play line why.0 why.1 so.inputs why.2;
         legal = more so.play why.0 why.1 so.legal why.3 why.4;
+        kept = why.5;
         few = omega (arith, count_more, so.counted, below);
         wrote = (
-          length (shown_outputs s so.play) + why.5.0,
+          length (shown_outputs s so.play) + why.6.0,
           subst (Appends written0 written2)
-              (sym (take-append-add (shown_outputs s so.play) (shown_output s why.1) why.5.0) ∙ ap (take (length (shown_outputs s so.play) + why.5.0)) (shown_more s so.play why.0 why.1))
-              (Appends-trans written0 written1 written2 (shown_outputs s so.play) (take why.5.0 (shown_output s why.1)) so.wrote why.5.1),
+              (sym (take-append-add (shown_outputs s so.play) (shown_output s why.1) why.6.0) ∙ ap (take (length (shown_outputs s so.play) + why.6.0)) (shown_more s so.play why.0 why.1))
+              (Appends-trans written0 written1 written2 (shown_outputs s so.play) (take why.6.0 (shown_output s why.1)) so.wrote why.6.1),
         );
-        ends = why.6;
+        ends = why.7;
       }
   not_answered next below written2 rose_in rose_out ends.Finished why = absurd why
   not_answered next below written2 rose_in rose_out ends.StateLimit why = absurd why
@@ -182,7 +189,7 @@ module _ (s : Specification) (Stands : Run → Type 0) (left0 left1 left2 writte
   -- ---- no line
 
   module _ (below : count < limit) (rose_in rose_out : Type 0) where
-    pub too_long : (what ≡ taken.TooLong) → RunTalk s limit left0 left2 written0 written1 rose_in rose_out (ends.BadLine (count + 1))
+    pub too_long : (what ≡ taken.TooLong) → RunTalk s k limit left0 left2 written0 written1 rose_in rose_out (ends.BadLine (count + 1))
     too_long is =
         let told = all_told taken.TooLong so.given before takes.got line after_it so.handed so.hands_out (subst (λ w. GivesLine w before takes.got line after_it) is takes.gives) false [] in
         record {
@@ -192,6 +199,7 @@ module _ (s : Specification) (Stands : Run → Type 0) (left0 left1 left2 writte
           play = so.play;
           inputs = so.inputs;
           legal = so.legal;
+          kept = so.kept;
           few = omega (arith, so.counted, below);
           wrote = so.wrote;
           ends = (None, first_none told.0 (ap (input_lines false) (sym (append-nil given')) ∙ told.1) told.2, tt, (omega (arith, so.counted)), (omega (arith, so.counted, below)));
@@ -207,7 +215,7 @@ module _ (s : Specification) (Stands : Run → Type 0) (left0 left1 left2 writte
               follows = e ∙ ap (λ (l : Line). map (λ l. Some l) so.handed ++ l ∷ rest) begins;
             }
 
-    pub at_end : (what ≡ taken.End) → RunTalk s limit left0 left2 written0 written1 rose_in rose_out ends.Finished
+    pub at_end : (what ≡ taken.End) → RunTalk s k limit left0 left2 written0 written1 rose_in rose_out ends.Finished
     at_end is =
         record {
           given = given';
@@ -216,6 +224,7 @@ module _ (s : Specification) (Stands : Run → Type 0) (left0 left1 left2 writte
           play = so.play;
           inputs = so.inputs;
           legal = so.legal;
+          kept = so.kept;
           few = omega (arith, so.counted, below);
           wrote = so.wrote;
           ends = (
@@ -225,7 +234,7 @@ module _ (s : Specification) (Stands : Run → Type 0) (left0 left1 left2 writte
           );
         }
 
-    pub failed : (what ≡ taken.Failed) → rose_in → RunTalk s limit left0 left2 written0 written1 rose_in rose_out ends.ReadFault
+    pub failed : (what ≡ taken.Failed) → rose_in → RunTalk s k limit left0 left2 written0 written1 rose_in rose_out ends.ReadFault
     failed is rose =
         record {
           given = given';
@@ -234,6 +243,7 @@ module _ (s : Specification) (Stands : Run → Type 0) (left0 left1 left2 writte
           play = so.play;
           inputs = so.inputs;
           legal = so.legal;
+          kept = so.kept;
           few = omega (arith, so.counted, below);
           wrote = so.wrote;
           ends = (
@@ -244,9 +254,9 @@ module _ (s : Specification) (Stands : Run → Type 0) (left0 left1 left2 writte
         }
 
 -- a talk that has the limit's number of lines
-pub at_limit : (s : Specification) (Stands : Run → Type 0) (left0 left1 written0 written1 : Option (List ℕ)) (pending : List ℕ) (limit : ℕ) (rose_in rose_out : Type 0) →
-    SoFar s Stands left0 left1 written0 written1 pending limit → RunTalk s limit left0 left1 written0 written1 rose_in rose_out ends.StateLimit
-at_limit s Stands left0 left1 written0 written1 pending limit rose_in rose_out so =
+pub at_limit : (s : Specification) (k : ℕ) (Stands : Run → Type 0) (left0 left1 written0 written1 : Option (List ℕ)) (pending : List ℕ) (count limit : ℕ) → count ≡ limit → (rose_in rose_out : Type 0) →
+    SoFar s k Stands left0 left1 written0 written1 pending count → RunTalk s k limit left0 left1 written0 written1 rose_in rose_out ends.StateLimit
+at_limit s k Stands left0 left1 written0 written1 pending count limit reached rose_in rose_out so =
     record {
       given = so.given;
       taken_from = so.taken_from;
@@ -254,15 +264,16 @@ at_limit s Stands left0 left1 written0 written1 pending limit rose_in rose_out s
       play = so.play;
       inputs = so.inputs;
       legal = so.legal;
-      few = omega (arith, so.counted);
+      kept = so.kept;
+      few = omega (arith, so.counted, reached);
       wrote = so.wrote;
-      ends = so.counted;
+      ends = so.counted ∙ reached;
     }
 
 -- what rose in a part rose in the whole
-pub weaker : (s : Specification) (limit : ℕ) (left0 left1 written0 written1 : Option (List ℕ)) (rose_in rose_out rose_in' rose_out' : Type 0) (end : End) → (rose_in → rose_in') → (rose_out → rose_out') →
-    RunTalk s limit left0 left1 written0 written1 rose_in rose_out end → RunTalk s limit left0 left1 written0 written1 rose_in' rose_out' end
-weaker s limit left0 left1 written0 written1 rose_in rose_out rose_in' rose_out' end from_in from_out talk =
+pub weaker : (s : Specification) (k limit : ℕ) (left0 left1 written0 written1 : Option (List ℕ)) (rose_in rose_out rose_in' rose_out' : Type 0) (end : End) → (rose_in → rose_in') → (rose_out → rose_out') →
+    RunTalk s k limit left0 left1 written0 written1 rose_in rose_out end → RunTalk s k limit left0 left1 written0 written1 rose_in' rose_out' end
+weaker s k limit left0 left1 written0 written1 rose_in rose_out rose_in' rose_out' end from_in from_out talk =
     record {
       given = talk.given;
       taken_from = talk.taken_from;
@@ -270,6 +281,7 @@ weaker s limit left0 left1 written0 written1 rose_in rose_out rose_in' rose_out'
       play = talk.play;
       inputs = talk.inputs;
       legal = talk.legal;
+      kept = talk.kept;
       few = talk.few;
       wrote = talk.wrote;
       ends = by_end end talk.ends;
@@ -292,8 +304,8 @@ some_weaker None P Q from is = tt
 some_weaker (Some x) P Q from is = from x is
 
 -- before the first line
-pub nothing_yet : (s : Specification) (Stands : Run → Type 0) (left written : Option (List ℕ)) (pending : List ℕ) → pending ≡ [] → Stands [] → SoFar s Stands left left written written pending 0
-nothing_yet s Stands left written pending fresh stands =
+pub nothing_yet : (s : Specification) (k : ℕ) (Stands : Run → Type 0) (left written : Option (List ℕ)) (pending : List ℕ) → pending ≡ [] → Kept (rules_of s) k [] → Stands [] → SoFar s k Stands left left written written pending 0
+nothing_yet s k Stands left written pending fresh kept stands =
     record {
       given = [];
       taken_from = Consumes-nil left;
@@ -302,6 +314,7 @@ nothing_yet s Stands left written pending fresh stands =
       play = [];
       inputs = tt;
       legal = nothing;
+      kept = kept;
       counted = refl;
       wrote = Appends-nil written;
       stands = stands;
@@ -312,11 +325,10 @@ pub rose_earlier : (first before now : ℕ) → first ≤ before → Rose before
 rose_earlier first before now later rose = omega (arith, later, rose)
 
 -- a turn that ends the talk, from the lines that were answered before
-pub ended_by : (s z : Specification) → z ≡ s → (Stands : Run → Type 0) (left0 left1 left2 written0 written1 written2 : Option (List ℕ)) (pending : List ℕ) (count limit in0 in1 in2 out0 out1 out2 : ℕ) (end : End) →
-    SoFar s Stands left0 left1 written0 written1 pending count →
-    ((left written : Option (List ℕ)) → SoFar z Stands left left1 written written1 pending count → RunTalk z limit left left2 written written2 (Rose in1 in2) (Rose out1 out2) end) →
-    in0 ≤ in1 → out0 ≤ out1 → RunTalk s limit left0 left2 written0 written2 (Rose in0 in2) (Rose out0 out2) end
-ended_by s z same Stands left0 left1 left2 written0 written1 written2 pending count limit in0 in1 in2 out0 out1 out2 end so turn later_in later_out =
-    weaker s limit left0 left2 written0 written2 (Rose in1 in2) (Rose out1 out2) (Rose in0 in2) (Rose out0 out2) end (rose_earlier in0 in1 in2 later_in) (rose_earlier out0 out1 out2 later_out)
-    (subst (λ (w : Specification). RunTalk w limit left0 left2 written0 written2 (Rose in1 in2) (Rose out1 out2) end) same
-    (turn left0 written0 (subst (λ (w : Specification). SoFar w Stands left0 left1 written0 written1 pending count) (sym same) so)))
+pub ended_by : (s : Specification) (k : ℕ) (Stands : Run → Type 0) (left0 left1 left2 written0 written1 written2 : Option (List ℕ)) (pending : List ℕ) (count limit in0 in1 in2 out0 out1 out2 : ℕ) (end : End) →
+    SoFar s k Stands left0 left1 written0 written1 pending count →
+    ((left written : Option (List ℕ)) → SoFar s k Stands left left1 written written1 pending count → RunTalk s k limit left left2 written written2 (Rose in1 in2) (Rose out1 out2) end) →
+    in0 ≤ in1 → out0 ≤ out1 → RunTalk s k limit left0 left2 written0 written2 (Rose in0 in2) (Rose out0 out2) end
+ended_by s k Stands left0 left1 left2 written0 written1 written2 pending count limit in0 in1 in2 out0 out1 out2 end so turn later_in later_out =
+    weaker s k limit left0 left2 written0 written2 (Rose in1 in2) (Rose out1 out2) (Rose in0 in2) (Rose out0 out2) end (rose_earlier in0 in1 in2 later_in) (rose_earlier out0 out1 out2 later_out)
+    (turn left0 written0 so)

@@ -4,8 +4,12 @@ pub mod InputLines
 pub mod Pieces
 pub mod Taking
 pub mod Talks
+pub mod Players
 pub mod Room
 pub mod Handing
 pub mod Views
 pub mod Plain
 pub mod Examples
+pub mod PlayerLaws
+pub mod Strategies
+pub mod StrategyLaws

@@ -6,6 +6,7 @@ use Rattle.spec_model.specs.Values.{Assignment}
 use Rattle.spec_model.specs.Syntax.{Specification}
 use Rattle.spec_model.specs.Rules.{Run, after}
 use Rattle.spec_model.specs.Plays.{IsPlay}
+use Rattle.spec_model.specs.Realizable.{Kept}
 use Rattle.spec_model.specs.Moves.{broken_assumption, legal_input, legal_output, rules_of}
 use Rattle.session.specs.declared.talking.End.{End}
 use Rattle.session.specs.declared.talking.End.TheVariants as ends
@@ -61,15 +62,16 @@ abbrev pub Wrote : End → Option (List ℕ) → Option (List ℕ) → List ℕ 
 Wrote ends.WriteFault old new text = AppendsFront old new text
 Wrote _ old new text = Appends old new text
 
--- The talk: the input gave some bytes; of their lines the first read as the inputs of a play whose outputs were written; and it
--- ended so.
-pub record RunTalk (s : Specification) (limit : ℕ) (left_old left_new written_old written_new : Option (List ℕ)) (rose_in rose_out : Type 0) (end : End) : Type 0 where
+-- The talk: the input gave some bytes; of their lines the first read as the inputs of a play whose outputs were written, each
+-- move is legal, and each recurring guarantee is kept within k rounds; and it ended so.
+pub record RunTalk (s : Specification) (k limit : ℕ) (left_old left_new written_old written_new : Option (List ℕ)) (rose_in rose_out : Type 0) (end : End) : Type 0 where
   pub given : List ℕ
   pub taken_from : Consumes left_old left_new given
   pub handed : List (List ℕ)
   pub play : Run
   pub inputs : AreInputs s handed play
   pub legal : IsPlay (rules_of s) play
+  pub kept : Kept (rules_of s) k play
   pub few : length play ≤ limit
   pub wrote : Wrote end written_old written_new (shown_outputs s play)
   pub ends : EndsSo s limit given left_new handed play rose_in rose_out end
@@ -77,7 +79,7 @@ pub record RunTalk (s : Specification) (limit : ℕ) (left_old left_new written_
 -- ---- on the way
 
 -- so many lines were answered
-pub record SoFar (s : Specification) (Stands : Run → Type 0) (left_old left_new written_old written_new : Option (List ℕ)) (pending : List ℕ) (count : ℕ) : Type 0 where
+pub record SoFar (s : Specification) (k : ℕ) (Stands : Run → Type 0) (left_old left_new written_old written_new : Option (List ℕ)) (pending : List ℕ) (count : ℕ) : Type 0 where
   pub given : List ℕ
   pub taken_from : Consumes left_old left_new given
   pub handed : List (List ℕ)
@@ -85,28 +87,30 @@ pub record SoFar (s : Specification) (Stands : Run → Type 0) (left_old left_ne
   pub play : Run
   pub inputs : AreInputs s handed play
   pub legal : IsPlay (rules_of s) play
+  pub kept : Kept (rules_of s) k play
   pub counted : length play ≡ count
   pub wrote : Appends written_old written_new (shown_outputs s play)
   pub stands : Stands play
 
 -- the line was read, and an output written that answers it legally
-pub record IsAnswered (s : Specification) (h : Run) (Stands : Run → Type 0) (line : List ℕ) (written_old written_new : Option (List ℕ)) : Type 0 where
+pub record IsAnswered (s : Specification) (k : ℕ) (h : Run) (Stands : Run → Type 0) (line : List ℕ) (written_old written_new : Option (List ℕ)) : Type 0 where
   pub input : Assignment
   pub output : Assignment
   pub read : ReadsInput s line input
   pub legal_in : legal_input s h input ≡ true
   pub legal_out : legal_output s h input output ≡ true
+  pub kept : Kept (rules_of s) k (after h input output)
   pub stands : Stands (after h input output)
   pub wrote : Appends written_old written_new (shown_output s output)
 
 -- the line was not answered, or the output failed
-abbrev pub IsNotAnswered : Specification → Run → (count : ℕ) → (line : List ℕ) → (written_old written_new : Option (List ℕ)) → (rose_out : Type 0) → End → Type 0
-IsNotAnswered s h count line written_old written_new rose_out (ends.BadLine n) = IsRefused s (Some line) × (n ≡ count + 1) × Appends written_old written_new []
-IsNotAnswered s h count line written_old written_new rose_out (ends.Broken label) =
+abbrev pub IsNotAnswered : Specification → (k : ℕ) → Run → (count : ℕ) → (line : List ℕ) → (written_old written_new : Option (List ℕ)) → (rose_out : Type 0) → End → Type 0
+IsNotAnswered s k h count line written_old written_new rose_out (ends.BadLine n) = IsRefused s (Some line) × (n ≡ count + 1) × Appends written_old written_new []
+IsNotAnswered s k h count line written_old written_new rose_out (ends.Broken label) =
     (x : Assignment) × ReadsInput s line x × (broken_assumption s h x ≡ Some label.line) × Appends written_old written_new []
-IsNotAnswered s h count line written_old written_new rose_out ends.WriteFault =
-    (x y : Assignment) × ReadsInput s line x × (legal_input s h x ≡ true) × (legal_output s h x y ≡ true) × AppendsFront written_old written_new (shown_output s y) × rose_out
-IsNotAnswered s h count line written_old written_new rose_out _ = ⊥
+IsNotAnswered s k h count line written_old written_new rose_out ends.WriteFault =
+    (x y : Assignment) × ReadsInput s line x × (legal_input s h x ≡ true) × (legal_output s h x y ≡ true) × Kept (rules_of s) k (after h x y) × AppendsFront written_old written_new (shown_output s y) × rose_out
+IsNotAnswered s k h count line written_old written_new rose_out _ = ⊥
 
 -- after the last line of the input the talk is finished, unless the limit is reached
 abbrev pub IsLastEnd : (answered limit : ℕ) → End → Type 0

@@ -4,7 +4,9 @@ ghost use Rattle.std.specs.Prelude.{◌≡◌, map, IfOk};
 ghost use Rattle.spec_model.specs.Views.{line_data, variable_data, spec_data};
 ghost use Rattle.session.specs.Examples.{boolean as boolean_lem, free as free_lem, with_lines as with_lines_lem};
 
-use crate::{End, Lines, Player, talk};
+use crate::player::Player;
+use crate::talking::talk;
+use crate::{End, Lines};
 use sp_outside::{MemorySink, MemorySource};
 use spec_model::expr::Expr;
 use spec_model::game::Label;
@@ -18,11 +20,13 @@ use std::test::Fail;
 struct Echo;
 
 impl Player for Echo {
+    ghost use Rattle.std.specs.Prelude.{◌≡◌};
     ghost use Rattle.session.specs.Examples.{free};
+    ghost use Rattle.session.specs.PlayerLaws.{free_keeps};
 
-    ghost game = { λ _. free };
+    ghost stands = { λ _ s k h. s ≡ free };
 
-    ghost stands = { λ _ h. Unit {0} };
+    ghost keeps = { λ _ s k h is. free_keeps s k h is };
 
     fn broken(&mut self, input: &[Value]) -> Option<Label> {
         let _ = input;
@@ -39,11 +43,13 @@ impl Player for Echo {
 struct Hopeless;
 
 impl Player for Hopeless {
+    ghost use Rattle.std.specs.Prelude.{◌≡◌};
     ghost use Rattle.session.specs.Examples.{hopeless};
+    ghost use Rattle.session.specs.PlayerLaws.{hopeless_keeps};
 
-    ghost game = { λ _. hopeless };
+    ghost stands = { λ _ s k h. s ≡ hopeless };
 
-    ghost stands = { λ _ h. Unit {0} };
+    ghost keeps = { λ _ s k h is. hopeless_keeps s k h is };
 
     fn broken(&mut self, input: &[Value]) -> Option<Label> {
         let _ = input;
@@ -56,7 +62,7 @@ impl Player for Hopeless {
     }
 }
 
-fn boolean(alloc: Global, name: &str, owner: Owner) -> Result<Var, AllocError>
+pub(crate) fn boolean(alloc: Global, name: &str, owner: Owner) -> Result<Var, AllocError>
     ensures { IfOk result (λ v. variable_data v ≡ boolean_lem name.now owner) }
 {
     Ok(Var {
@@ -66,7 +72,7 @@ fn boolean(alloc: Global, name: &str, owner: Owner) -> Result<Var, AllocError>
     })
 }
 
-fn with_lines(alloc: Global, lines: Vec<Line>) -> Result<Spec, AllocError>
+pub(crate) fn with_lines(alloc: Global, lines: Vec<Line>) -> Result<Spec, AllocError>
     ensures { IfOk result (λ s. spec_data s ≡ with_lines_lem (map line_data lines.items)) }
 {
     Ok(Spec {

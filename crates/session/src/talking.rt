@@ -1,11 +1,12 @@
 //! Talks: each line of the input is answered by one line of the output, until the talk ends.
 
-ghost use Rattle.std.specs.Prelude.{◌≡◌, ◌↔◌, ◌+◌, ◌<◌, ◌≤◌, true, [], List, ℕ, Option, option_map, IfSome, IfNone};
+ghost use Rattle.std.specs.Prelude.{◌≡◌, ◌↔◌, ◌+◌, ◌<◌, ◌≤◌, true, [], List, ℕ, Option, option_map, length, IfSome, IfNone};
 ghost use Rattle.sp_outside.specs.Causes.{Rose};
-ghost use Rattle.spec_model.specs.Values.{is_assignment};
+ghost use Rattle.spec_model.specs.Syntax.{Specification};
 ghost use Rattle.spec_model.specs.Rules.{Run, after};
-ghost use Rattle.spec_model.specs.Moves.{input_domains, broken_assumption, legal_input, legal_output};
+ghost use Rattle.spec_model.specs.Moves.{broken_assumption, legal_input, legal_output};
 ghost use Rattle.session.specs.Views.{AreFor, KeepsTables, KeepsReader, pending_of, line_of, input_of, output_of};
+ghost use Rattle.session.specs.Players.{IsAsked, MayReply, Serves, Begins};
 ghost use Rattle.session.specs.Talks.{RunTalk, SoFar, IsAnswered, IsNotAnswered, IsLastEnd};
 
 use crate::lines::Lines;
@@ -33,24 +34,20 @@ pub enum End {
 
 // Judges the input that was read last.
 fn broken_by<P: Player>(lines: &Lines, play: &mut P) -> Option<Label>
-    requires for_spec { AreFor lines.now (P.game play.old) }
-    requires stands { (h : Run) × P.stands play.old h }
-    requires assigned { is_assignment (input_domains (P.game play.old)) (input_of lines.now) ≡ true }
-    ensures first { (h : Run) → P.stands play.old h → option_map (λ l. l.line) result ≡ broken_assumption (P.game play.old) h (input_of lines.now) }
-    ensures stays { (h : Run) → P.stands play.old h ↔ P.stands play.new h }
-    ensures same { P.game play.new ≡ P.game play.old }
+    requires { IsAsked (P.stands play.old) (input_of lines.now) }
+    ensures first { (s : Specification) (k : ℕ) (h : Run) → P.stands play.old s k h → option_map (λ l. l.line) result ≡ broken_assumption s h (input_of lines.now) }
+    ensures stays { (s : Specification) (k : ℕ) (h : Run) → P.stands play.old s k h ↔ P.stands play.new s k h }
 {
     play.broken(&lines.input)
 }
 
 // Lets the player answer the input that was read last.
 fn reply_to<P: Player>(lines: &mut Lines, play: &mut P)
-    requires for_spec { AreFor lines.old (P.game play.old) }
-    requires stands { (h : Run) × P.stands play.old h }
-    requires legal { (h : Run) → P.stands play.old h → legal_input (P.game play.old) h (input_of lines.old) ≡ true }
-    ensures legal { (h : Run) → P.stands play.old h → legal_output (P.game play.old) h (input_of lines.old) (output_of lines.new) ≡ true }
-    ensures stands { (h : Run) → P.stands play.old h → P.stands play.new (after h (input_of lines.old) (output_of lines.new)) }
-    ensures same { P.game play.new ≡ P.game play.old }
+    requires { MayReply (P.stands play.old) (input_of lines.old) (length (output_of lines.old)) }
+    ensures legal { (s : Specification) (k : ℕ) (h : Run) → P.stands play.old s k h → legal_input s h (input_of lines.old) ≡ true →
+        legal_output s h (input_of lines.old) (output_of lines.new) ≡ true }
+    ensures stands { (s : Specification) (k : ℕ) (h : Run) → P.stands play.old s k h → legal_input s h (input_of lines.old) ≡ true →
+        P.stands play.new s k (after h (input_of lines.old) (output_of lines.new)) }
     ensures keeps { KeepsTables lines.old lines.new }
     ensures reader { KeepsReader lines.old lines.new }
     ensures input { input_of lines.new ≡ input_of lines.old }
@@ -65,17 +62,15 @@ fn answer<P: Player, O: Sink>(
     output: &mut O,
     count: u64,
 ) -> Option<End>
-    requires for_spec { AreFor lines.old (P.game play.old) }
-    requires stands { (h : Run) × P.stands play.old h }
+    requires serves { Serves (P.stands play.old) lines.old }
     requires few { count + 1 < 18446744073709551616 }
-    ensures answered { IfNone result ((h : Run) → P.stands play.old h →
-        IsAnswered (P.game play.old) h (P.stands play.new) (line_of lines.old) (O.written output.old) (O.written output.new)) }
-    ensures ended { IfSome result (λ end. (h : Run) → P.stands play.old h →
-        IsNotAnswered (P.game play.old) h count (line_of lines.old) (O.written output.old) (O.written output.new) (Rose (O.faults output.old) (O.faults output.new)) end) }
-    ensures stands { (h : Run) × P.stands play.new h }
+    ensures answered { IfNone result ((s : Specification) (k : ℕ) (h : Run) → AreFor lines.old s → P.stands play.old s k h →
+        IsAnswered s k h (P.stands play.new s k) (line_of lines.old) (O.written output.old) (O.written output.new)) }
+    ensures ended { IfSome result (λ end. (s : Specification) (k : ℕ) (h : Run) → AreFor lines.old s → P.stands play.old s k h →
+        IsNotAnswered s k h count (line_of lines.old) (O.written output.old) (O.written output.new) (Rose (O.faults output.old) (O.faults output.new)) end) }
+    ensures stands { (s : Specification) (k : ℕ) (h : Run) → AreFor lines.old s → P.stands play.old s k h → (h' : Run) × P.stands play.new s k h' }
     ensures pending { pending_of lines.new ≡ pending_of lines.old }
-    ensures for_spec { AreFor lines.new (P.game play.new) }
-    ensures same { P.game play.new ≡ P.game play.old }
+    ensures keeps { KeepsTables lines.old lines.new }
     ensures later { O.faults output.old ≤ O.faults output.new }
 {
     if !lines.read_input() {
@@ -112,19 +107,17 @@ fn turn<P: Player, I: Source, O: Sink>(
     limit: u64,
     count: u64,
 ) -> Option<End>
-    requires for_spec { AreFor lines.old (P.game play.old) }
-    requires stands { (h : Run) × P.stands play.old h }
+    requires serves { Serves (P.stands play.old) lines.old }
     requires below { count < limit }
-    ensures goes_on { IfNone result ((left written : Option (List ℕ)) →
-        SoFar (P.game play.old) (P.stands play.old) left (I.left input.old) written (O.written output.old) (pending_of lines.old) count →
-        SoFar (P.game play.old) (P.stands play.new) left (I.left input.new) written (O.written output.new) (pending_of lines.new) (count + 1)) }
-    ensures ended { IfSome result (λ end. (left written : Option (List ℕ)) →
-        SoFar (P.game play.old) (P.stands play.old) left (I.left input.old) written (O.written output.old) (pending_of lines.old) count →
-        RunTalk (P.game play.old) limit left (I.left input.new) written (O.written output.new)
+    ensures goes_on { IfNone result ((s : Specification) (k : ℕ) (left written : Option (List ℕ)) → AreFor lines.old s →
+        SoFar s k (P.stands play.old s k) left (I.left input.old) written (O.written output.old) (pending_of lines.old) count →
+        SoFar s k (P.stands play.new s k) left (I.left input.new) written (O.written output.new) (pending_of lines.new) (count + 1)) }
+    ensures ended { IfSome result (λ end. (s : Specification) (k : ℕ) (left written : Option (List ℕ)) → AreFor lines.old s →
+        SoFar s k (P.stands play.old s k) left (I.left input.old) written (O.written output.old) (pending_of lines.old) count →
+        RunTalk s k limit left (I.left input.new) written (O.written output.new)
         (Rose (I.faults input.old) (I.faults input.new)) (Rose (O.faults output.old) (O.faults output.new)) end) }
-    ensures stands { (h : Run) × P.stands play.new h }
-    ensures for_spec { AreFor lines.new (P.game play.new) }
-    ensures same { P.game play.new ≡ P.game play.old }
+    ensures stands { (s : Specification) (k : ℕ) (h : Run) → AreFor lines.old s → P.stands play.old s k h → (h' : Run) × P.stands play.new s k h' }
+    ensures keeps { KeepsTables lines.old lines.new }
     ensures later_in { I.faults input.old ≤ I.faults input.new }
     ensures later_out { O.faults output.old ≤ O.faults output.new }
 {
@@ -144,20 +137,19 @@ fn turn<P: Player, I: Source, O: Sink>(
 ///
 /// Each line is answered before the input is read again. The order for one line: the input's fault, the line refused, the
 /// assumption broken.
-pub fn talk<P: Player, I: Source, O: Sink>(
+pub(crate) fn talk<P: Player, I: Source, O: Sink>(
     lines: &mut Lines,
     play: &mut P,
     input: &mut I,
     output: &mut O,
     limit: u64,
 ) -> End
-    requires for_spec { AreFor lines.old (P.game play.old) }
     requires fresh { pending_of lines.old ≡ [] }
-    requires stands { P.stands play.old [] }
-    ensures talk { RunTalk (P.game play.old) limit (I.left input.old) (I.left input.new) (O.written output.old) (O.written output.new)
+    requires begins { Begins (P.stands play.old) lines.old }
+    ensures talk { (s : Specification) (k : ℕ) → AreFor lines.old s → P.stands play.old s k [] →
+        RunTalk s k limit (I.left input.old) (I.left input.new) (O.written output.old) (O.written output.new)
         (Rose (I.faults input.old) (I.faults input.new)) (Rose (O.faults output.old) (O.faults output.new)) result }
-    ensures stands { (h : Run) × P.stands play.new h }
-    ensures same { P.game play.new ≡ P.game play.old }
+    ensures stands { (s : Specification) (k : ℕ) → AreFor lines.old s → P.stands play.old s k [] → (h : Run) × P.stands play.new s k h }
     ensures later_in { I.faults input.old ≤ I.faults input.new }
     ensures later_out { O.faults output.old ≤ O.faults output.new }
 {

@@ -4,11 +4,11 @@ use Rattle.std.proofs.Math.Nat.{pow-suc}
 use Rattle.std.specs.List.{AllByRecursion}
 use Rattle.spec_model.specs.Values.{DomainData, TruthValues}
 use Rattle.spec_model.specs.Syntax.{VariableData, Statement, Content, Initial, Safety, Recurring, PatternUse, TriggerUse, Specification}
-use Rattle.spec_model.specs.Moves.{is_assumption, is_guarantee, goals_of}
+use Rattle.spec_model.specs.Moves.{is_assumption, goals_of}
 use Rattle.spec_model.specs.Sizes.{product, domain_size, hidden_size, past_operators, size_of}
-use Rattle.spec_model.specs.Verdicts.{SystemWins, EnvironmentWins}
+use Rattle.spec_model.specs.Verdicts.{EnvironmentWins}
 use Rattle.spectra.specs.First.{IsInitialLine, IsInitialOnly, answers_all}
-use Rattle.spectra.proofs.FirstMoves.{realizable, unrealizable}
+use Rattle.spectra.proofs.FirstMoves.{unrealizable}
 
 one_le_mul : (a b : ℕ) → 1 ≤ a → 1 ≤ b → 1 ≤ a * b
 one_le_mul a b ha hb = grind arith
@@ -46,13 +46,6 @@ module _ (s : Specification) (only : IsInitialOnly s) where
   times_size : (n : ℕ) → 1 ≤ max 1 n * size_of s
   times_size n = one_le_mul (max 1 n) (size_of s) (omega arith) one_le_size
 
-  pub system_wins : answers_all s ≡ true → SystemWins s 2
-  system_wins all =
-      record {
-        realizable = realizable s only all;
-        bound = let h = times_size (length (goals_of is_guarantee s)) in omega arith;
-      }
-
   pub environment_wins : answers_all s ≡ false → EnvironmentWins s 0 1
   environment_wins all =
       record {
@@ -60,5 +53,3 @@ module _ (s : Specification) (only : IsInitialOnly s) where
         shifts = omega arith;
         denials = let h = times_size (length (goals_of is_assumption s)) in omega arith;
       }
-
-pub ruleset wins = (system_wins, environment_wins)

@@ -6,7 +6,7 @@ use Rattle.spec_model.specs.Syntax.{Specification}
 use Rattle.session.specs.declared.talking.End.{End}
 use Rattle.session.specs.declared.talking.End.TheVariants as ends
 use Rattle.session.specs.Talks.{RunTalk}
-use Rattle.spectra.specs.declared.words.Command.{Command}
+use Rattle.spectra_words.specs.declared.words.Command.{Command}
 use Rattle.spectra.specs.declared.status.Status.{Status}
 use Rattle.spectra.specs.declared.status.Status.TheVariants.{Done, Other, Words, Refused, ShelfFault, InputFault, OutputFault, Memory, NoFile}
 use Rattle.spectra.specs.Sessions.{Moment, Writes, whole, cut, WantsMemory, most_positions, Closes, status_after, Holds, session, cut_at_once}
@@ -29,27 +29,28 @@ module _ (failed : Type 0) (before after : Moment) where
   by_wanting : (status : Status) → WantsMemory before after status → IsCaused status
   by_wanting status wants = subst IsCaused (sym wants.is) (subst (WantsMemory before after) wants.is wants)
 
-  by_ending : (s : Specification) (greeted talked : Option (List ℕ)) (end : End) →
-      RunTalk s most_positions before.left after.left greeted talked (Rose before.read_faults after.read_faults) (Rose before.write_faults after.write_faults) end → IsCaused (status_after end)
-  by_ending s greeted talked ends.Finished talk = tt
-  by_ending s greeted talked (ends.Broken label) talk = tt
-  by_ending s greeted talked (ends.BadLine n) talk = tt
-  by_ending s greeted talked ends.StateLimit talk = tt
-  by_ending s greeted talked ends.ReadFault talk = talk.ends.0
-  by_ending s greeted talked ends.WriteFault talk = talk.ends
+  by_ending : (s : Specification) (k : ℕ) (greeted talked : Option (List ℕ)) (end : End) →
+      RunTalk s k most_positions before.left after.left greeted talked (Rose before.read_faults after.read_faults) (Rose before.write_faults after.write_faults) end → IsCaused (status_after end)
+  by_ending s k greeted talked ends.Finished talk = tt
+  by_ending s k greeted talked (ends.Broken label) talk = tt
+  by_ending s k greeted talked (ends.BadLine n) talk = tt
+  by_ending s k greeted talked ends.StateLimit talk = tt
+  by_ending s k greeted talked ends.ReadFault talk = talk.ends.0
+  by_ending s k greeted talked ends.WriteFault talk = talk.ends
 
   by_closing : (end : End) (talked : Option (List ℕ)) (status : Status) → IsCaused (status_after end) → Closes end talked after.written (Rose before.write_faults after.write_faults) status → IsCaused status
   by_closing end talked _ given (whole is) = given
   by_closing end talked _ given (cut part rose) = rose
 
   by_holding : (s : Specification) (k : ℕ) (status : Status) → Holds s k before after status → IsCaused status
-  by_holding s k status (session held) = by_closing held.end held.talked status (by_ending s held.greeted held.talked held.end held.talk) held.closes
+  by_holding s k status (session held) = by_closing held.end held.talked status (by_ending s k held.greeted held.talked held.end held.talk) held.closes
   by_holding s k _ (cut_at_once unread part rose) = rose
 
   module _ (command : Command) where
     by_deciding : (s : Specification) (status : Status) → DecidesSpecification command s before after status → IsCaused status
     by_deciding s status (top.won k is wins writes) = by_writing _ Done status tt writes
     by_deciding s status (top.lost n m loses writes) = by_writing _ Other status tt writes
+    by_deciding s status (top.uncontrolled is writes) = by_writing _ Other status tt writes
     by_deciding s status (top.held k is wins holds) = by_holding s k status holds
     by_deciding s status (top.no_memory wants) = by_wanting status wants
 
@@ -63,6 +64,8 @@ module _ (failed : Type 0) (before after : Moment) where
       of_text text status (top.not_utf8 line column is writes) = by_writing _ Refused status tt writes
       of_text text status (top.bad_character line column is writes) = by_writing _ Refused status tt writes
       of_text text status (top.too_long is writes) = by_writing _ Refused status tt writes
+      of_text text status (top.ungrammatical tokens fault at words lexed explains named writes) = by_writing _ Refused status tt writes
+      of_text text status (top.twice tokens line column lexed repeats writes) = by_writing _ Refused status tt writes
       of_text text status (top.refused tokens lexed none writes) = by_writing _ Refused status tt writes
       of_text text status (top.means s reads serves) = of_specification s status serves
       of_text text status (top.no_memory wants) = by_wanting status wants
@@ -75,7 +78,8 @@ module _ (failed : Type 0) (before after : Moment) where
 
   pub is_caused : (words : List (List ℕ)) (files : Option Files) (status : Status) → ServesWords words files failed before after status → IsCaused status
   is_caused words files status (top.no_command nothing writes) = by_writing _ Words status tt writes
-  is_caused words files status (top.asked command name asks serves) = of_file command name _ status serves
+  is_caused words files status (top.asked command name nodes asks serves) = of_file command name _ status serves
+  is_caused words files status (top.no_memory wants) = by_wanting status wants
 
   -- the status is one of these
   module _ (words : List (List ℕ)) (files : Option Files) (status : Status) (serves : ServesWords words files failed before after status) where

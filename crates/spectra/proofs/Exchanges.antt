@@ -40,7 +40,7 @@ closes_later end before after rose rose' _ from (cut part is) = cut part (from i
 
 -- the verdict line, a talk and its last line are a session
 pub session_held : (s : Specification) (k : ℕ) (left left' written greeted talked written' : Option (List ℕ)) (reads reads' writes writes1 writes2 writes' : ℕ) (end : End) (status : Status) →
-    Appends written greeted (realizable k) → RunTalk s most_positions left left' greeted talked (Rose reads reads') (Rose writes1 writes2) end → Closes end talked written' (Rose writes2 writes') status →
+    Appends written greeted (realizable k) → RunTalk s k most_positions left left' greeted talked (Rose reads reads') (Rose writes1 writes2) end → Closes end talked written' (Rose writes2 writes') status →
     writes ≤ writes1 → writes1 ≤ writes2 → writes2 ≤ writes' → Holds s k (moment left written reads writes) (moment left' written' reads' writes') status
 session_held s k left left' written greeted talked written' reads reads' writes writes1 writes2 writes' end status verdict talk closes first second third =
     session
@@ -49,6 +49,6 @@ session_held s k left left' written greeted talked written' reads reads' writes 
       greeted = greeted;
       talked = talked;
       verdict = verdict;
-      talk = weaker s most_positions left left' greeted talked (Rose reads reads') (Rose writes1 writes2) (Rose reads reads') (Rose writes writes') end (λ rose. rose) (rose_between writes writes1 writes2 writes' first third) talk;
+      talk = weaker s k most_positions left left' greeted talked (Rose reads reads') (Rose writes1 writes2) (Rose reads reads') (Rose writes writes') end (λ rose. rose) (rose_between writes writes1 writes2 writes' first third) talk;
       closes = closes_later end talked written' (Rose writes2 writes') (Rose writes writes') status (rose_between writes writes2 writes' writes' (omega (arith, first, second)) (omega arith)) closes;
     })

@@ -3,8 +3,8 @@ use Rattle.std.proofs.Common.{◌≡◌, ℕ, List, [], ◌∷◌, ◌++◌, Opt
 use Rattle.std.specs.List.{list_all}
 use Rattle.std.proofs.lemmas.Bool.{false≢true}
 use Rattle.spec_model.specs.Syntax.{VariableData, PatternData, TriggerData, Statement, Specification}
-use Rattle.spectra_parser.specs.Data.{TreeData}
-use Rattle.spectra.specs.Trees.{prepend, extended, names_of, is_allowed, IsReadFrom, Means}
+use Rattle.spectra_trees.specs.Data.{TreeData}
+use Rattle.spectra.specs.Trees.{prepend, extended, names_of, is_allowed, IsReadFrom, IsMeant}
 
 pub extended_more : {X : Type 0} (xs : List X) (x : X) (rest : Option (List X)) → extended xs (prepend (Some x) rest) ≡ extended (xs ++ x ∷ []) rest
 extended_more xs x None = refl
@@ -27,6 +27,6 @@ read_once tree s s' read read' =
     same_specification s s' (read'.no_names ∙ sym read.no_names) same_variables (read'.no_patterns ∙ sym read.no_patterns) (read'.no_triggers ∙ sym read.no_triggers) same_lines
 
 -- a tree with a line that reads what it may not means nothing
-pub not_allowed : (tree : TreeData) (s s' : Specification) → IsReadFrom tree s → list_all (λ l. is_allowed s l.role l.content) s.lines ≡ false → Means tree s' → ⊥
+pub not_allowed : (tree : TreeData) (s s' : Specification) → IsReadFrom tree s → list_all (λ l. is_allowed s l.role l.content) s.lines ≡ false → IsMeant tree s' → ⊥
 not_allowed tree s s' read wrong means =
     false≢true (sym wrong ∙ subst (λ (z : Specification). list_all (λ l. is_allowed z l.role l.content) z.lines ≡ true) (read_once tree s s' read means.read) means.allowed)

@@ -8,12 +8,12 @@ use Rattle.spec_model.specs.declared.spec.Role.{Role}
 use Rattle.spec_model.specs.Values.{TruthValues}
 use Rattle.spec_model.specs.Syntax.{Formula, Constant, Variable, NextOf, Negation, Conjunction, Disjunction, Implication, Equivalence, Comparison, Sum, Difference, Product, Remainder, PastOf, Entry, Formulas, formulas, Content, Initial, Safety, Recurring, PatternUse, TriggerUse, Statement, VariableData, Specification}
 use Rattle.spec_model.specs.Typing.{Truth, kind_of_value}
-use Rattle.spectra_parser.specs.declared.tree.OwnerWord.{OwnerWord}
-use Rattle.spectra_parser.specs.declared.tree.PrefixWord.{PrefixWord}
-use Rattle.spectra_parser.specs.declared.tree.PrefixWord.TheVariants.{Not, Prev, Once, Historically}
-use Rattle.spectra_parser.specs.declared.tree.BinaryWord.{BinaryWord}
-use Rattle.spectra_parser.specs.declared.tree.BinaryWord.TheVariants.{Implies, Iff, Since, Triggered, Eq, Ne, Lt, Le, Gt, Ge, Add, Sub, Mul}
-use Rattle.spectra_parser.specs.Data.{NameData, Expression, Form, expression, Expressions, TypeShape, BodyData, ItemData, TreeData}
+use Rattle.spectra_trees.specs.declared.tree.OwnerWord.{OwnerWord}
+use Rattle.spectra_trees.specs.declared.tree.PrefixWord.{PrefixWord}
+use Rattle.spectra_trees.specs.declared.tree.PrefixWord.TheVariants.{Not, Prev, Once, Historically}
+use Rattle.spectra_trees.specs.declared.tree.BinaryWord.{BinaryWord}
+use Rattle.spectra_trees.specs.declared.tree.BinaryWord.TheVariants.{Implies, Iff, Since, Triggered, Eq, Ne, Lt, Le, Gt, Ge, Add, Sub, Mul}
+use Rattle.spectra_trees.specs.Data.{NameData, Expression, Form, expression, Expressions, TypeShape, BodyData, ItemData, TreeData}
 use Rattle.spectra.specs.Trees.{prepend, variable_of, variables_of, place_of, prefixed, both_of, joined, formula_of, form_means, formulas_of, content_of, line_of, lines_of, names_of, Means}
 
 prepend_has : {X : Type 0} (P : X → Type 0) (x : Option X) (xs : Option (List X)) → IfSome x P → IfSome xs (AllByRecursion P) → IfSome (prepend x xs) (AllByRecursion P)
@@ -67,11 +67,11 @@ abbrev mutual
   AreBooleanOver n Formulas.none = Unit {0}
   AreBooleanOver n (Formulas.one_more e es) = IsBooleanOver n e × AreBooleanOver n es
 
--- the line is initial or judged at each position, and Boolean
+-- the line is initial, judged at each position or recurs, and is Boolean
 abbrev pub IsBooleanLine : ℕ → Content → Type 0
 IsBooleanLine n (Initial e) = IsBooleanOver n e
 IsBooleanLine n (Safety e) = IsBooleanOver n e
-IsBooleanLine n (Recurring e) = ⊥
+IsBooleanLine n (Recurring e) = IsBooleanOver n e
 IsBooleanLine n (PatternUse p es) = ⊥
 IsBooleanLine n (TriggerUse t) = ⊥
 
@@ -160,23 +160,27 @@ module _ (names : List (List ℕ)) where
   safety_is None is = tt
   safety_is (Some f) is = is
 
+  recurring_is : (f : Option Formula) → IfSome f Is → IfSome (option_map (λ f. Recurring f) f) IsLine
+  recurring_is None is = tt
+  recurring_is (Some f) is = is
+
   content_is : (body : BodyData) → IfSome (content_of names body) IsLine
   content_is (BodyData.Initial e) = initial_is (formula_of names e) (formula_is e)
   content_is (BodyData.Always e) = safety_is (formula_of names e) (formula_is e)
-  content_is (BodyData.Recurring e) = tt
+  content_is (BodyData.Recurring e) = recurring_is (formula_of names e) (formula_is e)
   content_is (BodyData.Trigger at cause effect) = tt
   content_is (BodyData.Call name es) = tt
 
   abbrev IsBooleanStatement : Statement → Type 0
   IsBooleanStatement l = IsLine l.content
 
-  statement_is : (number : ℕ) (role : Role) (c : Option Content) → IfSome c IsLine → IfSome (option_map (λ c. record { number = number; name = None; role = role; content = c }) c) IsBooleanStatement
-  statement_is number role None is = tt
-  statement_is number role (Some c) is = is
+  statement_is : (number : ℕ) (role : Role) (name : Option (List ℕ)) (c : Option Content) → IfSome c IsLine → IfSome (option_map (λ c. record { number = number; name = name; role = role; content = c }) c) IsBooleanStatement
+  statement_is number role name None is = tt
+  statement_is number role name (Some c) is = is
 
   line_is : (number : ℕ) (role : Role) (name : Option NameData) (body : BodyData) → IfSome (line_of names number role name body) IsBooleanStatement
-  line_is number role (Some name) body = tt
-  line_is number role None body = statement_is number role (content_of names body) (content_is body)
+  unfolding line_of
+  line_is number role name body = statement_is number role (option_map (λ (n : NameData). n.text) name) (content_of names body) (content_is body)
 
   lines_are : (number : ℕ) (items : List ItemData) → IfSome (lines_of names number items) (AllByRecursion IsBooleanStatement)
   lines_are number [] = tt

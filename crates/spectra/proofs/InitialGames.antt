@@ -26,14 +26,11 @@ use Rattle.hidden_game.specs.declared.expanding.Time.TheVariants.{Always}
 use Rattle.hidden_game.specs.GameOf.{game_of, binds, said, numbered, lines_for}
 use Rattle.hidden_game.proofs.Agreeing.{moves_agree}
 use Rattle.hidden_game.proofs.Choices.{some_choice, all_alike}
-use Rattle.hidden_game.specs.Agreement.{HasPlainLines}
-use Rattle.gr1_law.specs.Specifications.{NothingRecurs}
-use Rattle.gr1_law.proofs.Staying.{staying_wins}
 use Rattle.safety.specs.Solution.{IsShiftCount, IsRoundCount, IsDenialCount}
 use Rattle.spectra.specs.First.{IsInitialLine, IsInitialOnly, answers_all}
 use Rattle.spectra.specs.Reading.{most_variables}
-use Rattle.spectra.specs.Verdict.{IsKept, IsLost, IsWonBySystem, IsWonByEnvironment}
-use Rattle.spectra.proofs.Bounds.{system_wins, environment_wins}
+use Rattle.spectra.specs.Verdict.{IsKept, IsLostGame}
+use Rattle.spectra.proofs.Bounds.{environment_wins}
 
 -- ---- how many states there are
 
@@ -190,11 +187,8 @@ module _ (s : Specification) (only : IsInitialOnly s) (made : WellMade (game_of 
       at_first [] some fit = omega (arith, some)
       at_first (y ∷ ys) some fit = at_input y fit.0 (inputs_of g) some_input (inputs_fit g)
 
-  pub initial_kept : (k : ℕ) → IsKept g k → (k ≡ 2) × SystemWins s 2
-  initial_kept k found = (
-    counted found.rounds,
-    system_wins s only (sym forced_first ∙ (ap (λ t. system_forces g t None) (sym is) ∙ found.forced)),
-  )
+  pub initial_kept : (k : ℕ) → IsKept g k → k ≡ 2
+  initial_kept k found = counted found.rounds
     where
       is : found.kept ≡ all_states g
       is = greatest-one (pre_sys g) found.kept (all_states g) found.greatest all_greatest
@@ -224,7 +218,7 @@ module _ (s : Specification) (only : IsInitialOnly s) (made : WellMade (game_of 
           and_false true b e = e
           and_false false b e = refl
 
-  pub initial_lost : (n m : ℕ) → IsLost g n m → (n ≡ 0) × (m ≡ 1) × EnvironmentWins s 0 1
+  pub initial_lost : (n m : ℕ) → IsLostGame g n m → (n ≡ 0) × (m ≡ 1) × EnvironmentWins s 0 1
   initial_lost n m found = (
     is_zero n found.shifts,
     counted found.denials,
@@ -238,15 +232,3 @@ module _ (s : Specification) (only : IsInitialOnly s) (made : WellMade (game_of 
       counted : IsDenialCount n m → m ≡ 1
       counted (inl none) = none.1
       counted (inr some) = absurd (some.0 (is_zero n found.shifts))
-
--- what is found of the game of a specification is found of the specification
-pub won_found : (s : Specification) → HasPlainLines s → NothingRecurs s → WellMade (game_of s) → (k : ℕ) → IsKept (game_of s) k → IsWonBySystem s k
-won_found s plain nothing made k found =
-    record {
-      game = found;
-      wins = staying_wins s plain made nothing found.kept k found.greatest found.forced found.rounds;
-      initial = λ only. (initial_kept s only made k found).0;
-    }
-
-pub lost_found : (s : Specification) → WellMade (game_of s) → (n m : ℕ) → IsLost (game_of s) n m → IsWonByEnvironment s n m
-lost_found s made n m found = record { game = found; initial = λ only. initial_lost s only made n m found }

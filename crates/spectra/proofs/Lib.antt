@@ -5,10 +5,14 @@ mod Forms
 mod Bounds
 mod MadeGames
 mod InitialGames
+mod Found
+mod Placed
 mod Readings
 mod Fronts
 mod Exchanges
 mod Decided
 mod Causes
-mod Recurring
+mod Plainly
+mod Numbering
+mod Repeating
 mod Statuses

@@ -8,6 +8,7 @@ use Rattle.spec_model.specs.declared.spec.Role.{Role}
 use Rattle.spec_model.specs.Values.{DomainData, TruthValues}
 use Rattle.spec_model.specs.Syntax.{Formula, Constant, Variable, NextOf, Negation, Conjunction, Disjunction, Implication, Equivalence, Comparison, Sum, Difference, Product, Remainder, PastOf, Entry, Formulas, Content, Initial, Safety, Recurring, PatternUse, TriggerUse, Statement, VariableData, Specification}
 use Rattle.spec_model.specs.Typing.{Scope, Kind, Truth, kind_of, kind_of_domain, are_truths, is_truth, truth_if, same_names}
+use Rattle.spec_model.specs.Games.{GoalData}
 use Rattle.spec_model.specs.Moves.{is_assumption, has_next, reads_present_output}
 use Rattle.spec_model.specs.Steps.{reads_output, waits_for_output}
 use Rattle.spec_model.specs.WellMade.{WellMade, all_differ, is_domain, is_stepwise, awaits_output, scope_of, is_step_formula, is_state_formula, is_initial_assumption, is_safety_assumption}
@@ -17,7 +18,7 @@ use Rattle.hidden_game.specs.declared.expanding.Time.{Time}
 use Rattle.hidden_game.specs.declared.expanding.Time.TheVariants.{First, Always}
 use Rattle.hidden_game.specs.GameOf.{game_of, binds, said, numbered, lines_for, recurs, recurring, labelled, goals_for}
 use Rattle.hidden_game.proofs.Agreeing.{same_reads}
-use Rattle.spectra_parser.specs.Data.{TreeData}
+use Rattle.spectra_trees.specs.Data.{TreeData}
 use Rattle.spectra.specs.Trees.{AreDifferent, is_allowed, names_of, Means}
 use Rattle.spectra.proofs.Forms.{IsBoolean, IsBooleanOver, AreBooleanOver, IsBooleanLine, means_booleans, means_lines}
 
@@ -135,7 +136,7 @@ module _ (s : Specification) (booleans : AllByRecursion IsBoolean s.variables) w
   first_made player false role n c rest binding is allowed all = all
   first_made player true role n (Initial e) rest binding is allowed all = and_from (made_of player First e) _ (initial_made player role e binding is allowed) all
   first_made player true role n (Safety e) rest binding is allowed all = all
-  first_made player true role n (Recurring e) rest binding is allowed all = absurd is
+  first_made player true role n (Recurring e) rest binding is allowed all = all
   first_made player true role n (PatternUse p es) rest binding is allowed all = absurd is
   first_made player true role n (TriggerUse t) rest binding is allowed all = absurd is
 
@@ -144,7 +145,7 @@ module _ (s : Specification) (booleans : AllByRecursion IsBoolean s.variables) w
   always_made player false role n c rest binding is allowed all = all
   always_made player true role n (Initial e) rest binding is allowed all = all
   always_made player true role n (Safety e) rest binding is allowed all = and_from (made_of player Always e) _ (safety_made player role e binding is allowed) all
-  always_made player true role n (Recurring e) rest binding is allowed all = absurd is
+  always_made player true role n (Recurring e) rest binding is allowed all = all
   always_made player true role n (PatternUse p es) rest binding is allowed all = absurd is
   always_made player true role n (TriggerUse t) rest binding is allowed all = absurd is
 
@@ -163,17 +164,25 @@ module _ (s : Specification) (booleans : AllByRecursion IsBoolean s.variables) w
       let parts = and_parts (is_allowed s l.role l.content) _ allowed in
       always_made player (binds player l.role) l.role l.number l.content (lines_for player Always ls) refl are.0 parts.0 (all_always player ls are.1 parts.1)
 
-  no_goal : (player : Player) (b : Bool) (n : ℕ) (c : Content) → IsBooleanLine (length s.variables) c → (if b then labelled n (recurring c) else []) ≡ []
-  no_goal player true n (Initial e) is = refl
-  no_goal player true n (Safety e) is = refl
-  no_goal player true n (Recurring e) is = absurd is
-  no_goal player true n (PatternUse p es) is = absurd is
-  no_goal player true n (TriggerUse t) is = absurd is
-  no_goal player false n c is = refl
+  abbrev IsGoal : GoalData → Bool
+  IsGoal goal = is_state_formula (scope_of (game_of s)) goal.holds
 
-  no_goals : (player : Player) (ls : List Statement) → AllByRecursion IsLine ls → goals_for player ls ≡ []
-  no_goals player [] are = refl
-  no_goals player (l ∷ ls) are = ap (λ gs. gs ++ goals_for player ls) (no_goal player (recurs player l.role) l.number l.content are.0) ∙ no_goals player ls are.1
+  goal_made : (b : Bool) (role : Role) (n : ℕ) (c : Content) (rest : List GoalData) → IsBooleanLine (length s.variables) c → is_allowed s role c ≡ true →
+      list_all IsGoal rest ≡ true → list_all IsGoal ((if b then labelled n (recurring c) else []) ++ rest) ≡ true
+  goal_made false role n c rest is allowed all = all
+  goal_made true role n (Initial e) rest is allowed all = all
+  goal_made true role n (Safety e) rest is allowed all = all
+  goal_made true role n (Recurring e) rest is allowed all =
+      let parts = and_parts (is_stepwise false e) (not (has_next e)) allowed in
+      and_from (is_state_formula (scope_of (game_of s)) e) _ (state_made e is parts.0 parts.1) all
+  goal_made true role n (PatternUse p es) rest is allowed all = absurd is
+  goal_made true role n (TriggerUse t) rest is allowed all = absurd is
+
+  all_goals : (player : Player) (ls : List Statement) → AllByRecursion IsLine ls → list_all (λ (l : Statement). is_allowed s l.role l.content) ls ≡ true → list_all IsGoal (goals_for player ls) ≡ true
+  all_goals player [] are allowed = refl
+  all_goals player (l ∷ ls) are allowed =
+      let parts = and_parts (is_allowed s l.role l.content) _ allowed in
+      goal_made (recurs player l.role) l.role l.number l.content (goals_for player ls) are.0 parts.0 (all_goals player ls are.1 parts.1)
 
 domains_made : (vs : List VariableData) → AllByRecursion IsBoolean vs → list_all (λ (v : VariableData). is_domain v.domain) vs ≡ true
 domains_made [] all = refl
@@ -194,6 +203,6 @@ means_made tree s means few =
       initial_gar = all_first s booleans System s.lines lines means.allowed;
       safe_asm = all_always s booleans Environment s.lines lines means.allowed;
       safe_gar = all_always s booleans System s.lines lines means.allowed;
-      assume = rw (no_goals s booleans Environment s.lines lines) refl;
-      goals = rw (no_goals s booleans System s.lines lines) refl;
+      assume = all_goals s booleans Environment s.lines lines means.allowed;
+      goals = all_goals s booleans System s.lines lines means.allowed;
     }

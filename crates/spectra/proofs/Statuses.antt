@@ -2,11 +2,11 @@
 use Rattle.std.proofs.Common.{◌≡◌, ℕ, List, Option, Some, None, inl, inr, refl, length, ap, sym, subst, arith, ◌∙◌}
 use Rattle.spec_model.specs.Syntax.{Specification}
 use Rattle.sp_outside.specs.Files.{Files, told_file, HasFile, HasNoFile}
-use Rattle.spectra.specs.declared.words.Command.{Command}
+use Rattle.spectra_words.specs.declared.words.Command.{Command}
 use Rattle.spectra.specs.declared.status.Status.{Status}
 use Rattle.spectra.specs.declared.status.Status.TheVariants.{Words, Refused, ShelfFault, NoFile}
 use Rattle.spectra.specs.Status.{IsCutShort, IsUnlessCut, IsUnlessFault}
-use Rattle.spectra.specs.Commands.{Asks, AskNothing}
+use Rattle.spectra_words.specs.Commands.{Asks, AskNothing}
 use Rattle.spectra.specs.Sessions.{Moment, Writes, whole, cut, WantsMemory}
 use Rattle.spectra.specs.Reading.{IsRefused}
 use Rattle.spectra.proofs.Readings.{one_meaning}
@@ -14,8 +14,8 @@ use Rattle.spectra.specs.Top.{Decides, ServesSpecification, ServesText, ServesFi
 use Rattle.spectra.specs.Top as top
 
 -- words ask for one file alone
-one_file : (words : List (List ℕ)) (command command' : Command) (name other : List ℕ) → Asks words command name → Asks words command' other → other ≡ name
-one_file words command command' name other asks asks' = let a = asks.file_is in let b = asks'.file_is in cc
+one_file : (words : List (List ℕ)) (command command' : Command) (name other : List ℕ) (nodes nodes' : ℕ) → Asks words command name nodes → Asks words command' other nodes' → other ≡ name
+one_file words command command' name other nodes nodes' asks asks' = let a = asks.file_is in let b = asks'.file_is in cc
 
 module _ (before after : Moment) where
   -- a line that is written has its status, where the output did not fail
@@ -33,7 +33,8 @@ module _ (before after : Moment) where
   -- words that are no command get their status
   pub words_status : (words : List (List ℕ)) (files : Option Files) (failed : Type 0) (status : Status) → ServesWords words files failed before after status → AskNothing words → IsUnlessCut Words status
   words_status words files failed status (top.no_command nothing writes) none = written _ Words status writes
-  words_status words files failed status (top.asked command name asks serves) none = absurd (none command name asks)
+  words_status words files failed status (top.asked command name nodes asks serves) none = absurd (none command name nodes asks)
+  words_status words files failed status (top.no_memory wants) none = wanted Words status wants
 
   -- a text that is refused is refused, unless something failed
   module _ (command : Command) (name text : List ℕ) (refuses : IsRefused text) where
@@ -41,6 +42,8 @@ module _ (before after : Moment) where
     of_text status (top.not_utf8 line column is writes) = or_fault Refused status (written _ Refused status writes)
     of_text status (top.bad_character line column is writes) = or_fault Refused status (written _ Refused status writes)
     of_text status (top.too_long is writes) = or_fault Refused status (written _ Refused status writes)
+    of_text status (top.ungrammatical tokens fault at words lexed explains named writes) = or_fault Refused status (written _ Refused status writes)
+    of_text status (top.twice tokens line column lexed repeats writes) = or_fault Refused status (written _ Refused status writes)
     of_text status (top.refused tokens lexed none writes) = or_fault Refused status (written _ Refused status writes)
     of_text status (top.no_memory wants) = or_fault Refused status (wanted Refused status wants)
     of_text status (top.means s reads serves) = by refuses serves
@@ -75,15 +78,17 @@ module _ (before after : Moment) where
   of_none command name told is failed status (top.no_memory wants) = or_fault NoFile status (wanted NoFile status wants)
 
   -- what was asked is served for the file that is asked for
-  module _ (words : List (List ℕ)) (files : Option Files) (failed : Type 0) (command : Command) (name : List ℕ) (asks : Asks words command name) where
+  module _ (words : List (List ℕ)) (files : Option Files) (failed : Type 0) (command : Command) (name : List ℕ) (nodes : ℕ) (asks : Asks words command name nodes) where
     pub refused_status : (text : List ℕ) → told_file files name ≡ Some (Some text) → IsRefused text → (status : Status) → ServesWords words files failed before after status → IsUnlessFault Refused status
-    refused_status text told refuses status (top.no_command nothing writes) = absurd (nothing command name asks)
-    refused_status text told refuses status (top.asked command' name' asks' serves) =
-        let same = one_file words command command' name name' asks asks' in
+    refused_status text told refuses status (top.no_command nothing writes) = absurd (nothing command name nodes asks)
+    refused_status text told refuses status (top.asked command' name' nodes' asks' serves) =
+        let same = one_file words command command' name name' nodes nodes' asks asks' in
         of_told command' name' text refuses (told_file files name') (ap (told_file files) same ∙ told) failed status serves
+    refused_status text told refuses status (top.no_memory wants) = or_fault Refused status (wanted Refused status wants)
 
     pub no_file_status : told_file files name ≡ Some None → (status : Status) → ServesWords words files failed before after status → IsUnlessFault NoFile status
-    no_file_status told status (top.no_command nothing writes) = absurd (nothing command name asks)
-    no_file_status told status (top.asked command' name' asks' serves) =
-        let same = one_file words command command' name name' asks asks' in
+    no_file_status told status (top.no_command nothing writes) = absurd (nothing command name nodes asks)
+    no_file_status told status (top.asked command' name' nodes' asks' serves) =
+        let same = one_file words command command' name name' nodes nodes' asks asks' in
         of_none command' name' (told_file files name') (ap (told_file files) same ∙ told) failed status serves
+    no_file_status told status (top.no_memory wants) = or_fault NoFile status (wanted NoFile status wants)

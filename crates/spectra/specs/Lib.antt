@@ -1,4 +1,3 @@
-pub mod Commands
 pub mod First
 pub mod Trees
 pub mod Names

@@ -81,7 +81,7 @@ pub record IsSession (s : Specification) (k : ℕ) (before after : Moment) (stat
   pub greeted : Option (List ℕ)
   pub talked : Option (List ℕ)
   pub verdict : Appends before.written greeted (realizable k)
-  pub talk : RunTalk s most_positions before.left after.left greeted talked (Rose before.read_faults after.read_faults) (Rose before.write_faults after.write_faults) end
+  pub talk : RunTalk s k most_positions before.left after.left greeted talked (Rose before.read_faults after.read_faults) (Rose before.write_faults after.write_faults) end
   pub closes : Closes end talked after.written (Rose before.write_faults after.write_faults) status
 
 -- a session was held, or the output failed at the verdict line and the input was not read

@@ -1,5 +1,5 @@
 -- What the tree of a text means: its specification. A tree with anything that is not built yet means none.
-use Rattle.std.specs.Prelude.{◌≡◌, ℕ, suc, Bool, true, false, not, ◌&&◌, ◌||◌, List, [], ◌∷◌, ◌++◌, Option, Some, None, option_map, map, position}
+use Rattle.std.specs.Prelude.{◌≡◌, ℕ, suc, Bool, true, false, not, ◌&&◌, ◌||◌, List, [], ◌∷◌, ◌++◌, Option, Some, None, option_map, map, position, if◌then◌else◌}
 use Rattle.std.specs.List.{list_any, list_all}
 use Rattle.std.specs.Str.{bytes_eq}
 use Rattle.spec_model.specs.declared.value.Owner.{Owner}
@@ -7,16 +7,16 @@ use Rattle.spec_model.specs.declared.value.Owner.TheVariants.{Env, Sys}
 use Rattle.spec_model.specs.declared.value.Value.TheVariants as value
 use Rattle.spec_model.specs.declared.spec.Role.{Role}
 use Rattle.spec_model.specs.Values.{TruthValues}
-use Rattle.spec_model.specs.Syntax.{Formula, Constant, Variable, NextOf, Negation, Conjunction, Disjunction, Implication, Equivalence, formulas, Content, Initial, Safety, Statement, VariableData, Specification}
+use Rattle.spec_model.specs.Syntax.{Formula, Constant, Variable, NextOf, Negation, Conjunction, Disjunction, Implication, Equivalence, formulas, Content, Initial, Safety, Recurring, Statement, VariableData, Specification}
 use Rattle.spec_model.specs.Moves.{is_assumption, has_next, reads_present_output}
 use Rattle.spec_model.specs.WellMade.{is_stepwise, awaits_output}
-use Rattle.spectra_parser.specs.declared.tree.OwnerWord.{OwnerWord}
-use Rattle.spectra_parser.specs.declared.tree.OwnerWord.TheVariants as owners
-use Rattle.spectra_parser.specs.declared.tree.PrefixWord.{PrefixWord}
-use Rattle.spectra_parser.specs.declared.tree.PrefixWord.TheVariants.{Not, Prev, Once, Historically}
-use Rattle.spectra_parser.specs.declared.tree.BinaryWord.{BinaryWord}
-use Rattle.spectra_parser.specs.declared.tree.BinaryWord.TheVariants.{Implies, Iff}
-use Rattle.spectra_parser.specs.Data.{NameData, Expression, Form, expression, Expressions, TypeShape, BodyData, ItemData, TreeData}
+use Rattle.spectra_trees.specs.declared.tree.OwnerWord.{OwnerWord}
+use Rattle.spectra_trees.specs.declared.tree.OwnerWord.TheVariants as owners
+use Rattle.spectra_trees.specs.declared.tree.PrefixWord.{PrefixWord}
+use Rattle.spectra_trees.specs.declared.tree.PrefixWord.TheVariants.{Not, Prev, Once, Historically}
+use Rattle.spectra_trees.specs.declared.tree.BinaryWord.{BinaryWord}
+use Rattle.spectra_trees.specs.declared.tree.BinaryWord.TheVariants.{Implies, Iff}
+use Rattle.spectra_trees.specs.Data.{NameData, Expression, Form, expression, Expressions, TypeShape, BodyData, ItemData, TreeData}
 
 -- one more before several, where all of them mean something
 abbrev pub prepend : {X : Type 0} → Option X → Option (List X) → Option (List X)
@@ -100,12 +100,13 @@ abbrev mutual
 abbrev pub content_of : List (List ℕ) → BodyData → Option Content
 content_of names (BodyData.Initial e) = option_map (λ f. Initial f) (formula_of names e)
 content_of names (BodyData.Always e) = option_map (λ f. Safety f) (formula_of names e)
+content_of names (BodyData.Recurring e) = option_map (λ f. Recurring f) (formula_of names e)
 content_of names _ = None
 
--- the line with this number; a line with a name is not built yet
-abbrev pub line_of : List (List ℕ) → ℕ → Role → Option NameData → BodyData → Option Statement
-line_of names number role (Some name) body = None
-line_of names number role None body = option_map (λ c. record { number = number; name = None; role = role; content = c }) (content_of names body)
+-- the line with this number
+unfoldable pub line_of : List (List ℕ) → ℕ → Role → Option NameData → BodyData → Option Statement
+line_of names number role name body =
+    option_map (λ c. record { number = number; name = option_map (λ n. n.text) name; role = role; content = c }) (content_of names body)
 
 -- the lines, numbered from here on in text order
 abbrev pub lines_of : List (List ℕ) → ℕ → List ItemData → Option (List Statement)
@@ -114,11 +115,31 @@ lines_of names number (ItemData.Variable v ∷ items) = lines_of names number it
 lines_of names number (ItemData.Statement l ∷ items) = prepend (line_of names number l.role l.name l.body) (lines_of names (suc number) items)
 lines_of names number (_ ∷ items) = None
 
--- Whether the line reads what it may: no next value in an initial line, and no next value of a next value; no variable of
--- the system in an initial assumption, and no next value of one in another assumption.
+-- ---- names of lines
+
+abbrev pub name_listed : Option NameData → List NameData
+name_listed None = []
+name_listed (Some name) = name ∷ []
+
+-- the names of the lines that have one, in text order
+abbrev pub line_names : List ItemData → List NameData
+line_names [] = []
+line_names (ItemData.Statement l ∷ items) = name_listed l.name ++ line_names items
+line_names (_ ∷ items) = line_names items
+
+-- the first of several names that stands among those before it, of which these are the first ones
+abbrev pub repeated : List (List ℕ) → List NameData → Option NameData
+repeated before [] = None
+repeated before (name ∷ names) = if list_any (bytes_eq name.text) before then Some name else repeated (before ++ name.text ∷ []) names
+
+-- ---- what a tree means
+
+-- Whether the line reads what it may: no next value in an initial or a recurring line, and no next value of a next value; no
+-- variable of the system in an initial assumption, and no next value of one in another assumption.
 abbrev pub is_allowed : Specification → Role → Content → Bool
 is_allowed s role (Initial e) = is_stepwise false e && (not (has_next e) && (not (is_assumption role) || not (reads_present_output s e)))
 is_allowed s role (Safety e) = is_stepwise false e && (not (is_assumption role) || not (awaits_output s.variables false e))
+is_allowed s role (Recurring e) = is_stepwise false e && not (has_next e)
 is_allowed s role _ = true
 
 abbrev pub names_of : Specification → List (List ℕ)
@@ -134,7 +155,22 @@ pub record IsReadFrom (tree : TreeData) (s : Specification) : Type 0 where
   pub no_patterns : s.patterns ≡ []
   pub no_triggers : s.triggers ≡ []
 
--- the tree means this specification
+-- the tree is this specification, but for the names of lines: each line reads what it may
+pub record IsMeant (tree : TreeData) (s : Specification) : Type 0 where
+  pub read : IsReadFrom tree s
+  pub allowed : list_all (λ l. is_allowed s l.role l.content) s.lines ≡ true
+
+-- the tree means this specification: it is this one, and no two of its lines have one name
 pub record Means (tree : TreeData) (s : Specification) : Type 0 where
   pub read : IsReadFrom tree s
   pub allowed : list_all (λ l. is_allowed s l.role l.content) s.lines ≡ true
+  pub named_once : repeated [] (line_names tree.items) ≡ None
+
+-- the tree would mean a specification, but at this place stands the first name of a line that a line before it has
+pub record IsRepeated (tree : TreeData) (line column : ℕ) : Type 0 where
+  pub spec : Specification
+  pub meant : IsMeant tree spec
+  pub name : NameData
+  pub again : repeated [] (line_names tree.items) ≡ Some name
+  pub line_is : line ≡ name.line
+  pub column_is : column ≡ name.column

@@ -82,8 +82,8 @@ fn some_awaits_output(spec: &Spec, under_next: bool, es: &[Expr]) -> bool
     false
 }
 
-/// Whether a line reads what it may: no next value in an initial line, and no next value of a next value; no variable of
-/// the system in an initial assumption, and no next value of one in another assumption.
+/// Whether a line reads what it may: no next value in an initial or a recurring line, and no next value of a next value; no
+/// variable of the system in an initial assumption, and no next value of one in another assumption.
 pub fn is_allowed(spec: &Spec, line: &Line) -> bool
     ensures { result ≡ is_allowed_lem (spec_data spec.now) line.now.role (content_data line.now.body) }
 {
@@ -97,6 +97,7 @@ pub fn is_allowed(spec: &Spec, line: &Line) -> bool
             is_stepwise(false, e)
                 && (line.role != Role::Assumption || !awaits_output(spec, false, e))
         }
+        Body::Recurring(e) => is_stepwise(false, e) && !has_next(e),
         _ => true,
     }
 }

@@ -1,26 +1,26 @@
 //! Who wins a specification, and what is done then.
 
-ghost use Rattle.std.specs.Prelude.{◌≡◌, ◌≤◌, length, None};
+ghost use Rattle.std.specs.Prelude.{◌≡◌, ◌≤◌, length, None, true};
 ghost use Rattle.std.specs.List.{AllByRecursion};
 ghost use Rattle.spec_model.specs.Values.{TruthValues};
 ghost use Rattle.spec_model.specs.Views.{spec_data};
+ghost use Rattle.spec_model.specs.Laws.{NumbersRise};
 ghost use Rattle.spec_model.specs.Steps.{states_of};
 ghost use Rattle.spec_model.specs.WellMade.{WellMade};
 ghost use Rattle.spec_model.specs.GameViews.{game_data};
 ghost use Rattle.hidden_game.specs.GameOf.{game_of};
 ghost use Rattle.hidden_game.specs.Agreement.{HasPlainLines};
-ghost use Rattle.gr1_law.specs.Specifications.{NothingRecurs};
-ghost use Rattle.regions.specs.Kept.{HasRegion};
-ghost use Rattle.safety_play.specs.Standing.{CanStayIn};
+ghost use Rattle.gr1_law.specs.Layers.{LayerSets};
+ghost use Rattle.controller.specs.Made.{AreLayersOf};
 ghost use Rattle.spectra.specs.Reading.{most_variables};
-ghost use Rattle.spectra.specs.Verdict.{IsKept};
+ghost use Rattle.spectra.specs.Verdict.{Escapes, has_no_goals as has_no_goals_lem};
 ghost use Rattle.spectra.specs.Sessions.{moment};
 ghost use Rattle.spectra.specs.Top.{DecidesGame, ServesSpecification};
 
 use crate::holding::hold;
-use crate::saying::{say_realizable, say_too_many_states, say_unrealizable};
+use crate::saying::{say, say_realizable, say_too_many_states, say_unrealizable};
 use crate::status::Status;
-use crate::words::Command;
+use gr1_sys::{SysLayers, solve_sys};
 use hidden_game::expand;
 use region_rows::{RegionRows, RowsRefusal};
 use regions::Regions;
@@ -28,37 +28,98 @@ use safety::{Outcome, solve};
 use sp_outside::{Sink, Source};
 use spec_model::game::Game;
 use spec_model::spec::Spec;
+use spectra_words::Command;
 use std::alloc::Global;
 
 /// The greatest number of variables of a specification, as long as its states are numbered: 2^10 states.
 const MAX_VARIABLES: usize = 10;
 
-// Does what the command wants where the system wins by staying in Z.
+// Does what the command wants where the system wins with these layers.
 fn do_won<G: Regions + Drop, I: Source, O: Sink>(
     alloc: Global,
     command: Command,
     spec: &Spec,
     g: G,
-    z: G::R,
-    k: u64,
+    layers: SysLayers<G>,
     input: &mut I,
     output: &mut O,
 ) -> Status
     requires free { (G.kept g).jam ≡ None }
-    requires z { HasRegion (G.kept g) z }
-    requires won { CanStayIn (spec_data spec.now) (G.kept g).game ((G.kept g).set z) }
-    requires rounds { IsKept (game_of (spec_data spec.now)) k }
+    requires game { (G.kept g).game ≡ game_of (spec_data spec.now) }
+    requires plain { HasPlainLines (spec_data spec.now) }
+    requires rising { NumbersRise (spec_data spec.now).lines }
+    requires won { (l : LayerSets) × AreLayersOf (G.kept g) layers.z layers.goals.items l }
     ensures { let before = moment (I.left input.old) (O.written output.old) (I.faults input.old) (O.faults output.old) in
         let after = moment (I.left input.new) (O.written output.new) (I.faults input.new) (O.faults output.new) in
         DecidesGame command (spec_data spec.now) before after result }
 {
     match command {
         Command::Synth => {
+            let k = layers.k();
             let mut g = g;
-            g.spend(z);
+            layers.spend_all(&mut g);
             say_realizable(alloc, k, output)
         }
-        Command::Run => hold(alloc, spec, g, z, k, input, output),
+        Command::Run => hold(alloc, spec, g, layers, input, output),
+    }
+}
+
+// Whether nothing recurs in the game that these regions are of.
+fn has_no_goals<G: Regions>(g: &G) -> bool
+    ensures { result ≡ has_no_goals_lem (G.kept g.now).game }
+{
+    let game = g.game();
+    game.assume.is_empty() && game.goals.is_empty()
+}
+
+// Says by how much the environment wins a game in which nothing recurs.
+fn say_lost<G: Regions + Drop, I: Source, O: Sink>(
+    alloc: Global,
+    command: Command,
+    spec: &Spec,
+    g: G,
+    input: &mut I,
+    output: &mut O,
+) -> Status
+    requires free { (G.kept g).jam ≡ None }
+    requires game { (G.kept g).game ≡ game_of (spec_data spec.now) }
+    requires no_goals { has_no_goals_lem (game_of (spec_data spec.now)) ≡ true }
+    requires lost { Escapes (game_of (spec_data spec.now)) }
+    ensures { let before = moment (I.left input.old) (O.written output.old) (I.faults input.old) (O.faults output.old) in
+        let after = moment (I.left input.new) (O.written output.new) (I.faults input.new) (O.faults output.new) in
+        DecidesGame command (spec_data spec.now) before after result }
+{
+    let mut g = g;
+    match solve(&mut g) {
+        Ok(Outcome::Environment { n, m }) => say_unrealizable(alloc, n, m, output),
+        Ok(Outcome::System { z, k: _ }) => {
+            g.spend(z);
+            unreachable!()
+        }
+        Err(_) => Status::Memory,
+    }
+}
+
+// Says what is known where the system doesn't win.
+fn do_lost<G: Regions + Drop, I: Source, O: Sink>(
+    alloc: Global,
+    command: Command,
+    spec: &Spec,
+    g: G,
+    input: &mut I,
+    output: &mut O,
+) -> Status
+    requires free { (G.kept g).jam ≡ None }
+    requires game { (G.kept g).game ≡ game_of (spec_data spec.now) }
+    requires lost { Escapes (game_of (spec_data spec.now)) }
+    ensures { let before = moment (I.left input.old) (O.written output.old) (I.faults input.old) (O.faults output.old) in
+        let after = moment (I.left input.new) (O.written output.new) (I.faults input.new) (O.faults output.new) in
+        DecidesGame command (spec_data spec.now) before after result }
+{
+    if has_no_goals(&g) {
+        say_lost(alloc, command, spec, g, input, output)
+    } else {
+        say(output, b"no controller\n", Status::Other)
     }
 }
 
@@ -73,15 +134,17 @@ fn decide<G: Regions + Drop, I: Source, O: Sink>(
 ) -> Status
     requires free { (G.kept g).jam ≡ None }
     requires game { (G.kept g).game ≡ game_of (spec_data spec.now) }
+    requires plain { HasPlainLines (spec_data spec.now) }
+    requires rising { NumbersRise (spec_data spec.now).lines }
     requires made { WellMade (game_of (spec_data spec.now)) }
     ensures { let before = moment (I.left input.old) (O.written output.old) (I.faults input.old) (O.faults output.old) in
         let after = moment (I.left input.new) (O.written output.new) (I.faults input.new) (O.faults output.new) in
         DecidesGame command (spec_data spec.now) before after result }
 {
     let mut g = g;
-    match solve(&mut g) {
-        Ok(Outcome::System { z, k }) => do_won(alloc, command, spec, g, z, k, input, output),
-        Ok(Outcome::Environment { n, m }) => say_unrealizable(alloc, n, m, output),
+    match solve_sys(alloc, &mut g) {
+        Ok(Some(layers)) => do_won(alloc, command, spec, g, layers, input, output),
+        Ok(None) => do_lost(alloc, command, spec, g, input, output),
         Err(_) => Status::Memory,
     }
 }
@@ -96,6 +159,8 @@ fn decide_game<I: Source, O: Sink>(
     output: &mut O,
 ) -> Status
     requires game { game_data game ≡ game_of (spec_data spec.now) }
+    requires plain { HasPlainLines (spec_data spec.now) }
+    requires rising { NumbersRise (spec_data spec.now).lines }
     requires made { WellMade (game_data game) }
     requires few { length (states_of (game_data game)) ≤ 1024 }
     ensures { let before = moment (I.left input.old) (O.written output.old) (I.faults input.old) (O.faults output.old) in
@@ -109,7 +174,7 @@ fn decide_game<I: Source, O: Sink>(
     }
 }
 
-/// Does what the command wants with a specification of Boolean variables in which nothing recurs, whose game is well made.
+/// Does what the command wants with a specification of Boolean variables, whose game is well made.
 pub fn serve_specification<I: Source, O: Sink>(
     alloc: Global,
     command: Command,
@@ -120,7 +185,7 @@ pub fn serve_specification<I: Source, O: Sink>(
 ) -> Status
     requires booleans { AllByRecursion (λ v. v.domain ≡ TruthValues) (spec_data spec.now).variables }
     requires plain { HasPlainLines (spec_data spec.now) }
-    requires nothing_recurs { NothingRecurs (spec_data spec.now) }
+    requires rising { NumbersRise (spec_data spec.now).lines }
     requires made { length (spec_data spec.now).variables ≤ most_variables → WellMade (game_of (spec_data spec.now)) }
     ensures { let before = moment (I.left input.old) (O.written output.old) (I.faults input.old) (O.faults output.old) in
         let after = moment (I.left input.new) (O.written output.new) (I.faults input.new) (O.faults output.new) in

@@ -1,20 +1,25 @@
 //! A session: the verdict line, the talk, and the last line.
 
 ghost use Rattle.std.specs.Prelude.{◌≡◌, ◌⊎◌, [], None, IfOk, string_bytes};
+ghost use Rattle.spec_model.specs.Syntax.{Specification};
 ghost use Rattle.spec_model.specs.Views.{spec_data};
-ghost use Rattle.spec_model.specs.Sets.{StateSet};
-ghost use Rattle.regions.specs.Kept.{HasRegion};
+ghost use Rattle.spec_model.specs.Laws.{NumbersRise};
+ghost use Rattle.hidden_game.specs.GameOf.{game_of};
+ghost use Rattle.hidden_game.specs.Agreement.{HasPlainLines};
+ghost use Rattle.gr1_law.specs.Layers.{LayerSets, round_count};
+ghost use Rattle.gr1_sys.specs.Held.{ranks_of};
+ghost use Rattle.controller.specs.Made.{AreLayersOf};
+ghost use Rattle.controller.specs.Objects.{IsFresh, Stands};
 ghost use Rattle.session.specs.Views.{AreFor, pending_of};
-ghost use Rattle.safety_play.specs.Objects.{spec_of, StandsFor, Stands};
-ghost use Rattle.safety_play.specs.Standing.{CanStayIn};
+ghost use Rattle.session.specs.Strategies.{rounds_of, IsOf};
 ghost use Rattle.spectra.specs.Sessions.{moment, Holds, WantsMemory, realizable};
 
 use crate::closing::close;
-use crate::replies::Replies;
 use crate::status::Status;
+use controller::Controller;
+use gr1_sys::SysLayers;
 use regions::{MakeRefusal, Regions};
-use safety_play::SafetyPlay;
-use session::{Lines, talk};
+use session::{Lines, run_lines};
 use sp_outside::{OutOfMemory, Sink, Source, write_line};
 use spec_model::spec::Spec;
 use std::alloc::Global;
@@ -33,7 +38,7 @@ struct Room {
 fn room_for(alloc: Global, spec: &Spec, k: u64) -> Result<Room, OutOfMemory>
     ensures verdict { IfOk result (λ r. string_bytes r.verdict ≡ realizable k) }
     ensures for_spec { IfOk result (λ r. AreFor r.lines (spec_data spec.now)) }
-    ensures fresh { IfOk result (λ r. pending_of r.lines ≡ []) }
+    ensures nothing_taken { IfOk result (λ r. pending_of r.lines ≡ []) }
 {
     Ok(Room {
         verdict: format!(in alloc; "realizable K={k}\n")?,
@@ -45,23 +50,23 @@ fn room_for(alloc: Global, spec: &Spec, k: u64) -> Result<Room, OutOfMemory>
 fn exchange<G: Regions, I: Source, O: Sink>(
     verdict: &str,
     lines: &mut Lines,
-    play: &mut Replies<G>,
-    k: u64,
+    play: &mut Controller<G>,
     input: &mut I,
     output: &mut O,
 ) -> Status
-    requires verdict { verdict.now ≡ realizable k }
-    requires for_spec { AreFor lines.old (spec_of play.old.play) }
-    requires fresh { pending_of lines.old ≡ [] }
-    requires begins { (z : StateSet) × StandsFor G.kept play.old.play z [] }
+    requires verdict { verdict.now ≡ realizable (rounds_of play.old) }
+    requires nothing_taken { pending_of lines.old ≡ [] }
+    requires fresh { IsFresh play.old }
+    requires stands { Stands G.kept play.old }
+    requires one_specification { (s : Specification) × AreFor lines.old s × IsOf G.kept play.old s }
     ensures holds { let before = moment (I.left input.old) (O.written output.old) (I.faults input.old) (O.faults output.old) in
         let after = moment (I.left input.new) (O.written output.new) (I.faults input.new) (O.faults output.new) in
-        Holds (spec_of play.old.play) k before after result }
-    ensures stands { Stands G.kept play.new.play }
+        (s : Specification) → AreFor lines.old s → IsOf G.kept play.old s → Holds s (rounds_of play.old) before after result }
+    ensures stands { Stands G.kept play.new }
 {
     match write_line(output, verdict.as_bytes()) {
         Ok(()) => {
-            let end = talk(lines, play, input, output, MOST_POSITIONS);
+            let end = run_lines(lines, play, input, output, MOST_POSITIONS);
             close(lines, end, output)
         }
         Err(_) => Status::OutputFault,
@@ -71,52 +76,52 @@ fn exchange<G: Regions, I: Source, O: Sink>(
 // Holds a session for which all the room is taken.
 fn held<G: Regions + Drop, I: Source, O: Sink>(
     room: Room,
-    play: Replies<G>,
-    k: u64,
+    play: Controller<G>,
     input: &mut I,
     output: &mut O,
 ) -> Status
-    requires verdict { string_bytes room.verdict ≡ realizable k }
-    requires for_spec { AreFor room.lines (spec_of play.play) }
-    requires fresh { pending_of room.lines ≡ [] }
-    requires begins { (z : StateSet) × StandsFor G.kept play.play z [] }
+    requires verdict { string_bytes room.verdict ≡ realizable (rounds_of play) }
+    requires nothing_taken { pending_of room.lines ≡ [] }
+    requires fresh { IsFresh play }
+    requires stands { Stands G.kept play }
+    requires one_specification { (s : Specification) × AreFor room.lines s × IsOf G.kept play s }
     ensures { let before = moment (I.left input.old) (O.written output.old) (I.faults input.old) (O.faults output.old) in
         let after = moment (I.left input.new) (O.written output.new) (I.faults input.new) (O.faults output.new) in
-        Holds (spec_of play.entry.play) k before after result }
+        (s : Specification) → AreFor room.lines s → IsOf G.kept play s → Holds s (rounds_of play) before after result }
 {
     let Room { verdict, mut lines } = room;
     let mut play = play;
-    let status = exchange(&verdict, &mut lines, &mut play, k, input, output);
-    let Replies { play } = play;
+    let status = exchange(&verdict, &mut lines, &mut play, input, output);
     let _g = play.close();
     status
 }
 
-/// Holds the session of a specification that the system wins by staying in Z, and says how it ended. All the room is taken
+/// Holds the session of a specification that the system wins with these layers, and says how it ended. All the room is taken
 /// before the verdict line is written.
 pub fn hold<G: Regions + Drop, I: Source, O: Sink>(
     alloc: Global,
     spec: &Spec,
     g: G,
-    z: G::R,
-    k: u64,
+    layers: SysLayers<G>,
     input: &mut I,
     output: &mut O,
 ) -> Status
     requires free { (G.kept g).jam ≡ None }
-    requires z { HasRegion (G.kept g) z }
-    requires won { CanStayIn (spec_data spec.now) (G.kept g).game ((G.kept g).set z) }
+    requires game { (G.kept g).game ≡ game_of (spec_data spec.now) }
+    requires plain { HasPlainLines (spec_data spec.now) }
+    requires rising { NumbersRise (spec_data spec.now).lines }
+    requires won { (l : LayerSets) × AreLayersOf (G.kept g) layers.z layers.goals.items l }
     ensures holds { let before = moment (I.left input.old) (O.written output.old) (I.faults input.old) (O.faults output.old) in
         let after = moment (I.left input.new) (O.written output.new) (I.faults input.new) (O.faults output.new) in
-        Holds (spec_data spec.now) k before after result ⊎ WantsMemory before after result }
+        Holds (spec_data spec.now) (round_count (ranks_of layers.goals.items)) before after result ⊎ WantsMemory before after result }
 {
     let mut g = g;
-    let Ok(room) = room_for(alloc, spec, k) else {
-        g.spend(z);
+    let Ok(room) = room_for(alloc, spec, layers.k()) else {
+        layers.spend_all(&mut g);
         return Status::Memory;
     };
-    match SafetyPlay::make(alloc, g, z, spec) {
-        Ok(play) => held(room, Replies { play }, k, input, output),
+    match Controller::make(alloc, g, layers) {
+        Ok(play) => held(room, play, input, output),
         Err(MakeRefusal { halt: _, g: _g }) => Status::Memory,
     }
 }

@@ -1,8 +1,9 @@
 //! The program `spectra`: from the words of the command line to a verdict line, a session and a status.
 //!
-//! `synth FILE` reads a specification of Boolean variables, initial lines and lines that hold at each position, and says
-//! whether it is realizable. `run FILE` says the same and, where the system wins, answers each line of the input by one line,
-//! so that the exchanged lines are one play of legal moves. The verdict is decided over sets of its game's states.
+//! `synth FILE` reads a specification of Boolean variables and of lines that are initial, hold at each position or recur, and
+//! says whether it is realizable. `run FILE` says the same and, where the system wins, answers each line of the input by one
+//! line, so that the exchanged lines are one play of legal moves that keeps what recurs within the printed K rounds. The
+//! verdict is decided over sets of its game's states.
 //!
 //! Contract: `top::spectra`. Path: words and bytes → tokens → trees → specification → verdict → **lines and status**.
 #![tactic(auto)]
@@ -11,15 +12,15 @@ mod allowed;
 mod closing;
 mod deciding;
 mod holding;
+mod line_names;
 mod names;
+mod placing;
 mod reading;
-mod replies;
 mod resolve;
 mod saying;
 mod serving;
 mod status;
 mod top;
-mod words;
 
 use sp_outside::{OutOfMemory, RealShelf, RealSink, RealSource};
 use status::Status;

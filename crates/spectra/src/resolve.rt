@@ -4,11 +4,11 @@ ghost use Rattle.std.specs.Prelude.{◌≡◌, suc, [], ◌∷◌, ◌++◌, ℕ
 ghost use Rattle.std.specs.List.{list_all};
 ghost use Rattle.spec_model.specs.Syntax.{Specification, Variable, Conjunction, Disjunction, formulas};
 ghost use Rattle.spec_model.specs.Views.{formula, variable_data, content_data, line_data, spec_data};
-ghost use Rattle.spectra_parser.specs.Data.{ItemData, expressions};
-ghost use Rattle.spectra_parser.specs.Views.{name_data, expr_data, type_shape, body_data, item_data, tree_data};
+ghost use Rattle.spectra_trees.specs.Data.{ItemData, expressions};
+ghost use Rattle.spectra_trees.specs.Views.{name_data, expr_data, type_shape, body_data, item_data, tree_data};
 ghost use Rattle.spectra.specs.declared.resolve.ResolveFault.TheVariants.{Memory};
 ghost use Rattle.spectra.specs.Names.{names_in};
-ghost use Rattle.spectra.specs.Trees.{extended, owner_of as owner_of_lem, variable_of, variables_of, AreDifferent, place_of, formula_of, formulas_of, line_of, lines_of, is_allowed as is_allowed_lem, IsReadFrom, Means};
+ghost use Rattle.spectra.specs.Trees.{extended, owner_of as owner_of_lem, variable_of, variables_of, AreDifferent, place_of, formula_of, formulas_of, content_of, line_of, lines_of, is_allowed as is_allowed_lem, IsReadFrom, IsMeant};
 
 use crate::allowed::is_allowed;
 use crate::names::Names;
@@ -16,8 +16,8 @@ use sp_outside::OutOfMemory;
 use spec_model::expr::Expr;
 use spec_model::spec::{Body, Line, Role, Spec};
 use spec_model::value::{Domain, Owner, Value, Var};
-use spectra_parser::tree::{
-    BinaryWord, BodyTree, ExprForm, ExprTree, Item, LineItem, OwnerWord, PrefixWord, Tree,
+use spectra_trees::tree::{
+    BinaryWord, BodyTree, ExprForm, ExprTree, Item, LineItem, Name, OwnerWord, PrefixWord, Tree,
     TypeForm, VarItem,
 };
 use std::alloc::{AllocError, AllocFailed, Global};
@@ -25,7 +25,7 @@ use std::alloc::{AllocError, AllocFailed, Global};
 /// Why a tree has no specification.
 #[derive(Clone, Copy, Debug, PartialEq, Eq)]
 pub enum ResolveFault {
-    /// A name is declared twice or not at all, a line reads what it may not, or something isn't built yet.
+    /// A variable is declared twice or not at all, a line reads what it may not, or something isn't built yet.
     Unsupported,
     /// No memory was given.
     Memory,
@@ -227,32 +227,43 @@ fn variable_read(names: &Names, name: &str) -> Result<Expr, ResolveFault>
     }
 }
 
+// What a line says.
+fn body(alloc: Global, names: &Names, tree: &BodyTree) -> Result<Body, ResolveFault>
+    ensures ok { IfOk result (λ b. content_of (names_in names.now) (body_data tree.now) ≡ Some (content_data b)) }
+    ensures unsupported { IsErrOf result ResolveFault.Unsupported → content_of (names_in names.now) (body_data tree.now) ≡ None }
+{
+    match tree {
+        BodyTree::Initial(e) => Ok(Body::Initial(expression(alloc, names, e)?)),
+        BodyTree::Always(e) => Ok(Body::Safety(expression(alloc, names, e)?)),
+        BodyTree::Recurring(e) => Ok(Body::Recurring(expression(alloc, names, e)?)),
+        BodyTree::Trigger(_, _, _) => Err(ResolveFault::Unsupported),
+        BodyTree::Call(_, _) => Err(ResolveFault::Unsupported),
+    }
+}
+
+// The text of a name, where there is one.
+fn text_of(name: &Option<Name>) -> Result<Option<String>, OutOfMemory>
+    ensures { IfOk result (λ text. option_map string_bytes text ≡ option_map (λ n. n.text) (option_map name_data name.now)) }
+{
+    match name {
+        Some(name) => Ok(Some(name.text.clone()?)),
+        None => Ok(None),
+    }
+}
+
 // The line of a number.
+#[tactic(auto, unfolding(crate::specs::Trees::line_of))]
 fn line(alloc: Global, names: &Names, number: u32, item: &LineItem) -> Result<Line, ResolveFault>
     ensures ok { IfOk result (λ l. line_of (names_in names.now) number item.now.role (option_map name_data item.now.name) (body_data item.now.body) ≡ Some (line_data l)) }
     ensures unsupported { IsErrOf result ResolveFault.Unsupported
         → line_of (names_in names.now) number item.now.role (option_map name_data item.now.name) (body_data item.now.body) ≡ None }
 {
-    match &item.name {
-        Some(_) => Err(ResolveFault::Unsupported),
-        None => match &item.body {
-            BodyTree::Initial(e) => Ok(Line {
-                number,
-                name: None,
-                role: item.role,
-                body: Body::Initial(expression(alloc, names, e)?),
-            }),
-            BodyTree::Always(e) => Ok(Line {
-                number,
-                name: None,
-                role: item.role,
-                body: Body::Safety(expression(alloc, names, e)?),
-            }),
-            BodyTree::Recurring(_) => Err(ResolveFault::Unsupported),
-            BodyTree::Trigger(_, _, _) => Err(ResolveFault::Unsupported),
-            BodyTree::Call(_, _) => Err(ResolveFault::Unsupported),
-        },
-    }
+    Ok(Line {
+        number,
+        name: text_of(&item.name)?,
+        role: item.role,
+        body: body(alloc, names, &item.body)?,
+    })
 }
 
 // Adds the line that an item is, if it is one.
@@ -329,12 +340,12 @@ fn read(alloc: Global, tree: &Tree) -> Result<Spec, ResolveFault>
     })
 }
 
-/// The specification that a tree means. `Unsupported`: it means none, as far as forms are built. `Memory`: none was
-/// given.
+/// The specification that a tree is, whatever its lines are named. `Unsupported`: it is none, as far as meanings are built.
+/// `Memory`: none was given.
 #[tactic(auto, using(crate::proofs::Extending::not_allowed))]
 pub fn resolve(alloc: Global, tree: &Tree) -> Result<Spec, ResolveFault>
-    ensures meaning { IfOk result (λ s. Means (tree_data tree.now) (spec_data s)) }
-    ensures unsupported { IsErrOf result ResolveFault.Unsupported → (s : Specification) → ¬ (Means (tree_data tree.now) s) }
+    ensures meaning { IfOk result (λ s. IsMeant (tree_data tree.now) (spec_data s)) }
+    ensures unsupported { IsErrOf result ResolveFault.Unsupported → (s : Specification) → ¬ (IsMeant (tree_data tree.now) s) }
 {
     let spec = read(alloc, tree)?;
     if all_allowed(&spec) {

@@ -34,10 +34,12 @@ const ARBITER: &str =
 
 const ECHO: &str = "env boolean r; sys boolean g; gar alw r -> g;";
 
+const SHOWN: &str = "env boolean r; sys boolean g; gar alw r -> g; gar alwEv g;";
+
 const LATE: &str = "env boolean a; sys boolean g; asm alw g -> a; gar alw g;";
 
 // The statements after `spec X`, the input, what is written, and the status.
-const SESSIONS: [(&str, &str, &str, u8); 27] = [
+const SESSIONS: [(&str, &str, &str, u8); 33] = [
     ("", "", "realizable K=2\n", 0),
     // Without variables a line of blanks is the input, and the output is the empty line.
     ("", "\n \t\n", "realizable K=2\n\n\n", 0),
@@ -148,6 +150,46 @@ const SESSIONS: [(&str, &str, &str, u8); 27] = [
         "realizable K=2\n\n\nassumption broken #3\n",
         4,
     ),
+    // Recurring guarantees: both goals in turn, the first goal first.
+    (
+        SHOWN,
+        "r=false\nr=true\nr=false\n",
+        "realizable K=3\ng=true\ng=true\ng=true\n",
+        0,
+    ),
+    (
+        "sys boolean g; gar alwEv g; gar alwEv !g;",
+        "\n\n\n",
+        "realizable K=5\ng=true\ng=false\ng=true\n",
+        0,
+    ),
+    // The system waits for the input that is assumed to recur.
+    (
+        "env boolean a; sys boolean g; asm alwEv a; gar alw g -> a; gar alwEv g;",
+        "a=false\na=true\na=true\n",
+        "realizable K=3\ng=false\ng=true\ng=true\n",
+        0,
+    ),
+    // No second input is legal, so the goal is owed to nobody: one rank.
+    (
+        "env boolean a; sys boolean g; asm alw next(a) & next(!a); gar alwEv g; gar alw !g;",
+        "a=true\na=true\n",
+        "realizable K=2\ng=false\nassumption broken #1\n",
+        4,
+    ),
+    (
+        "env boolean a; sys boolean g; asm alw next(a) & next(!a); gar alwEv g; gar alw !g;",
+        "a=true\n",
+        "realizable K=2\ng=false\n",
+        0,
+    ),
+    // The input isn't read where there is no controller.
+    (
+        "env boolean a; gar alwEv a;",
+        "nonsense\n",
+        "no controller\n",
+        1,
+    ),
     // Each reply has g, though at first an output without g is legal: after it no output is legal.
     (
         "env boolean a; sys boolean g; gar alw next(a) | !next(a) -> g;",
@@ -224,6 +266,31 @@ fn each_failing_call_ends_the_session(rt: HostRuntime) -> Result<(), Fail> {
             number,
             "with reads {reads:?} and writes {writes:?}"
         );
+    }
+    Ok(())
+}
+
+#[test]
+fn a_session_with_goals_ends_at_a_fault(rt: HostRuntime) -> Result<(), Fail> {
+    let alloc = rt.alloc();
+    let words = words_of(alloc, "spectra run t.spectra")?;
+    let text = format!(in alloc; "spec X {SHOWN}")?;
+    let cases: [(&[u64], &[u64], &str, u8); 2] = [
+        (&[2], &[], "realizable K=3\ng=true\ninput fault\n", 8),
+        (&[], &[2], "realizable K=3\n", 9),
+    ];
+    for (reads, writes, written, number) in cases {
+        let mut shelf = MemoryShelf::make(alloc, &[])?;
+        shelf.put("t.spectra", text.as_bytes())?;
+        let mut input = MemorySource::make(alloc, b"r=false\n", reads)?;
+        let mut output = MemorySink::make(alloc, 256, writes)?;
+        let status = spectra(alloc, &words, &mut shelf, &mut input, &mut output);
+        assert_eq!(rt;
+            output.written(),
+            written.as_bytes(),
+            "with reads {reads:?}"
+        );
+        assert_eq!(rt; status.number(), number, "with reads {reads:?}");
     }
     Ok(())
 }

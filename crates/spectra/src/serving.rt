@@ -8,13 +8,13 @@ ghost use Rattle.spectra.specs.Sessions.{moment};
 ghost use Rattle.spectra.specs.Top.{ServesText, ServesFile};
 
 use crate::deciding::serve_specification;
-use crate::reading::read;
-use crate::resolve::ResolveFault;
+use crate::placing::say_syntax;
+use crate::reading::{ReadFault, read};
 use crate::saying::{say_fault, say_no_file, say_shelf_fault, say_unsupported};
 use crate::status::Status;
-use crate::words::{Command, Request};
 use sp_outside::{FileFault, Shelf, Sink, Source, read_file};
 use spectra_lexer::{LexFault, MAX_BYTES, Token, lex};
+use spectra_words::{Command, Request};
 use std::alloc::Global;
 
 // Does what the command wants with a text that has these tokens, in a file of this name.
@@ -35,8 +35,12 @@ fn serve_tokens<I: Source, O: Sink>(
 {
     match read(alloc, text, tokens) {
         Ok(spec) => serve_specification(alloc, command, name, &spec, input, output),
-        Err(ResolveFault::Unsupported) => say_unsupported(alloc, name, output),
-        Err(ResolveFault::Memory) => Status::Memory,
+        Err(ReadFault::Syntax(fault)) => say_syntax(alloc, name, tokens, fault, output),
+        Err(ReadFault::Twice { line, column }) => {
+            say_fault(alloc, name, line, column, "8 Twice\n", output)
+        }
+        Err(ReadFault::Meaning) => say_unsupported(alloc, name, output),
+        Err(ReadFault::Memory) => Status::Memory,
     }
 }
 
@@ -83,6 +87,7 @@ pub fn serve_file<F: Shelf, I: Source, O: Sink>(
     let Request {
         command,
         file: name,
+        nodes: _,
     } = request;
     match read_file(alloc, shelf, name, MAX_BYTES + 1) {
         Ok(text) => serve_text(alloc, command, name, &text, input, output),

@@ -35,7 +35,7 @@ pub fn words_of(alloc: Global, line: &str) -> Result<Vec<String>, Fail> {
 }
 
 // The statements after `spec X`, the line, and the status.
-const TEXTS: [(&str, &str, u8); 39] = [
+const TEXTS: [(&str, &str, u8); 50] = [
     (
         "env boolean a; sys boolean g; gar ini a & g;",
         "unrealizable N=0 M=1\n",
@@ -93,14 +93,10 @@ const TEXTS: [(&str, &str, u8); 39] = [
         "t.spectra:1:1: fault 23 Unsupported\n",
         3,
     ),
-    (
-        "sys boolean g; gar alwEv g;",
-        "t.spectra:1:1: fault 23 Unsupported\n",
-        3,
-    ),
+    // The file ends behind its line feed, where a semicolon is wanted.
     (
         "sys boolean g; gar ini g",
-        "t.spectra:1:1: fault 23 Unsupported\n",
+        "t.spectra:3:1: fault 4 Unexpected\n",
         3,
     ),
     (
@@ -121,7 +117,7 @@ const TEXTS: [(&str, &str, u8); 39] = [
     ),
     (
         "sys boolean true;",
-        "t.spectra:1:1: fault 23 Unsupported\n",
+        "t.spectra:2:13: fault 4 Unexpected\n",
         3,
     ),
     ("sys boolean g; // a comment", "realizable K=2\n", 0),
@@ -201,6 +197,64 @@ const TEXTS: [(&str, &str, u8); 39] = [
     ),
     (
         "sys boolean g; gar alw g -> g -> g;",
+        "t.spectra:2:31: fault 6 Parentheses\n",
+        3,
+    ),
+    // Forms that aren't built yet are named by their first token.
+    (
+        "sys boolean g; gar alw PREV g;",
+        "t.spectra:2:24: fault 23 Unsupported\n",
+        3,
+    ),
+    (
+        "sys boolean g; monitor boolean m { }",
+        "t.spectra:2:16: fault 23 Unsupported\n",
+        3,
+    ),
+    // Recurring lines. From g the goal holds, and from !g it can be reached at once: two ranks.
+    ("sys boolean g; gar alwEv g;", "realizable K=3\n", 0),
+    (
+        "sys boolean g; gar GF g; gar alwaysEventually !g;",
+        "realizable K=5\n",
+        0,
+    ),
+    // Where the input is false the assumption is, and the state can wait for ever: one rank.
+    (
+        "env boolean a; asm alwEv a; gar alwEv a;",
+        "realizable K=2\n",
+        0,
+    ),
+    // The system may keep the assumption false; from g the goal is reached at the next position.
+    (
+        "sys boolean g; asm alwEv g; gar alwEv !g;",
+        "realizable K=3\n",
+        0,
+    ),
+    // The environment may keep the input false.
+    ("env boolean a; gar alwEv a;", "no controller\n", 1),
+    (
+        "sys boolean g; gar alwEv g; gar alw !g;",
+        "no controller\n",
+        1,
+    ),
+    // Lines may have names, and no two the same one.
+    (
+        "sys boolean g;\ngar one: alw g;\ngar one: alwEv g;",
+        "t.spectra:4:5: fault 8 Twice\n",
+        3,
+    ),
+    (
+        "sys boolean g; asm g: alw true; gar h: alwEv g; gar i: alw g; gar h: alw g; gar g: alw g;",
+        "t.spectra:2:67: fault 8 Twice\n",
+        3,
+    ),
+    (
+        "sys boolean g; gar one: alw g; gar alw g; gar two: alwEv g; gar alw g;",
+        "realizable K=3\n",
+        0,
+    ),
+    (
+        "sys boolean g; gar alwEv next(g);",
         "t.spectra:1:1: fault 23 Unsupported\n",
         3,
     ),
@@ -224,7 +278,7 @@ fn each_text_has_its_line_and_status(rt: HostRuntime) -> Result<(), Fail> {
 }
 
 // The words, the calls of the shelf and of the sink that fail, what is written, and the status.
-const FAULTS: [(&str, &[u64], &[u64], &str, u8); 13] = [
+const FAULTS: [(&str, &[u64], &[u64], &str, u8); 18] = [
     ("spectra synth t.spectra", &[], &[], "realizable K=2\n", 0),
     (
         "spectra synth none.spectra",
@@ -298,6 +352,41 @@ const FAULTS: [(&str, &[u64], &[u64], &str, u8); 13] = [
     ),
     ("spectra synth t.spectra", &[], &[1], "", 9),
     ("spectra synth", &[], &[1], "", 9),
+    (
+        "spectra --nodes 00002 synth t.spectra",
+        &[],
+        &[],
+        "realizable K=2\n",
+        0,
+    ),
+    (
+        "spectra synth t.spectra --nodes 1",
+        &[],
+        &[],
+        "usage: spectra COMMAND FILE [--nodes N]\n",
+        2,
+    ),
+    (
+        "spectra synth t.spectra --nodes=134217729",
+        &[],
+        &[],
+        "usage: spectra COMMAND FILE [--nodes N]\n",
+        2,
+    ),
+    (
+        "spectra --help",
+        &[],
+        &[],
+        "usage: spectra COMMAND FILE [--nodes N]\n",
+        2,
+    ),
+    (
+        "spectra synth -- none.spectra",
+        &[],
+        &[],
+        "no such file: none.spectra\n",
+        11,
+    ),
 ];
 
 #[test]
@@ -360,6 +449,31 @@ fn the_longest_text_is_read_and_a_longer_one_is_not(rt: HostRuntime) -> Result<(
         let status = spectra(alloc, &words, &mut shelf, &mut input, &mut output);
         assert_eq!(rt; output.written(), written.as_bytes(), "at {blanks}");
         assert_eq!(rt; status.number(), number, "at {blanks}");
+    }
+    Ok(())
+}
+
+#[test]
+fn level_129_is_named(rt: HostRuntime) -> Result<(), Fail> {
+    let alloc = rt.alloc();
+    let words = words_of(alloc, "spectra synth t.spectra")?;
+    // The first parenthesis stands in column 9.
+    for (levels, written) in [
+        (128usize, "t.spectra:2:137: fault 4 Unexpected\n"),
+        (129, "t.spectra:2:137: fault 5 TooDeep\n"),
+    ] {
+        let mut text = String::from_str(alloc, "spec X\ngar alw ")?;
+        for _ in 0..levels {
+            text.push('(')?;
+        }
+        text.push(';')?;
+        let mut shelf = MemoryShelf::make(alloc, &[])?;
+        shelf.put("t.spectra", text.as_bytes())?;
+        let mut input = MemorySource::make(alloc, b"", &[])?;
+        let mut output = MemorySink::make(alloc, 64, &[])?;
+        let status = spectra(alloc, &words, &mut shelf, &mut input, &mut output);
+        assert_eq!(rt; output.written(), written.as_bytes(), "at {levels}");
+        assert_eq!(rt; status.number(), 3, "at {levels}");
     }
     Ok(())
 }

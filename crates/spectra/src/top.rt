@@ -3,8 +3,8 @@
 ghost use Rattle.std.specs.Prelude.{◌≡◌, Some, None, List, ℕ, map, string_bytes};
 ghost use Rattle.sp_outside.specs.Causes.{Rose};
 ghost use Rattle.sp_outside.specs.Files.{told_file};
-ghost use Rattle.spectra.specs.declared.words.Command.{Command};
-ghost use Rattle.spectra.specs.Commands.{Asks, AskNothing};
+ghost use Rattle.spectra_words.specs.declared.words.Command.{Command};
+ghost use Rattle.spectra_words.specs.Commands.{Asks, AskNothing};
 ghost use Rattle.spectra.specs.Status.{IsUnlessCut, IsUnlessFault};
 ghost use Rattle.spectra.specs.Reading.{IsRefused};
 ghost use Rattle.spectra.specs.Sessions.{moment, WantsMemory};
@@ -13,8 +13,8 @@ ghost use Rattle.spectra.specs.Top.{ServesWords};
 use crate::saying::say;
 use crate::serving::serve_file;
 use crate::status::Status;
-use crate::words::asked;
 use sp_outside::{Shelf, Sink, Source};
+use spectra_words::asked;
 use std::alloc::Global;
 
 /// All that the program does. The words are those of the command line, the program's own name first.
@@ -37,9 +37,9 @@ pub fn spectra<F: Shelf, I: Source, O: Sink>(
 
     // Words that are no command get their status, and so do names of no file and texts that are refused.
     ensures words { AskNothing (map string_bytes words.now) → IsUnlessCut Status.Words result }
-    ensures no_file { (command : Command) (name : List ℕ) → Asks (map string_bytes words.now) command name →
+    ensures no_file { (command : Command) (name : List ℕ) (nodes : ℕ) → Asks (map string_bytes words.now) command name nodes →
         told_file (F.holds shelf.old) name ≡ Some None → IsUnlessFault Status.NoFile result }
-    ensures refused { (command : Command) (name text : List ℕ) → Asks (map string_bytes words.now) command name →
+    ensures refused { (command : Command) (name text : List ℕ) (nodes : ℕ) → Asks (map string_bytes words.now) command name nodes →
         told_file (F.holds shelf.old) name ≡ Some (Some text) → IsRefused text → IsUnlessFault Status.Refused result }
 
     ensures shelf_fault { result ≡ Status.ShelfFault → Rose (F.faults shelf.old) (F.faults shelf.new) }
@@ -50,12 +50,13 @@ pub fn spectra<F: Shelf, I: Source, O: Sink>(
         result ≡ Status.Memory → WantsMemory before after result }
     ensures keeps { F.holds shelf.new ≡ F.holds shelf.old }
 {
-    match asked(words) {
-        Some(request) => serve_file(alloc, request, shelf, input, output),
-        None => say(
+    match asked(alloc, words) {
+        Ok(Some(request)) => serve_file(alloc, request, shelf, input, output),
+        Ok(None) => say(
             output,
             b"usage: spectra COMMAND FILE [--nodes N]\n",
             Status::Words,
         ),
+        Err(_) => Status::Memory,
     }
 }

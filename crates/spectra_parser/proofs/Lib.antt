@@ -1,10 +1,8 @@
-pub mod Chains
-pub mod Steps
-pub mod Forms
-pub mod Items
-pub mod Counts
-pub mod Spelling
-pub mod TokenTests
-pub mod Sound
-pub mod Complete
-pub mod Whole
+mod SoundItems
+mod SoundDeclarations
+mod SoundTexts
+mod WholeItems
+mod WholeDeclarations
+mod WholeTexts
+pub mod WholeText
+mod TokenCount

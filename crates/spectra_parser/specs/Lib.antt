@@ -1,9 +1,5 @@
-pub mod Data
-pub mod Views
-pub mod Lexemes
-pub mod Grammar
+pub mod Items
+pub mod ItemViews
+pub mod Unbuilt
+pub mod ItemGrammar
 pub mod Texts
-pub mod Tests
-pub mod Reading
-pub mod Outcomes
-pub mod Further

@@ -1,244 +1,255 @@
 //! Items and whole texts: one function for each production.
 
-ghost use Rattle.std.specs.Prelude.{◌≡◌, ◌<◌, length, map, [], codes, IfOk};
-ghost use Rattle.spectra_parser.specs.Views.{name_data, expr_data, type_data, body_data, item_data, tree_data};
-ghost use Rattle.spectra_parser.specs.Tests.{word_test, sign_test, name_test, owner_word as owner_word_lem, role_word as role_word_lem};
-ghost use Rattle.spectra_parser.specs.Reading.{expect as expect_lem, type_at, body_at, vardecl_at, line_at, item_at, items_at, text_at};
-ghost use Rattle.spectra_parser.specs.Outcomes.{lexeme_of, lexemes_of, behind, Gives};
+ghost use Rattle.std.specs.Prelude.{◌≡◌, ◌<◌, ◌≤◌, ◌++◌, ◌∷◌, [], length, map, IfOk, IfErr};
+ghost use Rattle.spectra_trees.specs.Views.{item_data, name_data, tree_data};
+ghost use Rattle.spectra_trees.specs.Lexemes.{lexeme_of, lexemes_of};
+ghost use Rattle.spectra_exprs.specs.Read.{Gives, starts as starts_lem, all_of};
+ghost use Rattle.spectra_parser.specs.Items.{declaration as declaration_lem, import_after as import_after_lem, imported as imported_lem, item_after as item_after_lem, owner_word as owner_word_lem, role_word as role_word_lem, semicolon as semicolon_lem, before_end, item_of, text_of};
 
-use crate::expr::{expr, take_sign};
-use crate::fault::SyntaxFault;
-use crate::lexeme::{Spelled, is_end, is_name, is_word, name};
-use crate::tree::{BodyTree, Item, LineItem, OwnerWord, Place, Tree, TypeForm, TypeTree, VarItem};
+use crate::braces::{monitor, pattern};
+use crate::declaration::{define, predicate, typedecl, vardecl};
+use crate::lines::line;
+use crate::quotes::unquoted;
 use spec_model::spec::Role;
+use spectra_exprs::fault::SyntaxFault;
+use spectra_exprs::operators::{begun, expect, starts};
+use spectra_trees::class::{Class, is_same};
+use spectra_trees::lexeme::{Spelled, is, name};
+use spectra_trees::tree::{Item, Name, OwnerWord, Tree};
 use std::alloc::Global;
 
-/// The levels of parentheses and prefixes that an expression may open.
-pub const LEVELS: u32 = 128;
-
-/// One reserved word.
-#[tactic(auto, unfolding(crate::specs::Reading::expect))]
-fn expect_word<'a, 'b>(
-    tokens: &'b [Spelled<'a>],
-    letters: &str,
-) -> Result<(&'b Spelled<'a>, &'b [Spelled<'a>]), SyntaxFault>
-    ensures read { Gives (λ x. (lexeme_of x.0.now, lexemes_of x.1.now)) result
-        (expect_lem (word_test letters.now) (lexemes_of tokens.now)) }
-    ensures shorter { IfOk result (λ x. length x.1.now < length tokens.now) }
+/// "env" | "sys" | "aux"
+#[tactic(auto, unfolding(crate::specs::Items::owner_word))]
+fn owner_word(class: Class) -> Option<OwnerWord>
+    ensures { result ≡ owner_word_lem class }
 {
-    match tokens.split_first() {
-        Some((token, rest)) if is_word(token, letters) => Ok((token, rest)),
-        _ => Err(SyntaxFault::Unsupported(0)),
-    }
-}
-
-/// NAME
-#[tactic(auto, unfolding(crate::specs::Reading::expect))]
-fn expect_name<'a, 'b>(
-    tokens: &'b [Spelled<'a>],
-) -> Result<(&'b Spelled<'a>, &'b [Spelled<'a>]), SyntaxFault>
-    ensures read { Gives (λ x. (lexeme_of x.0.now, lexemes_of x.1.now)) result
-        (expect_lem name_test (lexemes_of tokens.now)) }
-    ensures shorter { IfOk result (λ x. length x.1.now < length tokens.now) }
-{
-    match tokens.split_first() {
-        Some((token, rest)) if is_name(token) => Ok((token, rest)),
-        _ => Err(SyntaxFault::Unsupported(0)),
-    }
-}
-
-/// ";"
-#[tactic(auto, unfolding(crate::specs::Reading::expect))]
-fn expect_semicolon<'a, 'b>(tokens: &'b [Spelled<'a>]) -> Result<&'b [Spelled<'a>], SyntaxFault>
-    ensures read { Gives (λ x. lexemes_of x.now) result
-        (behind (expect_lem (sign_test (codes ";")) (lexemes_of tokens.now))) }
-    ensures shorter { IfOk result (λ x. length x.now < length tokens.now) }
-{
-    match take_sign(tokens, ";") {
-        Some((_, rest)) => Ok(rest),
-        None => Err(SyntaxFault::Unsupported(0)),
-    }
-}
-
-/// Whose variable a word declares.
-#[tactic(auto, unfolding(crate::specs::Tests::owner_word))]
-fn owner_word(token: &Spelled<'_>) -> Option<OwnerWord>
-    ensures { result ≡ owner_word_lem (lexeme_of token.now) }
-{
-    if is_word(token, "env") {
+    if is_same(class, Class::Env) {
         Some(OwnerWord::Env)
-    } else if is_word(token, "sys") {
+    } else if is_same(class, Class::Sys) {
         Some(OwnerWord::Sys)
+    } else if is_same(class, Class::Aux) {
+        Some(OwnerWord::Aux)
     } else {
         None
     }
 }
 
-/// What line a word begins.
-#[tactic(auto, unfolding(crate::specs::Tests::role_word))]
-fn role_word(token: &Spelled<'_>) -> Option<Role>
-    ensures { result ≡ role_word_lem (lexeme_of token.now) }
+/// ASM and GAR.
+#[tactic(auto, unfolding(crate::specs::Items::role_word))]
+fn role_word(class: Class) -> Option<Role>
+    ensures { result ≡ role_word_lem class }
 {
-    if is_word(token, "asm") {
+    if is_same(class, Class::Asm) {
         Some(Role::Assumption)
-    } else if is_word(token, "gar") {
+    } else if is_same(class, Class::Gar) {
         Some(Role::Guarantee)
     } else {
         None
     }
 }
 
-/// type = "boolean"
-#[tactic(auto, unfolding(crate::specs::Reading::type_at))]
-fn type_tree<'a, 'b>(
-    tokens: &'b [Spelled<'a>],
-) -> Result<(TypeTree, &'b [Spelled<'a>]), SyntaxFault>
-    ensures read { Gives (λ x. (type_data x.0, lexemes_of x.1.now)) result
-        (type_at (lexemes_of tokens.now)) }
-    ensures shorter { IfOk result (λ x. length x.1.now < length tokens.now) }
-{
-    let (word, rest) = expect_word(tokens, "boolean")?;
-    Ok((
-        TypeTree {
-            at: word.at,
-            form: TypeForm::Boolean,
-        },
-        rest,
-    ))
-}
-
-/// vardecl = ( "env" | "sys" ) type NAME ";", behind its first word.
-#[tactic(auto, unfolding(crate::specs::Reading::vardecl_at))]
-fn vardecl<'a, 'b>(
+/// typedecl | define | predicate | pattern | monitor
+#[tactic(auto, unfolding(crate::specs::Items::declaration))]
+fn declaration<'a, 'b>(
     alloc: Global,
-    at: Place,
-    owner: OwnerWord,
     tokens: &'b [Spelled<'a>],
 ) -> Result<(Item, &'b [Spelled<'a>]), SyntaxFault>
-    ensures read { Gives (λ x. (item_data x.0, lexemes_of x.1.now)) result
-        (vardecl_at at owner (lexemes_of tokens.now)) }
-    ensures shorter { IfOk result (λ x. length x.1.now < length tokens.now) }
-{
-    let (domain, rest) = type_tree(tokens)?;
-    let (token, rest) = expect_name(rest)?;
-    let rest = expect_semicolon(rest)?;
-    let name = name(alloc, token)?;
-    Ok((
-        Item::Variable(VarItem {
-            at,
-            owner,
-            domain,
-            name,
-        }),
-        rest,
-    ))
-}
-
-/// body = INI expr | ALW expr
-#[tactic(auto, unfolding(crate::specs::Reading::body_at, crate::specs::Reading::formula_at))]
-fn body<'a, 'b>(
-    alloc: Global,
-    tokens: &'b [Spelled<'a>],
-) -> Result<(BodyTree, &'b [Spelled<'a>]), SyntaxFault>
-    ensures read { Gives (λ x. (body_data x.0, lexemes_of x.1.now)) result
-        (body_at (lexemes_of tokens.now)) }
+    ensures read { Gives (λ x. (item_data x.0, lexemes_of x.1.now)) result (declaration_lem (lexemes_of tokens.now)) }
     ensures shorter { IfOk result (λ x. length x.1.now < length tokens.now) }
 {
     let Some((token, rest)) = tokens.split_first() else {
-        return Err(SyntaxFault::Unsupported(0));
+        return Err(SyntaxFault::Unexpected(0));
     };
-    if is_word(token, "ini") {
-        let (formula, behind) = expr(alloc, rest, LEVELS)?;
-        return Ok((BodyTree::Initial(formula), behind));
+    if is(token, Class::TypeWord) {
+        return typedecl(alloc, token.at, rest);
     }
-    if is_word(token, "alw") {
-        let (formula, behind) = expr(alloc, rest, LEVELS)?;
-        return Ok((BodyTree::Always(formula), behind));
+    if is(token, Class::Define) {
+        return define(alloc, token.at, rest);
     }
-    Err(SyntaxFault::Unsupported(0))
+    if is(token, Class::Predicate) {
+        return predicate(alloc, token.at, rest);
+    }
+    if is(token, Class::Pattern) {
+        return pattern(alloc, token.at, rest);
+    }
+    if is(token, Class::Monitor) {
+        return monitor(alloc, token.at, rest);
+    }
+    Err(SyntaxFault::Unexpected(token.number))
 }
 
-/// line = ( ASM | GAR ) body ";", behind its first word.
-#[tactic(auto, unfolding(crate::specs::Reading::line_at))]
-fn line<'a, 'b>(
-    alloc: Global,
-    at: Place,
-    role: Role,
-    tokens: &'b [Spelled<'a>],
-) -> Result<(Item, &'b [Spelled<'a>]), SyntaxFault>
-    ensures read { Gives (λ x. (item_data x.0, lexemes_of x.1.now)) result
-        (line_at at role (lexemes_of tokens.now)) }
-    ensures shorter { IfOk result (λ x. length x.1.now < length tokens.now) }
-{
-    let (body, rest) = body(alloc, tokens)?;
-    let rest = expect_semicolon(rest)?;
-    Ok((
-        Item::Statement(LineItem {
-            at,
-            role,
-            name: None,
-            body,
-        }),
-        rest,
-    ))
-}
-
-/// item = vardecl | line
-#[tactic(auto, unfolding(crate::specs::Reading::item_at))]
+/// item = vardecl | typedecl | define | predicate | pattern | monitor | line
+#[tactic(auto, unfolding(crate::specs::Items::item_of))]
 fn item<'a, 'b>(
     alloc: Global,
     tokens: &'b [Spelled<'a>],
 ) -> Result<(Item, &'b [Spelled<'a>]), SyntaxFault>
-    ensures read { Gives (λ x. (item_data x.0, lexemes_of x.1.now)) result
-        (item_at (lexemes_of tokens.now)) }
+    ensures read { Gives (λ x. (item_data x.0, lexemes_of x.1.now)) result (item_of (lexemes_of tokens.now)) }
     ensures shorter { IfOk result (λ x. length x.1.now < length tokens.now) }
 {
     let Some((token, rest)) = tokens.split_first() else {
-        return Err(SyntaxFault::Unsupported(0));
+        return Err(SyntaxFault::Unexpected(0));
     };
-    if let Some(owner) = owner_word(token) {
+    if let Some(owner) = owner_word(token.class) {
         return vardecl(alloc, token.at, owner, rest);
     }
-    match role_word(token) {
+    match role_word(token.class) {
         Some(role) => line(alloc, token.at, role, rest),
-        None => Err(SyntaxFault::Unsupported(0)),
+        None => declaration(alloc, tokens),
     }
 }
 
-/// No items, with what is left to read.
-fn none_yet<'a, 'b>(alloc: Global, tokens: &'b [Spelled<'a>]) -> (Vec<Item>, &'b [Spelled<'a>])
-    ensures none { result.0.items ≡ [] }
-    ensures all { result.1.now ≡ tokens.now }
+/// One more.
+fn with_item(all: Vec<Item>, next: Item) -> Result<Vec<Item>, SyntaxFault>
+    ensures read { IfOk result (λ more. map item_data more.items ≡ map item_data all.items ++ item_data next ∷ []) }
+    ensures memory { IfErr result (λ e. e ≡ SyntaxFault.Memory) }
 {
-    (Vec::new(alloc), tokens)
+    let mut all = all;
+    all.push(next)?;
+    Ok(all)
 }
 
-/// { item }, up to the end of the text.
-fn items<'a, 'b>(alloc: Global, tokens: &'b [Spelled<'a>]) -> Result<Vec<Item>, SyntaxFault>
-    ensures { Gives (λ x. map item_data x.items) result
-        (items_at (length (lexemes_of tokens.now)) (lexemes_of tokens.now)) }
+/// item behind the items so far.
+#[tactic(auto, unfolding(crate::specs::Items::item_after))]
+fn item_after<'a, 'b>(
+    alloc: Global,
+    items: Vec<Item>,
+    tokens: &'b [Spelled<'a>],
+) -> Result<(Vec<Item>, &'b [Spelled<'a>]), SyntaxFault>
+    ensures read { Gives (λ x. (map item_data x.0.items, lexemes_of x.1.now)) result (item_after_lem (map item_data items.items) (lexemes_of tokens.now)) }
+    ensures shorter { IfOk result (λ x. length x.1.now < length tokens.now) }
 {
-    let (mut found, mut rest) = none_yet(alloc, tokens);
-    while !is_end(rest) {
-        let (next, behind) = item(alloc, rest)?;
-        found.push(next)?;
+    let (next, rest) = item(alloc, tokens)?;
+    let items = with_item(items, next)?;
+    Ok((items, rest))
+}
+
+/// Whether more than the end of the text is left.
+#[tactic(auto, unfolding(crate::specs::Items::at_end, crate::specs::Items::before_end))]
+fn is_before_end(tokens: &[Spelled<'_>]) -> bool
+    ensures { result ≡ before_end (lexemes_of tokens.now) }
+{
+    match tokens {
+        [token] => !is(token, Class::Finish),
+        _ => true,
+    }
+}
+
+/// { item } behind the items so far, up to the end of the text.
+fn more_items<'a, 'b>(
+    alloc: Global,
+    first: Vec<Item>,
+    tokens: &'b [Spelled<'a>],
+) -> Result<(Vec<Item>, &'b [Spelled<'a>]), SyntaxFault>
+    ensures read { Gives (λ x. (map item_data x.0.items, lexemes_of x.1.now)) result (all_of before_end item_after_lem (map item_data first.items) (lexemes_of tokens.now)) }
+    ensures shorter { IfOk result (λ x. length x.1.now ≤ length tokens.now) }
+{
+    let (mut items, mut rest) = begun(first, tokens);
+    while is_before_end(rest) {
+        let (next, behind) = item_after(alloc, items, rest)?;
+        items = next;
         rest = behind;
     }
-    Ok(found)
+    Ok((items, rest))
 }
 
-/// text = "spec" NAME { item }
-#[tactic(auto, unfolding(crate::specs::Reading::text_at))]
-pub fn text(alloc: Global, tokens: &[Spelled<'_>]) -> Result<Tree, SyntaxFault>
-    ensures { Gives tree_data result (text_at (lexemes_of tokens.now)) }
+/// A quoted text without its quotes, at the place of the word `import`.
+fn imported(alloc: Global, word: &Spelled<'_>, quoted: &Spelled<'_>) -> Result<Name, SyntaxFault>
+    ensures read { IfOk result (λ n. name_data n ≡ imported_lem (lexeme_of word.now) (lexeme_of quoted.now)) }
+    ensures memory { IfErr result (λ e. e ≡ SyntaxFault.Memory) }
 {
-    let (_, rest) = expect_word(tokens, "spec")?;
-    let (token, rest) = expect_name(rest)?;
-    let header = name(alloc, token)?;
-    let items = items(alloc, rest)?;
-    Ok(Tree {
-        header,
-        imports: Vec::new(alloc),
-        items,
+    // Each quoted text of the lexer has its quotes.
+    let Some(inner) = unquoted(quoted.text) else {
+        return Err(SyntaxFault::Memory);
+    };
+    Ok(Name {
+        text: String::from_str(alloc, inner)?,
+        line: word.at.line,
+        column: word.at.column,
     })
+}
+
+/// [ ";" ]
+#[tactic(auto, unfolding(crate::specs::Items::semicolon))]
+fn semicolon<'a, 'b>(
+    names: Vec<Name>,
+    tokens: &'b [Spelled<'a>],
+) -> Result<(Vec<Name>, &'b [Spelled<'a>]), SyntaxFault>
+    ensures read { Gives (λ x. (map name_data x.0.items, lexemes_of x.1.now)) result (semicolon_lem (map name_data names.items) (lexemes_of tokens.now)) }
+    ensures shorter { IfOk result (λ x. length x.1.now ≤ length tokens.now) }
+{
+    if !starts(tokens, Class::Semicolon) {
+        return Ok((names, tokens));
+    }
+    let (_, rest) = expect(tokens, Class::Semicolon)?;
+    Ok((names, rest))
+}
+
+/// One more.
+fn with_import(all: Vec<Name>, next: Name) -> Result<Vec<Name>, SyntaxFault>
+    ensures read { IfOk result (λ more. map name_data more.items ≡ map name_data all.items ++ name_data next ∷ []) }
+    ensures memory { IfErr result (λ e. e ≡ SyntaxFault.Memory) }
+{
+    let mut all = all;
+    all.push(next)?;
+    Ok(all)
+}
+
+/// import = "import" TEXT [ ";" ], behind the imports so far.
+#[tactic(auto, unfolding(crate::specs::Items::import_after))]
+fn import_after<'a, 'b>(
+    alloc: Global,
+    imports: Vec<Name>,
+    tokens: &'b [Spelled<'a>],
+) -> Result<(Vec<Name>, &'b [Spelled<'a>]), SyntaxFault>
+    ensures read { Gives (λ x. (map name_data x.0.items, lexemes_of x.1.now)) result (import_after_lem (map name_data imports.items) (lexemes_of tokens.now)) }
+    ensures shorter { IfOk result (λ x. length x.1.now < length tokens.now) }
+{
+    let (word, rest) = expect(tokens, Class::Import)?;
+    let (quoted, rest) = expect(rest, Class::Text)?;
+    let next = imported(alloc, word, quoted)?;
+    let imports = with_import(imports, next)?;
+    semicolon(imports, rest)
+}
+
+/// { import } behind the imports so far.
+fn more_imports<'a, 'b>(
+    alloc: Global,
+    first: Vec<Name>,
+    tokens: &'b [Spelled<'a>],
+) -> Result<(Vec<Name>, &'b [Spelled<'a>]), SyntaxFault>
+    ensures read { Gives (λ x. (map name_data x.0.items, lexemes_of x.1.now)) result (all_of (starts_lem Class.Import) import_after_lem (map name_data first.items) (lexemes_of tokens.now)) }
+    ensures shorter { IfOk result (λ x. length x.1.now ≤ length tokens.now) }
+{
+    let (mut imports, mut rest) = begun(first, tokens);
+    while starts(rest, Class::Import) {
+        let (next, behind) = import_after(alloc, imports, rest)?;
+        imports = next;
+        rest = behind;
+    }
+    Ok((imports, rest))
+}
+
+/// text = { import } ( "spec" | "module" ) NAME { item }
+#[tactic(auto, unfolding(crate::specs::Items::text_of))]
+pub fn text<'a, 'b>(
+    alloc: Global,
+    tokens: &'b [Spelled<'a>],
+) -> Result<(Tree, &'b [Spelled<'a>]), SyntaxFault>
+    ensures read { Gives (λ x. (tree_data x.0, lexemes_of x.1.now)) result (text_of (lexemes_of tokens.now)) }
+    ensures shorter { IfOk result (λ x. length x.1.now < length tokens.now) }
+{
+    let (imports, rest) = more_imports(alloc, Vec::new(alloc), tokens)?;
+    let (_, rest) = expect(rest, Class::Head)?;
+    let (token, rest) = expect(rest, Class::Name)?;
+    let header = name(alloc, token)?;
+    let (items, rest) = more_items(alloc, Vec::new(alloc), rest)?;
+    Ok((
+        Tree {
+            header,
+            imports,
+            items,
+        },
+        rest,
+    ))
 }

@@ -1,7 +1,7 @@
 //! What holds of the trees of every text.
 
 ghost use Rattle.std.specs.Prelude.{◌≡◌};
-ghost use Rattle.spectra_parser.specs.Data.{TreeData};
+ghost use Rattle.spectra_trees.specs.Data.{TreeData};
 ghost use Rattle.spectra_parser.specs.Texts.{IsText};
 
 use spectra_lexer::Token;

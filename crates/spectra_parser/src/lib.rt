@@ -1,26 +1,27 @@
 //! The tree of a text's tokens, by the grammar.
 //!
-//! The grammar is a relation between tokens and trees with one constructor for each production, and no text has two
-//! trees. Each production is one function here. What isn't of the form that is built so far is refused as a whole.
+//! The grammar is a relation between tokens and trees with one line for each production, and no text has two trees. Each
+//! production is one function here. A form that isn't built yet is refused by its first token.
 //!
-//! Contract: `parse` answers the tree, or `Unsupported(0)` only where there is none. Path: tokens → **trees** → specification.
+//! Contract: `parse` answers the tree exactly where there is one. Path: tokens → **trees** → specification.
 #![tactic(auto)]
 
-mod count;
-mod expr;
-mod fault;
+mod braces;
+mod declaration;
 mod item;
 mod laws;
-mod lexeme;
 mod limits;
+mod lines;
 mod parsing;
-pub mod tree;
+mod quotes;
+mod types;
+mod unbuilt;
 
-pub use fault::SyntaxFault;
 pub use laws::no_text_has_two_trees;
-pub use limits::{MAX_LINES, MAX_NODES};
 pub use parsing::{imports, parse};
-pub use tree::{Name, Place, Tree};
+pub use spectra_exprs::fault::SyntaxFault;
+pub use spectra_trees::tree;
+pub use spectra_trees::tree::{Name, Place, Tree};
 
 #[cfg(test)]
 mod tests;

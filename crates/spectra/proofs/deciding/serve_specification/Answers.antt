@@ -22,7 +22,7 @@ decide_game-requires-clause-few g c =
 pub returns-in-Ok : goal.returns-in-Ok
 returns-in-Ok g c =
     let few : length (spec_data c.args.spec.now).variables ≤ most_variables = omega (arith, c.if-len-gt-MAX_VARIABLES.false, length-map c.args.spec.now.vars.items variable_data, c.args.spec.now.vars.ok) in
-    top.few few (decided c.args.command (spec_data c.args.spec.now) c.requires.plain c.requires.nothing_recurs (c.requires.made few) _ _ _ c.decide_game.ensures)
+    top.few few (decided c.args.command (spec_data c.args.spec.now) c.requires.plain (c.requires.made few) _ _ _ c.decide_game.ensures)
 
 pub returns-in-Err : goal.returns-in-Err
 returns-in-Err g c = top.no_memory (nothing_done _ _ _ _)

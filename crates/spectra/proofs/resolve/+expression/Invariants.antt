@@ -1,7 +1,7 @@
 use Rattle.std.proofs.Common.{◌≡◌, drop, map}
 use Rattle.spec_model.specs.Views.{formula}
-use Rattle.spectra_parser.specs.Data.{expressions}
-use Rattle.spectra_parser.specs.Views.{expr_data}
+use Rattle.spectra_trees.specs.Data.{expressions}
+use Rattle.spectra_trees.specs.Views.{expr_data}
 use Rattle.spectra.specs.Names.{names_in}
 use Rattle.spectra.specs.Trees.{extended, formulas_of}
 use Rattle.spectra.proofs.resolve.+expression.Given as goal

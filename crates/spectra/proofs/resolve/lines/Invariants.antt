@@ -1,6 +1,6 @@
 use Rattle.std.proofs.Common.{◌≡◌, suc, drop, map, vec_len}
 use Rattle.spec_model.specs.Views.{line_data}
-use Rattle.spectra_parser.specs.Views.{item_data}
+use Rattle.spectra_trees.specs.Views.{item_data}
 use Rattle.spectra.specs.Names.{names_in}
 use Rattle.spectra.specs.Trees.{extended, lines_of}
 use Rattle.spectra.proofs.resolve.lines.Given as goal

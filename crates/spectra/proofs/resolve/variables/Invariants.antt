@@ -1,6 +1,6 @@
 use Rattle.std.proofs.Common.{◌≡◌, drop, map}
 use Rattle.spec_model.specs.Views.{variable_data}
-use Rattle.spectra_parser.specs.Views.{item_data}
+use Rattle.spectra_trees.specs.Views.{item_data}
 use Rattle.spectra.specs.Trees.{extended, variables_of}
 use Rattle.spectra.proofs.resolve.variables.Given as goal
 

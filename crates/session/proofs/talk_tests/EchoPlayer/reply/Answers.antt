@@ -1,13 +1,13 @@
-use Rattle.std.proofs.Common.{rules, ◌≡◌, [], ◌∷◌, sym, ◌∙◌, true}
-use Rattle.std.proofs.lemmas.Bool.{and_parts}
-use Rattle.spec_model.specs.Values.{TruthValues, is_assignment}
-use Rattle.session.proofs.Players.{one_value}
+use Rattle.std.proofs.Common.{rules, ◌≡◌}
+use Rattle.session.proofs.Players.{same_length, echo_is_legal}
 use Rattle.session.proofs.talk_tests.EchoPlayer.reply.Goals as goal
 
 pub copy_from_slice-requires : goal.copy_from_slice-requires
-copy_from_slice-requires c = c.requires.room ∙ sym (one_value c.args.input.now (and_parts (is_assignment (TruthValues ∷ []) c.args.input.now) true (c.requires.legal [] tt)).0)
+copy_from_slice-requires c =
+    let asked = c.requires in
+    same_length asked.spec asked.play c.args.input.now _ asked.stands (asked.legal asked.play asked.stands) asked.room_is
 
 pub returns-clause-legal : goal.returns-clause-legal
-returns-clause-legal c = λ h stands.
+returns-clause-legal c = λ s k h is legal.
     let same : c.copy_from_slice.new.self ≡ c.args.input.now = search rules in
-    rw same (c.requires.legal h stands)
+    echo_is_legal s h c.args.input.now c.copy_from_slice.new.self is same legal

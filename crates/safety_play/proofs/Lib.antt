@@ -1,9 +1,0 @@
-mod Lines
-mod LastAlone
-mod Computing
-mod Judged
-mod Buffered
-mod Moving
-mod Going
-mod Replies
-mod Sizes

@@ -1,6 +1,0 @@
-pub mod Plays
-pub mod Pairs
-pub mod Buffers
-pub mod Standing
-pub mod Objects
-pub mod Examples

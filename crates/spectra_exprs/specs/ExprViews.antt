@@ -1,0 +1,12 @@
+-- What the program's expressions so far stand for.
+use Rattle.std.specs.Prelude.{map}
+use Rattle.spectra_exprs.specs.declared.terms.Term.{Term as TermTree}
+use Rattle.spectra_exprs.specs.declared.terms.Chain.{Chain as ChainTree}
+use Rattle.spectra_trees.specs.Views.{expr_data}
+use Rattle.spectra_exprs.specs.Expressions.{Term, Chain}
+
+abbrev pub term_data : TermTree → Term
+term_data o = (expr_data o.tree, o.alone)
+
+abbrev pub chain_data : ChainTree → Chain
+chain_data c = (map expr_data c.operands.items, c.operators.items)

@@ -1,0 +1,6 @@
+pub mod Read
+pub mod Operators
+pub mod Expressions
+pub mod ExprViews
+pub mod Forms
+pub mod Grammar

@@ -1,0 +1,341 @@
+//! Comparisons, conjunctions, disjunctions and whole expressions: one function for each production.
+
+ghost use Rattle.std.specs.Prelude.{◌≡◌, ◌<◌, ◌≤◌, ◌++◌, ◌∷◌, [], false, true, length, map, IfOk, IfErr};
+ghost use Rattle.spectra_trees.specs.Data.{Form, expression};
+ghost use Rattle.spectra_trees.specs.Views.{expr_data, form_data};
+ghost use Rattle.spectra_trees.specs.Lexemes.{lexeme_of, lexemes_of};
+ghost use Rattle.spectra_exprs.specs.Read.{Gives, starts as starts_lem, all_of};
+ghost use Rattle.spectra_exprs.specs.Operators.{starts_sum as starts_sum_lem, starts_or as starts_or_lem};
+ghost use Rattle.spectra_exprs.specs.ExprViews.{term_data, chain_data};
+ghost use Rattle.spectra_exprs.specs.Expressions.{leaf as leaf_lem, between as between_lem, opened as opened_lem, negative as negative_lem, number_of, literal as literal_lem, modulo as modulo_lem, read_of, inside, next_of, parentheses_of, call_of, named_of, prim_of, prefixed_of, operand_of, times_of, prod_of, plus_of, sum_of, side_of, compared_of, comparison_of, cmp_of, conjunct_of, conjunction_of, conj_of, disjunct_of, disjunction_of, disj_of, arrow_of, past_of, alone_of, expr_of, whole_of, bound_of, argument_of, some_arguments_of, arguments_of};
+
+use crate::fault::SyntaxFault;
+use crate::operands::{prefixed, prim};
+use crate::operators::{
+    Level, begun, closed, expect, expect_or, first_number, starts, starts_or, starts_sum,
+    take_operator, take_prefix,
+};
+use crate::sums::sum;
+use crate::terms::{Chain, Term, between, joined, pair, together, tree};
+use spectra_trees::class::Class;
+use spectra_trees::lexeme::{Spelled, is, name};
+use spectra_trees::tree::{BinaryWord, ExprForm, ExprTree, Place, PrefixWord};
+use std::alloc::Global;
+
+/// sum | prefixed
+#[cycle(expr)]
+#[tactic(auto, unfolding(crate::specs::Expressions::side_of))]
+pub fn side<'a, 'b>(
+    alloc: Global,
+    tokens: &'b [Spelled<'a>],
+    left: u32,
+) -> Result<(ExprTree, &'b [Spelled<'a>]), SyntaxFault>
+    ensures read { Gives (λ x. (expr_data x.0, lexemes_of x.1.now)) result (side_of (inside left) (lexemes_of tokens.now)) }
+    ensures shorter { IfOk result (λ x. length x.1.now < length tokens.now) }
+{
+    if let Some((token, word, rest)) = take_prefix(tokens) {
+        return prefixed(alloc, token, word, rest, left);
+    }
+    let (sum, rest) = sum(alloc, tokens, left)?;
+    Ok((sum.tree, rest))
+}
+
+/// ( sum | prefixed ) behind a sum and a comparison.
+#[cycle(expr)]
+#[tactic(auto, unfolding(crate::specs::Expressions::compared_of))]
+pub fn compared<'a, 'b>(
+    alloc: Global,
+    first: ExprTree,
+    at: Place,
+    word: BinaryWord,
+    tokens: &'b [Spelled<'a>],
+    left: u32,
+) -> Result<(Term, &'b [Spelled<'a>]), SyntaxFault>
+    ensures read { Gives (λ x. (term_data x.0, lexemes_of x.1.now)) result (compared_of (inside left) (expr_data first) at word (lexemes_of tokens.now)) }
+    ensures shorter { IfOk result (λ x. length x.1.now < length tokens.now) }
+{
+    let (second, rest) = side(alloc, tokens, left)?;
+    let tree = between(alloc, at, word, first, second)?;
+    Ok((together(tree), rest))
+}
+
+/// sum [ ( "=" | "!=" | "<" | "<=" | ">" | ">=" ) ( sum | prefixed ) ]
+#[cycle(expr)]
+#[tactic(auto, unfolding(crate::specs::Expressions::comparison_of))]
+pub fn comparison<'a, 'b>(
+    alloc: Global,
+    tokens: &'b [Spelled<'a>],
+    left: u32,
+) -> Result<(Term, &'b [Spelled<'a>]), SyntaxFault>
+    ensures read { Gives (λ x. (term_data x.0, lexemes_of x.1.now)) result (comparison_of (inside left) (lexemes_of tokens.now)) }
+    ensures shorter { IfOk result (λ x. length x.1.now < length tokens.now) }
+{
+    let (first, rest) = sum(alloc, tokens, left)?;
+    match take_operator(rest, Level::Relation) {
+        Some((at, word, after)) => compared(alloc, first.tree, at, word, after, left),
+        None => Ok((first, rest)),
+    }
+}
+
+/// cmp = prefixed | sum [ ( "=" | "!=" | "<" | "<=" | ">" | ">=" ) ( sum | prefixed ) ]
+#[cycle(expr)]
+#[tactic(auto, unfolding(crate::specs::Expressions::cmp_of))]
+pub fn cmp<'a, 'b>(
+    alloc: Global,
+    tokens: &'b [Spelled<'a>],
+    left: u32,
+) -> Result<(Term, &'b [Spelled<'a>]), SyntaxFault>
+    ensures read { Gives (λ x. (term_data x.0, lexemes_of x.1.now)) result (cmp_of (inside left) (lexemes_of tokens.now)) }
+    ensures shorter { IfOk result (λ x. length x.1.now < length tokens.now) }
+{
+    let Some((token, word, rest)) = take_prefix(tokens) else {
+        return comparison(alloc, tokens, left);
+    };
+    let (tree, rest) = prefixed(alloc, token, word, rest, left)?;
+    Ok((together(tree), rest))
+}
+
+/// ( "&" | "and" ) cmp behind a chain so far.
+#[cycle(expr)]
+#[tactic(auto, unfolding(crate::specs::Expressions::conjunct_of))]
+pub fn conjunct<'a, 'b>(
+    alloc: Global,
+    chain: Chain,
+    tokens: &'b [Spelled<'a>],
+    left: u32,
+) -> Result<(Chain, &'b [Spelled<'a>]), SyntaxFault>
+    ensures read { Gives (λ x. (chain_data x.0, lexemes_of x.1.now)) result (conjunct_of (inside left) (chain_data chain) (lexemes_of tokens.now)) }
+    ensures shorter { IfOk result (λ x. length x.1.now < length tokens.now) }
+{
+    let (operator, rest) = expect(tokens, Class::And)?;
+    let (operand, rest) = cmp(alloc, rest, left)?;
+    let chain = joined(chain, operator.at, operand.tree)?;
+    Ok((chain, rest))
+}
+
+/// { ( "&" | "and" ) cmp } behind a first operand.
+#[cycle(expr)]
+pub fn conjuncts<'a, 'b>(
+    alloc: Global,
+    first: Chain,
+    tokens: &'b [Spelled<'a>],
+    left: u32,
+) -> Result<(Chain, &'b [Spelled<'a>]), SyntaxFault>
+    ensures read { Gives (λ x. (chain_data x.0, lexemes_of x.1.now)) result (all_of (starts_lem Class.And) (conjunct_of (inside left)) (chain_data first) (lexemes_of tokens.now)) }
+    ensures shorter { IfOk result (λ x. length x.1.now ≤ length tokens.now) }
+{
+    let (mut chain, mut rest) = begun(first, tokens);
+    while starts(rest, Class::And) {
+        let (next, behind) = conjunct(alloc, chain, rest, left)?;
+        chain = next;
+        rest = behind;
+    }
+    Ok((chain, rest))
+}
+
+/// { ( "&" | "and" ) cmp } behind a first operand, once at least.
+#[cycle(expr)]
+#[tactic(auto, unfolding(crate::specs::Expressions::conjunction_of))]
+pub fn conjunction<'a, 'b>(
+    alloc: Global,
+    first: ExprTree,
+    tokens: &'b [Spelled<'a>],
+    left: u32,
+) -> Result<(Term, &'b [Spelled<'a>]), SyntaxFault>
+    ensures read { Gives (λ x. (term_data x.0, lexemes_of x.1.now)) result (conjunction_of (inside left) (expr_data first) (lexemes_of tokens.now)) }
+    ensures shorter { IfOk result (λ x. length x.1.now < length tokens.now) }
+{
+    let (operator, rest) = expect(tokens, Class::And)?;
+    let (second, rest) = cmp(alloc, rest, left)?;
+    let (place, at) = (first.first, operator.at);
+    let chain = pair(alloc, first, at, second.tree)?;
+    let (chain, rest) = conjuncts(alloc, chain, rest, left)?;
+    let form = ExprForm::And(chain.operands, chain.operators);
+    Ok((together(tree(place, at, form)), rest))
+}
+
+/// ( "|" | "or" ) conj behind a chain so far.
+#[cycle(expr)]
+#[tactic(auto, unfolding(crate::specs::Expressions::disjunct_of))]
+pub fn disjunct<'a, 'b>(
+    alloc: Global,
+    chain: Chain,
+    tokens: &'b [Spelled<'a>],
+    left: u32,
+) -> Result<(Chain, &'b [Spelled<'a>]), SyntaxFault>
+    ensures read { Gives (λ x. (chain_data x.0, lexemes_of x.1.now)) result (disjunct_of (inside left) (chain_data chain) (lexemes_of tokens.now)) }
+    ensures shorter { IfOk result (λ x. length x.1.now < length tokens.now) }
+{
+    let (operator, rest) = expect_or(tokens)?;
+    let (operand, rest) = conj(alloc, rest, left)?;
+    let chain = joined(chain, operator.at, operand.tree)?;
+    Ok((chain, rest))
+}
+
+/// { ( "|" | "or" ) conj } behind a first operand.
+#[cycle(expr)]
+pub fn disjuncts<'a, 'b>(
+    alloc: Global,
+    first: Chain,
+    tokens: &'b [Spelled<'a>],
+    left: u32,
+) -> Result<(Chain, &'b [Spelled<'a>]), SyntaxFault>
+    ensures read { Gives (λ x. (chain_data x.0, lexemes_of x.1.now)) result (all_of starts_or_lem (disjunct_of (inside left)) (chain_data first) (lexemes_of tokens.now)) }
+    ensures shorter { IfOk result (λ x. length x.1.now ≤ length tokens.now) }
+{
+    let (mut chain, mut rest) = begun(first, tokens);
+    while starts_or(rest) {
+        let (next, behind) = disjunct(alloc, chain, rest, left)?;
+        chain = next;
+        rest = behind;
+    }
+    Ok((chain, rest))
+}
+
+/// { ( "|" | "or" ) conj } behind a first operand, once at least.
+#[cycle(expr)]
+#[tactic(auto, unfolding(crate::specs::Expressions::disjunction_of))]
+pub fn disjunction<'a, 'b>(
+    alloc: Global,
+    first: ExprTree,
+    tokens: &'b [Spelled<'a>],
+    left: u32,
+) -> Result<(Term, &'b [Spelled<'a>]), SyntaxFault>
+    ensures read { Gives (λ x. (term_data x.0, lexemes_of x.1.now)) result (disjunction_of (inside left) (expr_data first) (lexemes_of tokens.now)) }
+    ensures shorter { IfOk result (λ x. length x.1.now < length tokens.now) }
+{
+    let (operator, rest) = expect_or(tokens)?;
+    let (second, rest) = conj(alloc, rest, left)?;
+    let (place, at) = (first.first, operator.at);
+    let chain = pair(alloc, first, at, second.tree)?;
+    let (chain, rest) = disjuncts(alloc, chain, rest, left)?;
+    let form = ExprForm::Or(chain.operands, chain.operators);
+    Ok((together(tree(place, at, form)), rest))
+}
+
+/// conj = cmp { ( "&" | "and" ) cmp }
+#[cycle(expr)]
+#[tactic(auto, unfolding(crate::specs::Expressions::conj_of))]
+pub fn conj<'a, 'b>(
+    alloc: Global,
+    tokens: &'b [Spelled<'a>],
+    left: u32,
+) -> Result<(Term, &'b [Spelled<'a>]), SyntaxFault>
+    ensures read { Gives (λ x. (term_data x.0, lexemes_of x.1.now)) result (conj_of (inside left) (lexemes_of tokens.now)) }
+    ensures shorter { IfOk result (λ x. length x.1.now < length tokens.now) }
+{
+    let (first, rest) = cmp(alloc, tokens, left)?;
+    if starts(rest, Class::And) {
+        return conjunction(alloc, first.tree, rest, left);
+    }
+    Ok((first, rest))
+}
+
+/// disj = conj { ( "|" | "or" ) conj }
+#[cycle(expr)]
+#[tactic(auto, unfolding(crate::specs::Expressions::disj_of))]
+pub fn disj<'a, 'b>(
+    alloc: Global,
+    tokens: &'b [Spelled<'a>],
+    left: u32,
+) -> Result<(Term, &'b [Spelled<'a>]), SyntaxFault>
+    ensures read { Gives (λ x. (term_data x.0, lexemes_of x.1.now)) result (disj_of (inside left) (lexemes_of tokens.now)) }
+    ensures shorter { IfOk result (λ x. length x.1.now < length tokens.now) }
+{
+    let (first, rest) = conj(alloc, tokens, left)?;
+    if starts_or(rest) {
+        return disjunction(alloc, first.tree, rest, left);
+    }
+    Ok((first, rest))
+}
+
+/// disj behind a first one and the operator between them.
+#[cycle(expr)]
+#[tactic(auto, unfolding(crate::specs::Expressions::arrow_of))]
+pub fn arrow<'a, 'b>(
+    alloc: Global,
+    first: ExprTree,
+    at: Place,
+    word: BinaryWord,
+    tokens: &'b [Spelled<'a>],
+    left: u32,
+) -> Result<(ExprTree, &'b [Spelled<'a>]), SyntaxFault>
+    ensures read { Gives (λ x. (expr_data x.0, lexemes_of x.1.now)) result (arrow_of (inside left) (expr_data first) at word (lexemes_of tokens.now)) }
+    ensures shorter { IfOk result (λ x. length x.1.now < length tokens.now) }
+{
+    let (second, rest) = disj(alloc, tokens, left)?;
+    let tree = between(alloc, at, word, first, second.tree)?;
+    Ok((tree, rest))
+}
+
+/// [ ( "SINCE" | "S" | "TRIGGERED" | "T" ) prim ] behind a prim.
+#[cycle(expr)]
+#[tactic(auto, unfolding(crate::specs::Expressions::past_of))]
+pub fn past<'a, 'b>(
+    alloc: Global,
+    first: ExprTree,
+    tokens: &'b [Spelled<'a>],
+    left: u32,
+) -> Result<(ExprTree, &'b [Spelled<'a>]), SyntaxFault>
+    ensures read { Gives (λ x. (expr_data x.0, lexemes_of x.1.now)) result (past_of (inside left) (expr_data first) (lexemes_of tokens.now)) }
+    ensures shorter { IfOk result (λ x. length x.1.now ≤ length tokens.now) }
+{
+    let Some((at, word, rest)) = take_operator(tokens, Level::Past) else {
+        return Ok((first, tokens));
+    };
+    let (second, rest) = prim(alloc, rest, left)?;
+    let tree = between(alloc, at, word, first, second)?;
+    Ok((tree, rest))
+}
+
+/// What may follow a disj before which no arrow stands.
+#[cycle(expr)]
+#[tactic(auto, unfolding(crate::specs::Expressions::alone_of))]
+pub fn alone<'a, 'b>(
+    alloc: Global,
+    first: Term,
+    tokens: &'b [Spelled<'a>],
+    left: u32,
+) -> Result<(ExprTree, &'b [Spelled<'a>]), SyntaxFault>
+    ensures read { Gives (λ x. (expr_data x.0, lexemes_of x.1.now)) result (alone_of (inside left) (expr_data first.tree) first.alone (lexemes_of tokens.now)) }
+    ensures shorter { IfOk result (λ x. length x.1.now ≤ length tokens.now) }
+{
+    if first.alone {
+        return past(alloc, first.tree, tokens, left);
+    }
+    Ok((first.tree, tokens))
+}
+
+/// expr = disj [ ( "->" | "implies" | "<->" | "iff" ) disj ]
+/// | prim ( "SINCE" | "S" | "TRIGGERED" | "T" ) prim
+#[cycle(expr)]
+#[tactic(auto, unfolding(crate::specs::Expressions::expr_of))]
+pub fn expr<'a, 'b>(
+    alloc: Global,
+    tokens: &'b [Spelled<'a>],
+    left: u32,
+) -> Result<(ExprTree, &'b [Spelled<'a>]), SyntaxFault>
+    ensures read { Gives (λ x. (expr_data x.0, lexemes_of x.1.now)) result (expr_of (inside left) (lexemes_of tokens.now)) }
+    ensures shorter { IfOk result (λ x. length x.1.now < length tokens.now) }
+{
+    let (first, rest) = disj(alloc, tokens, left)?;
+    match take_operator(rest, Level::Arrow) {
+        Some((at, word, after)) => arrow(alloc, first.tree, at, word, after, left),
+        None => alone(alloc, first, rest, left),
+    }
+}
+
+/// expr, which no operator may follow.
+#[cycle(expr)]
+#[tactic(auto, unfolding(crate::specs::Expressions::whole_of))]
+pub fn whole<'a, 'b>(
+    alloc: Global,
+    tokens: &'b [Spelled<'a>],
+    left: u32,
+) -> Result<(ExprTree, &'b [Spelled<'a>]), SyntaxFault>
+    ensures read { Gives (λ x. (expr_data x.0, lexemes_of x.1.now)) result (whole_of (inside left) (lexemes_of tokens.now)) }
+    ensures shorter { IfOk result (λ x. length x.1.now < length tokens.now) }
+{
+    let (tree, rest) = expr(alloc, tokens, left)?;
+    closed(tree, rest)
+}

@@ -1,0 +1,285 @@
+//! Operands and arguments: one function for each production. `left` says how many levels may still be opened.
+//!
+//! Each function answers the tree and the tokens behind it, or the fault at the first token that goes on no text.
+
+ghost use Rattle.std.specs.Prelude.{◌≡◌, ◌<◌, ◌≤◌, ◌++◌, ◌∷◌, [], false, true, length, map, IfOk, IfErr};
+ghost use Rattle.spectra_trees.specs.Data.{Form, expression};
+ghost use Rattle.spectra_trees.specs.Views.{expr_data, form_data};
+ghost use Rattle.spectra_trees.specs.Lexemes.{lexeme_of, lexemes_of};
+ghost use Rattle.spectra_exprs.specs.Read.{Gives, starts as starts_lem, all_of};
+ghost use Rattle.spectra_exprs.specs.Operators.{starts_sum as starts_sum_lem, starts_or as starts_or_lem};
+ghost use Rattle.spectra_exprs.specs.ExprViews.{term_data, chain_data};
+ghost use Rattle.spectra_exprs.specs.Expressions.{leaf as leaf_lem, between as between_lem, opened as opened_lem, negative as negative_lem, number_of, literal as literal_lem, modulo as modulo_lem, read_of, inside, next_of, parentheses_of, call_of, named_of, prim_of, prefixed_of, operand_of, times_of, prod_of, plus_of, sum_of, side_of, compared_of, comparison_of, cmp_of, conjunct_of, conjunction_of, conj_of, disjunct_of, disjunction_of, disj_of, arrow_of, past_of, alone_of, expr_of, whole_of, bound_of, argument_of, some_arguments_of, arguments_of};
+
+use crate::fault::SyntaxFault;
+use crate::formulas::whole;
+use crate::operators::{
+    Level, begun, closed, expect, expect_or, first_number, starts, starts_or, starts_sum,
+    take_operator, take_prefix,
+};
+use crate::terms::{leaf, literal, opened, read};
+use spectra_trees::class::Class;
+use spectra_trees::lexeme::{Spelled, is, name};
+use spectra_trees::tree::{BinaryWord, ExprForm, ExprTree, Place, PrefixWord};
+use std::alloc::Global;
+
+/// An expression that a token opens a level for.
+#[cycle(expr)]
+pub fn deeper_whole<'a, 'b>(
+    alloc: Global,
+    token: &Spelled<'a>,
+    tokens: &'b [Spelled<'a>],
+    left: u32,
+) -> Result<(ExprTree, &'b [Spelled<'a>]), SyntaxFault>
+    ensures read { Gives (λ x. (expr_data x.0, lexemes_of x.1.now)) result ((inside left).whole (lexeme_of token.now) (lexemes_of tokens.now)) }
+    ensures shorter { IfOk result (λ x. length x.1.now < length tokens.now) }
+{
+    if left == 0 {
+        return Err(SyntaxFault::TooDeep(token.number));
+    }
+    whole(alloc, tokens, left - 1)
+}
+
+/// An operand that a prefix opens a level for.
+#[cycle(expr)]
+pub fn deeper_operand<'a, 'b>(
+    alloc: Global,
+    token: &Spelled<'a>,
+    tokens: &'b [Spelled<'a>],
+    left: u32,
+) -> Result<(ExprTree, &'b [Spelled<'a>]), SyntaxFault>
+    ensures read { Gives (λ x. (expr_data x.0, lexemes_of x.1.now)) result ((inside left).operand (lexeme_of token.now) (lexemes_of tokens.now)) }
+    ensures shorter { IfOk result (λ x. length x.1.now < length tokens.now) }
+{
+    if left == 0 {
+        return Err(SyntaxFault::TooDeep(token.number));
+    }
+    operand(alloc, tokens, left - 1)
+}
+
+/// Arguments that a parenthesis opens a level for.
+#[cycle(expr)]
+pub fn deeper_arguments<'a, 'b>(
+    alloc: Global,
+    token: &Spelled<'a>,
+    tokens: &'b [Spelled<'a>],
+    left: u32,
+) -> Result<(Vec<ExprTree>, &'b [Spelled<'a>]), SyntaxFault>
+    ensures read { Gives (λ x. (map expr_data x.0.items, lexemes_of x.1.now)) result ((inside left).arguments (lexeme_of token.now) (lexemes_of tokens.now)) }
+    ensures shorter { IfOk result (λ x. length x.1.now < length tokens.now) }
+{
+    if left == 0 {
+        return Err(SyntaxFault::TooDeep(token.number));
+    }
+    arguments(alloc, tokens, left - 1)
+}
+
+/// "(" expr ")" behind the word `next`.
+#[cycle(expr)]
+#[tactic(auto, unfolding(crate::specs::Expressions::next_of))]
+pub fn next<'a, 'b>(
+    alloc: Global,
+    token: &Spelled<'a>,
+    tokens: &'b [Spelled<'a>],
+    left: u32,
+) -> Result<(ExprTree, &'b [Spelled<'a>]), SyntaxFault>
+    ensures read { Gives (λ x. (expr_data x.0, lexemes_of x.1.now)) result (next_of (inside left) (lexeme_of token.now) (lexemes_of tokens.now)) }
+    ensures shorter { IfOk result (λ x. length x.1.now < length tokens.now) }
+{
+    let (open, inner) = expect(tokens, Class::Open)?;
+    let (operand, rest) = deeper_whole(alloc, open, inner, left)?;
+    let (_, rest) = expect(rest, Class::Close)?;
+    let form = ExprForm::Next(Box::new(alloc, operand)?);
+    Ok((leaf(token, form), rest))
+}
+
+/// expr ")" behind "(".
+#[cycle(expr)]
+#[tactic(auto, unfolding(crate::specs::Expressions::parentheses_of))]
+pub fn parentheses<'a, 'b>(
+    alloc: Global,
+    token: &Spelled<'a>,
+    tokens: &'b [Spelled<'a>],
+    left: u32,
+) -> Result<(ExprTree, &'b [Spelled<'a>]), SyntaxFault>
+    ensures read { Gives (λ x. (expr_data x.0, lexemes_of x.1.now)) result (parentheses_of (inside left) (lexeme_of token.now) (lexemes_of tokens.now)) }
+    ensures shorter { IfOk result (λ x. length x.1.now < length tokens.now) }
+{
+    let (inner, rest) = deeper_whole(alloc, token, tokens, left)?;
+    let (_, rest) = expect(rest, Class::Close)?;
+    Ok((opened(token, inner), rest))
+}
+
+/// "(" [ expr { "," expr } ] ")" behind a name.
+#[cycle(expr)]
+#[tactic(auto, unfolding(crate::specs::Expressions::call_of))]
+pub fn call<'a, 'b>(
+    alloc: Global,
+    token: &Spelled<'a>,
+    opening: &Spelled<'a>,
+    tokens: &'b [Spelled<'a>],
+    left: u32,
+) -> Result<(ExprTree, &'b [Spelled<'a>]), SyntaxFault>
+    ensures read { Gives (λ x. (expr_data x.0, lexemes_of x.1.now)) result (call_of (inside left) (lexeme_of token.now) (lexeme_of opening.now) (lexemes_of tokens.now)) }
+    ensures shorter { IfOk result (λ x. length x.1.now < length tokens.now) }
+{
+    let (arguments, rest) = deeper_arguments(alloc, opening, tokens, left)?;
+    let name = name(alloc, token)?;
+    Ok((leaf(token, ExprForm::Call(name, arguments)), rest))
+}
+
+/// [ "(" [ expr { "," expr } ] ")" ] behind NAME.
+#[cycle(expr)]
+#[tactic(auto, unfolding(crate::specs::Expressions::named_of, crate::specs::Expressions::read_of))]
+pub fn named<'a, 'b>(
+    alloc: Global,
+    token: &Spelled<'a>,
+    tokens: &'b [Spelled<'a>],
+    left: u32,
+) -> Result<(ExprTree, &'b [Spelled<'a>]), SyntaxFault>
+    ensures read { Gives (λ x. (expr_data x.0, lexemes_of x.1.now)) result (named_of (inside left) (lexeme_of token.now) (lexemes_of tokens.now)) }
+    ensures shorter { IfOk result (λ x. length x.1.now ≤ length tokens.now) }
+{
+    match tokens.split_first() {
+        Some((open, rest)) if is(open, Class::Open) => call(alloc, token, open, rest, left),
+        _ => read(alloc, token, tokens),
+    }
+}
+
+/// prim = "true" | "false" | [ "-" ] NUMBER | NAME | NAME "(" [ expr { "," expr } ] ")"
+/// | "next" "(" expr ")" | "(" expr ")"
+#[cycle(expr)]
+#[tactic(auto, unfolding(crate::specs::Expressions::prim_of))]
+pub fn prim<'a, 'b>(
+    alloc: Global,
+    tokens: &'b [Spelled<'a>],
+    left: u32,
+) -> Result<(ExprTree, &'b [Spelled<'a>]), SyntaxFault>
+    ensures read { Gives (λ x. (expr_data x.0, lexemes_of x.1.now)) result (prim_of (inside left) (lexemes_of tokens.now)) }
+    ensures shorter { IfOk result (λ x. length x.1.now < length tokens.now) }
+{
+    let Some((token, rest)) = tokens.split_first() else {
+        return Err(SyntaxFault::Unexpected(0));
+    };
+    if is(token, Class::Name) {
+        return named(alloc, token, rest, left);
+    }
+    if is(token, Class::Next) {
+        return next(alloc, token, rest, left);
+    }
+    if is(token, Class::Open) {
+        return parentheses(alloc, token, rest, left);
+    }
+    literal(alloc, tokens)
+}
+
+/// prefixed = PREFIX { PREFIX } prim, behind the first PREFIX.
+#[cycle(expr)]
+#[tactic(auto, unfolding(crate::specs::Expressions::prefixed_of))]
+pub fn prefixed<'a, 'b>(
+    alloc: Global,
+    token: &Spelled<'a>,
+    word: PrefixWord,
+    tokens: &'b [Spelled<'a>],
+    left: u32,
+) -> Result<(ExprTree, &'b [Spelled<'a>]), SyntaxFault>
+    ensures read { Gives (λ x. (expr_data x.0, lexemes_of x.1.now)) result (prefixed_of (inside left) (lexeme_of token.now) word (lexemes_of tokens.now)) }
+    ensures shorter { IfOk result (λ x. length x.1.now < length tokens.now) }
+{
+    let (operand, rest) = deeper_operand(alloc, token, tokens, left)?;
+    let form = ExprForm::Prefix(word, Box::new(alloc, operand)?);
+    Ok((leaf(token, form), rest))
+}
+
+/// prefixed | prim
+#[cycle(expr)]
+#[tactic(auto, unfolding(crate::specs::Expressions::operand_of))]
+pub fn operand<'a, 'b>(
+    alloc: Global,
+    tokens: &'b [Spelled<'a>],
+    left: u32,
+) -> Result<(ExprTree, &'b [Spelled<'a>]), SyntaxFault>
+    ensures read { Gives (λ x. (expr_data x.0, lexemes_of x.1.now)) result (operand_of (inside left) (lexemes_of tokens.now)) }
+    ensures shorter { IfOk result (λ x. length x.1.now < length tokens.now) }
+{
+    match take_prefix(tokens) {
+        Some((token, word, rest)) => prefixed(alloc, token, word, rest, left),
+        None => prim(alloc, tokens, left),
+    }
+}
+
+/// "," expr behind the arguments so far.
+#[cycle(expr)]
+#[tactic(auto, unfolding(crate::specs::Expressions::argument_of))]
+pub fn argument<'a, 'b>(
+    alloc: Global,
+    arguments: Vec<ExprTree>,
+    tokens: &'b [Spelled<'a>],
+    left: u32,
+) -> Result<(Vec<ExprTree>, &'b [Spelled<'a>]), SyntaxFault>
+    ensures read { Gives (λ x. (map expr_data x.0.items, lexemes_of x.1.now)) result (argument_of (inside left) (map expr_data arguments.items) (lexemes_of tokens.now)) }
+    ensures shorter { IfOk result (λ x. length x.1.now < length tokens.now) }
+{
+    let (_, rest) = expect(tokens, Class::Comma)?;
+    let (next, rest) = whole(alloc, rest, left)?;
+    let mut arguments = arguments;
+    arguments.push(next)?;
+    Ok((arguments, rest))
+}
+
+/// { "," expr } behind a first argument.
+#[cycle(expr)]
+pub fn more_arguments<'a, 'b>(
+    alloc: Global,
+    first: Vec<ExprTree>,
+    tokens: &'b [Spelled<'a>],
+    left: u32,
+) -> Result<(Vec<ExprTree>, &'b [Spelled<'a>]), SyntaxFault>
+    ensures read { Gives (λ x. (map expr_data x.0.items, lexemes_of x.1.now)) result (all_of (starts_lem Class.Comma) (argument_of (inside left)) (map expr_data first.items) (lexemes_of tokens.now)) }
+    ensures shorter { IfOk result (λ x. length x.1.now ≤ length tokens.now) }
+{
+    let (mut arguments, mut rest) = begun(first, tokens);
+    while starts(rest, Class::Comma) {
+        let (next, behind) = argument(alloc, arguments, rest, left)?;
+        arguments = next;
+        rest = behind;
+    }
+    Ok((arguments, rest))
+}
+
+/// expr { "," expr } ")"
+#[cycle(expr)]
+#[tactic(auto, unfolding(crate::specs::Expressions::some_arguments_of))]
+pub fn some_arguments<'a, 'b>(
+    alloc: Global,
+    tokens: &'b [Spelled<'a>],
+    left: u32,
+) -> Result<(Vec<ExprTree>, &'b [Spelled<'a>]), SyntaxFault>
+    ensures read { Gives (λ x. (map expr_data x.0.items, lexemes_of x.1.now)) result (some_arguments_of (inside left) (lexemes_of tokens.now)) }
+    ensures shorter { IfOk result (λ x. length x.1.now < length tokens.now) }
+{
+    let (first, rest) = whole(alloc, tokens, left)?;
+    let mut arguments = Vec::new(alloc);
+    arguments.push(first)?;
+    let (arguments, rest) = more_arguments(alloc, arguments, rest, left)?;
+    let (_, rest) = expect(rest, Class::Close)?;
+    Ok((arguments, rest))
+}
+
+/// [ expr { "," expr } ] ")"
+#[cycle(expr)]
+#[tactic(auto, unfolding(crate::specs::Expressions::arguments_of))]
+pub fn arguments<'a, 'b>(
+    alloc: Global,
+    tokens: &'b [Spelled<'a>],
+    left: u32,
+) -> Result<(Vec<ExprTree>, &'b [Spelled<'a>]), SyntaxFault>
+    ensures read { Gives (λ x. (map expr_data x.0.items, lexemes_of x.1.now)) result (arguments_of (inside left) (lexemes_of tokens.now)) }
+    ensures shorter { IfOk result (λ x. length x.1.now < length tokens.now) }
+{
+    if !starts(tokens, Class::Close) {
+        return some_arguments(alloc, tokens, left);
+    }
+    let (_, rest) = expect(tokens, Class::Close)?;
+    Ok((Vec::new(alloc), rest))
+}

@@ -1,0 +1,147 @@
+//! Products, sums and bounds: one function for each production.
+
+ghost use Rattle.std.specs.Prelude.{◌≡◌, ◌<◌, ◌≤◌, ◌++◌, ◌∷◌, [], false, true, length, map, IfOk, IfErr};
+ghost use Rattle.spectra_trees.specs.Data.{Form, expression};
+ghost use Rattle.spectra_trees.specs.Views.{expr_data, form_data};
+ghost use Rattle.spectra_trees.specs.Lexemes.{lexeme_of, lexemes_of};
+ghost use Rattle.spectra_exprs.specs.Read.{Gives, starts as starts_lem, all_of};
+ghost use Rattle.spectra_exprs.specs.Operators.{starts_sum as starts_sum_lem, starts_or as starts_or_lem};
+ghost use Rattle.spectra_exprs.specs.ExprViews.{term_data, chain_data};
+ghost use Rattle.spectra_exprs.specs.Expressions.{leaf as leaf_lem, between as between_lem, opened as opened_lem, negative as negative_lem, number_of, literal as literal_lem, modulo as modulo_lem, read_of, inside, next_of, parentheses_of, call_of, named_of, prim_of, prefixed_of, operand_of, times_of, prod_of, plus_of, sum_of, side_of, compared_of, comparison_of, cmp_of, conjunct_of, conjunction_of, conj_of, disjunct_of, disjunction_of, disj_of, arrow_of, past_of, alone_of, expr_of, whole_of, bound_of, argument_of, some_arguments_of, arguments_of};
+
+use crate::fault::SyntaxFault;
+use crate::operands::prim;
+use crate::operators::{
+    Level, begun, closed, expect, expect_or, first_number, starts, starts_or, starts_sum,
+    take_operator, take_prefix,
+};
+use crate::terms::{Term, between, modulo, sole, together};
+use spectra_trees::class::Class;
+use spectra_trees::lexeme::{Spelled, is, name};
+use spectra_trees::tree::{BinaryWord, ExprForm, ExprTree, Place, PrefixWord};
+use std::alloc::Global;
+
+/// "*" prim behind a product so far.
+#[cycle(expr)]
+#[tactic(auto, unfolding(crate::specs::Expressions::times_of))]
+pub fn times<'a, 'b>(
+    alloc: Global,
+    product: Term,
+    tokens: &'b [Spelled<'a>],
+    left: u32,
+) -> Result<(Term, &'b [Spelled<'a>]), SyntaxFault>
+    ensures read { Gives (λ x. (term_data x.0, lexemes_of x.1.now)) result (times_of (inside left) (term_data product) (lexemes_of tokens.now)) }
+    ensures shorter { IfOk result (λ x. length x.1.now < length tokens.now) }
+{
+    let (operator, rest) = expect(tokens, Class::Star)?;
+    let (factor, rest) = prim(alloc, rest, left)?;
+    let product = between(alloc, operator.at, BinaryWord::Mul, product.tree, factor)?;
+    Ok((together(product), rest))
+}
+
+/// { "*" prim } behind a first prim.
+#[cycle(expr)]
+pub fn products<'a, 'b>(
+    alloc: Global,
+    first: Term,
+    tokens: &'b [Spelled<'a>],
+    left: u32,
+) -> Result<(Term, &'b [Spelled<'a>]), SyntaxFault>
+    ensures read { Gives (λ x. (term_data x.0, lexemes_of x.1.now)) result (all_of (starts_lem Class.Star) (times_of (inside left)) (term_data first) (lexemes_of tokens.now)) }
+    ensures shorter { IfOk result (λ x. length x.1.now ≤ length tokens.now) }
+{
+    let (mut product, mut rest) = begun(first, tokens);
+    while starts(rest, Class::Star) {
+        let (next, behind) = times(alloc, product, rest, left)?;
+        product = next;
+        rest = behind;
+    }
+    Ok((product, rest))
+}
+
+/// prod = prim { "*" prim }
+#[cycle(expr)]
+#[tactic(auto, unfolding(crate::specs::Expressions::prod_of))]
+pub fn prod<'a, 'b>(
+    alloc: Global,
+    tokens: &'b [Spelled<'a>],
+    left: u32,
+) -> Result<(Term, &'b [Spelled<'a>]), SyntaxFault>
+    ensures read { Gives (λ x. (term_data x.0, lexemes_of x.1.now)) result (prod_of (inside left) (lexemes_of tokens.now)) }
+    ensures shorter { IfOk result (λ x. length x.1.now < length tokens.now) }
+{
+    let (first, rest) = prim(alloc, tokens, left)?;
+    products(alloc, sole(first), rest, left)
+}
+
+/// ( "+" | "-" ) prod behind a sum so far.
+#[cycle(expr)]
+#[tactic(auto, unfolding(crate::specs::Expressions::plus_of, crate::specs::Read::unexpected))]
+pub fn plus<'a, 'b>(
+    alloc: Global,
+    sum: Term,
+    tokens: &'b [Spelled<'a>],
+    left: u32,
+) -> Result<(Term, &'b [Spelled<'a>]), SyntaxFault>
+    ensures read { Gives (λ x. (term_data x.0, lexemes_of x.1.now)) result (plus_of (inside left) (term_data sum) (lexemes_of tokens.now)) }
+    ensures shorter { IfOk result (λ x. length x.1.now < length tokens.now) }
+{
+    let Some((at, word, rest)) = take_operator(tokens, Level::Sum) else {
+        return Err(SyntaxFault::Unexpected(first_number(tokens)));
+    };
+    let (summand, rest) = prod(alloc, rest, left)?;
+    let sum = between(alloc, at, word, sum.tree, summand.tree)?;
+    Ok((together(sum), rest))
+}
+
+/// { ( "+" | "-" ) prod } behind a first prod.
+#[cycle(expr)]
+pub fn sums<'a, 'b>(
+    alloc: Global,
+    first: Term,
+    tokens: &'b [Spelled<'a>],
+    left: u32,
+) -> Result<(Term, &'b [Spelled<'a>]), SyntaxFault>
+    ensures read { Gives (λ x. (term_data x.0, lexemes_of x.1.now)) result (all_of starts_sum_lem (plus_of (inside left)) (term_data first) (lexemes_of tokens.now)) }
+    ensures shorter { IfOk result (λ x. length x.1.now ≤ length tokens.now) }
+{
+    let (mut sum, mut rest) = begun(first, tokens);
+    while starts_sum(rest) {
+        let (next, behind) = plus(alloc, sum, rest, left)?;
+        sum = next;
+        rest = behind;
+    }
+    Ok((sum, rest))
+}
+
+/// sum = prod { ( "+" | "-" ) prod } | prim "mod" NUMBER
+#[cycle(expr)]
+#[tactic(auto, unfolding(crate::specs::Expressions::sum_of))]
+pub fn sum<'a, 'b>(
+    alloc: Global,
+    tokens: &'b [Spelled<'a>],
+    left: u32,
+) -> Result<(Term, &'b [Spelled<'a>]), SyntaxFault>
+    ensures read { Gives (λ x. (term_data x.0, lexemes_of x.1.now)) result (sum_of (inside left) (lexemes_of tokens.now)) }
+    ensures shorter { IfOk result (λ x. length x.1.now < length tokens.now) }
+{
+    let (first, rest) = prod(alloc, tokens, left)?;
+    if first.alone && starts(rest, Class::Mod) {
+        return modulo(alloc, first.tree, rest);
+    }
+    sums(alloc, first, rest, left)
+}
+
+/// sum, which no operator may follow.
+#[tactic(auto, unfolding(crate::specs::Expressions::bound_of))]
+pub fn bound<'a, 'b>(
+    alloc: Global,
+    tokens: &'b [Spelled<'a>],
+    left: u32,
+) -> Result<(ExprTree, &'b [Spelled<'a>]), SyntaxFault>
+    ensures read { Gives (λ x. (expr_data x.0, lexemes_of x.1.now)) result (bound_of (inside left) (lexemes_of tokens.now)) }
+    ensures shorter { IfOk result (λ x. length x.1.now < length tokens.now) }
+{
+    let (operand, rest) = sum(alloc, tokens, left)?;
+    closed(operand.tree, rest)
+}

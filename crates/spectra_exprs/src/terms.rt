@@ -1,0 +1,210 @@
+//! The trees of single tokens, and what is read so far of a sum or a chain.
+
+ghost use Rattle.std.specs.Prelude.{◌≡◌, ◌<◌, ◌≤◌, ◌++◌, ◌∷◌, [], false, true, length, map, IfOk, IfErr};
+ghost use Rattle.spectra_trees.specs.Data.{Form, expression};
+ghost use Rattle.spectra_trees.specs.Views.{expr_data, form_data};
+ghost use Rattle.spectra_trees.specs.Lexemes.{lexeme_of, lexemes_of};
+ghost use Rattle.spectra_exprs.specs.Read.{Gives, starts as starts_lem, all_of};
+ghost use Rattle.spectra_exprs.specs.Operators.{starts_sum as starts_sum_lem, starts_or as starts_or_lem};
+ghost use Rattle.spectra_exprs.specs.ExprViews.{term_data, chain_data};
+ghost use Rattle.spectra_exprs.specs.Expressions.{leaf as leaf_lem, between as between_lem, opened as opened_lem, negative as negative_lem, number_of, literal as literal_lem, modulo as modulo_lem, read_of, inside, next_of, parentheses_of, call_of, named_of, prim_of, prefixed_of, operand_of, times_of, prod_of, plus_of, sum_of, side_of, compared_of, comparison_of, cmp_of, conjunct_of, conjunction_of, conj_of, disjunct_of, disjunction_of, disj_of, arrow_of, past_of, alone_of, expr_of, whole_of, bound_of, argument_of, some_arguments_of, arguments_of};
+
+use crate::fault::SyntaxFault;
+use crate::operators::{
+    Level, begun, closed, expect, expect_or, first_number, starts, starts_or, starts_sum,
+    take_operator, take_prefix,
+};
+use spectra_trees::class::Class;
+use spectra_trees::lexeme::{Spelled, is, name};
+use spectra_trees::tree::{BinaryWord, ExprForm, ExprTree, Place, PrefixWord};
+use std::alloc::Global;
+
+/// A tree by its parts.
+pub fn tree(first: Place, at: Place, form: ExprForm) -> ExprTree
+    ensures { expr_data result ≡ expression first at (form_data form) }
+{
+    ExprTree { first, at, form }
+}
+
+/// A tree of one token.
+pub fn leaf(token: &Spelled<'_>, form: ExprForm) -> ExprTree
+    ensures { expr_data result ≡ leaf_lem (lexeme_of token.now) (form_data form) }
+{
+    tree(token.at, token.at, form)
+}
+
+/// An operator at a place between its operands.
+pub fn between(
+    alloc: Global,
+    at: Place,
+    word: BinaryWord,
+    one: ExprTree,
+    other: ExprTree,
+) -> Result<ExprTree, SyntaxFault>
+    ensures read { IfOk result (λ e. expr_data e ≡ between_lem at word (expr_data one) (expr_data other)) }
+    ensures memory { IfErr result (λ e. e ≡ SyntaxFault.Memory) }
+{
+    let first = one.first;
+    let form = ExprForm::Binary(word, Box::new(alloc, one)?, Box::new(alloc, other)?);
+    Ok(tree(first, at, form))
+}
+
+/// The same as the tree that begins with the parenthesis.
+pub fn opened(token: &Spelled<'_>, tree: ExprTree) -> ExprTree
+    ensures { expr_data result ≡ opened_lem (lexeme_of token.now) (expr_data tree) }
+{
+    ExprTree {
+        first: token.at,
+        at: tree.at,
+        form: tree.form,
+    }
+}
+/// An expression, and whether it is one prim alone.
+#[derive(Debug, Drop)]
+pub struct Term {
+    pub tree: ExprTree,
+    pub alone: bool,
+}
+
+/// A prim alone.
+pub fn sole(tree: ExprTree) -> Term
+    ensures { term_data result ≡ (expr_data tree, true) }
+{
+    Term { tree, alone: true }
+}
+
+/// An expression that is no prim alone.
+pub fn together(tree: ExprTree) -> Term
+    ensures { term_data result ≡ (expr_data tree, false) }
+{
+    Term { tree, alone: false }
+}
+/// NUMBER behind "-".
+#[tactic(auto, unfolding(crate::specs::Expressions::negative))]
+pub fn negative<'a, 'b>(
+    alloc: Global,
+    minus: &Spelled<'a>,
+    tokens: &'b [Spelled<'a>],
+) -> Result<(ExprTree, &'b [Spelled<'a>]), SyntaxFault>
+    ensures read { Gives (λ x. (expr_data x.0, lexemes_of x.1.now)) result (negative_lem (lexeme_of minus.now) (lexemes_of tokens.now)) }
+    ensures shorter { IfOk result (λ x. length x.1.now < length tokens.now) }
+{
+    let (number, rest) = expect(tokens, Class::Number)?;
+    let digits = String::from_str(alloc, number.text)?;
+    Ok((
+        tree(minus.at, number.at, ExprForm::Number(true, digits)),
+        rest,
+    ))
+}
+/// NUMBER
+#[tactic(auto, unfolding(crate::specs::Expressions::number_of))]
+pub fn number<'a, 'b>(
+    alloc: Global,
+    token: &Spelled<'a>,
+    tokens: &'b [Spelled<'a>],
+) -> Result<(ExprTree, &'b [Spelled<'a>]), SyntaxFault>
+    ensures read { Gives (λ x. (expr_data x.0, lexemes_of x.1.now)) result (number_of (lexeme_of token.now) (lexemes_of tokens.now)) }
+    ensures shorter { IfOk result (λ x. length x.1.now ≤ length tokens.now) }
+{
+    let digits = String::from_str(alloc, token.text)?;
+    Ok((leaf(token, ExprForm::Number(false, digits)), tokens))
+}
+/// "true" | "false" | [ "-" ] NUMBER
+#[tactic(auto, unfolding(crate::specs::Expressions::literal))]
+pub fn literal<'a, 'b>(
+    alloc: Global,
+    tokens: &'b [Spelled<'a>],
+) -> Result<(ExprTree, &'b [Spelled<'a>]), SyntaxFault>
+    ensures read { Gives (λ x. (expr_data x.0, lexemes_of x.1.now)) result (literal_lem (lexemes_of tokens.now)) }
+    ensures shorter { IfOk result (λ x. length x.1.now < length tokens.now) }
+{
+    let Some((token, rest)) = tokens.split_first() else {
+        return Err(SyntaxFault::Unexpected(0));
+    };
+    if is(token, Class::True) {
+        return Ok((leaf(token, ExprForm::True), rest));
+    }
+    if is(token, Class::False) {
+        return Ok((leaf(token, ExprForm::False), rest));
+    }
+    if is(token, Class::Number) {
+        return number(alloc, token, rest);
+    }
+    if is(token, Class::Minus) {
+        return negative(alloc, token, rest);
+    }
+    Err(SyntaxFault::Unexpected(token.number))
+}
+/// "mod" NUMBER behind a prim.
+#[tactic(auto, unfolding(crate::specs::Expressions::modulo))]
+pub fn modulo<'a, 'b>(
+    alloc: Global,
+    operand: ExprTree,
+    tokens: &'b [Spelled<'a>],
+) -> Result<(Term, &'b [Spelled<'a>]), SyntaxFault>
+    ensures read { Gives (λ x. (term_data x.0, lexemes_of x.1.now)) result (modulo_lem (expr_data operand) (lexemes_of tokens.now)) }
+    ensures shorter { IfOk result (λ x. length x.1.now < length tokens.now) }
+{
+    let (operator, rest) = expect(tokens, Class::Mod)?;
+    let (number, rest) = expect(rest, Class::Number)?;
+    let (first, at, place) = (operand.first, operator.at, number.at);
+    let digits = String::from_str(alloc, number.text)?;
+    let form = ExprForm::Mod(Box::new(alloc, operand)?, place, digits);
+    Ok((together(tree(first, at, form)), rest))
+}
+/// NAME alone.
+#[tactic(auto, unfolding(crate::specs::Expressions::read_of))]
+pub fn read<'a, 'b>(
+    alloc: Global,
+    token: &Spelled<'a>,
+    tokens: &'b [Spelled<'a>],
+) -> Result<(ExprTree, &'b [Spelled<'a>]), SyntaxFault>
+    ensures read { Gives (λ x. (expr_data x.0, lexemes_of x.1.now)) result (read_of (lexeme_of token.now) (lexemes_of tokens.now)) }
+    ensures shorter { IfOk result (λ x. length x.1.now ≤ length tokens.now) }
+{
+    let name = name(alloc, token)?;
+    Ok((leaf(token, ExprForm::Read(name)), tokens))
+}
+
+/// The operands of a conjunction or a disjunction so far, and the places of its operators.
+#[derive(Debug, Drop)]
+pub struct Chain {
+    pub operands: Vec<ExprTree>,
+    pub operators: Vec<Place>,
+}
+
+/// A chain of two operands.
+pub fn pair(
+    alloc: Global,
+    first: ExprTree,
+    at: Place,
+    second: ExprTree,
+) -> Result<Chain, SyntaxFault>
+    ensures read { IfOk result (λ c. chain_data c ≡ (expr_data first ∷ expr_data second ∷ [], at ∷ [])) }
+    ensures memory { IfErr result (λ e. e ≡ SyntaxFault.Memory) }
+{
+    let mut operands = Vec::new(alloc);
+    let mut operators = Vec::new(alloc);
+    operands.push(first)?;
+    operands.push(second)?;
+    operators.push(at)?;
+    Ok(Chain {
+        operands,
+        operators,
+    })
+}
+
+/// One operator and one operand more.
+pub fn joined(chain: Chain, at: Place, operand: ExprTree) -> Result<Chain, SyntaxFault>
+    ensures read { IfOk result (λ c. chain_data c ≡ (map expr_data chain.operands.items ++ expr_data operand ∷ [], chain.operators.items ++ at ∷ [])) }
+    ensures memory { IfErr result (λ e. e ≡ SyntaxFault.Memory) }
+{
+    let mut operands = chain.operands;
+    let mut operators = chain.operators;
+    operands.push(operand)?;
+    operators.push(at)?;
+    Ok(Chain {
+        operands,
+        operators,
+    })
+}

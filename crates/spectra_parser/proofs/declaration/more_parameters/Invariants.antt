@@ -1,0 +1,17 @@
+use Rattle.std.proofs.Common.{◌≤◌, length, map}
+use Rattle.spectra_trees.specs.declared.class.Class.TheVariants as Class
+use Rattle.spectra_trees.specs.Lexemes.{lexemes_of}
+use Rattle.spectra_exprs.specs.Read.{starts, all_of}
+use Rattle.spectra_parser.specs.Items.{parameter_after}
+use Rattle.spectra_parser.specs.ItemViews.{parameter_pair}
+use Rattle.spectra_exprs.proofs.Loops.{Grown}
+use Rattle.spectra_parser.proofs.declaration.more_parameters.Given as goal
+
+abbrev pub invariant-loop-alloc : goal.invariant-loop-alloc
+invariant-loop-alloc l = record {
+  behind : length l.rest ≤ length l.tokens;
+  grown : Grown (starts Class.Comma) parameter_after (map parameter_pair l.all.items) (lexemes_of l.rest) (all_of (starts Class.Comma) parameter_after (map parameter_pair l.fn.first.items) (lexemes_of l.tokens));
+}
+
+abbrev pub decreases-loop-alloc : goal.decreases-loop-alloc
+decreases-loop-alloc l = length l.rest

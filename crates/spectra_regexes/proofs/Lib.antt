@@ -1,0 +1,3 @@
+pub mod RegexLevels
+pub mod SoundRegexes
+pub mod WholeRegexes

@@ -1,0 +1,30 @@
+use Rattle.std.proofs.Common.{◌<◌, length, sym, ap, arith}
+use Rattle.std.proofs.lemmas.Result.{err_from_is_err_and}
+use Rattle.spectra_trees.specs.Views.{regex_data}
+use Rattle.spectra_trees.specs.Lexemes.{lexemes_of}
+use Rattle.spectra_exprs.specs.Read.{all_of}
+use Rattle.spectra_regexes.specs.Regexes.{starts_repeat, repeated}
+use Rattle.spectra_exprs.proofs.Loops.{grown_first, grown_next, grown_last, grown_fails, length-lexemes}
+use Rattle.spectra_regexes.proofs.repeats.repeats.Goals as goal
+
+pub loop-alloc-init : goal.loop-alloc-init
+loop-alloc-init c = record {
+  behind = omega (arith, ap length c.begun-part.ensures.rest);
+  grown = rw (c.begun-part.ensures.first, c.begun-part.ensures.rest) (grown_first starts_repeat repeated (regex_data c.args.first) (lexemes_of c.args.tokens.now));
+}
+
+pub loop-alloc-preserved : goal.loop-alloc-preserved
+loop-alloc-preserved c =
+    let shorter : length (lexemes_of c.in_ok-next.behind.now) < length (lexemes_of c.loop-alloc.rest.now) = omega (arith, length-lexemes c.in_ok-next.behind.now, length-lexemes c.loop-alloc.rest.now, c.in_ok-next.ensures.shorter) in
+    record {
+      behind = omega (arith, c.in_ok-next.ensures.shorter);
+      grown = grown_next starts_repeat repeated (regex_data c.loop-alloc.part) (lexemes_of c.loop-alloc.rest.now) (all_of starts_repeat repeated (regex_data c.args.first) (lexemes_of c.args.tokens.now)) (regex_data c.in_ok-next.next) (lexemes_of c.in_ok-next.behind.now) c.loop-alloc.invariant.grown (sym c.loop-alloc-test.ensures) c.in_ok-next.ensures.read shorter;
+    }
+
+pub returns-in_err-next-clause-read : goal.returns-in_err-next-clause-read
+returns-in_err-next-clause-read c =
+    let p = err_from_is_err_and c.from_residual.result c.from_residual.ensures.1 in
+    rw (p.1, p.2) (grown_fails starts_repeat repeated (regex_data c.loop-alloc.part) (lexemes_of c.loop-alloc.rest.now) (all_of starts_repeat repeated (regex_data c.args.first) (lexemes_of c.args.tokens.now)) c.loop-alloc.invariant.grown (sym c.loop-alloc-test.ensures) c.in_err-next.field-0.0 c.in_err-next.ensures.read)
+
+pub returns-clause-read : goal.returns-clause-read
+returns-clause-read c = grown_last starts_repeat repeated (regex_data c.loop-alloc.part) (lexemes_of c.loop-alloc.rest.now) (all_of starts_repeat repeated (regex_data c.args.first) (lexemes_of c.args.tokens.now)) c.loop-alloc.invariant.grown (sym c.loop-alloc-test.ensures)

@@ -1,0 +1,4 @@
+pub mod Data
+pub mod Views
+pub mod Classes
+pub mod Lexemes

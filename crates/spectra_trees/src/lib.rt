@@ -1,0 +1,12 @@
+//! The trees of the grammar, and the tokens that they are made from.
+//!
+//! A tree keeps the place of each name and of each operator. A token has a class: what it is for the grammar.
+//!
+//! Contract: `class_of` is the table of words and signs. Path: tokens → **trees** → specification.
+#![tactic(auto)]
+
+pub mod class;
+pub mod lexeme;
+mod signs;
+pub mod tree;
+mod words;
