@@ -12,3 +12,4 @@ mod Turned
 pub mod Givings
 mod Rounds
 mod Won
+mod Walked
