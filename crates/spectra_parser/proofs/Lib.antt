@@ -6,3 +6,4 @@ mod WholeDeclarations
 mod WholeTexts
 pub mod WholeText
 mod TokenCount
+mod QuoteEnds

@@ -1,5 +1,5 @@
 -- Reading items and whole texts.
-use Rattle.std.specs.Prelude.{ℕ, ◌||◌, ◌-◌, not, Bool, false, List, [], ◌∷◌, ◌++◌, take, drop, length, Option, Some, None, Ok, Err, if◌then◌else◌}
+use Rattle.std.specs.Prelude.{ℕ, ◌||◌, nat_eq, not, Bool, false, List, [], ◌∷◌, ◌++◌, reverse, Option, Some, None, Ok, Err, if◌then◌else◌}
 use Rattle.std.specs.Option.{option_map_or}
 use Rattle.spec_model.specs.declared.spec.Role.{Role}
 use Rattle.spec_model.specs.declared.spec.Role.TheVariants.{Assumption, Guarantee}
@@ -258,9 +258,14 @@ at_end (t ∷ u ∷ ts) = false
 unfoldable pub before_end : List Lexeme → Bool
 before_end ts = not (at_end ts)
 
--- a quoted text without its quotes
+-- a text without a quote at its front
+unfoldable pub without_quote : List ℕ → List ℕ
+without_quote [] = []
+without_quote (c ∷ cs) = if nat_eq c 34 then cs else c ∷ cs
+
+-- a quoted text without its quotes: without one at its front, and without one at its end
 unfoldable pub unquoted : List ℕ → List ℕ
-unquoted text = take (length text - 2) (drop 1 text)
+unquoted text = reverse (without_quote (reverse (without_quote text)))
 
 -- [ ";" ]
 unfoldable pub semicolon : {A : Type 0} → A → Reader A

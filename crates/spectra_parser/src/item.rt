@@ -158,12 +158,8 @@ fn imported(alloc: Global, word: &Spelled<'_>, quoted: &Spelled<'_>) -> Result<N
     ensures read { IfOk result (λ n. name_data n ≡ imported_lem (lexeme_of word.now) (lexeme_of quoted.now)) }
     ensures memory { IfErr result (λ e. e ≡ SyntaxFault.Memory) }
 {
-    // Each quoted text of the lexer has its quotes.
-    let Some(inner) = unquoted(quoted.text) else {
-        return Err(SyntaxFault::Memory);
-    };
     Ok(Name {
-        text: String::from_str(alloc, inner)?,
+        text: String::from_str(alloc, unquoted(quoted.text))?,
         line: word.at.line,
         column: word.at.column,
     })
