@@ -1,12 +1,11 @@
 -- Each truth value is an input of the example games.
-use Rattle.std.proofs.Common.{◌≡◌, ℕ, Bool, true, false, not, List, [], ◌∷◌, count_by, ap, ◌∙◌, refl}
+use Rattle.std.proofs.Common.{◌≡◌, Bool, true, false, List, [], ◌∷◌, ap, ◌∙◌, refl}
 use Rattle.spec_model.specs.declared.value.Value.TheVariants as value
 use Rattle.spec_model.specs.Values.{is_assignment}
 use Rattle.spec_model.specs.Syntax.{VariableData}
 use Rattle.spec_model.specs.Moves.{is_env, domains_of}
 use Rattle.spec_model.specs.Games.{GameData}
 use Rattle.spec_model.specs.Steps.{is_input}
-use Rattle.regions.specs.Rules.{output_count}
 use Rattle.gr1_sys.specs.Examples.{two_variables}
 use Rattle.controller.specs.Examples.{four_variables}
 

@@ -1,6 +1,6 @@
 -- Moves and regions that are made one after the other, and what is told where one isn't.
-use Rattle.std.proofs.Common.{◌≡◌, ℕ, zero, suc, ◌+◌, ◌≤◌, ◌<◌, List, [], ◌∷◌, ◌++◌, map, length, get_or, take, Vec, Some, None, ap, sym, ◌∙◌, refl, subst, arith}
-use Rattle.std.proofs.lemmas.List.{map-append, append_assoc, append-nil, take_more, take_all}
+use Rattle.std.proofs.Common.{◌≡◌, ℕ, zero, suc, ◌+◌, ◌≤◌, ◌<◌, List, [], ◌∷◌, ◌++◌, map, length, get_or, take, Vec, None, ap, sym, ◌∙◌, refl, subst, arith}
+use Rattle.std.proofs.lemmas.List.{append_assoc, append-nil, take_more, take_all}
 use Rattle.std.specs.declared.alloc.Global.{Global}
 use Rattle.spec_model.specs.Games.{GameData}
 use Rattle.spec_model.specs.Sets.{StateSet, no_states, holding}
@@ -8,7 +8,7 @@ use Rattle.regions.specs.declared.types.Halt.{Halt}
 use Rattle.regions.specs.declared.types.Halt.TheVariants.{Budget, Memory}
 use Rattle.regions.specs.declared.types.When.{When}
 use Rattle.regions.specs.declared.types.When.TheVariants.{First, Later}
-use Rattle.regions.specs.Kept.{Kept, Item, Region, Move, Meaning, States, Each, weigh, weight, HasRegion, HoldsBesides, Makes, Halts, Call, Jam, JamAdds, IsExact, IsSameGame}
+use Rattle.regions.specs.Kept.{Kept, Item, Region, Move, Meaning, States, Each, weigh, weight, HasRegion, HoldsBesides, Makes, Halts, Call, IsExact, IsSameGame}
 use Rattle.regions.proofs.Holding.{held_as, set_is, jam_adds}
 use Rattle.gr1_law.specs.Layers.{LayerSets, or_all_states, goal_set, goal_sets}
 use Rattle.gr1_sys.specs.declared.layers.SysLayer.{SysLayer}
@@ -16,7 +16,7 @@ use Rattle.gr1_sys.specs.Held.{HasEach, layer_regions, goal_regions, all_regions
 use Rattle.controller.specs.declared.aims.Aim.{Aim}
 use Rattle.controller.specs.Aims.{leading}
 use Rattle.controller.specs.Owned.{weight_as, HasAll, SpendsAll, MakesAll, region_items, move_items, aim_items}
-use Rattle.controller.specs.Made.{Every, IsOfLayers, IsNamed, the_set, the_moves, the_goal, AreOfLayers, TellsHalt, leadings, parts_for, regions_for, AreLike, AreAllLike, first_layers, move_meanings}
+use Rattle.controller.specs.Made.{Every, IsOfLayers, IsNamed, the_moves, the_goal, AreOfLayers, TellsHalt, leadings, parts_for, regions_for, AreLike, AreAllLike, first_layers, move_meanings}
 use Rattle.controller.proofs.Owning.{length_map, length_both, weight_as-append, weight_as-one, weight_as-none, weight_as-more, all_as, spent_as}
 
 -- ---- of each

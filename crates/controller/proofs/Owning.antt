@@ -1,13 +1,12 @@
 -- Items that are made and spent, many at once.
-use Rattle.std.proofs.Common.{◌≡◌, ℕ, zero, suc, ◌+◌, ◌≤◌, ◌<◌, List, [], ◌∷◌, ◌++◌, map, length, Vec, vec_len, None, ap, sym, ◌∙◌, refl, subst, arith}
+use Rattle.std.proofs.Common.{◌≡◌, ℕ, ◌+◌, ◌≤◌, List, [], ◌∷◌, ◌++◌, map, length, Vec, vec_len, ap, sym, ◌∙◌, refl, subst, arith}
 use Rattle.std.proofs.lemmas.List.{map-append, append_assoc, append-nil, nil_from_length}
 use Rattle.std.specs.declared.alloc.Global.{Global}
 use Rattle.spec_model.specs.Sets.{StateSet}
-use Rattle.regions.specs.Kept.{Kept, Item, Region, Move, Meaning, States, meaning_of, weight, IsHeld, IsHeldAs, HoldsBesides, Makes, Spends, Stays, IsExact}
-use Rattle.regions.proofs.Holding.{held_as}
+use Rattle.regions.specs.Kept.{Kept, Item, Region, Meaning, States, meaning_of, weight, IsHeld, HoldsBesides, Spends, IsExact}
 use Rattle.gr1_sys.specs.Held.{HasEach, HasTogether, weight_as as sets_as, SpendsAll as SpendsRegions}
 use Rattle.controller.specs.declared.aims.Aim.{Aim}
-use Rattle.controller.specs.Owned.{weight_as, HasAll, SpendsAll, MakesAll, region_items, aim_items, aims_items, all_aims_items}
+use Rattle.controller.specs.Owned.{weight_as, HasAll, SpendsAll, region_items, aim_items, aims_items, all_aims_items}
 
 pub length_map : {X Y : Type 0} (f : X → Y) (xs : List X) → length (map f xs) ≡ length xs
 length_map f [] = refl

@@ -1,5 +1,5 @@
 -- The layers that the solver gives are those that a strategy is made for.
-use Rattle.std.proofs.Common.{◌≡◌, ◌+◌, ◌≤◌, List, ◌∷◌, map, length, Vec, Some, None, true, slice_get, suc, ℕ, sym, subst, arith}
+use Rattle.std.proofs.Common.{◌≡◌, List, map, length, Vec, Some, None, true, slice_get, suc, ℕ, sym, subst, arith}
 use Rattle.std.specs.declared.alloc.Global.{Global}
 use Rattle.spec_model.specs.Games.{GameData}
 use Rattle.spec_model.specs.Steps.{below}

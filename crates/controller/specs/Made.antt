@@ -1,5 +1,5 @@
 -- What is asked for to make a strategy, what is made, and what is told where it isn't.
-use Rattle.std.specs.Prelude.{◌≡◌, ℕ, suc, true, List, [], ◌∷◌, ◌++◌, map, length, slice_get, Option, Some, None, Vec}
+use Rattle.std.specs.Prelude.{◌≡◌, ℕ, suc, true, List, [], ◌∷◌, ◌++◌, map, length, slice_get, Some, None, Vec}
 use Rattle.std.specs.declared.alloc.Global.{Global}
 use Rattle.spec_model.specs.Games.{GameData}
 use Rattle.spec_model.specs.Steps.{below}
@@ -9,7 +9,7 @@ use Rattle.regions.specs.declared.types.Halt.{Halt}
 use Rattle.regions.specs.declared.types.Halt.TheVariants.{Budget, Memory}
 use Rattle.regions.specs.declared.types.When.{When}
 use Rattle.regions.specs.declared.types.When.TheVariants.{First, Later}
-use Rattle.regions.specs.Kept.{Kept, Meaning, States, HasRegion, Jam, JamAdds, IsSameGame}
+use Rattle.regions.specs.Kept.{Kept, Meaning, States, Jam, JamAdds, IsSameGame}
 use Rattle.gr1_law.specs.Layers.{LayerSets, IsWinning, AreGreatestRanks, goal_set, goal_sets, assumption_sets}
 use Rattle.gr1_sys.specs.declared.layers.SysLayer.{SysLayer}
 use Rattle.gr1_sys.specs.Held.{HasTogether, HoldsWithoutAll, all_regions, ranks_of}

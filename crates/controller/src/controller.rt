@@ -65,7 +65,8 @@ fn aims_of<'a, G: Regions>(goals: &'a [Vec<Aim<G>>], goal: usize) -> &'a [Aim<G>
 impl<G: Regions> Controller<G> {
     /// A strategy that has made no move, for the layers that `gr1_sys::solve_sys` gave for this `g`. They are taken.
     ///
-    /// `Budget`: a call of `g` answered it. `Memory`: none was given. Then the layers are spent, and nothing else is held.
+    /// `Budget`: a call of `g` answered it. `Memory`: none was given, or the game has more than 1,024 hidden tables. Then the
+    /// layers are spent, and nothing else is held.
     pub fn make(alloc: Global, g: G, layers: SysLayers<G>) -> Result<Controller<G>, MakeRefusal<G>>
         requires free { (G.kept g).jam ≡ None }
         requires won { (l : LayerSets) × AreLayersOf (G.kept g) layers.z layers.goals.items l }
@@ -170,6 +171,7 @@ impl<G: Regions> Controller<G> {
         let index = new_index(&mut self.g, &self.layers, &self.place, goal, rank, waits);
         self.place.remember(goal, rank + 1, index);
     }
+
     /// Ends the play: all that it owns is spent.
     pub fn close(self) -> G
         requires { Stands G.kept self }

@@ -4,8 +4,10 @@
 //! the least rank for the goal aimed at, and while neither goal nor rank changes the play waits for one violated
 //! assumption (Bloem et al. 2012, solving GR(1) games; that this assumption is kept is this project's own).
 //!
-//! Contract: `Controller`, for each play that it stands for. Only `Controller::make` takes memory: it makes the moves into
-//! each layer and each part, so that a position tries moves and reads regions, and makes none.
+//! Contract: `Controller`, for each play that it stands for: `start` and `step` write the output that is chosen, `legal`
+//! names the first assumption that an input breaks, and `close` spends all that is held. Only `Controller::make` takes
+//! memory: it makes the moves into each layer and each part, so that a position tries moves and reads regions, and makes
+//! none.
 //! Path: layers → **controller** → lines.
 #![tactic(auto)]
 

@@ -1,5 +1,5 @@
 -- A line that reads no present output has one value whatever output follows an input.
-use Rattle.std.proofs.Common.{◌≡◌, ℕ, zero, suc, ◌+◌, ◌*◌, ◌-◌, ◌%◌, ◌^◌, ◌<◌, ◌≤◌, Bool, true, false, not, ◌&&◌, ◌||◌, ◌==◌, nat_lt, if◌then◌else◌, List, [], ◌∷◌, ◌++◌, length, length-append, map, get_or, slice_index, Some, None, refl, sym, ap, ◌∙◌, inl, inr, ◌⊎◌, arith}
+use Rattle.std.proofs.Common.{◌≡◌, ℕ, zero, suc, ◌+◌, ◌*◌, ◌-◌, ◌%◌, ◌^◌, ◌<◌, Bool, true, false, not, ◌&&◌, ◌||◌, ◌==◌, nat_lt, if◌then◌else◌, List, [], ◌∷◌, ◌++◌, length, length-append, map, get_or, Some, None, refl, sym, ap, ◌∙◌, inl, inr, ◌⊎◌, arith}
 use Rattle.std.specs.List.{list_any, list_all}
 use Rattle.std.specs.Bool.{beq}
 use Rattle.std.proofs.Math.Nat.{add-mul-mod_self_right, mod-eq_of_lt, mul-le-mul_right, pow-suc}
@@ -9,11 +9,11 @@ use borrow.Author.Tests.{ltb-true, eqb-true}
 use Rattle.spec_model.specs.Values.{Assignment, truth_of}
 use Rattle.spec_model.specs.Syntax.{Formula, VariableData}
 use Rattle.spec_model.specs.Rules.{Position}
-use Rattle.spec_model.specs.Meaning.{Reading, holds_at}
-use Rattle.spec_model.specs.Moves.{has_next, value_among}
+use Rattle.spec_model.specs.Meaning.{holds_at}
+use Rattle.spec_model.specs.Moves.{has_next}
 use Rattle.spec_model.specs.Typing.{Scope, kind_of, is_truth}
-use Rattle.spec_model.specs.Games.{GameData, HiddenData, State, Readout, letter_of, cell_of, entries_in, read_table, read_tables, nothing_read, present_reading, readout_of, step_reading}
-use Rattle.spec_model.specs.Steps.{Before, reached, below, are_hidden_values, varies, reads_letter, reads_output, tables_reading_output, waits_for_output, line_holds, is_output_variable}
+use Rattle.spec_model.specs.Games.{GameData, HiddenData, State, Readout, letter_of, cell_of, entries_in, read_table, read_tables, nothing_read, present_reading, step_reading}
+use Rattle.spec_model.specs.Steps.{Before, reached, below, are_hidden_values, varies, reads_letter, reads_output, tables_reading_output, waits_for_output, line_holds}
 use Rattle.spec_model.specs.WellMade.{WellMade, is_stepwise, awaits_output, is_table, are_tables, is_state_formula, is_step_formula, is_safety_assumption, scope_of, cell_count}
 use Rattle.game_values.proofs.TableSteps.{table_atoms}
 use Rattle.hidden_game.proofs.Readings.{Share, value_now}

@@ -1,21 +1,19 @@
 -- The first line of a specification that an input breaks is the line of its game with the least number.
-use Rattle.std.proofs.Common.{◌≡◌, ℕ, ◌<◌, Bool, true, false, not, ◌&&◌, ◌||◌, if◌then◌else◌, List, [], ◌∷◌, ◌++◌, length, flat_map, find, cond, min, Option, Some, None, is_some, option_map, refl, sym, ap, ◌∙◌, arith, All}
+use Rattle.std.proofs.Common.{◌≡◌, ℕ, ◌<◌, Bool, true, false, not, ◌&&◌, ◌||◌, if◌then◌else◌, List, [], ◌∷◌, ◌++◌, length, find, cond, Option, Some, None, is_some, option_map, refl, sym, ap, ◌∙◌, arith, All}
 use Rattle.std.specs.List.{list_all}
 use Rattle.std.proofs.lemmas.Bool.{and_parts}
 use Rattle.std.proofs.lemmas.List.Elements.{All-head, All-tail}
 use Rattle.spec_model.specs.declared.game.Label.{Label}
-use Rattle.spec_model.specs.Values.{Assignment}
 use Rattle.spec_model.specs.Syntax.{Formula, Content, Initial, Safety, Recurring, PatternUse, TriggerUse, Statement, Specification}
-use Rattle.spec_model.specs.Rules.{Run, after_input}
-use Rattle.spec_model.specs.Moves.{broken_by_input, input_breaks, broken_assumption}
+use Rattle.spec_model.specs.Rules.{after_input}
+use Rattle.spec_model.specs.Moves.{broken_by_input}
 use Rattle.spec_model.specs.Steps.{Before, reached, are_hidden_values, line_holds, waits_for_output}
 use Rattle.spec_model.specs.WellMade.{WellMade, is_initial_assumption, is_safety_assumption}
 use Rattle.spec_model.specs.Laws.{NumbersRise}
 use Rattle.hidden_game.specs.declared.expanding.Player.TheVariants.{Environment}
 use Rattle.hidden_game.specs.declared.expanding.Time.TheVariants.{First, Always}
 use Rattle.hidden_game.specs.GameOf.{game_of, binds, said, numbered, lines_for}
-use Rattle.hidden_game.specs.Agreement.{IsLast}
-use Rattle.hidden_game.specs.Judged.{numbers_where, breaks, broken_by, lesser, least, line_label, first_broken}
+use Rattle.hidden_game.specs.Judged.{numbers_where, breaks, broken_by, lesser, least, line_label}
 use Rattle.hidden_game.specs.Breaking.{BreaksAgree}
 use Rattle.hidden_game.proofs.Agreeing.{asm_first, asm_always}
 use Rattle.hidden_game.proofs.Least.{lesser-assoc, least-append}

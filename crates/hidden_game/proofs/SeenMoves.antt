@@ -1,18 +1,18 @@
 -- What is seen of a move: its lines are safe to compute, and have the values of the game's steps.
-use Rattle.std.proofs.Common.{◌≡◌, ℕ, zero, suc, Bool, true, false, not, ◌&&◌, ◌||◌, List, [], ◌∷◌, map, get_or, Option, Some, None, refl, sym, ap, ◌∙◌, subst}
+use Rattle.std.proofs.Common.{◌≡◌, ℕ, zero, suc, Bool, true, false, not, List, [], ◌∷◌, map, get_or, Option, Some, None, refl, ap, ◌∙◌}
 use Rattle.std.specs.List.{list_all}
 use Rattle.std.proofs.lemmas.Bool.{and_parts}
 use Rattle.std.specs.Option.{IfSome}
 use Rattle.spec_model.specs.declared.expr.Expr.{Expr}
-use Rattle.spec_model.specs.Values.{Assignment, is_assignment, truth_of}
-use Rattle.spec_model.specs.Syntax.{Formula, VariableData}
+use Rattle.spec_model.specs.Values.{Assignment, truth_of}
+use Rattle.spec_model.specs.Syntax.{Formula}
 use Rattle.spec_model.specs.Views.{formula}
 use Rattle.spec_model.specs.Rules.{Position}
-use Rattle.spec_model.specs.Moves.{is_env, domains_of, has_next, value_among}
-use Rattle.spec_model.specs.Meaning.{Reading, holds_at}
+use Rattle.spec_model.specs.Moves.{has_next, value_among}
+use Rattle.spec_model.specs.Meaning.{holds_at}
 use Rattle.spec_model.specs.Typing.{Scope, kind_of, is_truth}
 use Rattle.spec_model.specs.Games.{GameData, State, readout_of, step_reading}
-use Rattle.spec_model.specs.Steps.{is_input, is_output, is_state, are_hidden_values, reached, waits_for_output, line_holds}
+use Rattle.spec_model.specs.Steps.{waits_for_output}
 use Rattle.spec_model.specs.WellMade.{WellMade, is_stepwise, is_step_formula, is_state_formula, is_initial_assumption, is_safety_assumption, awaits_output, scope_of}
 use Rattle.game_values.specs.Moments.{IsSafe}
 use Rattle.game_values.proofs.Safe.{IsTyped, step_safe}
@@ -20,9 +20,8 @@ use Rattle.game_values.proofs.Typed.{all_weaker}
 use Rattle.hidden_game.specs.declared.sight.Sight.{Sight}
 use Rattle.hidden_game.specs.declared.judging.Move.{Move}
 use Rattle.hidden_game.specs.Sights.{seen_reading, reading_in}
-use Rattle.hidden_game.specs.Judged.{IsSafeIn, AreSafeIn}
+use Rattle.hidden_game.specs.Judged.{AreSafeIn}
 use Rattle.hidden_game.proofs.Readings.{Share, value_now}
-use Rattle.hidden_game.proofs.Sights.{seen_typed}
 
 -- ---- safe lines
 

@@ -1,8 +1,6 @@
 -- Which assumption an input breaks first in a game.
-use Rattle.std.specs.Prelude.{ℕ, ◌≡◌, ◌≤◌, Bool, true, false, not, ◌++◌, if◌then◌else◌, min, List, [], ◌∷◌, get_or, drop, map, Option, Some, None, is_some, option_map, pos, IfSome, IsTrue, length}
+use Rattle.std.specs.Prelude.{ℕ, ◌≡◌, ◌≤◌, Bool, true, false, not, ◌++◌, if◌then◌else◌, min, List, [], ◌∷◌, get_or, drop, map, Option, Some, None, is_some, option_map, IfSome, IsTrue, length}
 use Rattle.std.specs.List.{list_any, AllByRecursion}
-use Rattle.spec_model.specs.declared.value.Value.{Value}
-use Rattle.spec_model.specs.declared.value.Value.TheVariants as value
 use Rattle.spec_model.specs.declared.expr.Expr.{Expr}
 use Rattle.spec_model.specs.declared.game.Label.{Label}
 use Rattle.spec_model.specs.Values.{Assignment}
@@ -12,7 +10,6 @@ use Rattle.spec_model.specs.Meaning.{Reading, holds_at}
 use Rattle.spec_model.specs.Games.{GameData, outputs_of}
 use Rattle.spec_model.specs.Steps.{Before, reached, line_holds, waits_for_output, is_output}
 use Rattle.game_values.specs.Moments.{IsSafe}
-use Rattle.hidden_game.specs.declared.sight.Sight.{Sight}
 use Rattle.hidden_game.specs.declared.judging.Move.{Move}
 use Rattle.hidden_game.specs.declared.judging.InputJudge.{InputJudge}
 use Rattle.hidden_game.specs.Sights.{reading_in}

@@ -4,7 +4,12 @@
 //! its lines in text order. After every run the game has the same legal moves as the specification, and the same goals
 //! recur (Bloem et al. 2012, games of initial, safety and recurring lines).
 //!
-//! Contract: `expand`, and the laws `moves_agree` and `goals_agree`. Path: specification → **game** → regions.
+//! While a game is played, `first_hidden` and `next_hidden` write the values of its hidden tables, and an `InputJudge` names
+//! the assumption with the least number that an input breaks. Neither takes memory. A line that reads no present output
+//! has one value whatever output follows the input, so one output is looked at for all.
+//!
+//! Contract: `expand`; `InputJudge`; and the laws `moves_agree`, `goals_agree` and `breaks_agree`.
+//! Path: specification → **game** → regions.
 #![tactic(auto)]
 
 mod expanding;

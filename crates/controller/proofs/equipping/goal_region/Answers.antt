@@ -1,18 +1,8 @@
-use Rattle.std.proofs.Common.{◌≡◌, ◌∙◌, ◌+◌, ◌<◌, ◌++◌, ◌∷◌, [], List, map, take, length, vec_len, get_or, IfErr, ap, subst, sym, refl, arith}
-use Rattle.std.proofs.lemmas.List.{map-append, take_all, take_more}
-use Rattle.std.proofs.lemmas.Result.{IfOk-weaker, IfErr-weaker, err_from_is_err_and}
-use Rattle.spec_model.specs.Games.{GameData}
-use Rattle.spec_model.specs.Sets.{StateSet, no_states}
-use Rattle.regions.specs.Kept.{Item, Region, Move, Meaning, States, All, Holding, HasRegion, MakesRegion, Makes, IsSameGame}
-use Rattle.regions.specs.declared.types.When.TheVariants.{First, Later}
-use Rattle.gr1_law.specs.Layers.{goal_set, goal_sets}
-use Rattle.gr1_sys.specs.Held.{HasEach, goal_regions, all_regions}
+use Rattle.std.proofs.Common.{◌∙◌, [], subst, sym}
+use Rattle.std.proofs.lemmas.Result.{IfOk-weaker, IfErr-weaker}
+use Rattle.regions.specs.Kept.{All, Holding, MakesRegion}
 use Rattle.gr1_sys.proofs.Givings.{goal_alone, goal_there}
-use Rattle.controller.specs.Aims.{leading}
-use Rattle.controller.specs.Owned.{MakesAll, region_items, aims_items, all_aims_items}
-use Rattle.controller.specs.Made.{Every, IsOfLayers, AreOfLayers, TellsHalt, AreLike, AreAllLike, leadings, regions_for, first_layers, move_meanings}
-use Rattle.controller.proofs.Holdings.{same_then}
-use Rattle.controller.proofs.Makings.{has_every, has_each, each_stays, of_layers_stay, leadings_stay, nothing_made, makes_one, makes_both, makes_next, still_all, made_and_spent, named, named_goals, some_goal, told, told_after, told_still, every_first, first_is}
+use Rattle.controller.proofs.Makings.{nothing_made, told}
 use Rattle.controller.proofs.equipping.goal_region.Goals as goal
 
 pub returns-then-is_empty-clause-made : goal.returns-then-is_empty-clause-made

@@ -1,18 +1,12 @@
-use Rattle.std.proofs.Common.{◌≡◌, ◌∙◌, ◌+◌, ◌<◌, ◌++◌, ◌∷◌, [], List, map, take, length, vec_len, get_or, IfErr, ap, subst, sym, refl, arith}
+use Rattle.std.proofs.Common.{◌≡◌, ◌∙◌, ◌+◌, ◌<◌, ◌∷◌, [], List, map, take, length, get_or, ap, subst, sym, refl, arith}
 use Rattle.std.proofs.lemmas.List.{map-append, take_all, take_more}
-use Rattle.std.proofs.lemmas.Result.{IfOk-weaker, IfErr-weaker, err_from_is_err_and}
 use Rattle.spec_model.specs.Games.{GameData}
-use Rattle.spec_model.specs.Sets.{StateSet, no_states}
-use Rattle.regions.specs.Kept.{Item, Region, Move, Meaning, States, All, Holding, HasRegion, MakesRegion, Makes, IsSameGame}
-use Rattle.regions.specs.declared.types.When.TheVariants.{First, Later}
+use Rattle.spec_model.specs.Sets.{no_states}
+use Rattle.regions.specs.Kept.{Region, States, MakesRegion}
 use Rattle.gr1_law.specs.Layers.{goal_set, goal_sets}
-use Rattle.gr1_sys.specs.Held.{HasEach, goal_regions, all_regions}
-use Rattle.gr1_sys.proofs.Givings.{goal_alone, goal_there}
-use Rattle.controller.specs.Aims.{leading}
-use Rattle.controller.specs.Owned.{MakesAll, region_items, aims_items, all_aims_items}
-use Rattle.controller.specs.Made.{Every, IsOfLayers, AreOfLayers, TellsHalt, AreLike, AreAllLike, leadings, regions_for, first_layers, move_meanings}
+use Rattle.controller.specs.Owned.{MakesAll, region_items}
 use Rattle.controller.proofs.Holdings.{same_then}
-use Rattle.controller.proofs.Makings.{has_every, has_each, each_stays, of_layers_stay, leadings_stay, nothing_made, makes_one, makes_both, makes_next, still_all, made_and_spent, named, named_goals, some_goal, told, told_after, told_still, every_first, first_is}
+use Rattle.controller.proofs.Makings.{nothing_made, makes_one, makes_next, still_all, made_and_spent, named_goals, told_after, told_still}
 use Rattle.controller.proofs.equipping.goal_regions.Goals as goal
 
 pub loop-j-init : goal.loop-j-init

@@ -1,4 +1,4 @@
-use Rattle.std.proofs.Common.{◌≡◌, ◌≤◌, map, take, length, vec_len, vec_capacity}
+use Rattle.std.proofs.Common.{◌≡◌, ◌≤◌, map, take, vec_len, vec_capacity}
 use Rattle.regions.specs.Kept.{States, IsSameGame}
 use Rattle.gr1_law.specs.Layers.{goal_sets}
 use Rattle.controller.specs.Owned.{MakesAll, region_items}

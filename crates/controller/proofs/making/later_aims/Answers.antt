@@ -1,14 +1,14 @@
-use Rattle.std.proofs.Common.{◌≡◌, ◌∙◌, ◌+◌, ◌++◌, ◌∷◌, [], List, map, take, length, vec_len, IfErr, ap, subst, sym, refl, arith}
+use Rattle.std.proofs.Common.{◌∙◌, ◌+◌, ◌++◌, ◌∷◌, [], List, map, take, ap, subst, sym, refl, arith}
 use Rattle.std.proofs.lemmas.List.{map-append, take_all}
-use Rattle.regions.specs.Kept.{Item, Move, Meaning, States, OutMoves, HasRegion, IsSameGame}
+use Rattle.regions.specs.Kept.{Meaning, HasRegion}
 use Rattle.regions.specs.declared.types.When.TheVariants.{Later}
 use Rattle.gr1_sys.specs.Held.{HasEach, goal_regions, all_regions}
 use Rattle.controller.specs.Aims.{leading}
-use Rattle.controller.specs.Owned.{MakesAll, move_items, aim_items, aims_items, all_aims_items}
-use Rattle.controller.specs.Made.{Every, IsOfLayers, the_set, AreOfLayers, AreLike, AreAllLike, leadings, parts_for, regions_for}
+use Rattle.controller.specs.Owned.{MakesAll, aims_items, all_aims_items}
+use Rattle.controller.specs.Made.{IsOfLayers, AreOfLayers, AreLike, AreAllLike, leadings, regions_for}
 use Rattle.controller.proofs.Holdings.{same_then}
-use Rattle.controller.proofs.Owning.{length_map, aims_items-push, all_aims_items-push}
-use Rattle.controller.proofs.Makings.{every_at, every_take, every_layer, every_goal, every_layers_take, every_goals_take, take_next, has_every, has_each, region_stays, set_stays, each_stays, of_layers_stay, leading_stays, leadings_stay, nothing_made, makes_one, makes_next, makes_before, still_all, made_and_spent, named, told, told_after, told_still, regions_for-push, all_regions-push, later_regions, like_push, all_like_push}
+use Rattle.controller.proofs.Owning.{all_aims_items-push}
+use Rattle.controller.proofs.Makings.{every_goal, every_goals_take, take_next, has_every, has_each, each_stays, of_layers_stay, leadings_stay, nothing_made, makes_next, still_all, made_and_spent, named, told_after, told_still, all_regions-push, later_regions, all_like_push}
 use Rattle.controller.proofs.making.later_aims.Goals as goal
 
 pub loop-goal-init : goal.loop-goal-init

@@ -1,9 +1,7 @@
 use Rattle.std.proofs.Common.{◌≡◌, ◌≤◌, take, length, vec_len, vec_capacity}
-use Rattle.regions.specs.declared.types.When.TheVariants.{Later}
 use Rattle.regions.specs.Kept.{IsSameGame}
-use Rattle.gr1_sys.specs.Held.{all_regions}
-use Rattle.controller.specs.Owned.{MakesAll, move_items, aims_items, all_aims_items}
-use Rattle.controller.specs.Made.{AreLike, AreAllLike, leadings, regions_for}
+use Rattle.controller.specs.Owned.{MakesAll, move_items}
+use Rattle.controller.specs.Made.{leadings}
 use Rattle.controller.proofs.making.moves_into.Given as goal
 
 -- those so far

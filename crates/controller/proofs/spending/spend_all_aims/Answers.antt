@@ -1,9 +1,7 @@
-use Rattle.std.proofs.Common.{◌≡◌, List, [], ◌∷◌, ◌∙◌, ap, subst}
-use Rattle.std.proofs.lemmas.List.{map-append}
-use Rattle.regions.specs.Kept.{Item, Region, Move}
+use Rattle.std.proofs.Common.{◌≡◌, List, [], ◌∙◌, ap, subst}
 use Rattle.controller.specs.Owned.{aims_items, all_aims_items}
 use Rattle.controller.proofs.Holdings.{same_then}
-use Rattle.controller.proofs.Owning.{IsLeft, last_together, last_spent, all_spent, one_together, one_spent, none_left, aims_items-push, all_aims_items-push}
+use Rattle.controller.proofs.Owning.{IsLeft, last_together, last_spent, all_spent, none_left, all_aims_items-push}
 use Rattle.controller.proofs.spending.spend_all_aims.Goals as goal
 
 pub spend_aims-requires : goal.spend_aims-requires

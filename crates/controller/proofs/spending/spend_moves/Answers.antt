@@ -1,9 +1,9 @@
 use Rattle.std.proofs.Common.{◌≡◌, List, [], ◌∷◌, ◌∙◌, ap, subst}
 use Rattle.std.proofs.lemmas.List.{map-append}
-use Rattle.regions.specs.Kept.{Item, Region, Move}
+use Rattle.regions.specs.Kept.{Move}
 use Rattle.controller.specs.Owned.{move_items}
 use Rattle.controller.proofs.Holdings.{same_then}
-use Rattle.controller.proofs.Owning.{IsLeft, last_together, last_spent, all_spent, one_together, one_spent, none_left, aims_items-push, all_aims_items-push}
+use Rattle.controller.proofs.Owning.{IsLeft, last_together, last_spent, all_spent, one_together, one_spent, none_left}
 use Rattle.controller.proofs.spending.spend_moves.Goals as goal
 
 pub spend_move-requires : goal.spend_move-requires

@@ -1,6 +1,6 @@
-use Rattle.std.proofs.Common.{◌≡◌, ◌∙◌, map, pos, ap}
+use Rattle.std.proofs.Common.{◌∙◌, map, pos, ap}
 use Rattle.spec_model.specs.declared.value.Value.TheVariants as value
-use Rattle.spec_model.specs.GameViews.{game_data, hidden_data}
+use Rattle.spec_model.specs.GameViews.{hidden_data}
 use Rattle.spec_model.specs.Games.{Readout}
 use Rattle.hidden_game.specs.Sights.{nexts_at}
 use Rattle.hidden_game.proofs.reading.next_hidden.Goals as goal

@@ -1,4 +1,4 @@
-use Rattle.std.proofs.Common.{◌≡◌, ◌∙◌, ◌++◌, count_by, map, length, sym, ap, arith}
+use Rattle.std.proofs.Common.{◌≡◌, ◌∙◌, ◌++◌, count_by, map, length, ap, arith}
 use Rattle.std.proofs.lemmas.List.{length-map}
 use Rattle.spec_model.specs.Syntax.{VariableData}
 use Rattle.spec_model.specs.Views.{variable_data}

@@ -1,4 +1,4 @@
-use Rattle.std.proofs.Common.{◌≡◌, ◌∙◌, ◌∷◌, ◌++◌, [], List, None, refl, sym, ap, subst}
+use Rattle.std.proofs.Common.{◌∙◌, ◌∷◌, List, None, refl, sym, subst}
 use Rattle.spec_model.specs.Games.{GameData}
 use Rattle.hidden_game.specs.Judged.{IsJudgeOf}
 use Rattle.regions.specs.declared.types.When.TheVariants.{First}

@@ -1,13 +1,12 @@
-use Rattle.std.proofs.Common.{◌≡◌, ◌∙◌, List, not, length, refl, sym, ap, subst, true, false, Some, is_none, option_map, IsTrue}
+use Rattle.std.proofs.Common.{◌≡◌, ◌∙◌, not, length, refl, sym, ap, subst, true, false, Some, is_none, option_map, IsTrue}
 use Rattle.std.proofs.lemmas.Bool.{and_parts}
-use Rattle.spec_model.specs.declared.value.Value.{Value}
 use Rattle.spec_model.specs.Values.{Assignment, is_assignment}
 use Rattle.spec_model.specs.GameViews.{game_data}
 use Rattle.spec_model.specs.Moves.{is_env, domains_of}
 use Rattle.spec_model.specs.Rules.{Position}
 use Rattle.spec_model.specs.Meaning.{holds_at}
-use Rattle.spec_model.specs.Games.{Readout, State, listed}
-use Rattle.spec_model.specs.Steps.{is_state, is_output, are_hidden_values, reached}
+use Rattle.spec_model.specs.Games.{Readout, listed}
+use Rattle.spec_model.specs.Steps.{is_output, are_hidden_values, reached}
 use Rattle.spec_model.specs.WellMade.{is_step_formula, awaits_output, scope_of}
 use Rattle.spec_model.proofs.Closed.{closed}
 use Rattle.game_values.proofs.Safe.{IsTyped}

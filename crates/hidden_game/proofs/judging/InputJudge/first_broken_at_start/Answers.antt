@@ -1,4 +1,4 @@
-use Rattle.std.proofs.Common.{◌≡◌, ◌∙◌, refl, sym, ap, subst, None, is_none, option_map, IsTrue}
+use Rattle.std.proofs.Common.{◌∙◌, refl, sym, ap, subst, None, is_none, option_map, IsTrue}
 use Rattle.std.proofs.lemmas.Bool.{and_parts}
 use Rattle.spec_model.specs.Values.{Assignment}
 use Rattle.spec_model.specs.GameViews.{game_data}

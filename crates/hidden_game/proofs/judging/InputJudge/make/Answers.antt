@@ -1,10 +1,6 @@
-use Rattle.std.proofs.Common.{◌≡◌, not, map, length, ◌≤◌, arith, ap, ◌∙◌, subst, true}
+use Rattle.std.proofs.Common.{arith, ◌∙◌}
 use Rattle.std.proofs.lemmas.List.{length-map}
-use Rattle.spec_model.specs.Syntax.{VariableData}
-use Rattle.spec_model.specs.Views.{variable_data}
 use Rattle.spec_model.specs.GameViews.{game_data, hidden_data}
-use Rattle.spec_model.specs.Values.{is_assignment}
-use Rattle.spec_model.specs.Moves.{is_env, domains_of}
 use Rattle.spec_model.specs.Steps.{waits_for_output}
 use Rattle.game_values.proofs.WholeTables.{tables_whole, map-flags}
 use Rattle.hidden_game.proofs.judging.InputJudge.make.Goals as goal
