@@ -6,3 +6,6 @@ pub mod ClassSets
 pub mod Completeness
 pub mod WholeExpressions
 pub mod WholeLevels
+pub mod Stopping
+pub mod StoppingSteps
+pub mod StoppingExpressions
