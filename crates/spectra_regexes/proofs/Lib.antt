@@ -1,3 +1,4 @@
 pub mod RegexLevels
 pub mod SoundRegexes
 pub mod WholeRegexes
+pub mod StoppingRegexes
