@@ -1,5 +1,5 @@
 -- Where reading stops depends on the tokens up to there alone: one lemma for each form.
-use Rattle.std.proofs.Common.{◌≡◌, ℕ, zero, suc, ◌<◌, Bool, true, false, cond, List, [], ◌∷◌, ◌++◌, length, Option, Some, None, Result, Ok, Err, ◌⊎◌, inl, inr, refl, sym, ap, subst, ◌∙◌, append_assoc, arith}
+use Rattle.std.proofs.Common.{◌≡◌, ℕ, zero, suc, ◌<◌, Bool, true, false, cond, not, ◌||◌, List, [], ◌∷◌, ◌++◌, length, Option, Some, None, Result, Ok, Err, ◌⊎◌, inl, inr, refl, sym, ap, subst, ◌∙◌, append_assoc, arith}
 use Rattle.std.specs.Option.{option_map_or}
 use Rattle.spectra_exprs.specs.declared.fault.SyntaxFault.{SyntaxFault}
 use Rattle.spectra_exprs.specs.declared.fault.SyntaxFault.TheVariants as faults
@@ -270,6 +270,12 @@ starts_of_head class = record { same = at }
     at [] more h = rw h refl
     at (t ∷ ts) more h = rw h.1 refl
 
+pub not_of_head : {test : List Lexeme → Bool} → OfHead test → OfHead (λ ts. not (test ts))
+not_of_head h = record { same = λ ts more e. ap not (h.same ts more e) }
+
+pub or_tests_of_head : {p q : List Lexeme → Bool} → OfHead p → OfHead q → OfHead (λ ts. p ts || q ts)
+or_tests_of_head h k = record { same = λ ts more e. let a = h.same ts more e in let b = k.same ts more e in rw (a, b) refl }
+
 -- the tokens that led here, and others that begin as they do
 pub head_passed : (ts used rest more : List Lexeme) → ts ≡ used ++ rest → SameHead rest more → SameHead ts (used ++ more)
 head_passed ts used rest more front h = subst (λ (m : List Lexeme). SameHead m (used ++ more)) (sym front) (same_head_append used rest more h)
@@ -309,3 +315,28 @@ module _ {A : Type 0} {R S : Reader A} {test : List Lexeme → Bool} (head : OfH
 
   pub stable_if : Stable (λ ts. cond (test ts) (R ts) (S ts))
   stable_if = record { goes = λ ts a rest e. either_goes (test ts) ts a rest refl e; stops = λ ts f e. either_stops (test ts) ts f refl e }
+
+-- a reader that is told its first token before it reads it
+module _ {A : Type 0} (R : Reader A) (F : Lexeme → List Lexeme → Read A) (empty : R [] ≡ Err (faults.Unexpected 0)) (same : (t : Lexeme) (ts : List Lexeme) → R (t ∷ ts) ≡ F t (t ∷ ts)) (each : (t : Lexeme) → Stable (F t)) where
+  told : (t : Lexeme) (ts us : List Lexeme) → SameHead (t ∷ ts) us → R us ≡ F t us
+  told t ts us h = ap R h.1 ∙ same t h.0 ∙ ap (F t) (sym h.1)
+
+  told_goes : (ts : List Lexeme) (a : A) (rest : List Lexeme) → R ts ≡ Ok (a, rest) → Passed R ts a rest
+  told_goes [] a rest e = absurd (err_no_ok (faults.Unexpected 0) (a, rest) (sym empty ∙ e))
+  told_goes (t ∷ ts) a rest e =
+      let p = (each t).goes (t ∷ ts) a rest (sym (same t ts) ∙ e) in
+      record { used = p.used; front = p.front; quiet = p.quiet; again = λ more h. told t ts (p.used ++ more) (head_passed (t ∷ ts) p.used rest more p.front h) ∙ p.again more h }
+
+  told_stop : (t : Lexeme) (ts : List Lexeme) (f : SyntaxFault) → (StopsAt (F t) (t ∷ ts) f ⊎ NoEnd (t ∷ ts)) ⊎ ⊥ → (StopsAt R (t ∷ ts) f ⊎ NoEnd (t ∷ ts)) ⊎ ⊥
+  told_stop t ts f (inl (inl q)) =
+      inl (inl (record { used = q.used; token = q.token; rest = q.rest; front = q.front; names = q.names; again = λ more.
+        told t ts (q.used ++ q.token ∷ more) (head_passed (t ∷ ts) q.used (q.token ∷ q.rest) (q.token ∷ more) q.front (more, refl)) ∙ q.again more }))
+  told_stop t ts f (inl (inr q)) = inl (inr q)
+  told_stop t ts f (inr q) = absurd q
+
+  told_stops : (ts : List Lexeme) (f : SyntaxFault) → R ts ≡ Err f → (StopsAt R ts f ⊎ NoEnd ts) ⊎ ⊥
+  told_stops [] f e = inl (inr tt)
+  told_stops (t ∷ ts) f e = told_stop t ts f ((each t).stops (t ∷ ts) f (sym (same t ts) ∙ e))
+
+  pub stable_told : Stable R
+  stable_told = record { goes = told_goes; stops = told_stops }

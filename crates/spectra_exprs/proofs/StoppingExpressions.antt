@@ -26,7 +26,7 @@ use Rattle.spectra_exprs.proofs.StoppingSteps.{Looked, StableLook, stable_look, 
 -- ---- single tokens and operators
 
 -- a token of a class, and what is read behind it
-stable_after : {B : Type 0} (class : Class) {S : Lexeme → List Lexeme → Read B} → Apart (class ∷ []) (classes.Finish ∷ []) → ((t : Lexeme) → Stable (S t)) → Stable (λ ts. expect class ts >>= S)
+pub stable_after : {B : Type 0} (class : Class) {S : Lexeme → List Lexeme → Read B} → Apart (class ∷ []) (classes.Finish ∷ []) → ((t : Lexeme) → Stable (S t)) → Stable (λ ts. expect class ts >>= S)
 stable_after class other second = stable_then (stable_token class other) second
 
 stable_literal : Stable literal
@@ -40,11 +40,11 @@ stable_literal =
     (λ (n : Lexeme). stable_gives (expression m.at n.at (Form.Number true n.text))))) stable_unexpected))))
 
 -- a token of a set that has no end
-not_end_of : (F : List Class) → Apart F (classes.Finish ∷ []) → (t : Lexeme) → among F (place_of t.class) ≡ true → same_class t.class classes.Finish ≡ false
+pub not_end_of : (F : List Class) → Apart F (classes.Finish ∷ []) → (t : Lexeme) → among F (place_of t.class) ≡ true → same_class t.class classes.Finish ≡ false
 unfolding starts
 not_end_of F other t is = starts_going classes.Finish (t ∷ []) ∙ going_apart F (classes.Finish ∷ []) other (t ∷ []) is
 
-no_none : {X : Type 0} (x : X) → ◌≡◌ {A = Option X} (Some x) None → ⊥
+pub no_none : {X : Type 0} (x : X) → ◌≡◌ {A = Option X} (Some x) None → ⊥
 no_none x e = cc
 
 some_is : (t u : Lexeme) → ◌≡◌ {A = Option Lexeme} (Some u) (Some t) → t ≡ u

@@ -117,12 +117,19 @@ uses_token class = record { shorter = at }
     at [] a rest e = absurd (err_no_ok (faults.Unexpected 0) (a, rest) e)
     at (t ∷ ts) a rest e = by (same_class t.class class) t ts a rest e
 
-pub uses_then : {A B : Type 0} {R : Reader A} {S : A → Reader B} → Uses R → ((a : A) → Stable (S a)) → Uses (λ ts. R ts >>= S)
-uses_then {A = A} {B = B} {R = R} {S = S} u second = record { shorter = λ ts b rest e. at (R ts) ts b rest refl e }
+-- the same, where what follows knows the token before it
+pub uses_before : {A B : Type 0} {R : Reader A} {S : A → Reader B} (before : A → Option Lexeme) → Uses R → ((a : A) → StableAfter (before a) (S a)) → Uses (λ ts. R ts >>= S)
+uses_before {A = A} {B = B} {R = R} {S = S} before u second = record { shorter = λ ts b rest e. at (R ts) ts b rest refl e }
   where
     at : (r : Read A) (ts : List Lexeme) (b : B) (rest : List Lexeme) → R ts ≡ r → (r >>= S) ≡ Ok (b, rest) → length rest < length ts
     at (Ok x) ts b rest read e = omega (arith, u.shorter ts x.0 x.1 read, no_longer (second x.0) x.1 b rest e)
     at (Err f) ts b rest read e = absurd (err_no_ok f (b, rest) e)
+
+pub uses_then : {A B : Type 0} {R : Reader A} {S : A → Reader B} → Uses R → ((a : A) → Stable (S a)) → Uses (λ ts. R ts >>= S)
+uses_then {A = A} u second = uses_before (λ (a : A). None) u second
+
+pub uses_same : {A : Type 0} {R S : Reader A} → ((ts : List Lexeme) → R ts ≡ S ts) → Uses S → Uses R
+uses_same same u = record { shorter = λ ts a rest e. u.shorter ts a rest (sym (same ts) ∙ e) }
 
 pub uses_if : {A : Type 0} {R S : Reader A} (test : List Lexeme → Bool) → Uses R → Uses S → Uses (λ ts. cond (test ts) (R ts) (S ts))
 uses_if {A = A} {R = R} {S = S} test u v = record { shorter = λ ts a rest e. at (test ts) ts a rest e }

@@ -7,3 +7,7 @@ mod WholeTexts
 pub mod WholeText
 mod TokenCount
 mod QuoteEnds
+mod StoppingItems
+mod StoppingTexts
+mod Places
+mod TokenEnds

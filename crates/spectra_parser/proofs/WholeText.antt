@@ -57,9 +57,6 @@ value_of {A = A} a b r s e =
 pub one_tree : (ts : List Lexeme) (a b : TreeData) → HasTree ts a → HasTree ts b → a ≡ b
 one_tree ts a b p q = let e : ◌≡◌ {A = Read TreeData} (Ok (b, q.end ∷ [])) (Ok (a, p.end ∷ [])) = sym (text_read ts b q) ∙ text_read ts a p in (value_of b a (q.end ∷ []) (p.end ∷ []) e).0
 
-pub no_tree : (ts : List Lexeme) (f : SyntaxFault) → text_of ts ≡ Err f → (tree : TreeData) → HasTree ts tree → ⊥
-no_tree ts f read tree t = let e : ◌≡◌ {A = Read TreeData} (Err f) (Ok (tree, t.end ∷ [])) = sym read ∙ text_read ts tree t in absurd (cc)
-
 -- ---- what is read is a text
 
 shorter : (ts used rest : List Lexeme) → ts ≡ used ++ rest → 0 < length used → length rest < length ts

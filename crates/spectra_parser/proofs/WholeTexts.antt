@@ -135,17 +135,17 @@ whole_line at role =
 
 -- ---- items
 
-abbrev owner_table : List (Class × OwnerWord)
+abbrev pub owner_table : List (Class × OwnerWord)
 owner_table = (classes.Env, owners.Env) ∷ (classes.Sys, owners.Sys) ∷ (classes.Aux, owners.Aux) ∷ []
 
-abbrev role_table : List (Class × Role)
+abbrev pub role_table : List (Class × Role)
 role_table = (classes.Asm, Assumption) ∷ (classes.Gar, Guarantee) ∷ []
 
-in_owners : (c : Class) → owner_word c ≡ lookup owner_table c
+pub in_owners : (c : Class) → owner_word c ≡ lookup owner_table c
 unfolding owner_word same_class
 in_owners c = refl
 
-in_roles : (c : Class) → role_word c ≡ lookup role_table c
+pub in_roles : (c : Class) → role_word c ≡ lookup role_table c
 unfolding role_word same_class
 in_roles c = refl
 

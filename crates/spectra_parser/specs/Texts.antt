@@ -1,8 +1,10 @@
 -- What a text's tree is, and what an answer of the program says.
-use Rattle.std.specs.Prelude.{ℕ, ◌≡◌, List, Some, None}
+use Rattle.std.specs.Prelude.{ℕ, ◌≡◌, ◌+◌, ◌<◌, true, false, List, [], ◌∷◌, ◌++◌, length, take, Some, None}
 use Rattle.spectra_lexer.specs.declared.token.Token.{Token}
 use Rattle.spectra_exprs.specs.declared.fault.SyntaxFault.{SyntaxFault}
 use Rattle.spectra_exprs.specs.declared.fault.SyntaxFault.TheVariants as faults
+use Rattle.spectra_trees.specs.declared.class.Class.TheVariants as classes
+use Rattle.spectra_trees.specs.Classes.{same_class}
 use Rattle.spectra_trees.specs.Data.{TreeData}
 use Rattle.spectra_trees.specs.Lexemes.{Lexeme, lexemes}
 use Rattle.spectra_exprs.specs.Expressions.{levels_of_a_text}
@@ -17,11 +19,28 @@ HasTree ts tree = Text levels_of_a_text ts tree
 abbrev pub IsText : (text : List ℕ) → List Token → TreeData → Type 0
 IsText text tokens tree = HasTree (lexemes text tokens) tree
 
+-- the tokens of a whole text, numbered from a number on: the last, and no other, is the end of the text
+abbrev pub IsWholeFrom : ℕ → List Lexeme → Type 0
+IsWholeFrom number [] = ⊥
+IsWholeFrom number (t ∷ []) = (t.number ≡ number) × (same_class t.class classes.Finish ≡ true)
+IsWholeFrom number (t ∷ u ∷ ts) = (t.number ≡ number) × (same_class t.class classes.Finish ≡ false) × IsWholeFrom (number + 1) (u ∷ ts)
+
+-- tokens that begin a text: with some tokens behind them they are one
+pub record BeginText (ts : List Lexeme) : Type 0 where
+  pub more : List Lexeme
+  pub tree : TreeData
+  pub grammar : HasTree (ts ++ more) tree
+
+-- a token of the list, by its number: the tokens up to it, and including it, begin no text
+pub record IsRefused (ts : List Lexeme) (at : ℕ) : Type 0 where
+  pub within : at < length ts
+  pub refused : BeginText (take (at + 1) ts) → ⊥
+
 -- what a fault says of the tokens; of want of memory nothing is said
 abbrev pub Explains : List Lexeme → SyntaxFault → Type 0
-Explains ts (faults.Unexpected at) = (tree : TreeData) → HasTree ts tree → ⊥
-Explains ts (faults.TooDeep at) = (tree : TreeData) → HasTree ts tree → ⊥
-Explains ts (faults.Parentheses at) = (tree : TreeData) → HasTree ts tree → ⊥
+Explains ts (faults.Unexpected at) = IsRefused ts at
+Explains ts (faults.TooDeep at) = IsRefused ts at
+Explains ts (faults.Parentheses at) = IsRefused ts at
 Explains ts (faults.Unsupported at) = ((tree : TreeData) × HasTree ts tree) × (first_unbuilt ts ≡ Some at)
 Explains ts faults.Memory = Unit {0}
 

@@ -5,7 +5,7 @@ ghost use Rattle.spectra_lexer.specs.Tokens.{AreTokens};
 ghost use Rattle.spectra_trees.specs.Data.{TreeData};
 ghost use Rattle.spectra_trees.specs.Views.{tree_data};
 ghost use Rattle.spectra_trees.specs.Lexemes.{lexemes, lexemes_of};
-ghost use Rattle.spectra_parser.specs.Texts.{HasTree, IsText, IsBuilt, Explains, refusal as refusal_lem};
+ghost use Rattle.spectra_parser.specs.Texts.{HasTree, IsText, IsWholeFrom, IsBuilt, Explains, refusal as refusal_lem};
 ghost use Rattle.spectra_parser.specs.Unbuilt.{first_unbuilt as first_unbuilt_lem};
 
 use crate::item;
@@ -41,6 +41,7 @@ fn refusal(fault: SyntaxFault) -> SyntaxFault
 
 /// The tree of a list of tokens, where each form in it is built.
 pub fn tree_of(alloc: Global, tokens: &[Spelled<'_>]) -> Result<Tree, SyntaxFault>
+    requires whole { IsWholeFrom 0 (lexemes_of tokens.now) }
     ensures tree { IfOk result (λ tree. IsBuilt (lexemes_of tokens.now) (tree_data tree)) }
     ensures fault { IfErr result (Explains (lexemes_of tokens.now)) }
 {
@@ -51,8 +52,8 @@ pub fn tree_of(alloc: Global, tokens: &[Spelled<'_>]) -> Result<Tree, SyntaxFaul
 }
 
 /// The tree of a text's tokens. `Unsupported`: they are a text of the grammar, and this is the first token of its least
-/// form that isn't built. `Unexpected`, `TooDeep`, `Parentheses`: they are none, by the grammar and with 128 levels;
-/// the number is that of the token at which reading stopped. `Memory`: none was given.
+/// form that isn't built. `Unexpected`, `TooDeep`, `Parentheses`: the tokens up to this one, and including it, begin no
+/// text of the grammar with at most 128 levels. `Memory`: none was given.
 pub fn parse(alloc: Global, text: &[u8], tokens: &[Token]) -> Result<Tree, SyntaxFault>
     requires lexed { AreTokens text.now tokens.now }
     ensures tree { IfOk result (λ tree. IsBuilt (lexemes text.now tokens.now) (tree_data tree)) }

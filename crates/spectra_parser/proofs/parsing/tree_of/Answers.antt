@@ -9,17 +9,18 @@ use Rattle.spectra_trees.specs.Lexemes.{Lexeme, lexemes_of}
 use Rattle.spectra_exprs.specs.Read.{Fails}
 use Rattle.spectra_parser.specs.Items.{text_of}
 use Rattle.spectra_parser.specs.Unbuilt.{first_unbuilt}
-use Rattle.spectra_parser.specs.Texts.{HasTree, IsBuilt, Explains, refusal}
-use Rattle.spectra_parser.proofs.WholeText.{text_got, no_tree}
+use Rattle.spectra_parser.specs.Texts.{HasTree, IsWholeFrom, IsBuilt, Explains, refusal}
+use Rattle.spectra_parser.proofs.WholeText.{text_got}
+use Rattle.spectra_parser.proofs.Places.{unexpected_refused, deep_refused, parentheses_refused, never_unsupported}
 use Rattle.spectra_parser.proofs.parsing.tree_of.Goals as goal
 
--- a fault at which reading stops explains that there is no tree
-explained : (ts : List Lexeme) (f : SyntaxFault) → Fails f (text_of ts) → Explains ts (refusal f)
-explained ts (faults.Unexpected at) h = λ tree t. no_tree ts (faults.Unexpected at) h tree t
-explained ts (faults.TooDeep at) h = λ tree t. no_tree ts (faults.TooDeep at) h tree t
-explained ts (faults.Parentheses at) h = λ tree t. no_tree ts (faults.Parentheses at) h tree t
-explained ts (faults.Unsupported at) h = λ tree t. no_tree ts (faults.Unsupported at) h tree t
-explained ts faults.Memory h = tt
+-- a fault at which reading stops names a token that is refused
+explained : (ts : List Lexeme) (f : SyntaxFault) → IsWholeFrom 0 ts → Fails f (text_of ts) → Explains ts (refusal f)
+explained ts (faults.Unexpected at) w h = unexpected_refused ts at w h
+explained ts (faults.TooDeep at) w h = deep_refused ts at w h
+explained ts (faults.Parentheses at) w h = parentheses_refused ts at w h
+explained ts (faults.Unsupported at) w h = absurd (never_unsupported ts at w h)
+explained ts faults.Memory w h = tt
 
 built_tree : (r : Result Tree SyntaxFault) (ts : List Lexeme) (tree : TreeData) → HasTree ts tree → IfOk r (λ found. tree_data found ≡ tree) → IfOk r (λ found. first_unbuilt ts ≡ None) → IfOk r (λ found. IsBuilt ts (tree_data found))
 built_tree (Ok found) ts tree t same none = record { grammar = subst (λ (x : TreeData). HasTree ts x) (sym same) t; built = none }
@@ -34,4 +35,4 @@ returns-in-Ok-clause-tree c =
     (text_got (lexemes_of c.args.tokens.now) (tree_data c.in-Ok.tree) (lexemes_of c.in-Ok.field-0-1.now) c.in-Ok.ensures.read) c.built.ensures.tree c.built.ensures.built
 
 pub returns-in-Err-clause-fault : goal.returns-in-Err-clause-fault
-returns-in-Err-clause-fault c = rw c.refusal.ensures (explained (lexemes_of c.args.tokens.now) c.in-Err.fault c.in-Err.ensures.read)
+returns-in-Err-clause-fault c = rw c.refusal.ensures (explained (lexemes_of c.args.tokens.now) c.in-Err.fault c.requires.whole c.in-Err.ensures.read)
