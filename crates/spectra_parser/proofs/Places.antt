@@ -201,8 +201,8 @@ refused ts f at w q same =
     record {
       within = omega (arith, place, same, ap length q.front, length-append q.used (q.token ∷ q.rest));
       refused = λ b.
-        let whole : take (at + 1) ts ++ b.more ≡ q.used ++ q.token ∷ b.more = ap (λ (us : List Lexeme). us ++ b.more) taken ∙ append_assoc q.used (q.token ∷ []) b.more in
-        no_text ts f q b.more b.tree (subst (λ (us : List Lexeme). HasTree us b.tree) whole b.grammar);
+          let whole : take (at + 1) ts ++ b.more ≡ q.used ++ q.token ∷ b.more = ap (λ (us : List Lexeme). us ++ b.more) taken ∙ append_assoc q.used (q.token ∷ []) b.more in
+          no_text ts f q b.more b.tree (subst (λ (us : List Lexeme). HasTree us b.tree) whole b.grammar);
     }
 
 stopped : (ts : List Lexeme) (f : SyntaxFault) → IsWholeFrom 0 ts → text_of ts ≡ Err f → StopsAt to_first_end ts f
