@@ -9,3 +9,7 @@ pub mod WholeLevels
 pub mod Stopping
 pub mod StoppingSteps
 pub mod StoppingExpressions
+pub mod Opening
+pub mod OpeningSteps
+pub mod Examples
+pub mod OpeningExpressions

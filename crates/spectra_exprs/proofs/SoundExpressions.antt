@@ -49,7 +49,7 @@ sound_literal =
 
 -- ---- operators
 
-prefix_looks : Looks Prefix prefix_at
+pub prefix_looks : Looks Prefix prefix_at
 unfolding prefix_at
 prefix_looks = record { found = looks }
   where
@@ -68,7 +68,7 @@ prefix_looks = record { found = looks }
     looks [] x rest e = absurd (no_some (x, rest) e)
     looks (t ∷ ts) x rest e = word (prefix_word t.class) t ts x rest refl e
 
-operator_looks : (level : Level) → Looks (Operator level) (operator_at level)
+pub operator_looks : (level : Level) → Looks (Operator level) (operator_at level)
 unfolding operator_at
 operator_looks level = record { found = looks }
   where
@@ -91,7 +91,7 @@ sound_or_sign : Sound OrSign expect_or
 unfolding expect_or
 sound_or_sign = sound_if (starts classes.Bar) (sound_token classes.Bar) (sound_token classes.Or)
 
-sound_closed : {A : Type 0} (a : A) → Sound (Gives a) (closed a)
+pub sound_closed : {A : Type 0} (a : A) → Sound (Gives a) (closed a)
 unfolding closed
 sound_closed {A = A} a = record { got = reads }
   where

@@ -168,7 +168,7 @@ pub sound_look_only : {X A : Type 0} {K : List Lexeme → X → Type 0} {P : X �
 sound_look_only {K = K} {P = P} k r s = sound_wider ((K ▸ P) ∣ (K ▸ P)) (λ used a e. either_of (K ▸ P) used a e) (sound_look k r s)
 
 -- a part that gives what is read makes no difference
-gives_alone : {A : Type 0} (P : List Lexeme → A → Type 0) (used front back : List Lexeme) (a b : A) → used ≡ front ++ back → back ≡ [] → b ≡ a → P front a → P used b
+pub gives_alone : {A : Type 0} (P : List Lexeme → A → Type 0) (used front back : List Lexeme) (a b : A) → used ≡ front ++ back → back ≡ [] → b ≡ a → P front a → P used b
 gives_alone {A = A} P used front back a b parts nothing same p =
     let whole : used ≡ front = parts ∙ ap (λ (r : List Lexeme). front ++ r) nothing ∙ append-nil front in
     subst (λ (u : List Lexeme). P u b) (sym whole) (subst (λ (x : A). P front x) (sym same) p)

@@ -50,7 +50,7 @@ no_none x e = cc
 some_is : (t u : Lexeme) → ◌≡◌ {A = Option Lexeme} (Some u) (Some t) → t ≡ u
 some_is t u e = cc
 
-prefix_look : StableLook (λ (x : Lexeme × PrefixWord). Some x.0) prefix_at
+pub prefix_look : StableLook (λ (x : Lexeme × PrefixWord). Some x.0) prefix_at
 unfolding prefix_at place_of
 prefix_look = record { found = looks; passes = over }
   where
@@ -87,7 +87,7 @@ operators_end levels.Past = record { checked = refl }
 operators_end levels.Relation = record { checked = refl }
 operators_end levels.Sum = record { checked = refl }
 
-operator_look : (level : Level) → StableLook (λ (x : Place × BinaryWord). None) (operator_at level)
+pub operator_look : (level : Level) → StableLook (λ (x : Place × BinaryWord). None) (operator_at level)
 unfolding operator_at
 operator_look level = record { found = looks; passes = over }
   where

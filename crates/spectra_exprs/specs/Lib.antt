@@ -4,3 +4,4 @@ pub mod Expressions
 pub mod ExprViews
 pub mod Forms
 pub mod Grammar
+pub mod Spellings
