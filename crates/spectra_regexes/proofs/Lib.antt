@@ -2,3 +2,4 @@ pub mod RegexLevels
 pub mod SoundRegexes
 pub mod WholeRegexes
 pub mod StoppingRegexes
+pub mod OpeningRegexes
