@@ -73,10 +73,18 @@ a_Name = record { token = token_of kinds.Name (codes "a"); is = refl; spelled = 
 -- the number 0
 pub a_Number : Example classes.Number
 unfolding unicode_ident same_class class_of place_of
-a_Number = record { token = token_of kinds.Number (codes "0"); is = refl; spelled = record { kind = kinds.Number; text = token_text kinds.Number (codes "0") refl (record {
-  piece = record { first = 48; behind = []; front = []; text_is = refl; piece_is = refl; goes = record { parts = refl; goes = refl; ends = refl } };
-  sort = refl;
-}); class = refl } }
+a_Number = record {
+  token = token_of kinds.Number (codes "0");
+  is = refl;
+  spelled = record {
+    kind = kinds.Number;
+    text = token_text kinds.Number (codes "0") refl (record {
+      piece = record { first = 48; behind = []; front = []; text_is = refl; piece_is = refl; goes = record { parts = refl; goes = refl; ends = refl } };
+      sort = refl;
+    });
+    class = refl;
+  };
+}
 
 pub a_Equal : Example classes.Equal
 unfolding unicode_ident is_sign same_class class_of sign_class known arrow_class relation_class sum_class mark_class bracket_class place_of
@@ -257,10 +265,18 @@ a_Head = word_of classes.Head 115 (codes "pec") refl refl refl refl refl
 -- two quotation marks
 pub a_Text : Example classes.Text
 unfolding unicode_ident same_class class_of place_of
-a_Text = record { token = token_of kinds.Text (34 ∷ 34 ∷ []); is = refl; spelled = record { kind = kinds.Text; text = token_text kinds.Text (34 ∷ 34 ∷ []) refl (record {
-  piece = record { front = 34 ∷ []; piece_is = refl; begins = record { first = 34; behind = 34 ∷ []; front = []; text_is = refl; piece_is = refl; goes = record { parts = refl; goes = refl; ends = refl } } };
-  sort = refl;
-}); class = refl } }
+a_Text = record {
+  token = token_of kinds.Text (34 ∷ 34 ∷ []);
+  is = refl;
+  spelled = record {
+    kind = kinds.Text;
+    text = token_text kinds.Text (34 ∷ 34 ∷ []) refl (record {
+      piece = record { front = 34 ∷ []; piece_is = refl; begins = record { first = 34; behind = 34 ∷ []; front = []; text_is = refl; piece_is = refl; goes = record { parts = refl; goes = refl; ends = refl } } };
+      sort = refl;
+    });
+    class = refl;
+  };
+}
 
 pub a_Finish : Example classes.Finish
 unfolding same_class class_of place_of

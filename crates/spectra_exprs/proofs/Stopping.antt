@@ -97,8 +97,8 @@ module _ {A B : Type 0} (R : Reader A) (S : A → Reader B) where
         front = p.front ∙ ap (λ (m : List Lexeme). p.used ++ m) q.front ∙ sym (append_assoc p.used q.used rest);
         quiet = no_end_append p.used q.used p.quiet q.quiet;
         again = λ more h.
-          let head : SameHead x.1 (q.used ++ more) = subst (λ (m : List Lexeme). SameHead m (q.used ++ more)) (sym q.front) (same_head_append q.used rest more h) in
-          through ((p.used ++ q.used) ++ more) (p.used ++ (q.used ++ more)) (x.0, q.used ++ more) (Ok (b, more)) (append_assoc p.used q.used more) (p.again (q.used ++ more) head) (q.again more h);
+            let head : SameHead x.1 (q.used ++ more) = subst (λ (m : List Lexeme). SameHead m (q.used ++ more)) (sym q.front) (same_head_append q.used rest more h) in
+            through ((p.used ++ q.used) ++ more) (p.used ++ (q.used ++ more)) (x.0, q.used ++ more) (Ok (b, more)) (append_assoc p.used q.used more) (p.again (q.used ++ more) head) (q.again more h);
       }
 
   second_stops : (ts : List Lexeme) (x : A × List Lexeme) (f : SyntaxFault) → Passed R ts x.0 x.1 → StopsAt (S x.0) x.1 f ⊎ NoEnd x.1 → StopsAt (λ ts. R ts >>= S) ts f ⊎ NoEnd ts
@@ -110,14 +110,18 @@ module _ {A B : Type 0} (R : Reader A) (S : A → Reader B) where
         front = p.front ∙ ap (λ (m : List Lexeme). p.used ++ m) q.front ∙ sym (append_assoc p.used q.used (q.token ∷ q.rest));
         names = q.names;
         again = λ more.
-          let head : SameHead x.1 (q.used ++ q.token ∷ more) = subst (λ (m : List Lexeme). SameHead m (q.used ++ q.token ∷ more)) (sym q.front) (same_head_append q.used (q.token ∷ q.rest) (q.token ∷ more) (more, refl)) in
-          through ((p.used ++ q.used) ++ q.token ∷ more) (p.used ++ (q.used ++ q.token ∷ more)) (x.0, q.used ++ q.token ∷ more) (Err f) (append_assoc p.used q.used (q.token ∷ more)) (p.again (q.used ++ q.token ∷ more) head) (q.again more);
+            let head : SameHead x.1 (q.used ++ q.token ∷ more) = subst (λ (m : List Lexeme). SameHead m (q.used ++ q.token ∷ more)) (sym q.front) (same_head_append q.used (q.token ∷ q.rest) (q.token ∷ more) (more, refl)) in
+            through ((p.used ++ q.used) ++ q.token ∷ more) (p.used ++ (q.used ++ q.token ∷ more)) (x.0, q.used ++ q.token ∷ more) (Err f) (append_assoc p.used q.used (q.token ∷ more)) (p.again (q.used ++ q.token ∷ more) head) (q.again more);
       })
   second_stops ts x f p (inr q) = inr (subst NoEnd (sym p.front) (no_end_append p.used x.1 p.quiet q))
 
   first_stops : (before : Option Lexeme) (ts : List Lexeme) (f : SyntaxFault) → (StopsAt R ts f ⊎ NoEnd ts) ⊎ StopsBefore before R f → (StopsAt (λ ts. R ts >>= S) ts f ⊎ NoEnd ts) ⊎ StopsBefore before (λ ts. R ts >>= S) f
   first_stops before ts f (inl (inl q)) = inl (inl (record {
-    used = q.used; token = q.token; rest = q.rest; front = q.front; names = q.names;
+    used = q.used;
+    token = q.token;
+    rest = q.rest;
+    front = q.front;
+    names = q.names;
     again = λ more. let read = q.again more in rw read refl;
   }))
   first_stops before ts f (inl (inr q)) = inl (inr q)
@@ -145,16 +149,16 @@ module _ {A B : Type 0} {R : Reader A} {S : A → Reader B} {before : Option Lex
 pub stable_gives : {A : Type 0} (a : A) → Stable (λ ts. Ok (a, ts))
 stable_gives {A = A} a = record {
   goes = λ ts b rest e.
-    let p = ok_value a b ts rest e in
-    record { used = []; front = sym p.1; quiet = tt; again = λ more h. ap (λ (x : A). Ok (x, more)) (sym p.0) };
+      let p = ok_value a b ts rest e in
+      record { used = []; front = sym p.1; quiet = tt; again = λ more h. ap (λ (x : A). Ok (x, more)) (sym p.0) };
   stops = λ ts f e. absurd (ok_no_err (a, ts) f e);
 }
 
 pub stable_same : {A : Type 0} {before : Option Lexeme} {R S : Reader A} → ((ts : List Lexeme) → R ts ≡ S ts) → StableAfter before S → StableAfter before R
 stable_same {A = A} {before = before} {R = R} {S = S} same s = record {
   goes = λ ts a rest e.
-    let p = s.goes ts a rest (sym (same ts) ∙ e) in
-    record { used = p.used; front = p.front; quiet = p.quiet; again = λ more h. same (p.used ++ more) ∙ p.again more h };
+      let p = s.goes ts a rest (sym (same ts) ∙ e) in
+      record { used = p.used; front = p.front; quiet = p.quiet; again = λ more h. same (p.used ++ more) ∙ p.again more h };
   stops = λ ts f e. turned before ts f (s.stops ts f (sym (same ts) ∙ e));
 }
   where
@@ -183,8 +187,8 @@ pub stable_deep : {A : Type 0} (t : Lexeme) → StableAfter {A = A} (Some t) (λ
 stable_deep {A = A} t = record {
   goes = λ ts a rest e. absurd (err_no_ok (faults.TooDeep t.number) (a, rest) e);
   stops = λ ts f e.
-    subst (λ (g : SyntaxFault). (StopsAt {A = A} (λ ts. Err (faults.TooDeep t.number)) ts g ⊎ NoEnd ts) ⊎ StopsBefore {A = A} (Some t) (λ ts. Err (faults.TooDeep t.number)) g)
-    (err_is (faults.TooDeep t.number) f e) (inr (refl, λ more. refl));
+      subst (λ (g : SyntaxFault). (StopsAt {A = A} (λ ts. Err (faults.TooDeep t.number)) ts g ⊎ NoEnd ts) ⊎ StopsBefore {A = A} (Some t) (λ ts. Err (faults.TooDeep t.number)) g)
+      (err_is (faults.TooDeep t.number) f e) (inr (refl, λ more. refl));
 }
 
 -- ---- tokens
@@ -284,28 +288,52 @@ module _ {A : Type 0} {R S : Reader A} {test : List Lexeme → Bool} (head : OfH
   either_goes : (b : Bool) (ts : List Lexeme) (a : A) (rest : List Lexeme) → test ts ≡ b → cond b (R ts) (S ts) ≡ Ok (a, rest) → Passed (λ ts. cond (test ts) (R ts) (S ts)) ts a rest
   either_goes true ts a rest is e =
       let p = r.goes ts a rest e in
-      record { used = p.used; front = p.front; quiet = p.quiet; again = λ more h.
-        let on : test (p.used ++ more) ≡ true = sym (head.same ts (p.used ++ more) (head_passed ts p.used rest more p.front h)) ∙ is in
-        rw on (p.again more h) }
+      record {
+        used = p.used;
+        front = p.front;
+        quiet = p.quiet;
+        again = λ more h.
+            let on : test (p.used ++ more) ≡ true = sym (head.same ts (p.used ++ more) (head_passed ts p.used rest more p.front h)) ∙ is in
+            rw on (p.again more h);
+      }
   either_goes false ts a rest is e =
       let p = s.goes ts a rest e in
-      record { used = p.used; front = p.front; quiet = p.quiet; again = λ more h.
-        let on : test (p.used ++ more) ≡ false = sym (head.same ts (p.used ++ more) (head_passed ts p.used rest more p.front h)) ∙ is in
-        rw on (p.again more h) }
+      record {
+        used = p.used;
+        front = p.front;
+        quiet = p.quiet;
+        again = λ more h.
+            let on : test (p.used ++ more) ≡ false = sym (head.same ts (p.used ++ more) (head_passed ts p.used rest more p.front h)) ∙ is in
+            rw on (p.again more h);
+      }
 
   first_stopped : (ts : List Lexeme) (f : SyntaxFault) → test ts ≡ true → (StopsAt R ts f ⊎ NoEnd ts) ⊎ ⊥ → (StopsAt (λ ts. cond (test ts) (R ts) (S ts)) ts f ⊎ NoEnd ts) ⊎ ⊥
   first_stopped ts f is (inl (inl q)) =
-      inl (inl (record { used = q.used; token = q.token; rest = q.rest; front = q.front; names = q.names; again = λ more.
-        let on : test (q.used ++ q.token ∷ more) ≡ true = sym (head.same ts (q.used ++ q.token ∷ more) (head_passed ts q.used (q.token ∷ q.rest) (q.token ∷ more) q.front (more, refl))) ∙ is in
-        rw on (q.again more) }))
+      inl (inl (record {
+        used = q.used;
+        token = q.token;
+        rest = q.rest;
+        front = q.front;
+        names = q.names;
+        again = λ more.
+            let on : test (q.used ++ q.token ∷ more) ≡ true = sym (head.same ts (q.used ++ q.token ∷ more) (head_passed ts q.used (q.token ∷ q.rest) (q.token ∷ more) q.front (more, refl))) ∙ is in
+            rw on (q.again more);
+      }))
   first_stopped ts f is (inl (inr q)) = inl (inr q)
   first_stopped ts f is (inr q) = absurd q
 
   other_stopped : (ts : List Lexeme) (f : SyntaxFault) → test ts ≡ false → (StopsAt S ts f ⊎ NoEnd ts) ⊎ ⊥ → (StopsAt (λ ts. cond (test ts) (R ts) (S ts)) ts f ⊎ NoEnd ts) ⊎ ⊥
   other_stopped ts f is (inl (inl q)) =
-      inl (inl (record { used = q.used; token = q.token; rest = q.rest; front = q.front; names = q.names; again = λ more.
-        let on : test (q.used ++ q.token ∷ more) ≡ false = sym (head.same ts (q.used ++ q.token ∷ more) (head_passed ts q.used (q.token ∷ q.rest) (q.token ∷ more) q.front (more, refl))) ∙ is in
-        rw on (q.again more) }))
+      inl (inl (record {
+        used = q.used;
+        token = q.token;
+        rest = q.rest;
+        front = q.front;
+        names = q.names;
+        again = λ more.
+            let on : test (q.used ++ q.token ∷ more) ≡ false = sym (head.same ts (q.used ++ q.token ∷ more) (head_passed ts q.used (q.token ∷ q.rest) (q.token ∷ more) q.front (more, refl))) ∙ is in
+            rw on (q.again more);
+      }))
   other_stopped ts f is (inl (inr q)) = inl (inr q)
   other_stopped ts f is (inr q) = absurd q
 
@@ -329,8 +357,15 @@ module _ {A : Type 0} (R : Reader A) (F : Lexeme → List Lexeme → Read A) (em
 
   told_stop : (t : Lexeme) (ts : List Lexeme) (f : SyntaxFault) → (StopsAt (F t) (t ∷ ts) f ⊎ NoEnd (t ∷ ts)) ⊎ ⊥ → (StopsAt R (t ∷ ts) f ⊎ NoEnd (t ∷ ts)) ⊎ ⊥
   told_stop t ts f (inl (inl q)) =
-      inl (inl (record { used = q.used; token = q.token; rest = q.rest; front = q.front; names = q.names; again = λ more.
-        told t ts (q.used ++ q.token ∷ more) (head_passed (t ∷ ts) q.used (q.token ∷ q.rest) (q.token ∷ more) q.front (more, refl)) ∙ q.again more }))
+      inl (inl (record {
+        used = q.used;
+        token = q.token;
+        rest = q.rest;
+        front = q.front;
+        names = q.names;
+        again = λ more.
+            told t ts (q.used ++ q.token ∷ more) (head_passed (t ∷ ts) q.used (q.token ∷ q.rest) (q.token ∷ more) q.front (more, refl)) ∙ q.again more;
+      }))
   told_stop t ts f (inl (inr q)) = inl (inr q)
   told_stop t ts f (inr q) = absurd q
 

@@ -184,8 +184,8 @@ module _ {A : Type 0} {test : List Lexeme → Bool} {step : A → Reader A} (hea
         front = sym p.1;
         quiet = tt;
         again = λ more turns h lt.
-          let out : test more ≡ false = sym (head.same ts more (subst (λ (r : List Lexeme). SameHead r more) p.1 h)) ∙ off in
-          no_turn test step turns a more out ∙ ap (λ (x : A). Ok (x, more)) (sym p.0);
+            let out : test more ≡ false = sym (head.same ts more (subst (λ (r : List Lexeme). SameHead r more) p.1 h)) ∙ off in
+            no_turn test step turns a more out ∙ ap (λ (x : A). Ok (x, more)) (sym p.0);
       }
 
   further_grows : (a : A) (ts : List Lexeme) (x : A × List Lexeme) (b : A) (rest : List Lexeme) → test ts ≡ true → Passed (step a) ts x.0 x.1 → Grows x.0 x.1 b rest → Grows a ts b rest
@@ -196,10 +196,10 @@ module _ {A : Type 0} {test : List Lexeme → Bool} {step : A → Reader A} (hea
         front = front;
         quiet = no_end_append p.used q.used p.quiet q.quiet;
         again = λ more turns h lt.
-          let inner : SameHead x.1 (q.used ++ more) = head_passed x.1 q.used rest more q.front h in
-          let whole : (p.used ++ q.used) ++ more ≡ p.used ++ (q.used ++ more) = append_assoc p.used q.used more in
-          let here : test ((p.used ++ q.used) ++ more) ≡ true = sym (head.same ts ((p.used ++ q.used) ++ more) (head_passed ts (p.used ++ q.used) rest more front h)) ∙ on in
-          turn_on turns a ((p.used ++ q.used) ++ more) (x.0, q.used ++ more) (Ok (b, more)) lt here (ap (step a) whole ∙ p.again (q.used ++ more) inner) (λ k room. q.again more k h room);
+            let inner : SameHead x.1 (q.used ++ more) = head_passed x.1 q.used rest more q.front h in
+            let whole : (p.used ++ q.used) ++ more ≡ p.used ++ (q.used ++ more) = append_assoc p.used q.used more in
+            let here : test ((p.used ++ q.used) ++ more) ≡ true = sym (head.same ts ((p.used ++ q.used) ++ more) (head_passed ts (p.used ++ q.used) rest more front h)) ∙ on in
+            turn_on turns a ((p.used ++ q.used) ++ more) (x.0, q.used ++ more) (Ok (b, more)) lt here (ap (step a) whole ∙ p.again (q.used ++ more) inner) (λ k room. q.again more k h room);
       }
 
   first_stalls : (a : A) (ts : List Lexeme) (f : SyntaxFault) → test ts ≡ true → (StopsAt (step a) ts f ⊎ NoEnd ts) ⊎ ⊥ → Stalls a ts f ⊎ NoEnd ts
@@ -211,8 +211,8 @@ module _ {A : Type 0} {test : List Lexeme → Bool} {step : A → Reader A} (hea
         front = q.front;
         names = q.names;
         again = λ more turns lt.
-          let here : test (q.used ++ q.token ∷ more) ≡ true = sym (head.same ts (q.used ++ q.token ∷ more) (head_passed ts q.used (q.token ∷ q.rest) (q.token ∷ more) q.front (more, refl))) ∙ on in
-          turn_bad turns a (q.used ++ q.token ∷ more) f lt here (q.again more);
+            let here : test (q.used ++ q.token ∷ more) ≡ true = sym (head.same ts (q.used ++ q.token ∷ more) (head_passed ts q.used (q.token ∷ q.rest) (q.token ∷ more) q.front (more, refl))) ∙ on in
+            turn_bad turns a (q.used ++ q.token ∷ more) f lt here (q.again more);
       })
   first_stalls a ts f on (inl (inr q)) = inr q
   first_stalls a ts f on (inr q) = absurd q
@@ -227,10 +227,10 @@ module _ {A : Type 0} {test : List Lexeme → Bool} {step : A → Reader A} (hea
         front = front;
         names = q.names;
         again = λ more turns lt.
-          let inner : SameHead x.1 (q.used ++ q.token ∷ more) = head_passed x.1 q.used (q.token ∷ q.rest) (q.token ∷ more) q.front (more, refl) in
-          let whole : (p.used ++ q.used) ++ q.token ∷ more ≡ p.used ++ (q.used ++ q.token ∷ more) = append_assoc p.used q.used (q.token ∷ more) in
-          let here : test ((p.used ++ q.used) ++ q.token ∷ more) ≡ true = sym (head.same ts ((p.used ++ q.used) ++ q.token ∷ more) (head_passed ts (p.used ++ q.used) (q.token ∷ q.rest) (q.token ∷ more) front (more, refl))) ∙ on in
-          turn_on turns a ((p.used ++ q.used) ++ q.token ∷ more) (x.0, q.used ++ q.token ∷ more) (Err f) lt here (ap (step a) whole ∙ p.again (q.used ++ q.token ∷ more) inner) (λ k room. q.again more k room);
+            let inner : SameHead x.1 (q.used ++ q.token ∷ more) = head_passed x.1 q.used (q.token ∷ q.rest) (q.token ∷ more) q.front (more, refl) in
+            let whole : (p.used ++ q.used) ++ q.token ∷ more ≡ p.used ++ (q.used ++ q.token ∷ more) = append_assoc p.used q.used (q.token ∷ more) in
+            let here : test ((p.used ++ q.used) ++ q.token ∷ more) ≡ true = sym (head.same ts ((p.used ++ q.used) ++ q.token ∷ more) (head_passed ts (p.used ++ q.used) (q.token ∷ q.rest) (q.token ∷ more) front (more, refl))) ∙ on in
+            turn_on turns a ((p.used ++ q.used) ++ q.token ∷ more) (x.0, q.used ++ q.token ∷ more) (Err f) lt here (ap (step a) whole ∙ p.again (q.used ++ q.token ∷ more) inner) (λ k room. q.again more k room);
       })
   further_stalls a ts x f on p (inr q) = inr (subst NoEnd (sym p.front) (no_end_append p.used x.1 p.quiet q))
 

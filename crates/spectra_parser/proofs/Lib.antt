@@ -10,4 +10,8 @@ mod QuoteEnds
 mod StoppingItems
 mod StoppingTexts
 mod Places
+mod OpeningItems
+mod OpeningDeclarations
+mod OpeningTexts
+mod Beginnings
 mod TokenEnds

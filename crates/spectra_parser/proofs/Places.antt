@@ -8,10 +8,11 @@ use Rattle.spectra_trees.specs.Classes.{place_of, same_class}
 use Rattle.spectra_trees.specs.Data.{NameData, ItemData, TreeData}
 use Rattle.spectra_trees.specs.Lexemes.{Lexeme, name_of}
 use Rattle.spectra_exprs.specs.Read.{Read, Reader, ◌>>=◌, starts, expect, grow, all_of}
+use Rattle.spectra_exprs.specs.Expressions.{levels_of_a_text}
 use Rattle.spectra_exprs.proofs.Stopping.{NoEnd, Names, Passed, StopsAt, StopsBefore, Stable, StableAfter, ok_no_err, err_no_ok, stable_token, starts_of_head}
 use Rattle.spectra_exprs.proofs.StoppingSteps.{stable_steps}
 use Rattle.spectra_parser.specs.Items.{item_after, at_end, before_end, import_after, text_of}
-use Rattle.spectra_parser.specs.Texts.{HasTree, IsWholeFrom, BeginText, IsRefused}
+use Rattle.spectra_parser.specs.Texts.{HasTree, IsWholeFrom, BeginText}
 use Rattle.spectra_parser.proofs.WholeText.{text_read}
 use Rattle.spectra_parser.proofs.StoppingTexts.{stable_item_after, uses_item_after, stable_import_after, uses_import_after, goes_on, to_first_end, stable_to_first_end}
 
@@ -165,11 +166,11 @@ no_text ts f q more tree t =
 
 -- ---- the tokens of a text
 
-abbrev Numbered : ℕ → List Lexeme → Type 0
+abbrev pub Numbered : ℕ → List Lexeme → Type 0
 Numbered k [] = Unit {0}
 Numbered k (t ∷ ts) = (t.number ≡ k) × Numbered (k + 1) ts
 
-whole_numbered : (k : ℕ) (ts : List Lexeme) → IsWholeFrom k ts → Numbered k ts
+pub whole_numbered : (k : ℕ) (ts : List Lexeme) → IsWholeFrom k ts → Numbered k ts
 whole_numbered k [] w = absurd w
 whole_numbered k (t ∷ []) w = (w.0, tt)
 whole_numbered k (t ∷ u ∷ ts) w = (w.0, whole_numbered (k + 1) (u ∷ ts) w.2)
@@ -187,12 +188,17 @@ whole_ended k [] w quiet = w
 whole_ended k (t ∷ []) w quiet = let on = w.1 in let off = quiet.0 in absurd (cc)
 whole_ended k (t ∷ u ∷ ts) w quiet = whole_ended (k + 1) (u ∷ ts) w.2 quiet.1
 
-number_at : (k : ℕ) (used : List Lexeme) (t : Lexeme) (rest : List Lexeme) → Numbered k (used ++ t ∷ rest) → t.number ≡ k + length used
+pub number_at : (k : ℕ) (used : List Lexeme) (t : Lexeme) (rest : List Lexeme) → Numbered k (used ++ t ∷ rest) → t.number ≡ k + length used
 number_at k [] t rest h = let same = h.0 in omega (arith, same)
 number_at k (u ∷ used) t rest h = let same = number_at (k + 1) used t rest h.1 in omega (arith, same)
 
-refused : (ts : List Lexeme) (f : SyntaxFault) (at : ℕ) → IsWholeFrom 0 ts → (q : StopsAt to_first_end ts f) → q.token.number ≡ at → IsRefused ts at
-refused ts f at w q same =
+-- a token of the list, up to which and with which the tokens begin no text
+pub record Refused (ts : List Lexeme) (at : ℕ) : Type 0 where
+  pub within : at < length ts
+  pub refused : BeginText levels_of_a_text (take (at + 1) ts) → ⊥
+
+refused_at : (ts : List Lexeme) (f : SyntaxFault) (at : ℕ) → IsWholeFrom 0 ts → (q : StopsAt to_first_end ts f) → q.token.number ≡ at → Refused ts at
+refused_at ts f at w q same =
     let counted : q.token.number ≡ 0 + length q.used = number_at 0 q.used q.token q.rest (subst (λ (us : List Lexeme). Numbered 0 us) q.front (whole_numbered 0 ts w)) in
     let place : q.token.number ≡ length q.used = omega (arith, counted) in
     let length-front : length (q.used ++ q.token ∷ []) ≡ at + 1 = omega (arith, place, same, length-append q.used (q.token ∷ [])) in
@@ -208,14 +214,14 @@ refused ts f at w q same =
 stopped : (ts : List Lexeme) (f : SyntaxFault) → IsWholeFrom 0 ts → text_of ts ≡ Err f → StopsAt to_first_end ts f
 stopped ts f w read = stops_at ts f (whole_ended 0 ts w) (stable_to_first_end.stops ts f (sym (text_same ts (whole_once 0 ts w)) ∙ read))
 
-pub unexpected_refused : (ts : List Lexeme) (at : ℕ) → IsWholeFrom 0 ts → text_of ts ≡ Err (faults.Unexpected at) → IsRefused ts at
-unexpected_refused ts at w read = let q = stopped ts (faults.Unexpected at) w read in refused ts (faults.Unexpected at) at w q (sym q.names)
+pub unexpected_refused : (ts : List Lexeme) (at : ℕ) → IsWholeFrom 0 ts → text_of ts ≡ Err (faults.Unexpected at) → Refused ts at
+unexpected_refused ts at w read = let q = stopped ts (faults.Unexpected at) w read in refused_at ts (faults.Unexpected at) at w q (sym q.names)
 
-pub deep_refused : (ts : List Lexeme) (at : ℕ) → IsWholeFrom 0 ts → text_of ts ≡ Err (faults.TooDeep at) → IsRefused ts at
-deep_refused ts at w read = let q = stopped ts (faults.TooDeep at) w read in refused ts (faults.TooDeep at) at w q (sym q.names)
+pub deep_refused : (ts : List Lexeme) (at : ℕ) → IsWholeFrom 0 ts → text_of ts ≡ Err (faults.TooDeep at) → Refused ts at
+deep_refused ts at w read = let q = stopped ts (faults.TooDeep at) w read in refused_at ts (faults.TooDeep at) at w q (sym q.names)
 
-pub parentheses_refused : (ts : List Lexeme) (at : ℕ) → IsWholeFrom 0 ts → text_of ts ≡ Err (faults.Parentheses at) → IsRefused ts at
-parentheses_refused ts at w read = let q = stopped ts (faults.Parentheses at) w read in refused ts (faults.Parentheses at) at w q (sym q.names)
+pub parentheses_refused : (ts : List Lexeme) (at : ℕ) → IsWholeFrom 0 ts → text_of ts ≡ Err (faults.Parentheses at) → Refused ts at
+parentheses_refused ts at w read = let q = stopped ts (faults.Parentheses at) w read in refused_at ts (faults.Parentheses at) at w q (sym q.names)
 
 pub never_unsupported : (ts : List Lexeme) (at : ℕ) → IsWholeFrom 0 ts → text_of ts ≡ Err (faults.Unsupported at) → ⊥
 never_unsupported ts at w read = (stopped ts (faults.Unsupported at) w read).names

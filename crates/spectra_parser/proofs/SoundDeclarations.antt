@@ -1,5 +1,5 @@
 -- What is read as a declaration, a pattern or a monitor is one of the grammar.
-use Rattle.std.proofs.Common.{◌≡◌, Bool, true, false, cond, ◌||◌, List, [], ◌∷◌, ◌++◌, Ok, Err, ◌⊎◌, inl, inr, refl, sym, ap, subst, ◌∙◌}
+use Rattle.std.proofs.Common.{◌≡◌, ℕ, Bool, true, false, cond, ◌||◌, List, [], ◌∷◌, ◌++◌, Ok, Err, ◌⊎◌, inl, inr, refl, sym, ap, subst, ◌∙◌}
 use Rattle.spectra_exprs.specs.declared.fault.SyntaxFault.TheVariants as faults
 use Rattle.spectra_trees.specs.declared.class.Class.{Class}
 use Rattle.spectra_trees.specs.declared.class.Class.TheVariants as classes
@@ -120,13 +120,13 @@ pub record HasFirst (used : List Lexeme) : Type 0 where
 pub token_first : {A : Type 0} (class : Class) (P : Lexeme → List Lexeme → A → Type 0) (used : List Lexeme) (a : A) → (Token class ▸ P) used a → HasFirst used
 token_first class P used a d = record { token = d.value; more = d.back; first = d.parts ∙ ap (λ (f : List Lexeme). f ++ d.back) d.before.alone }
 
-pub shape_first : (used : List Lexeme) (f : PartShape) → ShapeIn n used f → HasFirst used
-shape_first used f (inl p) = token_first classes.Ini (λ t. ExprOf (Levels n) ▸ λ e. Gives (PartShape.Initial e)) used f p
-shape_first used f (inr (inl p)) = token_first classes.Alw (λ t. ExprOf (Levels n) ▸ λ e. Gives (PartShape.Always e)) used f p
-shape_first used f (inr (inr p)) = token_first classes.AlwEv (λ t. ExprOf (Levels n) ▸ λ e. Gives (PartShape.Recurring e)) used f p
+pub shape_first : (left : ℕ) (used : List Lexeme) (f : PartShape) → ShapeIn left used f → HasFirst used
+shape_first left used f (inl p) = token_first classes.Ini (λ t. ExprOf (Levels left) ▸ λ e. Gives (PartShape.Initial e)) used f p
+shape_first left used f (inr (inl p)) = token_first classes.Alw (λ t. ExprOf (Levels left) ▸ λ e. Gives (PartShape.Always e)) used f p
+shape_first left used f (inr (inr p)) = token_first classes.AlwEv (λ t. ExprOf (Levels left) ▸ λ e. Gives (PartShape.Recurring e)) used f p
 
-pub line_first : (at : Place) (used : List Lexeme) (p : PartData) → (ShapeIn n ▸ λ f. Token classes.Semicolon ▸ λ s. Gives (record { at = at; form = f })) used p → HasFirst used
-line_first at used p d = let h = shape_first d.front d.value d.before in record { token = h.token; more = h.more ++ d.back; first = d.parts ∙ ap (λ (f : List Lexeme). f ++ d.back) h.first }
+pub line_first : (left : ℕ) (at : Place) (used : List Lexeme) (p : PartData) → (ShapeIn left ▸ λ f. Token classes.Semicolon ▸ λ s. Gives (record { at = at; form = f })) used p → HasFirst used
+line_first left at used p d = let h = shape_first left d.front d.value d.before in record { token = h.token; more = h.more ++ d.back; first = d.parts ∙ ap (λ (f : List Lexeme). f ++ d.back) h.first }
 
 unfoldable pub line_part : Reader PartData
 line_part [] = Err (faults.Unexpected 0)
@@ -135,15 +135,16 @@ line_part (t ∷ ts) = part_line t.at (t ∷ ts)
 pub same_head : (t u : Lexeme) (ts us : List Lexeme) → t ∷ ts ≡ u ∷ us → t ≡ u
 same_head t u ts us e = cc
 
-pub sound_line_part : Sound (LineIn n) line_part
+-- with so many levels, if a line at each place is
+pub sound_line_part_at : (left : ℕ) → ((at : Place) → Sound (ShapeIn left ▸ λ f. Token classes.Semicolon ▸ λ s. Gives (record { at = at; form = f })) (part_line at)) → Sound (LineIn left) line_part
 unfolding line_part
-sound_line_part = record { got = reads }
+sound_line_part_at left lines = record { got = reads }
   where
-    reads : (ts : List Lexeme) (p : PartData) (rest : List Lexeme) → line_part ts ≡ Ok (p, rest) → Got (LineIn n) ts p rest
-    reads [] p rest e = (sound_fault (LineIn n) (λ ts. faults.Unexpected 0)).got [] p rest e
+    reads : (ts : List Lexeme) (p : PartData) (rest : List Lexeme) → line_part ts ≡ Ok (p, rest) → Got (LineIn left) ts p rest
+    reads [] p rest e = (sound_fault (LineIn left) (λ ts. faults.Unexpected 0)).got [] p rest e
     reads (t ∷ ts) p rest e =
-        let g = (sound_part_line t.at).got (t ∷ ts) p rest e in
-        let h = line_first t.at g.used p g.derives in
+        let g = (lines t.at).got (t ∷ ts) p rest e in
+        let h = line_first left t.at g.used p g.derives in
         let is : t ≡ h.token = same_head t h.token ts (h.more ++ rest) (g.front ∙ ap (λ (u : List Lexeme). u ++ rest) h.first) in
         record {
           used = g.used;
@@ -156,6 +157,9 @@ sound_line_part = record { got = reads }
           };
         }
 
+pub sound_line_part : Sound (LineIn n) line_part
+sound_line_part = sound_line_part_at n sound_part_line
+
 pub pitem_same : (ts : List Lexeme) → pitem ts ≡ cond (starts classes.Var ts) (expect classes.Var ts >>= own_at) (line_part ts)
 unfolding pitem starts expect line_part
 pitem_same [] = refl
@@ -164,9 +168,9 @@ pitem_same (t ∷ ts) = branch_same (same_class t.class classes.Var) t ts _ own_
 pub sound_pitem : Sound (PitemIn n) pitem
 sound_pitem = sound_same pitem_same (sound_if (starts classes.Var) (sound_then (sound_token classes.Var) sound_own) sound_line_part)
 
-pub pitem_first : (used : List Lexeme) (p : PartData) → PitemIn n used p → HasFirst used
-pitem_first used p (inl d) = token_first classes.Var (λ t. TypeIn n ▸ λ d. Token classes.Name ▸ λ m. Token classes.Semicolon ▸ λ s. Gives (record { at = t.at; form = PartShape.Own d (name_of m) })) used p d
-pitem_first used p (inr d) = record { token = d.token; more = d.more; first = d.first }
+pub pitem_first : (left : ℕ) (used : List Lexeme) (p : PartData) → PitemIn left used p → HasFirst used
+pitem_first left used p (inl d) = token_first classes.Var (λ t. TypeIn left ▸ λ d. Token classes.Name ▸ λ m. Token classes.Semicolon ▸ λ s. Gives (record { at = t.at; form = PartShape.Own d (name_of m) })) used p d
+pitem_first left used p (inr d) = record { token = d.token; more = d.more; first = d.first }
 
 pub either_word : (a b : Bool) → a || b ≡ true → (a ≡ true) ⊎ (b ≡ true)
 either_word true b e = inl refl
@@ -179,16 +183,20 @@ mitem_word ts used rest t more front first on =
     let whole : ts ≡ t ∷ (more ++ rest) = front ∙ ap (λ (u : List Lexeme). u ++ rest) first in
     either_word (same_class t.class classes.Ini) (same_class t.class classes.Alw) (subst (λ (l : List Lexeme). starts classes.Ini l || starts classes.Alw l ≡ true) whole on)
 
-pub sound_mitem : Sound (MitemIn n) mitem
+-- with so many levels, if a pitem is
+pub sound_mitem_at : (left : ℕ) → Sound (PitemIn left) pitem → Sound (MitemIn left) mitem
 unfolding mitem
-sound_mitem = record { got = λ ts p rest e. by_word (starts classes.Ini ts || starts classes.Alw ts) ts p rest refl e }
+sound_mitem_at left items = record { got = λ ts p rest e. by_word (starts classes.Ini ts || starts classes.Alw ts) ts p rest refl e }
   where
-    by_word : (b : Bool) (ts : List Lexeme) (p : PartData) (rest : List Lexeme) → starts classes.Ini ts || starts classes.Alw ts ≡ b → cond {A = Read PartData} b (pitem ts) (unexpected ts) ≡ Ok (p, rest) → Got (MitemIn n) ts p rest
+    by_word : (b : Bool) (ts : List Lexeme) (p : PartData) (rest : List Lexeme) → starts classes.Ini ts || starts classes.Alw ts ≡ b → cond {A = Read PartData} b (pitem ts) (unexpected ts) ≡ Ok (p, rest) → Got (MitemIn left) ts p rest
     by_word true ts p rest on e =
-        let g = sound_pitem.got ts p rest e in
-        let h = pitem_first g.used p g.derives in
+        let g = items.got ts p rest e in
+        let h = pitem_first left g.used p g.derives in
         record { used = g.used; front = g.front; derives = record { token = h.token; more = h.more; first = h.first; word = mitem_word ts g.used rest h.token h.more g.front h.first on; part = g.derives } }
-    by_word false ts p rest on e = (sound_unexpected {P = MitemIn n}).got ts p rest e
+    by_word false ts p rest on e = (sound_unexpected {P = MitemIn left}).got ts p rest e
+
+pub sound_mitem : Sound (MitemIn n) mitem
+sound_mitem = sound_mitem_at n sound_pitem
 
 pub sound_pitem_after : (all : List PartData) → Sound (PitemAfter n all) (pitem_after all)
 unfolding pitem_after

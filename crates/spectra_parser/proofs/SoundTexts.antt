@@ -107,7 +107,7 @@ module _ {W : Type 0} (word : Class → Option W) where
       record { used = t ∷ []; front = ap (λ (r : List Lexeme). t ∷ r) (sym p.1); derives = subst (λ (y : Lexeme × W). K (t ∷ []) y) (sym p.0) (is w refl) }
   word_at None K t ts x rest is e = absurd (no_some (x, rest) e)
 
-owner_looks : Looks Owner owner_at
+pub owner_looks : Looks Owner owner_at
 unfolding owner_at
 owner_looks = record { found = looks }
   where
@@ -115,7 +115,7 @@ owner_looks = record { found = looks }
     looks [] x rest e = absurd (no_some (x, rest) e)
     looks (t ∷ ts) x rest e = word_at owner_word (owner_word t.class) Owner t ts x rest (λ w is. record { alone = refl; word = is }) e
 
-role_looks : Looks RoleOf role_at
+pub role_looks : Looks RoleOf role_at
 unfolding role_at
 role_looks = record { found = looks }
   where

@@ -110,12 +110,12 @@ module _ {W : Type 0} (word : Class → Option W) (quiet : (t : Lexeme) (w : W) 
   word_look : StableLook (λ (x : Lexeme × W). None) look
   word_look = record { found = looks; passes = over }
 
-owner_look : StableLook (λ (x : Lexeme × OwnerWord). None) owner_at
+pub owner_look : StableLook (λ (x : Lexeme × OwnerWord). None) owner_at
 unfolding owner_at place_of
 owner_look =
     word_look owner_word (λ t w is. not_end_of (keys owner_table) (record { checked = refl }) t (lookup_some owner_table t.class w (sym (in_owners t.class) ∙ is))) owner_at refl (λ (t : Lexeme) (ts : List Lexeme). refl)
 
-role_look : StableLook (λ (x : Lexeme × Role). None) role_at
+pub role_look : StableLook (λ (x : Lexeme × Role). None) role_at
 unfolding role_at place_of
 role_look =
     word_look role_word (λ t w is. not_end_of (keys role_table) (record { checked = refl }) t (lookup_some role_table t.class w (sym (in_roles t.class) ∙ is))) role_at refl (λ (t : Lexeme) (ts : List Lexeme). refl)

@@ -8,6 +8,7 @@ use Rattle.spectra_trees.specs.Classes.{same_class}
 use Rattle.spectra_trees.specs.Data.{TreeData}
 use Rattle.spectra_trees.specs.Lexemes.{Lexeme, lexemes}
 use Rattle.spectra_exprs.specs.Expressions.{levels_of_a_text}
+use Rattle.spectra_exprs.specs.Spellings.{AreSpelled}
 use Rattle.spectra_parser.specs.ItemGrammar.{Text}
 use Rattle.spectra_parser.specs.Unbuilt.{first_unbuilt}
 
@@ -25,21 +26,30 @@ IsWholeFrom number [] = ⊥
 IsWholeFrom number (t ∷ []) = (t.number ≡ number) × (same_class t.class classes.Finish ≡ true)
 IsWholeFrom number (t ∷ u ∷ ts) = (t.number ≡ number) × (same_class t.class classes.Finish ≡ false) × IsWholeFrom (number + 1) (u ∷ ts)
 
--- tokens that begin a text: with some tokens behind them they are one
-pub record BeginText (ts : List Lexeme) : Type 0 where
+-- tokens that begin a text with at most so many levels: with some tokens behind them, each as the lexer gives it, they are one
+pub record BeginText (left : ℕ) (ts : List Lexeme) : Type 0 where
   pub more : List Lexeme
+  pub spelled : AreSpelled more
   pub tree : TreeData
-  pub grammar : HasTree (ts ++ more) tree
+  pub grammar : Text left (ts ++ more) tree
 
--- a token of the list, by its number: the tokens up to it, and including it, begin no text
+-- a token of the list, by its number: up to it, and including it, the tokens begin no text with at most 128 levels, and
+-- those before it begin a text, with some number of levels
 pub record IsRefused (ts : List Lexeme) (at : ℕ) : Type 0 where
   pub within : at < length ts
-  pub refused : BeginText (take (at + 1) ts) → ⊥
+  pub refused : BeginText levels_of_a_text (take (at + 1) ts) → ⊥
+  pub begun : (left : ℕ) × BeginText left (take at ts)
+
+-- a token of the list, by its number: up to it, and including it, the tokens begin a text, but none with at most 128 levels
+pub record IsTooDeep (ts : List Lexeme) (at : ℕ) : Type 0 where
+  pub within : at < length ts
+  pub refused : BeginText levels_of_a_text (take (at + 1) ts) → ⊥
+  pub begun : (left : ℕ) × BeginText left (take (at + 1) ts)
 
 -- what a fault says of the tokens; of want of memory nothing is said
 abbrev pub Explains : List Lexeme → SyntaxFault → Type 0
 Explains ts (faults.Unexpected at) = IsRefused ts at
-Explains ts (faults.TooDeep at) = IsRefused ts at
+Explains ts (faults.TooDeep at) = IsTooDeep ts at
 Explains ts (faults.Parentheses at) = IsRefused ts at
 Explains ts (faults.Unsupported at) = ((tree : TreeData) × HasTree ts tree) × (first_unbuilt ts ≡ Some at)
 Explains ts faults.Memory = Unit {0}

@@ -1,5 +1,5 @@
 use Rattle.std.specs.Prelude.{IfOk}
-use Rattle.std.proofs.Common.{◌≡◌, List, None, Result, Ok, Err, sym, subst}
+use Rattle.std.proofs.Common.{◌≡◌, ℕ, ◌+◌, take, List, None, Result, Ok, Err, sym, subst}
 use Rattle.spectra_exprs.specs.declared.fault.SyntaxFault.{SyntaxFault}
 use Rattle.spectra_exprs.specs.declared.fault.SyntaxFault.TheVariants as faults
 use Rattle.spectra_trees.specs.declared.tree.Tree.{Tree}
@@ -9,16 +9,24 @@ use Rattle.spectra_trees.specs.Lexemes.{Lexeme, lexemes_of}
 use Rattle.spectra_exprs.specs.Read.{Fails}
 use Rattle.spectra_parser.specs.Items.{text_of}
 use Rattle.spectra_parser.specs.Unbuilt.{first_unbuilt}
-use Rattle.spectra_parser.specs.Texts.{HasTree, IsWholeFrom, IsBuilt, Explains, refusal}
+use Rattle.spectra_parser.specs.Texts.{HasTree, IsWholeFrom, BeginText, IsRefused, IsTooDeep, IsBuilt, Explains, refusal}
 use Rattle.spectra_parser.proofs.WholeText.{text_got}
-use Rattle.spectra_parser.proofs.Places.{unexpected_refused, deep_refused, parentheses_refused, never_unsupported}
+use Rattle.spectra_parser.proofs.Places.{Refused, unexpected_refused, deep_refused, parentheses_refused, never_unsupported}
+use Rattle.spectra_parser.proofs.OpeningItems.{wide}
+use Rattle.spectra_parser.proofs.Beginnings.{unexpected_begun, deep_begun, parentheses_begun}
 use Rattle.spectra_parser.proofs.parsing.tree_of.Goals as goal
 
--- a fault at which reading stops names a token that is refused
+-- a token at which reading stops is refused, and what stands before it begins a text
+is_refused : (ts : List Lexeme) (at : ℕ) → Refused ts at → BeginText wide (take at ts) → IsRefused ts at
+is_refused ts at r b = record { within = r.within; refused = r.refused; begun = (wide, b) }
+
+is_too_deep : (ts : List Lexeme) (at : ℕ) → Refused ts at → BeginText wide (take (at + 1) ts) → IsTooDeep ts at
+is_too_deep ts at r b = record { within = r.within; refused = r.refused; begun = (wide, b) }
+
 explained : (ts : List Lexeme) (f : SyntaxFault) → IsWholeFrom 0 ts → Fails f (text_of ts) → Explains ts (refusal f)
-explained ts (faults.Unexpected at) w h = unexpected_refused ts at w h
-explained ts (faults.TooDeep at) w h = deep_refused ts at w h
-explained ts (faults.Parentheses at) w h = parentheses_refused ts at w h
+explained ts (faults.Unexpected at) w h = is_refused ts at (unexpected_refused ts at w h) (unexpected_begun ts at w h)
+explained ts (faults.TooDeep at) w h = is_too_deep ts at (deep_refused ts at w h) (deep_begun ts at w h)
+explained ts (faults.Parentheses at) w h = is_refused ts at (parentheses_refused ts at w h) (parentheses_begun ts at w h)
 explained ts (faults.Unsupported at) w h = absurd (never_unsupported ts at w h)
 explained ts faults.Memory w h = tt
 

@@ -1,0 +1,54 @@
+-- Where reading a text stops, what stands before begins a text.
+use Rattle.std.proofs.Common.{◌≡◌, ℕ, ◌+◌, List, [], ◌∷◌, ◌++◌, length, take, Err, ◌⊎◌, inl, inr, sym, ap, subst, ◌∙◌, append_assoc, arith, length-append}
+use Rattle.std.proofs.lemmas.List.{take_at}
+use Rattle.spectra_exprs.specs.declared.fault.SyntaxFault.{SyntaxFault}
+use Rattle.spectra_exprs.specs.declared.fault.SyntaxFault.TheVariants as faults
+use Rattle.spectra_trees.specs.Lexemes.{Lexeme}
+use Rattle.spectra_exprs.proofs.Opening.{Begun, IsNext, IsLast, OpensAt, spelled_append}
+use Rattle.spectra_exprs.proofs.Examples.{a_Finish}
+use Rattle.spectra_parser.specs.Items.{text_of}
+use Rattle.spectra_parser.specs.ItemGrammar.{TextIn}
+use Rattle.spectra_parser.specs.Texts.{IsWholeFrom, BeginText}
+use Rattle.spectra_parser.proofs.OpeningItems.{wide}
+use Rattle.spectra_parser.proofs.OpeningTexts.{full_text}
+use Rattle.spectra_parser.proofs.Places.{Numbered, whole_numbered, number_at}
+
+-- what begins the grammar's text begins a text with its end
+begun_text : (used : List Lexeme) → Begun (TextIn wide) used → BeginText wide used
+begun_text used b =
+    record {
+      more = b.more ++ a_Finish.token ∷ [];
+      spelled = spelled_append b.more (a_Finish.token ∷ []) b.spelled (a_Finish.spelled, tt);
+      tree = b.value;
+      grammar = record { used = used ++ b.more; end = a_Finish.token; whole = sym (append_assoc used b.more (a_Finish.token ∷ [])); finish = a_Finish.is; derives = b.derives };
+    }
+
+before_next : (ts used rest : List Lexeme) (at : ℕ) → Numbered 0 ts → ts ≡ used ++ rest → IsNext at rest → Begun (TextIn wide) used → BeginText wide (take at ts)
+before_next ts used [] at h front place b = subst (λ (k : ℕ). BeginText wide (take k ts)) (sym place) (begun_text [] full_text.whole)
+before_next ts used (t ∷ rest) at h front place b =
+    let counted : t.number ≡ 0 + length used = number_at 0 used t rest (subst (λ (us : List Lexeme). Numbered 0 us) front h) in
+    let size : length used ≡ at = omega (arith, counted, place) in
+    let taken : take at ts ≡ used = ap (take at) front ∙ take_at used (t ∷ rest) at size in
+    subst (λ (us : List Lexeme). BeginText wide us) (sym taken) (begun_text used b)
+
+up_to_last : (ts used rest : List Lexeme) (at : ℕ) → Numbered 0 ts → ts ≡ used ++ rest → IsLast at used → Begun (TextIn wide) used → BeginText wide (take (at + 1) ts)
+up_to_last ts used rest at h front p b =
+    let whole : ts ≡ p.front ++ p.token ∷ rest = front ∙ ap (λ (us : List Lexeme). us ++ rest) p.parts ∙ append_assoc p.front (p.token ∷ []) rest in
+    let counted : p.token.number ≡ 0 + length p.front = number_at 0 p.front p.token rest (subst (λ (us : List Lexeme). Numbered 0 us) whole h) in
+    let number = p.number in
+    let size : length used ≡ at + 1 = omega (arith, counted, number, ap length p.parts, length-append p.front (p.token ∷ [])) in
+    let taken : take (at + 1) ts ≡ used = ap (take (at + 1)) front ∙ take_at used rest (at + 1) size in
+    subst (λ (us : List Lexeme). BeginText wide us) (sym taken) (begun_text used b)
+
+opens : (ts : List Lexeme) (f : SyntaxFault) → OpensAt (TextIn wide) ts f ⊎ ⊥ → OpensAt (TextIn wide) ts f
+opens ts f (inl q) = q
+opens ts f (inr q) = absurd q
+
+pub unexpected_begun : (ts : List Lexeme) (at : ℕ) → IsWholeFrom 0 ts → text_of ts ≡ Err (faults.Unexpected at) → BeginText wide (take at ts)
+unexpected_begun ts at w read = let q = opens ts (faults.Unexpected at) (full_text.opens ts (faults.Unexpected at) read) in before_next ts q.used q.rest at (whole_numbered 0 ts w) q.front q.place q.begun
+
+pub parentheses_begun : (ts : List Lexeme) (at : ℕ) → IsWholeFrom 0 ts → text_of ts ≡ Err (faults.Parentheses at) → BeginText wide (take at ts)
+parentheses_begun ts at w read = let q = opens ts (faults.Parentheses at) (full_text.opens ts (faults.Parentheses at) read) in before_next ts q.used q.rest at (whole_numbered 0 ts w) q.front q.place q.begun
+
+pub deep_begun : (ts : List Lexeme) (at : ℕ) → IsWholeFrom 0 ts → text_of ts ≡ Err (faults.TooDeep at) → BeginText wide (take (at + 1) ts)
+deep_begun ts at w read = let q = opens ts (faults.TooDeep at) (full_text.opens ts (faults.TooDeep at) read) in up_to_last ts q.used q.rest at (whole_numbered 0 ts w) q.front q.place q.begun
