@@ -6,7 +6,7 @@ use Rattle.spec_model.specs.Steps.{below}
 use Rattle.spec_model.specs.Sets.{StateSet}
 use Rattle.regions.specs.declared.types.Halt.{Halt}
 use Rattle.regions.specs.declared.types.Halt.TheVariants.{Budget, Memory}
-use Rattle.regions.specs.Kept.{Kept, Meaning, States, weigh, weight, HasRegion, MakesRegion, IsExact, Each, Call, JamAdds, meanings, jam_after}
+use Rattle.regions.specs.Kept.{Kept, Meaning, States, weigh, weight, HasRegion, MakesRegion, IsExact, Each, Call, All, NoStates, Halts, JamAdds, meanings, jam_after}
 use Rattle.regions.proofs.Holding.{weigh_meanings, set_is}
 use Rattle.gr1_sys.specs.Held.{weight_as, MakesRegions}
 use Rattle.gr1_sys.specs.Moment.{IsValueOfZ, IsNamed, IsOfMoment, AsksOfIterates, TellsHalt, TellsOneMoment}
@@ -53,6 +53,15 @@ module _ {R M : Type 0} where
         adds = record { besides = []; held = λ w. (let e = weigh_meanings old w in omega arith); named = tt; arguments = named };
         asked = asks;
       }
+
+  -- a call without arguments
+  pub told_all : {T : Type 0} (old new : Kept R M) (r : Result T Halt) (z : StateSet) → IfErr r (Halts old new All []) → IfErr r (TellsHalt old new z)
+  told_all old new (Ok x) z halts = tt
+  told_all old new (Err halt) z halts = told old new z All [] halt halts.jam tt tt
+
+  pub told_none : {T : Type 0} (old new : Kept R M) (r : Result T Halt) (z : StateSet) → IfErr r (Halts old new NoStates []) → IfErr r (TellsHalt old new z)
+  told_none old new (Ok x) z halts = tt
+  told_none old new (Err halt) z halts = told old new z NoStates [] halt halts.jam tt tt
 
   -- ---- a caller's word
 

@@ -1,10 +1,22 @@
-//! Regions joined in place.
+//! Where a greatest set begins, and regions joined in place.
 
 ghost use Rattle.std.specs.Prelude.{◌≡◌, [], ◌∷◌, None, IfOk, IfErr, OnErr};
-ghost use Rattle.spec_model.specs.Sets.{either, both};
-ghost use Rattle.regions.specs.Kept.{And, Or, Region, States, HasRegion, HoldsWithout, IsSameGame, Replaces, jam_after};
+ghost use Rattle.spec_model.specs.Sets.{StateSet, all_states as all_states_lem, either, both};
+ghost use Rattle.regions.specs.Kept.{And, Or, Region, States, HasRegion, HoldsBesides, HoldsWithout, IsSameGame, MakesRegion, Replaces, jam_after};
+ghost use Rattle.gr1_sys.specs.Moment.{TellsHalt};
 
 use regions::{Halt, Regions};
+
+/// All states: from them the iterates of an equation fall to the greatest set that it allows.
+pub fn all_states<G: Regions>(g: &mut G) -> Result<G::R, Halt>
+    requires free { (G.kept g.old).jam ≡ None }
+    ensures made { let k = G.kept g.old in IfOk result (λ r. MakesRegion k (G.kept g.new) r (all_states_lem k.game)) }
+    ensures halted { OnErr result (HoldsBesides (G.kept g.old) (G.kept g.new) []) }
+    ensures told { (z : StateSet) → IfErr result (TellsHalt (G.kept g.old) (G.kept g.new) z) }
+    ensures same { IsSameGame (G.kept g.old) (G.kept g.new) }
+{
+    g.all()
+}
 
 /// The states of `a` or `b`, in the place of `a`, which is spent on a halt too.
 pub fn or_in<G: Regions>(g: &mut G, a: G::R, b: &G::R) -> Result<G::R, Halt>

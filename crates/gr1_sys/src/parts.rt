@@ -9,7 +9,7 @@ ghost use Rattle.gr1_sys.specs.Solution.{greatest_of};
 ghost use Rattle.gr1_sys.specs.Moment.{part_iterate, AreOfPart, TellsHalt};
 ghost use Rattle.gr1_sys.specs.Held.{waiting, HasEach, HasTogether, HoldsWithoutAll, SpendsAll, MakesRegions, set_at};
 
-use crate::joining::{and_in, or_in};
+use crate::joining::{all_states, and_in, or_in};
 use regions::{Halt, Regions};
 
 /// The value of the part's equation at `x`.
@@ -74,7 +74,7 @@ pub fn greatest_part<G: Regions>(g: &mut G, base: &G::R, lapse: &G::R) -> Result
     ensures told { let k = G.kept g.old in (z : StateSet) (j r i : ℕ) → AreOfPart k.game z j r i (k.set base.now) (k.set lapse.now) → IfErr result (TellsHalt k (G.kept g.new) z) }
     ensures same { IsSameGame (G.kept g.old) (G.kept g.new) }
 {
-    let mut x = g.all()?;
+    let mut x = all_states(g)?;
     loop {
         let (next, settled) = next_part(g, base, lapse, x)?;
         x = next;

@@ -9,6 +9,7 @@ ghost use Rattle.gr1_sys.specs.Held.{HasTogether, HoldsWithoutAll, MakesRegions,
 ghost use Rattle.gr1_sys.specs.Solved.{Steps, HasWon, IsForced, IsDropped, IsLost, WonBySystem};
 
 use crate::givens::{Given, give, spend_given};
+use crate::joining::all_states;
 use crate::layers::{SysLayer, SysLayers};
 use crate::spending::spend_goals;
 use crate::turns::turn;
@@ -73,7 +74,7 @@ fn winning<G: Regions>(
     ensures told { IfErr result (TellsOneMoment (G.kept g.old) (G.kept g.new)) }
     ensures same { IsSameGame (G.kept g.old) (G.kept g.new) }
 {
-    let mut z = g.all()?;
+    let mut z = all_states(g)?;
     loop {
         match one_round(alloc, g, z, given)? {
             Step::Settled { z, goals } => return Ok((z, goals)),

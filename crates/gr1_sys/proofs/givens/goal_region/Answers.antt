@@ -2,8 +2,8 @@ use Rattle.std.proofs.Common.{◌∙◌, subst, sym, []}
 use Rattle.std.proofs.lemmas.Result.{IfOk-weaker, IfErr-weaker}
 use Rattle.regions.specs.Kept.{MakesRegion}
 use Rattle.gr1_sys.proofs.Givings.{goal_alone, goal_there}
-use Rattle.regions.specs.Kept.{All, Holding}
-use Rattle.gr1_sys.proofs.Told.{told}
+use Rattle.regions.specs.Kept.{Holding}
+use Rattle.gr1_sys.proofs.Told.{told, told_all}
 use Rattle.gr1_sys.proofs.givens.goal_region.Goals as goal
 
 pub returns-then-is_empty-clause-made : goal.returns-then-is_empty-clause-made
@@ -24,7 +24,7 @@ returns-else-is_empty-clause-made g c =
 pub returns-then-is_empty-clause-told : goal.returns-then-is_empty-clause-told
 returns-then-is_empty-clause-told g c = λ z.
     let kept = g.G.Regions.kept in
-    IfErr-weaker c.all.result _ _ (λ halt halts. told (kept c.args.g.now) (kept c.all.new.self) z All [] halt halts.jam tt tt) c.all.ensures.halted
+    told_all (kept c.args.g.now) (kept c.all.new.self) c.all.result z c.all.ensures.halted
 
 pub returns-else-is_empty-clause-told : goal.returns-else-is_empty-clause-told
 returns-else-is_empty-clause-told g c = λ z.

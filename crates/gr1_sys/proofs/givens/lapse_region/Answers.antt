@@ -1,5 +1,5 @@
 use Rattle.std.proofs.Common.{◌∙◌, ap, subst, sym, arith, [], ◌∷◌}
-use Rattle.std.proofs.lemmas.Result.{IfOk-weaker, IfErr-weaker}
+use Rattle.std.proofs.lemmas.Result.{IfOk-weaker}
 use Rattle.spec_model.specs.Sets.{rest}
 use Rattle.regions.specs.Kept.{MakesRegion}
 use Rattle.regions.specs.declared.types.Recur.TheVariants.{Assumption}
@@ -8,9 +8,9 @@ use Rattle.gr1_law.specs.Layers.{assumption_set}
 use Rattle.regions.proofs.Holding.{set_is}
 use Rattle.gr1_sys.proofs.Parted.{halted_above}
 use Rattle.gr1_sys.proofs.Givings.{assumption_alone, assumption_there, lapse_alone, lapse_there, lapse_counted, one_above}
-use Rattle.regions.specs.Kept.{NoStates, Not, Holding, States}
+use Rattle.regions.specs.Kept.{Not, Holding, States}
 use Rattle.gr1_sys.specs.Moment.{IsNamed, TellsHalt, assumption}
-use Rattle.gr1_sys.proofs.Told.{handed_on, told, past_one}
+use Rattle.gr1_sys.proofs.Told.{handed_on, told, told_none, past_one}
 use Rattle.gr1_sys.proofs.givens.lapse_region.Goals as goal
 
 pub returns-then-is_empty-clause-made : goal.returns-then-is_empty-clause-made
@@ -44,7 +44,7 @@ returns-in-Err-clause-halted g c =
 pub returns-then-is_empty-clause-told : goal.returns-then-is_empty-clause-told
 returns-then-is_empty-clause-told g c = λ z.
     let kept = g.G.Regions.kept in
-    IfErr-weaker c.none.result _ _ (λ halt halts. told (kept c.args.g.now) (kept c.none.new.self) z NoStates [] halt halts.jam tt tt) c.none.ensures.halted
+    told_none (kept c.args.g.now) (kept c.none.new.self) c.none.result z c.none.ensures.halted
 
 pub returns-in_err-holds-clause-told : goal.returns-in_err-holds-clause-told
 returns-in_err-holds-clause-told g c = λ z.

@@ -1,4 +1,4 @@
-use Rattle.std.proofs.Common.{◌≡◌, sym, ◌∙◌, subst, ap, suc, refl, [], arith}
+use Rattle.std.proofs.Common.{◌≡◌, sym, ◌∙◌, subst, ap, suc, refl, arith}
 use Rattle.std.proofs.lemmas.Bool.{false≢true}
 use Rattle.spec_model.proofs.Fixpoints.{IsFalling}
 use Rattle.regions.specs.Kept.{MakesRegion}
@@ -6,9 +6,8 @@ use Rattle.regions.proofs.Holding.{made_is}
 use Rattle.gr1_sys.specs.Held.{waiting}
 use Rattle.gr1_sys.proofs.Holdings.{same_then}
 use Rattle.gr1_sys.proofs.Waits.{waiting-first, waiting-next, waiting-fewer, waiting-last, turned, still}
-use Rattle.regions.specs.Kept.{All}
 use Rattle.gr1_sys.specs.Moment.{TellsHalt, iterated, part, part_iterate}
-use Rattle.gr1_sys.proofs.Told.{handed_on, told, past_one}
+use Rattle.gr1_sys.proofs.Told.{handed_on, past_one}
 use Rattle.gr1_sys.proofs.Naming.{part_iterated, part_still}
 use Rattle.gr1_sys.proofs.parts.greatest_part.Goals as goal
 
@@ -16,10 +15,10 @@ pub loop-next-init : goal.loop-next-init
 loop-next-init g c =
     let kept = g.G.Regions.kept in
     let first = kept c.args.g.now in
-    let is = made_is first (kept c.all.new.self) c.in_ok-x.x _ (g.met.G.Regions.exact _) c.in_ok-x.ensures.made in
+    let is = made_is first (kept c.all_states.new.g) c.in_ok-x.x _ (g.met.G.Regions.exact _) c.in_ok-x.ensures.made in
     record {
       made = is.1;
-      same = c.all.ensures.same;
+      same = c.all_states.ensures.same;
       falling = subst (IsFalling first.game (waiting first.game (first.set c.args.base.now) (first.set c.args.lapse.now))) (sym is.0) (waiting-first first.game (first.set c.args.base.now) (first.set c.args.lapse.now) (g.met.G.Regions.proper c.args.g.now c.args.base.now c.requires.base));
       iterates = (0, is.0);
     }
@@ -66,9 +65,7 @@ returns-then-settled-clause-made g c =
 pub returns-in_err-x-clause-told : goal.returns-in_err-x-clause-told
 returns-in_err-x-clause-told g c = λ z j r i are.
     let kept = g.G.Regions.kept in
-    let k = kept c.args.g.now in
-    handed_on c.from_residual.result c.in_err-x.field-0.0 (TellsHalt k (kept c.all.new.self) z) c.from_residual.ensures.1
-    (told k (kept c.all.new.self) z All [] c.in_err-x.field-0.0 c.in_err-x.ensures.halted.jam tt tt)
+    handed_on c.from_residual.result c.in_err-x.field-0.0 (TellsHalt (kept c.args.g.now) (kept c.all_states.new.g) z) c.from_residual.ensures.1 (c.in_err-x.ensures.told z)
 
 pub returns-in_err-next-clause-told : goal.returns-in_err-next-clause-told
 returns-in_err-next-clause-told g c = λ z j r i are.

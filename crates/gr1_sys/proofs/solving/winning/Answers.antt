@@ -1,4 +1,4 @@
-use Rattle.std.proofs.Common.{◌∙◌, ap, sym, subst, arith, [], refl, suc}
+use Rattle.std.proofs.Common.{◌∙◌, ap, sym, subst, arith, refl, suc}
 use Rattle.spec_model.proofs.Fixpoints.{IsFalling, falling-first, falling-next, falling-fewer}
 use Rattle.regions.proofs.Holding.{made_is, replaced_is}
 use Rattle.gr1_sys.specs.Solution.{following}
@@ -8,20 +8,19 @@ use Rattle.gr1_sys.proofs.Lists.{set_kept}
 use Rattle.gr1_sys.proofs.Parted.{given_stays}
 use Rattle.gr1_sys.proofs.Winning.{following-grows, following-inside}
 use Rattle.gr1_sys.proofs.Won.{won_is}
-use Rattle.regions.specs.Kept.{All}
 use Rattle.spec_model.specs.Sets.{all_states}
 use Rattle.gr1_sys.specs.Moment.{IsValueOfZ, TellsOneMoment, iterated, this_value}
-use Rattle.gr1_sys.proofs.Told.{handed_on, told, past_one, of_value}
+use Rattle.gr1_sys.proofs.Told.{handed_on, past_one, of_value}
 use Rattle.gr1_sys.proofs.solving.winning.Goals as goal
 
 pub loop-z-init : goal.loop-z-init
 loop-z-init g c =
     let kept = g.G.Regions.kept in
     let first = kept c.args.g.now in
-    let is = made_is first (kept c.all.new.self) c.in_ok-z.z _ (g.met.G.Regions.exact _) c.in_ok-z.ensures.made in
+    let is = made_is first (kept c.all_states.new.g) c.in_ok-z.z _ (g.met.G.Regions.exact _) c.in_ok-z.ensures.made in
     record {
       made = is.1;
-      same = c.all.ensures.same;
+      same = c.all_states.ensures.same;
       falling = subst (IsFalling first.game (following first.game)) (sym is.0) (falling-first first.game (following first.game) (following-grows first.game) (following-inside first.game));
       value = (0, is.0);
     }
@@ -86,10 +85,10 @@ pub returns-in_err-z-clause-told : goal.returns-in_err-z-clause-told
 returns-in_err-z-clause-told g c =
     let kept = g.G.Regions.kept in
     let k = kept c.args.g.now in
-    let new = kept c.all.new.self in
+    let new = kept c.all_states.new.g in
     let halt = c.in_err-z.field-0.0 in
     handed_on c.from_residual.result halt (TellsOneMoment k new) c.from_residual.ensures.1
-    (of_value k new (all_states k.game) halt (0, refl) (told k new (all_states k.game) All [] halt c.in_err-z.ensures.halted.jam tt tt))
+    (of_value k new (all_states k.game) halt (0, refl) (c.in_err-z.ensures.told (all_states k.game)))
 
 pub returns-in_err-z-2-clause-told : goal.returns-in_err-z-2-clause-told
 returns-in_err-z-2-clause-told g c =
