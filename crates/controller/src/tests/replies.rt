@@ -31,7 +31,7 @@ fn game(
     assume: Vec<Goal>,
     goals: Vec<Goal>,
 ) -> Result<Game, AllocError>
-    ensures { IfOk result (λ g. game_data g ≡ game_with [] (map (λ l. (l.0, formula l.1)) safe_gar.items) (map goal_data assume.items) (map goal_data goals.items)) }
+    ensures { IfOk result (λ g. game_data g ≡ game_with two_variables [] (map (λ l. (l.0, formula l.1)) safe_gar.items) (map goal_data assume.items) (map goal_data goals.items)) }
 {
     Ok(Game {
         vars: two(alloc)?,
@@ -46,7 +46,7 @@ fn game(
 }
 
 fn granted(alloc: Global) -> Result<Game, AllocError>
-    ensures { IfOk result (λ g. game_data g ≡ game_with [] ((1, Implication (Variable 0) (Variable 1)) ∷ []) [] (goal_lem 2 (Variable 1) ∷ [])) }
+    ensures { IfOk result (λ g. game_data g ≡ game_with two_variables [] ((1, Implication (Variable 0) (Variable 1)) ∷ []) [] (goal_lem 2 (Variable 1) ∷ [])) }
 {
     let line = implies(alloc, Expr::Var(0), Expr::Var(1))?;
     let goals = vec![in alloc; goal(2, Expr::Var(1))]?;
@@ -54,7 +54,7 @@ fn granted(alloc: Global) -> Result<Game, AllocError>
 }
 
 fn in_turns(alloc: Global) -> Result<Game, AllocError>
-    ensures { IfOk result (λ g. game_data g ≡ game_with [] [] [] (goal_lem 1 (Variable 1) ∷ goal_lem 2 (Negation (Variable 1)) ∷ [])) }
+    ensures { IfOk result (λ g. game_data g ≡ game_with two_variables [] [] [] (goal_lem 1 (Variable 1) ∷ goal_lem 2 (Negation (Variable 1)) ∷ [])) }
 {
     let off = not(alloc, Expr::Var(1))?;
     let goals = vec![in alloc; goal(1, Expr::Var(1)), goal(2, off)]?;
@@ -62,7 +62,7 @@ fn in_turns(alloc: Global) -> Result<Game, AllocError>
 }
 
 fn answered(alloc: Global) -> Result<Game, AllocError>
-    ensures { IfOk result (λ g. game_data g ≡ game_with [] ((2, Implication (Variable 1) (Variable 0)) ∷ []) (goal_lem 1 (Variable 0) ∷ []) (goal_lem 3 (Variable 1) ∷ [])) }
+    ensures { IfOk result (λ g. game_data g ≡ game_with two_variables [] ((2, Implication (Variable 1) (Variable 0)) ∷ []) (goal_lem 1 (Variable 0) ∷ []) (goal_lem 3 (Variable 1) ∷ [])) }
 {
     let line = implies(alloc, Expr::Var(1), Expr::Var(0))?;
     let assume = vec![in alloc; goal(1, Expr::Var(0))]?;
