@@ -9,6 +9,7 @@ use Rattle.spectra_trees.specs.Lexemes.{Lexeme}
 use Rattle.spectra_exprs.specs.Read.{Read, Reader, ◌>>=◌, unexpected, first_number, starts, expect, grow, all_of}
 use Rattle.spectra_exprs.specs.Operators.{is_operator, closed}
 use Rattle.spectra_exprs.specs.Forms.{Gives, Token, Then, ◌▸◌, ◌∣◌, Steps}
+use Rattle.spectra_exprs.specs.Phrases.{Phrase, ArePhrase}
 use Rattle.spectra_exprs.specs.Spellings.{IsSpelled, AreSpelled}
 use Rattle.spectra_exprs.proofs.Soundness.{Got, Sound, Looks, sound_gives, sound_token, sound_then, sound_same, sound_wider, sound_if, sound_look, sound_steps, sound_unexpected, sound_fault, gives_alone}
 use Rattle.spectra_exprs.proofs.SoundExpressions.{sound_closed}
@@ -33,13 +34,39 @@ pub record IsLast (at : ℕ) (used : List Lexeme) : Type 0 where
   pub parts : used ≡ front ++ token ∷ []
   pub number : token.number ≡ at
 
+-- the number is that of an operator behind what was used
+pub record IsOperator (at : ℕ) (rest : List Lexeme) : Type 0 where
+  pub token : Lexeme
+  pub more : List Lexeme
+  pub parts : rest ≡ token ∷ more
+  pub number : token.number ≡ at
+  pub operator : is_operator token.class ≡ true
+
 -- a level too many is opened by a token that is used; other faults stand at the token behind
 abbrev pub IsPlace : SyntaxFault → List Lexeme → List Lexeme → Type 0
 IsPlace (faults.Unexpected at) used rest = IsNext at rest
 IsPlace (faults.TooDeep at) used rest = IsLast at used
-IsPlace (faults.Parentheses at) used rest = IsNext at rest
+IsPlace (faults.Parentheses at) used rest = IsOperator at rest
 IsPlace (faults.Unsupported at) used rest = ⊥
 IsPlace faults.Memory used rest = ⊥
+
+-- what was used ends with a whole phrase, in whose place each other phrase of its sort may stand
+pub record EndsWhole {A : Type 0} (P : List Lexeme → A → Type 0) (used : List Lexeme) : Type 0 where
+  pub front : List Lexeme
+  pub phrase : List Lexeme
+  pub parts : used ≡ front ++ phrase
+  pub sort : Phrase
+  pub left : ℕ
+  pub whole : ArePhrase sort left phrase
+  pub any : (other : List Lexeme) → ArePhrase sort left other → Begun P (front ++ other)
+
+-- an operator behind a whole phrase is fault 6
+abbrev pub IsBehind : {A : Type 0} → (List Lexeme → A → Type 0) → SyntaxFault → List Lexeme → Type 0
+IsBehind P (faults.Unexpected at) used = Unit {0}
+IsBehind P (faults.TooDeep at) used = Unit {0}
+IsBehind P (faults.Parentheses at) used = EndsWhole P used
+IsBehind P (faults.Unsupported at) used = Unit {0}
+IsBehind P faults.Memory used = Unit {0}
 
 pub record OpensAt {A : Type 0} (P : List Lexeme → A → Type 0) (ts : List Lexeme) (f : SyntaxFault) : Type 0 where
   pub used : List Lexeme
@@ -47,6 +74,7 @@ pub record OpensAt {A : Type 0} (P : List Lexeme → A → Type 0) (ts : List Le
   pub front : ts ≡ used ++ rest
   pub place : IsPlace f used rest
   pub begun : Begun P used
+  pub behind : IsBehind P f used
 
 -- the token before opened a level too many
 abbrev pub OpensBefore : Option Lexeme → SyntaxFault → Type 0
@@ -74,6 +102,25 @@ place_behind (faults.Parentheses at) front used rest p = p
 place_behind (faults.Unsupported at) front used rest p = p
 place_behind faults.Memory front used rest p = p
 
+ends_behind : {A B : Type 0} (P : List Lexeme → A → Type 0) (Q : List Lexeme → B → Type 0) (front : List Lexeme) → ((used : List Lexeme) → Begun P used → Begun Q (front ++ used)) → (used : List Lexeme) → EndsWhole P used → EndsWhole Q (front ++ used)
+ends_behind P Q front begins used e =
+    record {
+      front = front ++ e.front;
+      phrase = e.phrase;
+      parts = ap (λ (u : List Lexeme). front ++ u) e.parts ∙ sym (append_assoc front e.front e.phrase);
+      sort = e.sort;
+      left = e.left;
+      whole = e.whole;
+      any = λ other p. subst (λ (u : List Lexeme). Begun Q u) (sym (append_assoc front e.front other)) (begins (e.front ++ other) (e.any other p));
+    }
+
+is_behind : {A B : Type 0} (P : List Lexeme → A → Type 0) (Q : List Lexeme → B → Type 0) (front : List Lexeme) → ((used : List Lexeme) → Begun P used → Begun Q (front ++ used)) → (f : SyntaxFault) (used : List Lexeme) → IsBehind P f used → IsBehind Q f (front ++ used)
+is_behind P Q front begins (faults.Unexpected at) used b = tt
+is_behind P Q front begins (faults.TooDeep at) used b = tt
+is_behind P Q front begins (faults.Parentheses at) used b = ends_behind P Q front begins used b
+is_behind P Q front begins (faults.Unsupported at) used b = tt
+is_behind P Q front begins faults.Memory used b = tt
+
 -- behind some tokens, where what is begun there begins the whole
 pub opens_behind : {A B : Type 0} (P : List Lexeme → A → Type 0) (Q : List Lexeme → B → Type 0) (front : List Lexeme) → ((used : List Lexeme) → Begun P used → Begun Q (front ++ used)) → (ts rest : List Lexeme) (f : SyntaxFault) → ts ≡ front ++ rest → OpensAt P rest f
     → OpensAt Q ts f
@@ -84,6 +131,7 @@ opens_behind P Q front begins ts rest f parts q =
       front = parts ∙ ap (λ (m : List Lexeme). front ++ m) q.front ∙ sym (append_assoc front q.used q.rest);
       place = place_behind f front q.used q.rest q.place;
       begun = begins q.used q.begun;
+      behind = is_behind P Q front begins f q.used q.behind;
     }
 
 pub opens_as : {A B : Type 0} (P : List Lexeme → A → Type 0) (Q : List Lexeme → B → Type 0) → ((used : List Lexeme) → Begun P used → Begun Q used) → (ts : List Lexeme) (f : SyntaxFault) → OpensAt P ts f → OpensAt Q ts f
@@ -165,8 +213,8 @@ pub full_right : {A : Type 0} {before : Option Lexeme} {P Q : List Lexeme → A 
 full_right {Q = Q} s = full_of Q (λ used a q. inr q) s
 
 -- the first token, or the end, is refused
-pub opens_here : {A : Type 0} (P : List Lexeme → A → Type 0) (ts : List Lexeme) (f : SyntaxFault) → IsPlace f [] ts → Begun P [] → OpensAt P ts f
-opens_here P ts f place begun = record { used = []; rest = ts; front = refl; place = place; begun = begun }
+pub opens_here : {A : Type 0} (P : List Lexeme → A → Type 0) (ts : List Lexeme) (at : ℕ) → IsNext at ts → Begun P [] → OpensAt P ts (faults.Unexpected at)
+opens_here P ts at place begun = record { used = []; rest = ts; front = refl; place = place; begun = begun; behind = tt }
 
 next_number : (ts : List Lexeme) → IsNext (first_number ts) ts
 unfolding first_number
@@ -177,7 +225,7 @@ pub full_unexpected : {A : Type 0} {P : List Lexeme → A → Type 0} → Begun 
 unfolding unexpected
 full_unexpected {A = A} {P = P} w = record {
   sound = sound_unexpected;
-  opens = λ ts f e. inl (subst (λ (g : SyntaxFault). OpensAt P ts g) (err_is {A = A} (faults.Unexpected (first_number ts)) f e) (opens_here P ts (faults.Unexpected (first_number ts)) (next_number ts) w));
+  opens = λ ts f e. inl (subst (λ (g : SyntaxFault). OpensAt P ts g) (err_is {A = A} (faults.Unexpected (first_number ts)) f e) (opens_here P ts (first_number ts) (next_number ts) w));
   whole = w;
 }
 
@@ -204,11 +252,11 @@ module _ (class : Class) (x : Example class) where
   by_class : (b : Bool) (t : Lexeme) (ts : List Lexeme) (f : SyntaxFault) → ◌≡◌ {A = Read Lexeme} (cond b (Ok (t, ts)) (Err (faults.Unexpected t.number))) (Err f) → OpensAt (Token class) (t ∷ ts) f
   by_class true t ts f e = absurd (ok_no_err (t, ts) f e)
   by_class false t ts f e =
-      subst (λ (g : SyntaxFault). OpensAt (Token class) (t ∷ ts) g) (err_is {A = Lexeme} (faults.Unexpected t.number) f e) (opens_here (Token class) (t ∷ ts) (faults.Unexpected t.number) refl (example_begun class x))
+      subst (λ (g : SyntaxFault). OpensAt (Token class) (t ∷ ts) g) (err_is {A = Lexeme} (faults.Unexpected t.number) f e) (opens_here (Token class) (t ∷ ts) t.number refl (example_begun class x))
 
   token_opens : (ts : List Lexeme) (f : SyntaxFault) → expect class ts ≡ Err f → OpensAt (Token class) ts f
   unfolding expect
-  token_opens [] f e = subst (λ (g : SyntaxFault). OpensAt (Token class) [] g) (err_is {A = Lexeme} (faults.Unexpected 0) f e) (opens_here (Token class) [] (faults.Unexpected 0) refl (example_begun class x))
+  token_opens [] f e = subst (λ (g : SyntaxFault). OpensAt (Token class) [] g) (err_is {A = Lexeme} (faults.Unexpected 0) f e) (opens_here (Token class) [] 0 refl (example_begun class x))
   token_opens (t ∷ ts) f e = by_class (same_class t.class class) t ts f e
 
   pub full_token : Full (Token class) (expect class)
@@ -218,7 +266,7 @@ module _ (class : Class) (x : Example class) where
 pub opened_level : {A : Type 0} (P : List Lexeme → A → Type 0) (t : Lexeme) (ts rest : List Lexeme) (f : SyntaxFault) → ts ≡ t ∷ rest → f ≡ faults.TooDeep t.number → Begun P (t ∷ []) → OpensAt P ts f
 opened_level P t ts rest f front deep begun =
     subst (λ (g : SyntaxFault). OpensAt P ts g) (sym deep)
-    (record { used = t ∷ []; rest = rest; front = front; place = record { front = []; token = t; parts = refl; number = refl }; begun = begun })
+    (record { used = t ∷ []; rest = rest; front = front; place = record { front = []; token = t; parts = refl; number = refl }; begun = begun; behind = tt })
 
 module _ {B : Type 0} (class : Class) (x : Example class) {Q : Lexeme → List Lexeme → B → Type 0} {S : Lexeme → Reader B} (second : (t : Lexeme) → FullAfter (Some t) (Q t) (S t)) where
   after_level : (ts : List Lexeme) (t : Lexeme) (rest : List Lexeme) (f : SyntaxFault) → Got (Token class) ts t rest → OpensAt (Q t) rest f ⊎ OpensBefore (Some t) f → OpensAt (Token class ▸ Q) ts f
@@ -265,20 +313,48 @@ either_of P used a (inr p) = p
 pub full_both : {A : Type 0} {P : List Lexeme → A → Type 0} {R S : Reader A} (test : List Lexeme → Bool) → Full P R → Full P S → Full P (λ ts. cond (test ts) (R ts) (S ts))
 full_both {P = P} test r s = full_of (P ∣ P) (λ used a e. either_of P used a e) (full_if test r s)
 
-pub full_closed : {A : Type 0} (a : A) → Full (Gives a) (closed a)
-unfolding closed
-full_closed {A = A} a = record { sound = sound_closed a; opens = opens; whole = nothing }
-  where
-    nothing : Begun (Gives a) []
-    nothing = record { more = []; spelled = tt; value = a; derives = record { nothing = refl; same = refl } }
+-- a phrase that no operator follows
+module _ {A B : Type 0} (sort : Phrase) (left : ℕ) (P : List Lexeme → A → Type 0) {R : Reader A} (f : A → B) (is : (used : List Lexeme) (a : A) → P used a → ArePhrase sort left used) (any : (used : List Lexeme) → ArePhrase sort left used → (a : A) × P used a) (r : Full P R) where
+  abbrev Finished : List Lexeme → B → Type 0
+  Finished = P ▸ λ a. Gives (f a)
 
-    at : (b : Bool) (t : Lexeme) (ts : List Lexeme) (f : SyntaxFault) → ◌≡◌ {A = Read A} (cond b (Err (faults.Parentheses t.number)) (Ok (a, t ∷ ts))) (Err f) → OpensAt (Gives a) (t ∷ ts) f
-    at true t ts f e = subst (λ (g : SyntaxFault). OpensAt (Gives a) (t ∷ ts) g) (err_is {A = A} (faults.Parentheses t.number) f e) (opens_here (Gives a) (t ∷ ts) (faults.Parentheses t.number) refl nothing)
-    at false t ts f e = absurd (ok_no_err (a, t ∷ ts) f e)
+  phrase_begun : (used : List Lexeme) → ArePhrase sort left used → Begun Finished used
+  phrase_begun used p =
+      let a = any used p in
+      record { more = []; spelled = tt; value = f a.0; derives = record { front = used; value = a.0; back = []; parts = refl; before = a.1; after = record { nothing = refl; same = refl } } }
 
-    opens : (ts : List Lexeme) (f : SyntaxFault) → closed a ts ≡ Err f → OpensAt (Gives a) ts f ⊎ ⊥
-    opens [] f e = absurd (ok_no_err (a, []) f e)
-    opens (t ∷ ts) f e = inl (at (is_operator t.class) t ts f e)
+  followed : (ts : List Lexeme) (a : A) (t : Lexeme) (behind : List Lexeme) → is_operator t.class ≡ true → Got P ts a (t ∷ behind) → OpensAt Finished ts (faults.Parentheses t.number)
+  followed ts a t behind on g =
+      let whole = is g.used a g.derives in
+      record {
+        used = g.used;
+        rest = t ∷ behind;
+        front = g.front;
+        place = record { token = t; more = behind; parts = refl; number = refl; operator = on };
+        begun = phrase_begun g.used whole;
+        behind = record { front = []; phrase = g.used; parts = refl; sort = sort; left = left; whole = whole; any = phrase_begun };
+      }
+
+  by_operator : (b : Bool) (ts : List Lexeme) (a : A) (t : Lexeme) (behind : List Lexeme) (e : SyntaxFault) → is_operator t.class ≡ b → Got P ts a (t ∷ behind)
+      → ◌≡◌ {A = Read B} (cond b (Err (faults.Parentheses t.number)) (Ok (f a, t ∷ behind))) (Err e) → OpensAt Finished ts e
+  by_operator true ts a t behind e on g read = subst (λ (h : SyntaxFault). OpensAt Finished ts h) (err_is {A = B} (faults.Parentheses t.number) e read) (followed ts a t behind on g)
+  by_operator false ts a t behind e on g read = absurd (ok_no_err (f a, t ∷ behind) e read)
+
+  finished_by : (rest : List Lexeme) (ts : List Lexeme) (a : A) (e : SyntaxFault) → Got P ts a rest → closed (f a) rest ≡ Err e → OpensAt Finished ts e
+  unfolding closed
+  finished_by [] ts a e g read = absurd (ok_no_err (f a, []) e read)
+  finished_by (t ∷ behind) ts a e g read = by_operator (is_operator t.class) ts a t behind e refl g read
+
+  phrase_opens : (x : Read A) (ts : List Lexeme) (e : SyntaxFault) → R ts ≡ x → (x >>= λ a rest. closed (f a) rest) ≡ Err e → OpensAt Finished ts e ⊎ ⊥
+  phrase_opens (Ok x) ts e read last = inl (finished_by x.1 ts x.0 e (r.sound.got ts x.0 x.1 read) last)
+  phrase_opens (Err g) ts e read last = opens_first P (λ a. Gives (f a)) None ts e (r.opens ts e (read ∙ ap (λ (h : SyntaxFault). Err h) (err_is {A = B} g e last))) (λ a. record { more = []; spelled = tt; value = f a; derives = record { nothing = refl; same = refl } })
+
+  pub full_finished : Full Finished (λ ts. R ts >>= λ a rest. closed (f a) rest)
+  full_finished = record {
+    sound = sound_then r.sound (λ (a : A). sound_closed (f a));
+    opens = λ ts e last. phrase_opens (R ts) ts e refl last;
+    whole = begun_first P (λ a. Gives (f a)) [] r.whole (λ a. record { more = []; spelled = tt; value = f a; derives = record { nothing = refl; same = refl } });
+  }
 
 -- ---- shapes of grammars
 

@@ -16,10 +16,11 @@ use Rattle.spectra_exprs.specs.Operators.{operator_word, sum_word, prefix_word, 
 use Rattle.spectra_exprs.specs.Expressions.{leaf, between, opened, Term, Chain, Inside, negative, number_of, literal, next_of, parentheses_of, call_of, read_of, named_of, prim_of, prefixed_of, operand_of, times_of, prod_of, plus_of, modulo, sum_of, side_of, compared_of, comparison_of, cmp_of, conjunct_of, conjunction_of, conj_of, disjunct_of, disjunction_of, disj_of, arrow_of, past_of, alone_of, expr_of, whole_of, bound_of, argument_of, some_arguments_of, arguments_of, inside}
 use Rattle.spectra_exprs.specs.Forms.{Gives, Token, ◌▸◌, ◌∣◌, Steps}
 use Rattle.spectra_exprs.specs.Grammar.{Operator, Prefix, OrSign, Deeper, Literal, Prim, Operand, Times, Prod, Plus, Modulo, Alone, Sum, Side, Cmp, Conjunct, Conj, Disjunct, Disj, ExprOf, Argument, Arguments, Levels}
-use Rattle.spectra_exprs.proofs.Soundness.{grouped, gives_alone}
+use Rattle.spectra_exprs.specs.Phrases.{Phrase}
+use Rattle.spectra_exprs.proofs.Soundness.{grouped}
 use Rattle.spectra_exprs.proofs.SoundExpressions.{literal_same, named_same, prim_same, prefix_looks, operator_looks}
 use Rattle.spectra_exprs.proofs.StoppingExpressions.{prefix_look, operator_look}
-use Rattle.spectra_exprs.proofs.Opening.{Begun, FullAfter, Full, Example, begun_first, full_wider, full_then, full_gives, full_same, full_of, full_right, full_unexpected, full_deep, full_token, full_behind, full_if, full_only, full_closed, full_if_left, full_then_same, begun_right, begun_left, begun_gives}
+use Rattle.spectra_exprs.proofs.Opening.{Begun, FullAfter, Full, Example, begun_first, full_wider, full_then, full_gives, full_same, full_of, full_right, full_unexpected, full_deep, full_token, full_behind, full_if, full_only, full_finished, full_if_left, full_then_same, begun_right, begun_left, begun_gives}
 use Rattle.spectra_exprs.proofs.OpeningSteps.{FullLook, full_look, full_look_only, full_steps, begun_steps}
 use Rattle.spectra_exprs.proofs.Examples.{a_And, a_Bar, a_Close, a_Comma, a_False, a_Minus, a_Mod, a_Name, a_Next, a_Number, a_Open, a_Or, a_Plus, a_Star, a_True}
 
@@ -101,8 +102,8 @@ pub record FullInside (d : Deeper) (r : Inside) : Type 0 where
   pub operand : (t : Lexeme) → FullAfter (Some t) d.Next (r.operand t)
   pub arguments : (t : Lexeme) → FullAfter (Some t) d.Listed (r.arguments t)
 
-module _ (d : Deeper) (r : Inside) (s : FullInside d r) where
-  full_call : (t u : Lexeme) → FullAfter (Some u) (d.Listed ▸ λ es. Gives (leaf t (Form.Call (name_of t) (expressions es)))) (call_of r t u)
+module _ (left : ℕ) (r : Inside) (s : FullInside (Levels left) r) where
+  full_call : (t u : Lexeme) → FullAfter (Some u) ((Levels left).Listed ▸ λ es. Gives (leaf t (Form.Call (name_of t) (expressions es)))) (call_of r t u)
   unfolding call_of
   full_call t u = full_then (s.arguments u) (λ (es : List Expression). full_gives (leaf t (Form.Call (name_of t) (expressions es))))
 
@@ -111,49 +112,49 @@ module _ (d : Deeper) (r : Inside) (s : FullInside d r) where
   full_read t = full_gives (leaf t (Form.Read (name_of t)))
 
   full_named : (t : Lexeme)
-      → Full ((Token classes.Open ▸ λ o. d.Listed ▸ λ es. Gives (leaf t (Form.Call (name_of t) (expressions es)))) ∣ Gives (leaf t (Form.Read (name_of t)))) (named_of r t)
+      → Full ((Token classes.Open ▸ λ o. (Levels left).Listed ▸ λ es. Gives (leaf t (Form.Call (name_of t) (expressions es)))) ∣ Gives (leaf t (Form.Read (name_of t)))) (named_of r t)
   full_named t = full_same (named_same r t) (full_if (starts classes.Open) (full_behind classes.Open a_Open (full_call t)) (full_read t))
 
-  full_next : (t : Lexeme) → Full (Token classes.Open ▸ λ o. d.Whole ▸ λ e. Token classes.Close ▸ λ c. Gives (leaf t (Form.Next e))) (next_of r t)
+  full_next : (t : Lexeme) → Full (Token classes.Open ▸ λ o. (Levels left).Whole ▸ λ e. Token classes.Close ▸ λ c. Gives (leaf t (Form.Next e))) (next_of r t)
   unfolding next_of
   full_next t =
       full_behind classes.Open a_Open (λ (o : Lexeme). full_then (s.whole o) (λ (e : Expression). full_then (full_token classes.Close a_Close) (λ (c : Lexeme). full_gives (leaf t (Form.Next e)))))
 
-  full_parentheses : (t : Lexeme) → FullAfter (Some t) (d.Whole ▸ λ e. Token classes.Close ▸ λ c. Gives (opened t e)) (parentheses_of r t)
+  full_parentheses : (t : Lexeme) → FullAfter (Some t) ((Levels left).Whole ▸ λ e. Token classes.Close ▸ λ c. Gives (opened t e)) (parentheses_of r t)
   unfolding parentheses_of
   full_parentheses t = full_then (s.whole t) (λ (e : Expression). full_then (full_token classes.Close a_Close) (λ (c : Lexeme). full_gives (opened t e)))
 
-  full_prim : Full (Prim d) (prim_of r)
+  full_prim : Full (Prim (Levels left)) (prim_of r)
   full_prim =
       full_same (prim_same r)
       (full_if (starts classes.Name) (full_then (full_token classes.Name a_Name) full_named)
       (full_if (starts classes.Next) (full_then (full_token classes.Next a_Next) full_next)
       (full_if (starts classes.Open) (full_behind classes.Open a_Open full_parentheses) full_literal)))
 
-  full_prefixed : (p : Lexeme × PrefixWord) → FullAfter (Some p.0) (d.Next ▸ λ e. Gives (leaf p.0 (Form.Prefix p.1 e))) (prefixed_of r p.0 p.1)
+  full_prefixed : (p : Lexeme × PrefixWord) → FullAfter (Some p.0) ((Levels left).Next ▸ λ e. Gives (leaf p.0 (Form.Prefix p.1 e))) (prefixed_of r p.0 p.1)
   unfolding prefixed_of
   full_prefixed p = full_then (s.operand p.0) (λ (e : Expression). full_gives (leaf p.0 (Form.Prefix p.1 e)))
 
-  pub full_operand : Full (Operand d) (operand_of r)
+  pub full_operand : Full (Operand (Levels left)) (operand_of r)
   unfolding operand_of
   full_operand = full_look prefix_full full_prefixed full_prim
 
-  full_times : (a : Term) → Full (Times d a) (times_of r a)
+  full_times : (a : Term) → Full (Times (Levels left) a) (times_of r a)
   unfolding times_of
   full_times a = full_then (full_token classes.Star a_Star) (λ (t : Lexeme). full_then full_prim (λ (b : Expression). full_gives (between t.at binaries.Mul a.0 b, false)))
 
-  full_prod : Full (Prod d) (prod_of r)
+  full_prod : Full (Prod (Levels left)) (prod_of r)
   unfolding prod_of
   full_prod = full_then full_prim (λ (p : Expression). full_steps (starts classes.Star) full_times (p, true))
 
-  plus_behind : (a : Term) (o : Place × BinaryWord) → Full {A = Term} (Prod d ▸ λ b. Gives (between o.0 o.1 a.0 b.0, false)) (λ ts. prod_of r ts >>= λ b rest. Ok ((between o.0 o.1 a.0 b.0, false), rest))
+  plus_behind : (a : Term) (o : Place × BinaryWord) → Full {A = Term} (Prod (Levels left) ▸ λ b. Gives (between o.0 o.1 a.0 b.0, false)) (λ ts. prod_of r ts >>= λ b rest. Ok ((between o.0 o.1 a.0 b.0, false), rest))
   plus_behind a o = full_then full_prod (λ (b : Term). full_gives (between o.0 o.1 a.0 b.0, false))
 
-  full_plus : (a : Term) → Full (Plus d a) (plus_of r a)
+  full_plus : (a : Term) → Full (Plus (Levels left) a) (plus_of r a)
   unfolding plus_of
   full_plus a =
       full_look_only (operator_full levels.Sum) (plus_behind a)
-      (full_unexpected (begun_first (Operator levels.Sum) (λ o. Prod d ▸ λ b. Gives (between o.0 o.1 a.0 b.0, false)) [] begun_sign (λ o. (plus_behind a o).whole)))
+      (full_unexpected (begun_first (Operator levels.Sum) (λ o. Prod (Levels left) ▸ λ b. Gives (between o.0 o.1 a.0 b.0, false)) [] begun_sign (λ o. (plus_behind a o).whole)))
 
   full_modulo : (e : Expression) → Full (Modulo e) (modulo e)
   unfolding modulo
@@ -161,99 +162,99 @@ module _ (d : Deeper) (r : Inside) (s : FullInside d r) where
       full_then (full_token classes.Mod a_Mod) (λ (t : Lexeme). full_then (full_token classes.Number a_Number) (λ (n : Lexeme). full_gives (expression (first_of e) t.at (Form.Mod e n.at n.text), false)))
 
   after_prod : (e : Expression) (alone : Bool)
-      → Full (Alone (e, alone) (Modulo e) ∣ Steps (Plus d) (e, alone)) (λ ts. cond (alone && starts classes.Mod ts) (modulo e ts) (all_of starts_sum (plus_of r) (e, alone) ts))
+      → Full (Alone (e, alone) (Modulo e) ∣ Steps (Plus (Levels left)) (e, alone)) (λ ts. cond (alone && starts classes.Mod ts) (modulo e ts) (all_of starts_sum (plus_of r) (e, alone) ts))
   after_prod e true =
       full_if (starts classes.Mod) (full_of (Modulo e) (λ used a m. record { alone = refl; then = m }) (full_modulo e)) (full_steps starts_sum full_plus (e, true))
   after_prod e false = full_right (full_steps starts_sum full_plus (e, false))
 
-  full_sum : Full (Sum d) (sum_of r)
+  full_sum : Full (Sum (Levels left)) (sum_of r)
   unfolding sum_of
   full_sum = full_then full_prod (λ (p : Term). after_prod p.0 p.1)
 
-  pub full_bound : Full (Sum d ▸ λ p. Gives p.0) (bound_of r)
+  pub full_bound : Full (Sum (Levels left) ▸ λ p. Gives p.0) (bound_of r)
   unfolding bound_of
-  full_bound = full_then full_sum (λ (p : Term). full_closed p.0)
+  full_bound = full_finished Phrase.Bound left (Sum (Levels left)) (λ p. p.0) (λ used p d. (p, d)) (λ used p. p) full_sum
 
-  full_side : Full (Side d) (side_of r)
+  full_side : Full (Side (Levels left)) (side_of r)
   unfolding side_of
   full_side = full_look prefix_full full_prefixed (full_then full_sum (λ (p : Term). full_gives p.0))
 
-  full_compared : (a : Expression) (o : Place × BinaryWord) → Full (Side d ▸ λ b. Gives (between o.0 o.1 a b, false)) (compared_of r a o.0 o.1)
+  full_compared : (a : Expression) (o : Place × BinaryWord) → Full (Side (Levels left) ▸ λ b. Gives (between o.0 o.1 a b, false)) (compared_of r a o.0 o.1)
   unfolding compared_of
   full_compared a o = full_then full_side (λ (b : Expression). full_gives (between o.0 o.1 a b, false))
 
-  full_comparison : Full (Sum d ▸ λ p. (Operator levels.Relation ▸ λ o. Side d ▸ λ b. Gives (between o.0 o.1 p.0 b, false)) ∣ Gives p) (comparison_of r)
+  full_comparison : Full (Sum (Levels left) ▸ λ p. (Operator levels.Relation ▸ λ o. Side (Levels left) ▸ λ b. Gives (between o.0 o.1 p.0 b, false)) ∣ Gives p) (comparison_of r)
   unfolding comparison_of
   full_comparison = full_then full_sum (λ (p : Term). full_look (operator_full levels.Relation) (full_compared p.0) (full_gives p))
 
-  full_cmp : Full (Cmp d) (cmp_of r)
+  full_cmp : Full (Cmp (Levels left)) (cmp_of r)
   unfolding cmp_of
   full_cmp =
-      full_if_left (grouped {P = Prefix} {Q = λ p. d.Next ▸ λ e. Gives (leaf p.0 (Form.Prefix p.1 e))} {S = λ e. Gives (e, false)})
+      full_if_left (grouped {P = Prefix} {Q = λ p. (Levels left).Next ▸ λ e. Gives (leaf p.0 (Form.Prefix p.1 e))} {S = λ e. Gives (e, false)})
       (full_look prefix_full (λ (p : Lexeme × PrefixWord). full_then (full_prefixed p) (λ (e : Expression). full_gives (e, false))) full_comparison)
 
-  full_conjunct : (all : Chain) → Full (Conjunct d all) (conjunct_of r all)
+  full_conjunct : (all : Chain) → Full (Conjunct (Levels left) all) (conjunct_of r all)
   unfolding conjunct_of
   full_conjunct all = full_then (full_token classes.And a_And) (λ (t : Lexeme). full_then full_cmp (λ (p : Term). full_gives (all.0 ++ p.0 ∷ [], all.1 ++ t.at ∷ [])))
 
   full_conjunction : (a : Expression)
-      → Full (Token classes.And ▸ λ t. Cmp d ▸ λ b. Steps (Conjunct d) (a ∷ b.0 ∷ [], t.at ∷ []) ▸ λ all. Gives (expression (first_of a) t.at (Form.And (expressions all.0) all.1), false)) (conjunction_of r a)
+      → Full (Token classes.And ▸ λ t. Cmp (Levels left) ▸ λ b. Steps (Conjunct (Levels left)) (a ∷ b.0 ∷ [], t.at ∷ []) ▸ λ all. Gives (expression (first_of a) t.at (Form.And (expressions all.0) all.1), false)) (conjunction_of r a)
   unfolding conjunction_of
   full_conjunction a =
       full_then (full_token classes.And a_And) (λ (t : Lexeme). full_then full_cmp (λ (b : Term). full_then (full_steps (starts classes.And) full_conjunct (a ∷ b.0 ∷ [], t.at ∷ []))
       (λ (all : Chain). full_gives (expression (first_of a) t.at (Form.And (expressions all.0) all.1), false))))
 
-  full_conj : Full (Conj d) (conj_of r)
+  full_conj : Full (Conj (Levels left)) (conj_of r)
   unfolding conj_of
   full_conj = full_then full_cmp (λ (p : Term). full_if (starts classes.And) (full_conjunction p.0) (full_gives p))
 
-  full_disjunct : (all : Chain) → Full (Disjunct d all) (disjunct_of r all)
+  full_disjunct : (all : Chain) → Full (Disjunct (Levels left) all) (disjunct_of r all)
   unfolding disjunct_of
   full_disjunct all = full_then full_or_sign (λ (t : Lexeme). full_then full_conj (λ (p : Term). full_gives (all.0 ++ p.0 ∷ [], all.1 ++ t.at ∷ [])))
 
   full_disjunction : (a : Expression)
-      → Full (OrSign ▸ λ t. Conj d ▸ λ b. Steps (Disjunct d) (a ∷ b.0 ∷ [], t.at ∷ []) ▸ λ all. Gives (expression (first_of a) t.at (Form.Or (expressions all.0) all.1), false)) (disjunction_of r a)
+      → Full (OrSign ▸ λ t. Conj (Levels left) ▸ λ b. Steps (Disjunct (Levels left)) (a ∷ b.0 ∷ [], t.at ∷ []) ▸ λ all. Gives (expression (first_of a) t.at (Form.Or (expressions all.0) all.1), false)) (disjunction_of r a)
   unfolding disjunction_of
   full_disjunction a =
       full_then full_or_sign (λ (t : Lexeme). full_then full_conj (λ (b : Term). full_then (full_steps starts_or full_disjunct (a ∷ b.0 ∷ [], t.at ∷ []))
       (λ (all : Chain). full_gives (expression (first_of a) t.at (Form.Or (expressions all.0) all.1), false))))
 
-  full_disj : Full (Disj d) (disj_of r)
+  full_disj : Full (Disj (Levels left)) (disj_of r)
   unfolding disj_of
   full_disj = full_then full_conj (λ (p : Term). full_if starts_or (full_disjunction p.0) (full_gives p))
 
-  full_arrow : (a : Expression) (o : Place × BinaryWord) → Full (Disj d ▸ λ b. Gives (between o.0 o.1 a b.0)) (arrow_of r a o.0 o.1)
+  full_arrow : (a : Expression) (o : Place × BinaryWord) → Full (Disj (Levels left) ▸ λ b. Gives (between o.0 o.1 a b.0)) (arrow_of r a o.0 o.1)
   unfolding arrow_of
   full_arrow a o = full_then full_disj (λ (b : Term). full_gives (between o.0 o.1 a b.0))
 
-  full_past : (a : Expression) → Full ((Operator levels.Past ▸ λ o. Prim d ▸ λ b. Gives (between o.0 o.1 a b)) ∣ Gives a) (past_of r a)
+  full_past : (a : Expression) → Full ((Operator levels.Past ▸ λ o. Prim (Levels left) ▸ λ b. Gives (between o.0 o.1 a b)) ∣ Gives a) (past_of r a)
   unfolding past_of
   full_past a = full_look (operator_full levels.Past) (λ (o : Place × BinaryWord). full_then full_prim (λ (b : Expression). full_gives (between o.0 o.1 a b))) (full_gives a)
 
-  full_alone : (a : Expression) (alone : Bool) → Full (Alone (a, alone) (Operator levels.Past ▸ λ o. Prim d ▸ λ b. Gives (between o.0 o.1 a b)) ∣ Gives a) (alone_of r a alone)
+  full_alone : (a : Expression) (alone : Bool) → Full (Alone (a, alone) (Operator levels.Past ▸ λ o. Prim (Levels left) ▸ λ b. Gives (between o.0 o.1 a b)) ∣ Gives a) (alone_of r a alone)
   unfolding alone_of
   full_alone a true = full_if_left (λ used x m. record { alone = refl; then = m }) (full_past a)
   full_alone a false = full_right (full_gives a)
 
-  full_expr : Full (ExprOf d) (expr_of r)
+  full_expr : Full (ExprOf (Levels left)) (expr_of r)
   unfolding expr_of
   full_expr = full_then full_disj (λ (p : Term). full_look (operator_full levels.Arrow) (full_arrow p.0) (full_alone p.0 p.1))
 
-  pub full_whole : Full (ExprOf d) (whole_of r)
+  pub full_whole : Full (ExprOf (Levels left)) (whole_of r)
   unfolding whole_of
-  full_whole = full_then_same (full_then full_expr (λ (e : Expression). full_closed e))
+  full_whole = full_then_same (full_finished Phrase.Whole left (ExprOf (Levels left)) (λ e. e) (λ used e d. (e, d)) (λ used p. p) full_expr)
 
-  full_argument : (all : List Expression) → Full (Argument d all) (argument_of r all)
+  full_argument : (all : List Expression) → Full (Argument (Levels left) all) (argument_of r all)
   unfolding argument_of
   full_argument all = full_then (full_token classes.Comma a_Comma) (λ (t : Lexeme). full_then full_whole (λ (e : Expression). full_gives (all ++ e ∷ [])))
 
-  full_some_arguments : Full (ExprOf d ▸ λ e. Steps (Argument d) (e ∷ []) ▸ λ es. Token classes.Close ▸ λ t. Gives es) (some_arguments_of r)
+  full_some_arguments : Full (ExprOf (Levels left) ▸ λ e. Steps (Argument (Levels left)) (e ∷ []) ▸ λ es. Token classes.Close ▸ λ t. Gives es) (some_arguments_of r)
   unfolding some_arguments_of
   full_some_arguments =
       full_then full_whole (λ (e : Expression). full_then (full_steps (starts classes.Comma) full_argument (e ∷ []))
       (λ (es : List Expression). full_then (full_token classes.Close a_Close) (λ (t : Lexeme). full_gives es)))
 
-  pub full_arguments : Full (Arguments d) (arguments_of r)
+  pub full_arguments : Full (Arguments (Levels left)) (arguments_of r)
   unfolding arguments_of
   full_arguments = full_if (starts classes.Close) (full_then (full_token classes.Close a_Close) (λ (t : Lexeme). full_gives [])) full_some_arguments
 
@@ -267,7 +268,7 @@ full_inside (suc more) zero lt = record {
   arguments = λ t. full_deep t (begun_arguments (Levels more));
 }
 full_inside (suc more) (suc left) lt = record {
-  whole = λ t. full_wider (full_whole (Levels more) (inside left) (full_inside more left (omega arith)));
-  operand = λ t. full_wider (full_operand (Levels more) (inside left) (full_inside more left (omega arith)));
-  arguments = λ t. full_wider (full_arguments (Levels more) (inside left) (full_inside more left (omega arith)));
+  whole = λ t. full_wider (full_whole more (inside left) (full_inside more left (omega arith)));
+  operand = λ t. full_wider (full_operand more (inside left) (full_inside more left (omega arith)));
+  arguments = λ t. full_wider (full_arguments more (inside left) (full_inside more left (omega arith)));
 }

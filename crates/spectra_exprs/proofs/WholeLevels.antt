@@ -174,7 +174,7 @@ module _ (d : Deeper) (r : Inside) (s : WholeInside d r) where
   unfolding bound_of place_of
   whole_bound = whole_then whole_sum (λ (p : Term). follows_gives p.0 (record { checked = refl })) (λ (p : Term). whole_closed p.0)
 
-  begins_sum : Begins b_prim (Sum d)
+  pub begins_sum : Begins b_prim (Sum d)
   begins_sum = begins_then (begins_then begins_prim)
 
   whole_side : Whole c_sum (Side d) (side_of r)

@@ -5,3 +5,4 @@ pub mod ExprViews
 pub mod Forms
 pub mod Grammar
 pub mod Spellings
+pub mod Phrases

@@ -4,11 +4,11 @@ use Rattle.std.proofs.lemmas.List.{take_at}
 use Rattle.spectra_exprs.specs.declared.fault.SyntaxFault.{SyntaxFault}
 use Rattle.spectra_exprs.specs.declared.fault.SyntaxFault.TheVariants as faults
 use Rattle.spectra_trees.specs.Lexemes.{Lexeme}
-use Rattle.spectra_exprs.proofs.Opening.{Begun, IsNext, IsLast, OpensAt, spelled_append}
+use Rattle.spectra_exprs.proofs.Opening.{Begun, IsNext, IsLast, IsOperator, OpensAt, spelled_append}
 use Rattle.spectra_exprs.proofs.Examples.{a_Finish}
 use Rattle.spectra_parser.specs.Items.{text_of}
 use Rattle.spectra_parser.specs.ItemGrammar.{TextIn}
-use Rattle.spectra_parser.specs.Texts.{IsWholeFrom, BeginText}
+use Rattle.spectra_parser.specs.Texts.{IsWholeFrom, BeginText, IsBehindPhrase}
 use Rattle.spectra_parser.proofs.OpeningItems.{wide}
 use Rattle.spectra_parser.proofs.OpeningTexts.{full_text}
 use Rattle.spectra_parser.proofs.Places.{Numbered, whole_numbered, number_at}
@@ -31,6 +31,9 @@ before_next ts used (t ∷ rest) at h front place b =
     let taken : take at ts ≡ used = ap (take at) front ∙ take_at used (t ∷ rest) at size in
     subst (λ (us : List Lexeme). BeginText wide us) (sym taken) (begun_text used b)
 
+before_operator : (ts used rest : List Lexeme) (at : ℕ) → Numbered 0 ts → ts ≡ used ++ rest → IsOperator at rest → Begun (TextIn wide) used → BeginText wide (take at ts)
+before_operator ts used rest at h front p b = before_next ts used (p.token ∷ p.more) at h (front ∙ ap (λ (m : List Lexeme). used ++ m) p.parts) p.number b
+
 up_to_last : (ts used rest : List Lexeme) (at : ℕ) → Numbered 0 ts → ts ≡ used ++ rest → IsLast at used → Begun (TextIn wide) used → BeginText wide (take (at + 1) ts)
 up_to_last ts used rest at h front p b =
     let whole : ts ≡ p.front ++ p.token ∷ rest = front ∙ ap (λ (us : List Lexeme). us ++ rest) p.parts ∙ append_assoc p.front (p.token ∷ []) rest in
@@ -47,8 +50,30 @@ opens ts f (inr q) = absurd q
 pub unexpected_begun : (ts : List Lexeme) (at : ℕ) → IsWholeFrom 0 ts → text_of ts ≡ Err (faults.Unexpected at) → BeginText wide (take at ts)
 unexpected_begun ts at w read = let q = opens ts (faults.Unexpected at) (full_text.opens ts (faults.Unexpected at) read) in before_next ts q.used q.rest at (whole_numbered 0 ts w) q.front q.place q.begun
 
+parentheses_opens : (ts : List Lexeme) (at : ℕ) → text_of ts ≡ Err (faults.Parentheses at) → OpensAt (TextIn wide) ts (faults.Parentheses at)
+parentheses_opens ts at read = opens ts (faults.Parentheses at) (full_text.opens ts (faults.Parentheses at) read)
+
 pub parentheses_begun : (ts : List Lexeme) (at : ℕ) → IsWholeFrom 0 ts → text_of ts ≡ Err (faults.Parentheses at) → BeginText wide (take at ts)
-parentheses_begun ts at w read = let q = opens ts (faults.Parentheses at) (full_text.opens ts (faults.Parentheses at) read) in before_next ts q.used q.rest at (whole_numbered 0 ts w) q.front q.place q.begun
+parentheses_begun ts at w read = let q = parentheses_opens ts at read in before_operator ts q.used q.rest at (whole_numbered 0 ts w) q.front q.place q.begun
+
+pub behind_phrase : (ts : List Lexeme) (at : ℕ) → text_of ts ≡ Err (faults.Parentheses at) → IsBehindPhrase ts at
+behind_phrase ts at read =
+    let q = parentheses_opens ts at read in
+    let o = q.place in
+    let e = q.behind in
+    record {
+      front = e.front;
+      phrase = e.phrase;
+      operator = o.token;
+      rest = o.more;
+      parts = q.front ∙ ap (λ (u : List Lexeme). u ++ q.rest) e.parts ∙ append_assoc e.front e.phrase q.rest ∙ ap (λ (m : List Lexeme). e.front ++ (e.phrase ++ m)) o.parts;
+      number = o.number;
+      is = o.operator;
+      sort = e.sort;
+      left = e.left;
+      whole = e.whole;
+      any = λ other p. (wide, begun_text (e.front ++ other) (e.any other p));
+    }
 
 pub deep_begun : (ts : List Lexeme) (at : ℕ) → IsWholeFrom 0 ts → text_of ts ≡ Err (faults.TooDeep at) → BeginText wide (take (at + 1) ts)
 deep_begun ts at w read = let q = opens ts (faults.TooDeep at) (full_text.opens ts (faults.TooDeep at) read) in up_to_last ts q.used q.rest at (whole_numbered 0 ts w) q.front q.place q.begun

@@ -1,25 +1,31 @@
 -- Where reading a declaration, a pattern or a monitor stops, what was used begins one.
-use Rattle.std.proofs.Common.{◌≡◌, Bool, true, false, cond, ◌||◌, List, [], ◌∷◌, ◌++◌, append-nil, Ok, Err, ◌⊎◌, inl, inr, refl, sym, ap, subst, ◌∙◌}
+use Rattle.std.proofs.Common.{◌≡◌, ℕ, Bool, true, false, cond, ◌||◌, List, [], ◌∷◌, ◌++◌, append-nil, Ok, Err, ◌⊎◌, inl, inr, refl, sym, ap, subst, ◌∙◌}
 use Rattle.spectra_exprs.specs.declared.fault.SyntaxFault.TheVariants as faults
 use Rattle.spectra_trees.specs.declared.class.Class.{Class}
 use Rattle.spectra_trees.specs.declared.class.Class.TheVariants as classes
 use Rattle.spectra_trees.specs.declared.tree.Place.{Place}
 use Rattle.spectra_trees.specs.declared.tree.OwnerWord.{OwnerWord}
-use Rattle.spectra_trees.specs.Classes.{same_class}
+use Rattle.spectra_trees.specs.Classes.{place_of, same_class}
 use Rattle.spectra_trees.specs.Data.{NameData, Expression, TypeData, PartData, PartShape, ItemData}
 use Rattle.spectra_trees.specs.Lexemes.{Lexeme, name_of}
 use Rattle.spectra_exprs.specs.Read.{Read, Reader, ◌>>=◌, unexpected, first_number, starts, expect}
 use Rattle.spectra_parser.specs.Items.{vardecl, typedecl, definition, definition_after, define, parameter, parameter_after, some_parameters, parameters, predicate, own, part_formula, part_shape, part_line, pitem, mitem, pitem_after, mitem_after, inside_braces, pitems, mitems, name_parameters, pattern, monitor}
 use Rattle.spectra_exprs.specs.Forms.{Gives, Token, ◌▸◌, Steps}
-use Rattle.spectra_exprs.specs.Grammar.{ExprOf, Levels}
+use Rattle.spectra_exprs.specs.Grammar.{ExprOf, Sum, Levels}
 use Rattle.spectra_parser.specs.ItemGrammar.{TypeIn, VardeclIn, TypedeclIn, DefinitionIn, DefinitionAfter, DefineIn, ParameterIn, ParameterAfter, ParametersIn, PredicateIn, ShapeIn, LineIn, PitemIn, MitemIn, PitemAfter, MitemAfter, NameParameters, PatternIn, MonitorIn}
-use Rattle.spectra_exprs.proofs.Opening.{Begun, OpensAt, spelled_append, begun_right, Full, Example, begun_first, opens_here, full_then, full_gives, full_same, full_token, full_if, full_only, full_unexpected, begun_gives}
+use Rattle.spectra_exprs.proofs.Opening.{Begun, EndsWhole, IsBehind, OpensAt, opens_as, spelled_append, begun_right, Full, Example, begun_first, opens_here, full_then, full_gives, full_same, full_token, full_if, full_only, full_unexpected, begun_gives}
 use Rattle.spectra_exprs.proofs.OpeningSteps.{FullLook, full_look, full_steps, begun_steps}
 use Rattle.spectra_exprs.proofs.Examples.{a_Alw, a_AlwEv, a_Becomes, a_Close, a_CloseBrace, a_Colon, a_Comma, a_Equal, a_Ini, a_Name, a_Open, a_OpenBrace, a_Semicolon, a_Var}
 use Rattle.spectra_exprs.proofs.Stopping.{err_is}
+use Rattle.spectra_exprs.proofs.ClassSets.{going, going_apart, starts_going}
+use Rattle.spectra_exprs.proofs.Completeness.{Begins, begins_wider}
+use Rattle.spectra_exprs.proofs.WholeExpressions.{b_expr}
+use Rattle.spectra_exprs.proofs.WholeLevels.{whole_inside, begins_expr, begins_sum}
+use Rattle.spectra_exprs.specs.Expressions.{inside}
+use Rattle.spectra_exprs.specs.Phrases.{Phrase, ArePhrase}
 use Rattle.spectra_exprs.specs.declared.fault.SyntaxFault.{SyntaxFault}
 use Rattle.spectra_exprs.proofs.OpeningExpressions.{begun_expr}
-use Rattle.spectra_parser.proofs.SoundDeclarations.{own_at, shape_at, shape_same, line_part, pitem_same, mitem_word, sound_line_part_at, sound_mitem_at}
+use Rattle.spectra_parser.proofs.SoundDeclarations.{own_at, shape_at, shape_same, line_first, line_part, pitem_same, mitem_word, sound_line_part_at, sound_mitem_at}
 use Rattle.spectra_parser.proofs.OpeningItems.{wide, full_formula, full_names, full_type}
 
 -- ---- declarations
@@ -139,29 +145,43 @@ begun_monitored =
     let l = begun_line in
     record { more = l.more; spelled = l.spelled; value = l.value; derives = record { token = a_Ini.token; more = (begun_expr (Levels wide)).more ++ a_Semicolon.token ∷ []; first = refl; word = inl a_Ini.is; part = inr l.derives } }
 
-same_first : (t u : Lexeme) (ts us : List Lexeme) → t ∷ ts ≡ u ∷ us → u ≡ t
-same_first t u ts us e = cc
-
 abbrev LineAt : Place → List Lexeme → PartData → Type 0
 LineAt at = ShapeIn wide ▸ λ f. Token classes.Semicolon ▸ λ s. Gives (record { at = at; form = f })
 
--- a line that is begun has the place of its first token
-line_begun : (t : Lexeme) (ts used rest : List Lexeme) → t ∷ ts ≡ used ++ rest → Begun (LineAt t.at) used → Begun (LineIn wide) used
-line_begun t ts [] rest front b = begun_line
-line_begun t ts (u ∷ used) rest front b =
-    let same : u ≡ t = same_first t u ts (used ++ rest) front in
-    record { more = b.more; spelled = b.spelled; value = b.value; derives = record { token = u; more = used ++ b.more; first = refl; line = subst (λ (v : Lexeme). LineAt v.at ((u ∷ used) ++ b.more) b.value) (sym same) b.derives } }
+-- a line that is begun at some place is one at the place of its first token
+line_begun : (at : Place) (used : List Lexeme) → Begun (LineAt at) used → Begun (LineIn wide) used
+line_begun at used b =
+    let d = b.derives in
+    let h = line_first wide at (used ++ b.more) b.value d in
+    record {
+      more = b.more;
+      spelled = b.spelled;
+      value = record { at = h.token.at; form = d.value };
+      derives = record {
+        token = h.token;
+        more = h.more;
+        first = h.first;
+        line = record {
+          front = d.front;
+          value = d.value;
+          back = d.back;
+          parts = d.parts;
+          before = d.before;
+          after = record { front = d.after.front; value = d.after.value; back = d.after.back; parts = d.after.parts; before = d.after.before; after = record { nothing = d.after.after.nothing; same = refl } };
+        };
+      };
+    }
 
 full_line_part : Full (LineIn wide) line_part
 unfolding line_part
 full_line_part = record { sound = sound_line_part_at wide (λ at. (full_part_line at).sound); opens = opens; whole = begun_line }
   where
     behind : (t : Lexeme) (ts : List Lexeme) (f : SyntaxFault) → OpensAt (LineAt t.at) (t ∷ ts) f ⊎ ⊥ → OpensAt (LineIn wide) (t ∷ ts) f
-    behind t ts f (inl q) = record { used = q.used; rest = q.rest; front = q.front; place = q.place; begun = line_begun t ts q.used q.rest q.front q.begun }
+    behind t ts f (inl q) = opens_as (LineAt t.at) (LineIn wide) (line_begun t.at) (t ∷ ts) f q
     behind t ts f (inr q) = absurd q
 
     opens : (ts : List Lexeme) (f : SyntaxFault) → line_part ts ≡ Err f → OpensAt (LineIn wide) ts f ⊎ ⊥
-    opens [] f e = inl (subst (λ (g : SyntaxFault). OpensAt (LineIn wide) [] g) (err_is {A = PartData} (faults.Unexpected 0) f e) (opens_here (LineIn wide) [] (faults.Unexpected 0) refl begun_line))
+    opens [] f e = inl (subst (λ (g : SyntaxFault). OpensAt (LineIn wide) [] g) (err_is {A = PartData} (faults.Unexpected 0) f e) (opens_here (LineIn wide) [] 0 refl begun_line))
     opens (t ∷ ts) f e = inl (behind t ts f ((full_part_line t.at).opens (t ∷ ts) f e))
 
 pub full_pitem : Full (PitemIn wide) pitem
@@ -172,12 +192,57 @@ monitored ts [] rest front on b = begun_monitored
 monitored ts (u ∷ used) rest front on b =
     record { more = b.more; spelled = b.spelled; value = b.value; derives = record { token = u; more = used ++ b.more; first = refl; word = mitem_word ts (u ∷ used) rest u used front refl on; part = b.derives } }
 
+-- no phrase begins as a line does
+phrase_starts : (sort : Phrase) (left : ℕ) (phrase rest : List Lexeme) → ArePhrase sort left phrase → going b_expr (phrase ++ rest) ≡ true
+unfolding place_of
+phrase_starts Phrase.Whole left phrase rest p = (begins_expr (Levels left) (inside left) (whole_inside left)).first phrase p.0 rest p.1
+phrase_starts Phrase.Bound left phrase rest p =
+    let b : Begins b_expr (Sum (Levels left)) = begins_wider (record { checked = refl }) (begins_sum (Levels left) (inside left) (whole_inside left)) in
+    b.first phrase p.0 rest p.1
+
+no_line : (ts : List Lexeme) → going b_expr ts ≡ true → starts classes.Ini ts || starts classes.Alw ts ≡ true → ⊥
+unfolding place_of
+no_line ts phrase on =
+    let ini = starts_going classes.Ini ts ∙ going_apart b_expr (classes.Ini ∷ []) (record { checked = refl }) ts phrase in
+    let alw = starts_going classes.Alw ts ∙ going_apart b_expr (classes.Alw ∷ []) (record { checked = refl }) ts phrase in
+    neither (starts classes.Ini ts) (starts classes.Alw ts) ini alw on
+  where
+    neither : (a b : Bool) → a ≡ false → b ≡ false → a || b ≡ true → ⊥
+    neither true b e f on = absurd (cc)
+    neither false b e f on = absurd (cc)
+
+module _ (ts used rest phrase : List Lexeme) (front : ts ≡ used ++ rest) (on : starts classes.Ini ts || starts classes.Alw ts ≡ true) (sort : Phrase) (left : ℕ) (whole : ArePhrase sort left phrase) where
+  ends_by : (first : List Lexeme) → used ≡ first ++ phrase → ((other : List Lexeme) → ArePhrase sort left other → Begun (PitemIn wide) (first ++ other)) → EndsWhole (MitemIn wide) used
+  ends_by [] parts any =
+      let same : ts ≡ phrase ++ rest = front ∙ ap (λ (u : List Lexeme). u ++ rest) parts in
+      absurd (no_line ts (subst (λ (u : List Lexeme). going b_expr u ≡ true) (sym same) (phrase_starts sort left phrase rest whole)) on)
+  ends_by (t ∷ first) parts any =
+      let word = mitem_word ts used rest t (first ++ phrase) front parts on in
+      record {
+        front = t ∷ first;
+        phrase = phrase;
+        parts = parts;
+        sort = sort;
+        left = left;
+        whole = whole;
+        any = λ other p.
+          let b = any other p in
+          record { more = b.more; spelled = b.spelled; value = b.value; derives = record { token = t; more = (first ++ other) ++ b.more; first = refl; word = word; part = b.derives } };
+      }
+
+monitored_behind : (f : SyntaxFault) (ts used rest : List Lexeme) → ts ≡ used ++ rest → starts classes.Ini ts || starts classes.Alw ts ≡ true → IsBehind (PitemIn wide) f used → IsBehind (MitemIn wide) f used
+monitored_behind (faults.Unexpected at) ts used rest front on b = tt
+monitored_behind (faults.TooDeep at) ts used rest front on b = tt
+monitored_behind (faults.Parentheses at) ts used rest front on b = ends_by ts used rest b.phrase front on b.sort b.left b.whole b.front b.parts b.any
+monitored_behind (faults.Unsupported at) ts used rest front on b = tt
+monitored_behind faults.Memory ts used rest front on b = tt
+
 full_mitem : Full (MitemIn wide) mitem
 unfolding mitem
 full_mitem = record { sound = sound_mitem_at wide full_pitem.sound; opens = λ ts f e. inl (by_word (starts classes.Ini ts || starts classes.Alw ts) ts f refl e); whole = begun_monitored }
   where
     turned : (ts : List Lexeme) (f : SyntaxFault) → starts classes.Ini ts || starts classes.Alw ts ≡ true → OpensAt (PitemIn wide) ts f ⊎ ⊥ → OpensAt (MitemIn wide) ts f
-    turned ts f on (inl q) = record { used = q.used; rest = q.rest; front = q.front; place = q.place; begun = monitored ts q.used q.rest q.front on q.begun }
+    turned ts f on (inl q) = record { used = q.used; rest = q.rest; front = q.front; place = q.place; begun = monitored ts q.used q.rest q.front on q.begun; behind = monitored_behind f ts q.used q.rest q.front on q.behind }
     turned ts f on (inr q) = absurd q
 
     refused : (ts : List Lexeme) (f : SyntaxFault) → OpensAt (MitemIn wide) ts f ⊎ ⊥ → OpensAt (MitemIn wide) ts f

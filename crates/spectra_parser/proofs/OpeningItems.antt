@@ -36,10 +36,10 @@ unfolding names
 full_names = full_then (full_token classes.Name a_Name) (λ (m : Lexeme). full_steps (starts classes.Comma) full_name_after (name_of m ∷ []))
 
 full_bounds : Full (Bound wide) (λ ts. bound_of (inside n) ts)
-full_bounds = full_bound (Levels wide) (inside n) (full_inside wide n inner)
+full_bounds = full_bound wide (inside n) (full_inside wide n inner)
 
 pub full_formula : Full (ExprOf (Levels wide)) formula
-full_formula = full_whole (Levels wide) (inside n) (full_inside wide n inner)
+full_formula = full_whole wide (inside n) (full_inside wide n inner)
 
 full_name_type : (at : Place) → Full (Names ▸ λ all. Token classes.CloseBrace ▸ λ c. Gives (record { at = at; form = TypeShape.Names all })) (name_type at)
 unfolding name_type

@@ -32,7 +32,7 @@ use Rattle.spectra_parser.proofs.OpeningDeclarations.{full_vardecl, full_typedec
 
 full_use : (m : Lexeme) → Full (UseIn wide m) (use_behind m)
 unfolding use_behind
-full_use m = full_then (full_token classes.Open a_Open) (λ (o : Lexeme). full_then (full_arguments (Levels wide) (inside n) (full_inside wide n inner)) (λ (es : List Expression). full_gives (BodyData.Call (name_of m) es)))
+full_use m = full_then (full_token classes.Open a_Open) (λ (o : Lexeme). full_then (full_arguments wide (inside n) (full_inside wide n inner)) (λ (es : List Expression). full_gives (BodyData.Call (name_of m) es)))
 
 full_pattern_use : Full (Token classes.Name ▸ λ m. UseIn wide m) pattern_use
 unfolding pattern_use

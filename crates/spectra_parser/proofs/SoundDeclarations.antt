@@ -113,9 +113,9 @@ sound_part_line at = sound_then sound_shape (λ (f : PartShape). sound_then (sou
 
 -- tokens with a first one
 pub record HasFirst (used : List Lexeme) : Type 0 where
-  token : Lexeme
-  more : List Lexeme
-  first : used ≡ token ∷ more
+  pub token : Lexeme
+  pub more : List Lexeme
+  pub first : used ≡ token ∷ more
 
 pub token_first : {A : Type 0} (class : Class) (P : Lexeme → List Lexeme → A → Type 0) (used : List Lexeme) (a : A) → (Token class ▸ P) used a → HasFirst used
 token_first class P used a d = record { token = d.value; more = d.back; first = d.parts ∙ ap (λ (f : List Lexeme). f ++ d.back) d.before.alone }

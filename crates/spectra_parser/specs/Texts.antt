@@ -8,6 +8,8 @@ use Rattle.spectra_trees.specs.Classes.{same_class}
 use Rattle.spectra_trees.specs.Data.{TreeData}
 use Rattle.spectra_trees.specs.Lexemes.{Lexeme, lexemes}
 use Rattle.spectra_exprs.specs.Expressions.{levels_of_a_text}
+use Rattle.spectra_exprs.specs.Operators.{is_operator}
+use Rattle.spectra_exprs.specs.Phrases.{Phrase, ArePhrase}
 use Rattle.spectra_exprs.specs.Spellings.{AreSpelled}
 use Rattle.spectra_parser.specs.ItemGrammar.{Text}
 use Rattle.spectra_parser.specs.Unbuilt.{first_unbuilt}
@@ -46,11 +48,26 @@ pub record IsTooDeep (ts : List Lexeme) (at : ℕ) : Type 0 where
   pub refused : BeginText levels_of_a_text (take (at + 1) ts) → ⊥
   pub begun : (left : ℕ) × BeginText left (take (at + 1) ts)
 
+-- a token of the list, by its number: an operator behind a whole expression, or the whole bound of a range, in whose place
+-- each other one with as many levels may stand
+pub record IsBehindPhrase (ts : List Lexeme) (at : ℕ) : Type 0 where
+  pub front : List Lexeme
+  pub phrase : List Lexeme
+  pub operator : Lexeme
+  pub rest : List Lexeme
+  pub parts : ts ≡ front ++ (phrase ++ operator ∷ rest)
+  pub number : operator.number ≡ at
+  pub is : is_operator operator.class ≡ true
+  pub sort : Phrase
+  pub left : ℕ
+  pub whole : ArePhrase sort left phrase
+  pub any : (other : List Lexeme) → ArePhrase sort left other → (levels : ℕ) × BeginText levels (front ++ other)
+
 -- what a fault says of the tokens; of want of memory nothing is said
 abbrev pub Explains : List Lexeme → SyntaxFault → Type 0
 Explains ts (faults.Unexpected at) = IsRefused ts at
 Explains ts (faults.TooDeep at) = IsTooDeep ts at
-Explains ts (faults.Parentheses at) = IsRefused ts at
+Explains ts (faults.Parentheses at) = IsRefused ts at × IsBehindPhrase ts at
 Explains ts (faults.Unsupported at) = ((tree : TreeData) × HasTree ts tree) × (first_unbuilt ts ≡ Some at)
 Explains ts faults.Memory = Unit {0}
 

@@ -121,5 +121,5 @@ full_inside_regex (suc (suc more)) zero lt = record {
 }
 full_inside_regex (suc (suc more)) (suc left) lt = record {
   inner = λ t. full_wider (full_regex (RegexLevels (suc more)) (inside_regex left) (full_inside_regex (suc more) left (omega arith)));
-  atom = λ t. full_wider (full_whole (Levels (suc more)) (inside left) (full_inside (suc more) left (omega arith)));
+  atom = λ t. full_wider (full_whole (suc more) (inside left) (full_inside (suc more) left (omega arith)));
 }
