@@ -226,8 +226,8 @@ module _ (ts used rest phrase : List Lexeme) (front : ts ≡ used ++ rest) (on :
         left = left;
         whole = whole;
         any = λ other p.
-          let b = any other p in
-          record { more = b.more; spelled = b.spelled; value = b.value; derives = record { token = t; more = (first ++ other) ++ b.more; first = refl; word = word; part = b.derives } };
+            let b = any other p in
+            record { more = b.more; spelled = b.spelled; value = b.value; derives = record { token = t; more = (first ++ other) ++ b.more; first = refl; word = word; part = b.derives } };
       }
 
 monitored_behind : (f : SyntaxFault) (ts used rest : List Lexeme) → ts ≡ used ++ rest → starts classes.Ini ts || starts classes.Alw ts ≡ true → IsBehind (PitemIn wide) f used → IsBehind (MitemIn wide) f used
