@@ -1,5 +1,5 @@
 -- Lines that are answered, one after the other.
-use Rattle.std.proofs.Common.{◌≡◌, ℕ, Bool, true, false, not, List, [], ◌∷◌, ◌++◌, length, filter, cond, Option, None, is_none, option_map, refl, sym, ap, subst, ◌∙◌, arith}
+use Rattle.std.proofs.Common.{◌≡◌, ℕ, Bool, true, false, not, List, [], ◌∷◌, ◌++◌, length, filter, cond, Option, Some, None, is_none, option_map, refl, sym, ap, subst, ◌∙◌, arith}
 use Rattle.std.specs.List.{list_any}
 use Rattle.std.proofs.lemmas.Bool.{and_parts, and_from}
 use Rattle.std.proofs.lemmas.List.{length-map}
@@ -10,6 +10,7 @@ use Rattle.spec_model.specs.Values.{Assignment, DomainData, is_assignment, value
 use Rattle.spec_model.specs.Syntax.{VariableData, Specification}
 use Rattle.spec_model.specs.Rules.{Run}
 use Rattle.spec_model.specs.Moves.{is_env, domains_of, input_domains, output_domains, broken_assumption, broken_guarantee, legal_input, legal_output}
+use Rattle.hidden_game.specs.Judged.{line_label}
 use Rattle.session.specs.Shown.{inputs_of, outputs_of, show}
 use Rattle.session.specs.Reading.{Reads, AreGiven}
 use Rattle.session.specs.Room.{domains}
@@ -44,10 +45,15 @@ given_fit names ws (v ∷ vs) (x ∷ xs) given = and_from (list_any (same_value 
 pub read_fit : (s : Specification) (names : List (List ℕ)) (vs : List VariableData) (line : List ℕ) (xs : Assignment) → vs ≡ inputs_of s → Reads names vs line xs → is_assignment (input_domains s) xs ≡ true
 read_fit s names vs line xs are reads = ap (λ ds. is_assignment ds xs) (sym (ap domains are ∙ input_domains_are s)) ∙ given_fit names _ vs xs reads.given
 
+-- what has no label is nothing
+is_none-labelled : (n : Option ℕ) → is_none n ≡ is_none (option_map line_label n)
+is_none-labelled None = refl
+is_none-labelled (Some n) = refl
+
 -- an assignment that breaks nothing is legal
-pub legal_from : (s : Specification) (h : Run) (x : Assignment) (label : Option Label) → is_assignment (input_domains s) x ≡ true → option_map (λ (l : Label). l.line) label ≡ broken_assumption s h x → label ≡ None → legal_input s h x ≡ true
+pub legal_from : (s : Specification) (h : Run) (x : Assignment) (label : Option Label) → is_assignment (input_domains s) x ≡ true → label ≡ option_map line_label (broken_assumption s h x) → label ≡ None → legal_input s h x ≡ true
 legal_from s h x label are first none =
-    and_from (is_assignment (input_domains s) x) (is_none (broken_assumption s h x)) are (ap is_none (sym first ∙ ap (option_map (λ (l : Label). l.line)) none))
+    and_from (is_assignment (input_domains s) x) (is_none (broken_assumption s h x)) are (is_none-labelled (broken_assumption s h x) ∙ ap is_none (sym first ∙ none))
 
 -- a legal output is an assignment
 pub output_fit : (s : Specification) (h : Run) (x y : Assignment) (vs : List VariableData) → vs ≡ outputs_of s → legal_output s h x y ≡ true → is_assignment (domains vs) y ≡ true

@@ -13,7 +13,7 @@ use Rattle.regions.specs.Kept.{Kept}
 use Rattle.regions.specs.Rules.{output_count}
 use Rattle.hidden_game.specs.GameOf.{game_of}
 use Rattle.hidden_game.specs.Agreement.{IsLast}
-use Rattle.hidden_game.specs.Judged.{first_broken}
+use Rattle.hidden_game.specs.Judged.{broken_by, least, line_label, first_broken}
 use Rattle.hidden_game.proofs.Agreeing.{moves_agree}
 use Rattle.hidden_game.proofs.Breaking.{breaks_agree}
 use Rattle.gr1_law.specs.Layers.{LayerSets}
@@ -23,6 +23,11 @@ use Rattle.controller.specs.declared.controller.Controller.{Controller}
 use Rattle.controller.specs.Objects.{game_of as game_played, IsFresh, Stands, StandsFor, GoesOn, HoldsTheSame}
 use Rattle.session.specs.Strategies.{rounds_of, IsOf, PlaysFor}
 use Rattle.session.specs.StrategyLaws.{made, tells}
+
+-- a label of one part is that of its line
+labelled_again : (n : Option ℕ) → option_map line_label (option_map (λ (l : Label). l.line) (option_map line_label n)) ≡ option_map line_label n
+labelled_again None = refl
+labelled_again (Some n) = refl
 
 module _ {G R M : Type 0} (kept : G → Kept R M) (c : Controller G R M) (s : Specification) where
   abbrev pub plays_for : (k : ℕ) → IsOf kept c s → k ≡ rounds_of c → (z : StateSet) (l : LayerSets) (h : Run) (b : Before) (m : Memory) → StandsFor kept c z l h b m → PlaysFor kept c s k h
@@ -45,10 +50,11 @@ module _ {G R M : Type 0} (kept : G → Kept R M) (c : Controller G R M) (s : Sp
     last = (tells kept c s k h p).state
 
     -- the line that is named is the first that is broken
-    pub names_broken : (x : Assignment) (label : Option Label) → label ≡ first_broken (game_played kept c) p.before x → option_map (λ (l : Label). l.line) label ≡ broken_assumption s h x
+    pub names_broken : (x : Assignment) (label : Option Label) → label ≡ first_broken (game_played kept c) p.before x → label ≡ option_map line_label (broken_assumption s h x)
     names_broken x label is =
-        ap (option_map (λ (l : Label). l.line)) (is ∙ ap (λ (g : GameData). first_broken g p.before x) p.is_of.game)
-        ∙ breaks_agree s (made kept c s k h p) p.is_of.rising h p.before last x
+        is ∙ ap (λ (g : GameData). first_broken g p.before x) p.is_of.game
+        ∙ sym (labelled_again (least (broken_by (game_of s) p.before x)))
+        ∙ ap (option_map line_label) (breaks_agree s (made kept c s k h p) p.is_of.rising h p.before last x)
 
     module _ (x : Assignment) (legal : legal_input s h x ≡ true) where
       in_game : (is_input (game_of s) x && legal_input_from (game_of s) p.before x) ≡ true

@@ -1,5 +1,5 @@
 -- What a session wrote for the lines that it read, and how it ended.
-use Rattle.std.specs.Prelude.{◌≡◌, ℕ, ◌+◌, ◌<◌, ◌≤◌, Bool, true, false, List, [], ◌∷◌, ◌++◌, length, map, Option, Some}
+use Rattle.std.specs.Prelude.{◌≡◌, ℕ, ◌+◌, ◌<◌, ◌≤◌, Bool, true, false, List, [], ◌∷◌, ◌++◌, length, map, option_map, Option, Some}
 use Rattle.std.specs.Io.KnownBytes.{Appends, Consumes, IsAtEnd}
 use Rattle.sp_outside.specs.Written.{AppendsFront}
 use Rattle.spec_model.specs.Values.{Assignment}
@@ -8,6 +8,7 @@ use Rattle.spec_model.specs.Rules.{Run, after}
 use Rattle.spec_model.specs.Plays.{IsPlay}
 use Rattle.spec_model.specs.Realizable.{Kept}
 use Rattle.spec_model.specs.Moves.{broken_assumption, legal_input, legal_output, rules_of}
+use Rattle.hidden_game.specs.Judged.{line_label}
 use Rattle.session.specs.declared.talking.End.{End}
 use Rattle.session.specs.declared.talking.End.TheVariants as ends
 use Rattle.session.specs.Shown.{inputs_of, outputs_of, show}
@@ -50,7 +51,7 @@ pub record IsNext (given : List ℕ) (left : Option (List ℕ)) (handed : List (
 abbrev pub EndsSo : Specification → (limit : ℕ) → (given : List ℕ) → (left : Option (List ℕ)) → (handed : List (List ℕ)) → Run → (rose_in rose_out : Type 0) → End → Type 0
 EndsSo s limit given left handed h rose_in rose_out ends.Finished = IsAtEnd left × (input_lines true given ≡ map (λ l. Some l) handed) × (length h < limit)
 EndsSo s limit given left handed h rose_in rose_out (ends.Broken label) =
-    (line : List ℕ) × (x : Assignment) × IsNext given left handed (Some line) × ReadsInput s line x × (broken_assumption s h x ≡ Some label.line) × (length h < limit)
+    (line : List ℕ) × (x : Assignment) × IsNext given left handed (Some line) × ReadsInput s line x × (option_map line_label (broken_assumption s h x) ≡ Some label) × (length h < limit)
 EndsSo s limit given left handed h rose_in rose_out (ends.BadLine n) =
     (line : Line) × IsNext given left handed line × IsRefused s line × (n ≡ length h + 1) × (length h < limit)
 EndsSo s limit given left handed h rose_in rose_out ends.StateLimit = length h ≡ limit
@@ -107,7 +108,7 @@ pub record IsAnswered (s : Specification) (k : ℕ) (h : Run) (Stands : Run → 
 abbrev pub IsNotAnswered : Specification → (k : ℕ) → Run → (count : ℕ) → (line : List ℕ) → (written_old written_new : Option (List ℕ)) → (rose_out : Type 0) → End → Type 0
 IsNotAnswered s k h count line written_old written_new rose_out (ends.BadLine n) = IsRefused s (Some line) × (n ≡ count + 1) × Appends written_old written_new []
 IsNotAnswered s k h count line written_old written_new rose_out (ends.Broken label) =
-    (x : Assignment) × ReadsInput s line x × (broken_assumption s h x ≡ Some label.line) × Appends written_old written_new []
+    (x : Assignment) × ReadsInput s line x × (option_map line_label (broken_assumption s h x) ≡ Some label) × Appends written_old written_new []
 IsNotAnswered s k h count line written_old written_new rose_out ends.WriteFault =
     (x y : Assignment) × ReadsInput s line x × (legal_input s h x ≡ true) × (legal_output s h x y ≡ true) × Kept (rules_of s) k (after h x y) × AppendsFront written_old written_new (shown_output s y) × rose_out
 IsNotAnswered s k h count line written_old written_new rose_out _ = ⊥

@@ -5,6 +5,7 @@ ghost use Rattle.spec_model.specs.Syntax.{Specification};
 ghost use Rattle.spec_model.specs.Rules.{Run, after};
 ghost use Rattle.spec_model.specs.Realizable.{Kept};
 ghost use Rattle.spec_model.specs.Moves.{broken_assumption, legal_input, legal_output, rules_of};
+ghost use Rattle.hidden_game.specs.Judged.{line_label};
 ghost use Rattle.session.specs.Players.{IsAsked, MayReply};
 
 use spec_model::game::Label;
@@ -18,7 +19,7 @@ pub(crate) trait Player {
     /// The first assumption that the input breaks, in text order, or none where it is legal.
     fn broken(&mut self, input: &[Value]) -> Option<Label>
         requires { IsAsked (stands self.old) input.now }
-        ensures first { (s : Specification) (k : ℕ) (h : Run) → stands self.old s k h → option_map (λ l. l.line) result ≡ broken_assumption s h input.now }
+        ensures first { (s : Specification) (k : ℕ) (h : Run) → stands self.old s k h → result ≡ option_map line_label (broken_assumption s h input.now) }
         ensures stays { (s : Specification) (k : ℕ) (h : Run) → stands self.old s k h ↔ stands self.new s k h };
 
     /// Writes the output that answers a legal input, and stands for the play with both added.

@@ -5,6 +5,7 @@ ghost use Rattle.sp_outside.specs.Causes.{Rose};
 ghost use Rattle.spec_model.specs.Syntax.{Specification};
 ghost use Rattle.spec_model.specs.Rules.{Run, after};
 ghost use Rattle.spec_model.specs.Moves.{broken_assumption, legal_input, legal_output};
+ghost use Rattle.hidden_game.specs.Judged.{line_label};
 ghost use Rattle.session.specs.Views.{AreFor, KeepsTables, KeepsReader, pending_of, line_of, input_of, output_of};
 ghost use Rattle.session.specs.Players.{IsAsked, MayReply, Serves, Begins};
 ghost use Rattle.session.specs.Talks.{RunTalk, SoFar, IsAnswered, IsNotAnswered, IsLastEnd};
@@ -35,7 +36,7 @@ pub enum End {
 // Judges the input that was read last.
 fn broken_by<P: Player>(lines: &Lines, play: &mut P) -> Option<Label>
     requires { IsAsked (P.stands play.old) (input_of lines.now) }
-    ensures first { (s : Specification) (k : ℕ) (h : Run) → P.stands play.old s k h → option_map (λ l. l.line) result ≡ broken_assumption s h (input_of lines.now) }
+    ensures first { (s : Specification) (k : ℕ) (h : Run) → P.stands play.old s k h → result ≡ option_map line_label (broken_assumption s h (input_of lines.now)) }
     ensures stays { (s : Specification) (k : ℕ) (h : Run) → P.stands play.old s k h ↔ P.stands play.new s k h }
 {
     play.broken(&lines.input)
