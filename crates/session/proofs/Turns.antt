@@ -16,7 +16,7 @@ use Rattle.session.specs.Taking.{Takes, GivesLine, IsEndIf, BeginsTooLong}
 use Rattle.spec_model.specs.Plays.{IsPlay, nothing, more}
 use Rattle.spec_model.specs.Realizable.{Kept}
 use Rattle.spec_model.specs.Moves.{rules_of}
-use Rattle.session.specs.Talks.{ReadsInput, shown_output, AreInputs, shown_outputs, IsNext, EndsSo, RunTalk, SoFar, IsAnswered, IsNotAnswered, IsLastEnd}
+use Rattle.session.specs.Talks.{ReadsInput, shown_output, AreInputs, shown_outputs, IsNext, AreFirst, EndsSo, RunTalk, SoFar, IsAnswered, IsNotAnswered, IsLastEnd}
 use Rattle.session.proofs.HandingLemmas.{pushed, one_more, all_told}
 
 -- ---- one position more
@@ -36,6 +36,18 @@ length_more h x y = length-append h (record { input = x; output = y } ∷ [])
 
 nothing_more : (a b c : Option (List ℕ)) (text : List ℕ) → Appends a b text → Appends b c [] → Appends a c text
 nothing_more a b c text first second = subst (Appends a c) (append-nil text) (Appends-trans a b c text [] first second)
+
+-- with the next line, too, the lines that were handed out are the first
+first_with : (given : List ℕ) (left : Option (List ℕ)) (handed : List (List ℕ)) (line : List ℕ) → IsNext given left handed (Some line) → AreFirst given left (handed ++ line ∷ [])
+first_with given left handed line next =
+    record {
+      at_end = next.at_end;
+      ended = next.ended;
+      rest = next.rest;
+      follows =
+          next.follows
+          ∙ sym (ap (λ (ls : List Line). ls ++ next.rest) (pushed handed line) ∙ append_assoc (map (λ l. Some l) handed) (Some line ∷ []) next.rest);
+    }
 
 module _ (s : Specification) (k : ℕ) (Stands : Run → Type 0) (left0 left1 left2 written0 written1 : Option (List ℕ)) (before line after_it : List ℕ) (count limit : ℕ)
     (so : SoFar s k Stands left0 left1 written0 written1 before count) (what : Taken) (takes : Takes left1 left2 before line after_it what) where
@@ -127,7 +139,7 @@ module _ (s : Specification) (k : ℕ) (Stands : Run → Type 0) (left0 left1 le
           kept = answered.kept;
           few = omega (arith, counted_more, below);
           wrote = wrote_more;
-          ends = omega (arith, counted_more, last);
+          ends = ((omega (arith, counted_more, last)), first_with given' left2 so.handed line (last_line is));
         }
     is_last is below rose_in rose_out (ends.Broken label) last = absurd last
     is_last is below rose_in rose_out (ends.BadLine n) last = absurd last
@@ -180,7 +192,7 @@ module _ (s : Specification) (k : ℕ) (Stands : Run → Type 0) (left0 left1 le
               (sym (take-append-add (shown_outputs s so.play) (shown_output s why.1) why.6.0) ∙ ap (take (length (shown_outputs s so.play) + why.6.0)) (shown_more s so.play why.0 why.1))
               (Appends-trans written0 written1 written2 (shown_outputs s so.play) (take why.6.0 (shown_output s why.1)) so.wrote why.6.1),
         );
-        ends = why.7;
+        ends = (why.7, first_with given' left2 so.handed line next);
       }
   not_answered next below written2 rose_in rose_out ends.Finished why = absurd why
   not_answered next below written2 rose_in rose_out ends.StateLimit why = absurd why
@@ -267,7 +279,15 @@ at_limit s k Stands left0 left1 written0 written1 pending count limit reached ro
       kept = so.kept;
       few = omega (arith, so.counted, reached);
       wrote = so.wrote;
-      ends = so.counted ∙ reached;
+      ends = (
+        so.counted ∙ reached,
+        record {
+          at_end = false;
+          ended = λ never. absurd (cc);
+          rest = input_lines false (pending ++ []);
+          follows = ap (input_lines false) (sym (append-nil so.given)) ∙ so.hands_out false [];
+        },
+      );
     }
 
 -- what rose in a part rose in the whole
@@ -293,7 +313,7 @@ weaker s k limit left0 left1 written0 written1 rose_in rose_out rose_in' rose_ou
     by_end (ends.BadLine n) so = so
     by_end ends.StateLimit so = so
     by_end ends.ReadFault so = (from_in so.0, so.1, so.2)
-    by_end ends.WriteFault so = from_out so
+    by_end ends.WriteFault so = (from_out so.0, so.1)
 
 pub none_weaker : {X : Type 0} {P Q : Type 0} (o : Option X) → (P → Q) → IfNone o P → IfNone o Q
 none_weaker None from is = from is

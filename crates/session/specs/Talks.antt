@@ -46,17 +46,24 @@ pub record IsNext (given : List ℕ) (left : Option (List ℕ)) (handed : List (
   pub rest : List Line
   pub follows : input_lines at_end given ≡ map (λ l. Some l) handed ++ line ∷ rest
 
--- How a talk ends, once the play is h and these lines were handed out of what the input gave: the input gave its end and no
--- other line; an assumption was broken, or the line refused, at the next line; the limit was reached; or something outside failed.
+-- the lines that were handed out stand first among those of what was given
+pub record AreFirst (given : List ℕ) (left : Option (List ℕ)) (handed : List (List ℕ)) : Type 0 where
+  pub at_end : Bool
+  pub ended : at_end ≡ true → IsAtEnd left
+  pub rest : List Line
+  pub follows : input_lines at_end given ≡ map (λ l. Some l) handed ++ rest
+
+-- How a talk ends, once the play is h and these lines were handed out, the first of what the input gave: the input gave its end
+-- and no other line; an assumption was broken, or the line refused, at the next line; the limit was reached; or something outside failed.
 abbrev pub EndsSo : Specification → (limit : ℕ) → (given : List ℕ) → (left : Option (List ℕ)) → (handed : List (List ℕ)) → Run → (rose_in rose_out : Type 0) → End → Type 0
 EndsSo s limit given left handed h rose_in rose_out ends.Finished = IsAtEnd left × (input_lines true given ≡ map (λ l. Some l) handed) × (length h < limit)
 EndsSo s limit given left handed h rose_in rose_out (ends.Broken label) =
     (line : List ℕ) × (x : Assignment) × IsNext given left handed (Some line) × ReadsInput s line x × (option_map line_label (broken_assumption s h x) ≡ Some label) × (length h < limit)
 EndsSo s limit given left handed h rose_in rose_out (ends.BadLine n) =
     (line : Line) × IsNext given left handed line × IsRefused s line × (n ≡ length h + 1) × (length h < limit)
-EndsSo s limit given left handed h rose_in rose_out ends.StateLimit = length h ≡ limit
+EndsSo s limit given left handed h rose_in rose_out ends.StateLimit = (length h ≡ limit) × AreFirst given left handed
 EndsSo s limit given left handed h rose_in rose_out ends.ReadFault = rose_in × (input_lines false given ≡ map (λ l. Some l) handed) × (length h < limit)
-EndsSo s limit given left handed h rose_in rose_out ends.WriteFault = rose_out
+EndsSo s limit given left handed h rose_in rose_out ends.WriteFault = rose_out × AreFirst given left handed
 
 -- what is written: all of it, or a front of it where the output failed
 abbrev pub Wrote : End → Option (List ℕ) → Option (List ℕ) → List ℕ → Type 0

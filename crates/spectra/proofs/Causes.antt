@@ -36,7 +36,7 @@ module _ (failed : Type 0) (before after : Moment) where
   by_ending s k greeted talked (ends.BadLine n) talk = tt
   by_ending s k greeted talked ends.StateLimit talk = tt
   by_ending s k greeted talked ends.ReadFault talk = talk.ends.0
-  by_ending s k greeted talked ends.WriteFault talk = talk.ends
+  by_ending s k greeted talked ends.WriteFault talk = talk.ends.0
 
   by_closing : (end : End) (talked : Option (List ℕ)) (status : Status) → IsCaused (status_after end) → Closes end talked after.written (Rose before.write_faults after.write_faults) status → IsCaused status
   by_closing end talked _ given (whole is) = given
