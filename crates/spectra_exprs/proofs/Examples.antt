@@ -1,5 +1,5 @@
 -- A token of each class, as the lexer gives one.
-use Rattle.std.proofs.Common.{◌≡◌, ℕ, ◌+◌, ◌≤◌, ◌<◌, Bool, true, false, ◌&&◌, nat_le, List, [], ◌∷◌, ◌++◌, length, Some, refl, sym, ap, subst, ◌∙◌, append-nil, arith, length-append}
+use Rattle.std.proofs.Common.{◌≡◌, ℕ, ◌+◌, Bool, true, false, ◌&&◌, nat_le, List, [], ◌∷◌, length, Some, refl, sym, ap, subst, ◌∙◌, append-nil, arith, length-append}
 use Rattle.std.specs.Prelude.{codes}
 use Rattle.std.specs.Str.{chars, IsAscii}
 use Rattle.std.specs.List.{list_all}
@@ -12,14 +12,14 @@ use Rattle.spectra_lexer.specs.declared.characters.Run.TheVariants as runs
 use Rattle.spectra_lexer.specs.declared.token.Kind.{Kind}
 use Rattle.spectra_lexer.specs.declared.token.Kind.TheVariants as kinds
 use Rattle.spectra_lexer.specs.Characters.{goes_on}
-use Rattle.spectra_lexer.specs.Words.{is_sign, is_reserved, BeginsWithSign}
+use Rattle.spectra_lexer.specs.Words.{is_sign, is_reserved}
 use Rattle.spectra_lexer.specs.Pieces.{opening_of, IsPiece}
 use Rattle.spectra_lexer.specs.Tokens.{kind_of_piece}
 use Rattle.spectra_trees.specs.declared.class.Class.{Class}
 use Rattle.spectra_trees.specs.declared.class.Class.TheVariants as classes
 use Rattle.spectra_trees.specs.Classes.{class_of, same_class, place_of, sign_class, known, arrow_class, relation_class, sum_class, mark_class, bracket_class, word_class, head_class, type_class, item_class, line_class, value_class, logic_class, past_class}
 use Rattle.spectra_trees.specs.Lexemes.{Lexeme}
-use Rattle.spectra_exprs.specs.Spellings.{IsToken, IsSpelled}
+use Rattle.spectra_exprs.specs.Spellings.{IsToken}
 use Rattle.spectra_exprs.proofs.Opening.{Example}
 
 abbrev pub token_of : Kind → List ℕ → Lexeme

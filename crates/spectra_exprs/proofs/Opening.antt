@@ -1,17 +1,16 @@
 -- Where reading stops, what was used begins what is of the grammar: one lemma for each form.
-use Rattle.std.proofs.Common.{◌≡◌, ℕ, zero, suc, Bool, true, false, cond, List, [], ◌∷◌, ◌++◌, length, Option, Some, None, Result, Ok, Err, ◌⊎◌, inl, inr, refl, sym, ap, subst, ◌∙◌, append_assoc, append-nil}
-use Rattle.std.specs.Option.{option_map_or}
+use Rattle.std.proofs.Common.{◌≡◌, ℕ, Bool, true, false, cond, List, [], ◌∷◌, ◌++◌, Option, Some, None, Result, Ok, Err, ◌⊎◌, inl, inr, refl, sym, ap, subst, ◌∙◌, append_assoc}
 use Rattle.spectra_exprs.specs.declared.fault.SyntaxFault.{SyntaxFault}
 use Rattle.spectra_exprs.specs.declared.fault.SyntaxFault.TheVariants as faults
 use Rattle.spectra_trees.specs.declared.class.Class.{Class}
 use Rattle.spectra_trees.specs.Classes.{same_class}
 use Rattle.spectra_trees.specs.Lexemes.{Lexeme}
-use Rattle.spectra_exprs.specs.Read.{Read, Reader, ◌>>=◌, unexpected, first_number, starts, expect, grow, all_of}
+use Rattle.spectra_exprs.specs.Read.{Read, Reader, ◌>>=◌, unexpected, first_number, expect}
 use Rattle.spectra_exprs.specs.Operators.{is_operator, closed}
-use Rattle.spectra_exprs.specs.Forms.{Gives, Token, Then, ◌▸◌, ◌∣◌, Steps}
+use Rattle.spectra_exprs.specs.Forms.{Gives, Token, ◌▸◌, ◌∣◌}
 use Rattle.spectra_exprs.specs.Phrases.{Phrase, ArePhrase}
 use Rattle.spectra_exprs.specs.Spellings.{IsSpelled, AreSpelled}
-use Rattle.spectra_exprs.proofs.Soundness.{Got, Sound, Looks, sound_gives, sound_token, sound_then, sound_same, sound_wider, sound_if, sound_look, sound_steps, sound_unexpected, sound_fault, gives_alone}
+use Rattle.spectra_exprs.proofs.Soundness.{Got, Sound, sound_gives, sound_token, sound_then, sound_same, sound_wider, sound_if, sound_unexpected, sound_fault, gives_alone}
 use Rattle.spectra_exprs.proofs.SoundExpressions.{sound_closed}
 use Rattle.spectra_exprs.proofs.Stopping.{err_is, ok_no_err}
 
@@ -60,10 +59,17 @@ pub record EndsWhole {A : Type 0} (P : List Lexeme → A → Type 0) (used : Lis
   pub whole : ArePhrase sort left phrase
   pub any : (other : List Lexeme) → ArePhrase sort left other → Begun P (front ++ other)
 
+-- what was used ends with a token that opens a level too many, and what stands before it is begun
+pub record EndsLevel {A : Type 0} (P : List Lexeme → A → Type 0) (used : List Lexeme) : Type 0 where
+  pub front : List Lexeme
+  pub token : Lexeme
+  pub parts : used ≡ front ++ token ∷ []
+  pub begun : Begun P front
+
 -- an operator behind a whole phrase is fault 6
 abbrev pub IsBehind : {A : Type 0} → (List Lexeme → A → Type 0) → SyntaxFault → List Lexeme → Type 0
 IsBehind P (faults.Unexpected at) used = Unit {0}
-IsBehind P (faults.TooDeep at) used = Unit {0}
+IsBehind P (faults.TooDeep at) used = EndsLevel P used
 IsBehind P (faults.Parentheses at) used = EndsWhole P used
 IsBehind P (faults.Unsupported at) used = Unit {0}
 IsBehind P faults.Memory used = Unit {0}
@@ -116,7 +122,8 @@ ends_behind P Q front begins used e =
 
 is_behind : {A B : Type 0} (P : List Lexeme → A → Type 0) (Q : List Lexeme → B → Type 0) (front : List Lexeme) → ((used : List Lexeme) → Begun P used → Begun Q (front ++ used)) → (f : SyntaxFault) (used : List Lexeme) → IsBehind P f used → IsBehind Q f (front ++ used)
 is_behind P Q front begins (faults.Unexpected at) used b = tt
-is_behind P Q front begins (faults.TooDeep at) used b = tt
+is_behind P Q front begins (faults.TooDeep at) used b =
+    record { front = front ++ b.front; token = b.token; parts = ap (λ (u : List Lexeme). front ++ u) b.parts ∙ sym (append_assoc front b.front (b.token ∷ [])); begun = begins b.front b.begun }
 is_behind P Q front begins (faults.Parentheses at) used b = ends_behind P Q front begins used b
 is_behind P Q front begins (faults.Unsupported at) used b = tt
 is_behind P Q front begins faults.Memory used b = tt
@@ -263,17 +270,17 @@ module _ (class : Class) (x : Example class) where
   full_token = record { sound = sound_token class; opens = λ ts f e. inl (token_opens ts f e); whole = example_begun class x }
 
 -- what was used, and begins what is behind a token that opens a level too many
-pub opened_level : {A : Type 0} (P : List Lexeme → A → Type 0) (t : Lexeme) (ts rest : List Lexeme) (f : SyntaxFault) → ts ≡ t ∷ rest → f ≡ faults.TooDeep t.number → Begun P (t ∷ []) → OpensAt P ts f
-opened_level P t ts rest f front deep begun =
+pub opened_level : {A : Type 0} (P : List Lexeme → A → Type 0) (t : Lexeme) (ts rest : List Lexeme) (f : SyntaxFault) → ts ≡ t ∷ rest → f ≡ faults.TooDeep t.number → Begun P [] → Begun P (t ∷ []) → OpensAt P ts f
+opened_level P t ts rest f front deep nothing begun =
     subst (λ (g : SyntaxFault). OpensAt P ts g) (sym deep)
-    (record { used = t ∷ []; rest = rest; front = front; place = record { front = []; token = t; parts = refl; number = refl }; begun = begun; behind = tt })
+    (record { used = t ∷ []; rest = rest; front = front; place = record { front = []; token = t; parts = refl; number = refl }; begun = begun; behind = record { front = []; token = t; parts = refl; begun = nothing } })
 
 module _ {B : Type 0} (class : Class) (x : Example class) {Q : Lexeme → List Lexeme → B → Type 0} {S : Lexeme → Reader B} (second : (t : Lexeme) → FullAfter (Some t) (Q t) (S t)) where
   after_level : (ts : List Lexeme) (t : Lexeme) (rest : List Lexeme) (f : SyntaxFault) → Got (Token class) ts t rest → OpensAt (Q t) rest f ⊎ OpensBefore (Some t) f → OpensAt (Token class ▸ Q) ts f
   after_level ts t rest f g (inl q) = opens_second (Token class) Q ts t rest f g q
   after_level ts t rest f g (inr deep) =
       let one : g.used ≡ t ∷ [] = g.derives.alone in
-      opened_level (Token class ▸ Q) t ts rest f (g.front ∙ ap (λ (u : List Lexeme). u ++ rest) one) deep
+      opened_level (Token class ▸ Q) t ts rest f (g.front ∙ ap (λ (u : List Lexeme). u ++ rest) one) deep (begun_first (Token class) Q [] (example_begun class x) (λ t. (second t).whole))
       (begun_second (Token class) Q (t ∷ []) t [] (subst (λ (u : List Lexeme). Token class u t) one g.derives) (second t).whole)
 
   level_joined : (r : Read Lexeme) (ts : List Lexeme) (f : SyntaxFault) → expect class ts ≡ r → (r >>= S) ≡ Err f → OpensAt (Token class ▸ Q) ts f

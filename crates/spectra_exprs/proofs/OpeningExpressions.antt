@@ -1,6 +1,5 @@
 -- Where reading an expression stops, what was used begins one.
-use Rattle.std.proofs.Common.{◌≡◌, ℕ, zero, suc, ◌<◌, Bool, true, false, cond, List, [], ◌∷◌, ◌++◌, Option, Some, None, Ok, Err, ◌&&◌, refl, arith}
-use Rattle.spectra_exprs.specs.declared.fault.SyntaxFault.TheVariants as faults
+use Rattle.std.proofs.Common.{ℕ, zero, suc, ◌<◌, Bool, true, false, cond, List, [], ◌∷◌, ◌++◌, Some, None, Ok, ◌&&◌, refl, arith}
 use Rattle.spectra_exprs.specs.declared.operators.Level.{Level}
 use Rattle.spectra_exprs.specs.declared.operators.Level.TheVariants as levels
 use Rattle.spectra_trees.specs.declared.class.Class.TheVariants as classes
@@ -8,11 +7,11 @@ use Rattle.spectra_trees.specs.declared.tree.Place.{Place}
 use Rattle.spectra_trees.specs.declared.tree.BinaryWord.{BinaryWord}
 use Rattle.spectra_trees.specs.declared.tree.BinaryWord.TheVariants as binaries
 use Rattle.spectra_trees.specs.declared.tree.PrefixWord.{PrefixWord}
-use Rattle.spectra_trees.specs.Classes.{place_of, same_class}
+use Rattle.spectra_trees.specs.declared.tree.PrefixWord.TheVariants as prefixes
 use Rattle.spectra_trees.specs.Data.{Expression, Form, expression, expressions, first_of}
 use Rattle.spectra_trees.specs.Lexemes.{Lexeme, name_of}
-use Rattle.spectra_exprs.specs.Read.{Read, ◌>>=◌, unexpected, first_number, starts, expect, all_of}
-use Rattle.spectra_exprs.specs.Operators.{operator_word, sum_word, prefix_word, is_operator, operator_at, prefix_at, starts_sum, starts_or, expect_or, closed}
+use Rattle.spectra_exprs.specs.Read.{◌>>=◌, starts, all_of}
+use Rattle.spectra_exprs.specs.Operators.{prefix_word, sum_word, operator_at, prefix_at, starts_sum, starts_or, expect_or}
 use Rattle.spectra_exprs.specs.Expressions.{leaf, between, opened, Term, Chain, Inside, negative, number_of, literal, next_of, parentheses_of, call_of, read_of, named_of, prim_of, prefixed_of, operand_of, times_of, prod_of, plus_of, modulo, sum_of, side_of, compared_of, comparison_of, cmp_of, conjunct_of, conjunction_of, conj_of, disjunct_of, disjunction_of, disj_of, arrow_of, past_of, alone_of, expr_of, whole_of, bound_of, argument_of, some_arguments_of, arguments_of, inside}
 use Rattle.spectra_exprs.specs.Forms.{Gives, Token, ◌▸◌, ◌∣◌, Steps}
 use Rattle.spectra_exprs.specs.Grammar.{Operator, Prefix, OrSign, Deeper, Literal, Prim, Operand, Times, Prod, Plus, Modulo, Alone, Sum, Side, Cmp, Conjunct, Conj, Disjunct, Disj, ExprOf, Argument, Arguments, Levels}
@@ -20,9 +19,9 @@ use Rattle.spectra_exprs.specs.Phrases.{Phrase}
 use Rattle.spectra_exprs.proofs.Soundness.{grouped}
 use Rattle.spectra_exprs.proofs.SoundExpressions.{literal_same, named_same, prim_same, prefix_looks, operator_looks}
 use Rattle.spectra_exprs.proofs.StoppingExpressions.{prefix_look, operator_look}
-use Rattle.spectra_exprs.proofs.Opening.{Begun, FullAfter, Full, Example, begun_first, full_wider, full_then, full_gives, full_same, full_of, full_right, full_unexpected, full_deep, full_token, full_behind, full_if, full_only, full_finished, full_if_left, full_then_same, begun_right, begun_left, begun_gives}
-use Rattle.spectra_exprs.proofs.OpeningSteps.{FullLook, full_look, full_look_only, full_steps, begun_steps}
-use Rattle.spectra_exprs.proofs.Examples.{a_And, a_Bar, a_Close, a_Comma, a_False, a_Minus, a_Mod, a_Name, a_Next, a_Number, a_Open, a_Or, a_Plus, a_Star, a_True}
+use Rattle.spectra_exprs.proofs.Opening.{Begun, FullAfter, Full, begun_first, full_wider, full_then, full_gives, full_same, full_of, full_right, full_unexpected, full_deep, full_token, full_behind, full_if, full_only, full_finished, full_if_left, full_then_same, begun_right, begun_left, begun_gives}
+use Rattle.spectra_exprs.proofs.OpeningSteps.{FullLook, never_before, full_look, full_look_only, full_steps, begun_steps}
+use Rattle.spectra_exprs.proofs.Examples.{a_And, a_Bar, a_Close, a_Comma, a_False, a_Minus, a_Mod, a_Name, a_Next, a_Not, a_Number, a_Open, a_Or, a_Plus, a_Star, a_True}
 
 full_negative : (t : Lexeme) → Full (Token classes.Number ▸ λ n. Gives (expression t.at n.at (Form.Number true n.text))) (negative t)
 unfolding negative
@@ -42,11 +41,15 @@ full_literal =
 
 -- ---- operators
 
+begun_prefix : Begun Prefix []
+unfolding prefix_word
+begun_prefix = let is = a_Not.is in record { more = a_Not.token ∷ []; spelled = (a_Not.spelled, tt); value = (a_Not.token, prefixes.Not); derives = record { alone = refl; word = rw is refl } }
+
 prefix_full : FullLook (λ (x : Lexeme × PrefixWord). Some x.0) Prefix prefix_at
-prefix_full = record { looks = prefix_looks; stable = prefix_look }
+prefix_full = record { looks = prefix_looks; stable = prefix_look; whole = λ x t e. begun_prefix }
 
 operator_full : (level : Level) → FullLook (λ (x : Place × BinaryWord). None) (Operator level) (operator_at level)
-operator_full level = record { looks = operator_looks level; stable = operator_look level }
+operator_full level = record { looks = operator_looks level; stable = operator_look level; whole = λ x t e. absurd (never_before t e) }
 
 -- the sign of a sum
 begun_sign : Begun (Operator levels.Sum) []

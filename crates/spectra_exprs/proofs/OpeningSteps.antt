@@ -1,16 +1,16 @@
 -- Where reading stops, what was used begins what is of the grammar: looks at the first token, and steps.
-use Rattle.std.proofs.Common.{◌≡◌, ℕ, zero, suc, Bool, true, false, cond, List, [], ◌∷◌, ◌++◌, length, Option, Some, None, Result, Ok, Err, ◌⊎◌, inl, inr, refl, sym, ap, subst, ◌∙◌, append_assoc, append-nil}
+use Rattle.std.proofs.Common.{◌≡◌, ℕ, zero, suc, Bool, true, false, cond, List, [], ◌∷◌, ◌++◌, length, Option, Some, None, Ok, Err, ◌⊎◌, inl, inr, refl, sym, ap, subst, ◌∙◌, append_assoc, append-nil}
 use Rattle.std.proofs.lemmas.List.{append_cancel_right}
 use Rattle.std.specs.Option.{option_map_or}
 use Rattle.spectra_exprs.specs.declared.fault.SyntaxFault.{SyntaxFault}
 use Rattle.spectra_exprs.specs.declared.fault.SyntaxFault.TheVariants as faults
 use Rattle.spectra_trees.specs.Lexemes.{Lexeme}
 use Rattle.spectra_exprs.specs.Read.{Read, Reader, ◌>>=◌, grow, all_of}
-use Rattle.spectra_exprs.specs.Forms.{Gives, Then, ◌▸◌, ◌∣◌, Steps}
-use Rattle.spectra_exprs.proofs.Soundness.{Got, Sound, Looks, sound_look, sound_steps}
+use Rattle.spectra_exprs.specs.Forms.{◌▸◌, ◌∣◌, Steps}
+use Rattle.spectra_exprs.proofs.Soundness.{Got, Looks, sound_look, sound_steps}
 use Rattle.spectra_exprs.proofs.Stopping.{err_is, ok_no_err}
 use Rattle.spectra_exprs.proofs.StoppingSteps.{Looked, StableLook}
-use Rattle.spectra_exprs.proofs.Opening.{Begun, IsPlace, IsLast, OpensAt, OpensBefore, FullAfter, Full, opens_behind, opens_as, begun_second, opens_second, opened_level, begun_wider, full_of}
+use Rattle.spectra_exprs.proofs.Opening.{Begun, OpensAt, OpensBefore, FullAfter, Full, opens_behind, opens_as, begun_first, begun_second, opens_second, opened_level, begun_wider, full_of}
 
 -- ---- a look at the first token
 
@@ -18,6 +18,10 @@ use Rattle.spectra_exprs.proofs.Opening.{Begun, IsPlace, IsLast, OpensAt, OpensB
 pub record FullLook {X : Type 0} (before : X → Option Lexeme) (K : List Lexeme → X → Type 0) (look : List Lexeme → Option (X × List Lexeme)) : Type 0 where
   pub looks : Looks K look
   pub stable : StableLook before look
+  pub whole : (x : X) (t : Lexeme) → before x ≡ Some t → Begun K []
+
+pub never_before : (t : Lexeme) → ◌≡◌ {A = Option Lexeme} None (Some t) → ⊥
+never_before t e = cc
 
 module _ {X A : Type 0} {before : X → Option Lexeme} {K : List Lexeme → X → Type 0} {look : List Lexeme → Option (X × List Lexeme)} {P : X → List Lexeme → A → Type 0} {R : X → Reader A} (l : FullLook before K look) (r : (x : X) → FullAfter (before x) (P x) (R x)) where
   level_found : (o : Option Lexeme) (ts : List Lexeme) (x : X) (rest : List Lexeme) (f : SyntaxFault) → before x ≡ o → Got K ts x rest → Looked before look ts x rest → OpensBefore o f → OpensAt (K ▸ P) ts f
@@ -25,7 +29,7 @@ module _ {X A : Type 0} {before : X → Option Lexeme} {K : List Lexeme → X �
   level_found (Some t) ts x rest f is g k q =
       let same : t ≡ k.token = k.known t is in
       let one : g.used ≡ k.token ∷ [] = append_cancel_right g.used (k.token ∷ []) rest (sym g.front ∙ k.front) in
-      opened_level (K ▸ P) k.token ts rest f k.front (q ∙ ap (λ (u : Lexeme). faults.TooDeep u.number) same)
+      opened_level (K ▸ P) k.token ts rest f k.front (q ∙ ap (λ (u : Lexeme). faults.TooDeep u.number) same) (begun_first K P [] (l.whole x t is) (λ y. (r y).whole))
       (begun_second K P (k.token ∷ []) x [] (subst (λ (u : List Lexeme). K u x) one g.derives) (r x).whole)
 
   found_opens : (ts : List Lexeme) (x : X) (rest : List Lexeme) (f : SyntaxFault) → look ts ≡ Some (x, rest) → OpensAt (P x) rest f ⊎ OpensBefore (before x) f → OpensAt (K ▸ P) ts f

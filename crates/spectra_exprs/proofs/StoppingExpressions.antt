@@ -1,5 +1,5 @@
 -- Where reading an expression stops depends on the tokens up to there alone.
-use Rattle.std.proofs.Common.{◌≡◌, ℕ, zero, suc, Bool, true, false, cond, ◌&&◌, List, [], ◌∷◌, ◌++◌, Option, Some, None, option_map, Ok, Err, ◌⊎◌, inl, inr, refl, sym, ap, subst, ◌∙◌}
+use Rattle.std.proofs.Common.{◌≡◌, ℕ, zero, suc, Bool, true, false, cond, ◌&&◌, List, [], ◌∷◌, ◌++◌, Option, Some, None, option_map, Ok, Err, ◌⊎◌, inl, refl, sym, ap, subst, ◌∙◌}
 use Rattle.spectra_exprs.specs.declared.fault.SyntaxFault.{SyntaxFault}
 use Rattle.spectra_exprs.specs.declared.fault.SyntaxFault.TheVariants as faults
 use Rattle.spectra_exprs.specs.declared.operators.Level.{Level}
@@ -13,12 +13,12 @@ use Rattle.spectra_trees.specs.declared.tree.PrefixWord.{PrefixWord}
 use Rattle.spectra_trees.specs.Classes.{place_of, same_class}
 use Rattle.spectra_trees.specs.Data.{Expression, Form, expression, expressions, first_of}
 use Rattle.spectra_trees.specs.Lexemes.{Lexeme, name_of}
-use Rattle.spectra_exprs.specs.Read.{Read, ◌>>=◌, unexpected, starts, expect, all_of}
+use Rattle.spectra_exprs.specs.Read.{Read, ◌>>=◌, starts, expect, all_of}
 use Rattle.spectra_exprs.specs.Operators.{operator_word, prefix_word, is_operator, operator_at, prefix_at, starts_sum, starts_or, expect_or, closed}
 use Rattle.spectra_exprs.specs.Expressions.{leaf, between, opened, Term, Chain, Inside, negative, number_of, literal, next_of, parentheses_of, call_of, read_of, named_of, prim_of, prefixed_of, operand_of, times_of, prod_of, plus_of, modulo, sum_of, side_of, compared_of, comparison_of, cmp_of, conjunct_of, conjunction_of, conj_of, disjunct_of, disjunction_of, disj_of, arrow_of, past_of, alone_of, expr_of, whole_of, bound_of, argument_of, some_arguments_of, arguments_of, inside}
 use Rattle.spectra_exprs.proofs.Soundness.{ok_value, some_value, no_some}
 use Rattle.spectra_exprs.proofs.SoundExpressions.{literal_same, named_same, prim_same}
-use Rattle.spectra_exprs.proofs.ClassSets.{among, going, Apart, going_apart, starts_going}
+use Rattle.spectra_exprs.proofs.ClassSets.{among, Apart, going_apart, starts_going}
 use Rattle.spectra_exprs.proofs.WholeExpressions.{b_prefix, prefix_some, set_of, operator_some}
 use Rattle.spectra_exprs.proofs.Stopping.{SameHead, Passed, StopsAt, NoEnd, StableAfter, Stable, stable_wider, stable_then, stable_gives, stable_same, refused, err_is, ok_no_err, err_no_ok, stable_unexpected, stable_deep, stable_token, stable_behind, OfHead, starts_of_head, stable_if}
 use Rattle.spectra_exprs.proofs.StoppingSteps.{Looked, StableLook, stable_look, Uses, uses_token, uses_then, uses_if, uses_unexpected, uses_look, stable_steps}

@@ -7,10 +7,9 @@ use Rattle.spectra_trees.specs.declared.class.Class.{Class}
 use Rattle.spectra_trees.specs.declared.class.Class.TheVariants as classes
 use Rattle.spectra_trees.specs.Classes.{same_class}
 use Rattle.spectra_trees.specs.Lexemes.{Lexeme}
-use Rattle.spectra_exprs.specs.Read.{Read, Reader, ◌>>=◌, unexpected, first_number, starts, expect, grow, all_of}
+use Rattle.spectra_exprs.specs.Read.{Read, Reader, ◌>>=◌, unexpected, first_number, expect, grow, all_of}
 use Rattle.spectra_exprs.proofs.Soundness.{ok_value}
 use Rattle.spectra_exprs.proofs.Loops.{one_turn, no_turn, bad_turn}
-use Rattle.spectra_exprs.proofs.ClassSets.{Apart, going_apart, starts_going, same_going}
 use Rattle.spectra_exprs.proofs.Stopping.{SameHead, NoEnd, Names, Passed, StopsAt, StopsBefore, StableAfter, Stable, OfHead, head_passed, no_end_append, err_is, ok_no_err, err_no_ok}
 
 -- ---- a look at the first token

@@ -1,17 +1,14 @@
 -- Where reading a regular expression stops, what was used begins one.
-use Rattle.std.proofs.Common.{◌≡◌, ℕ, zero, suc, ◌<◌, List, [], ◌∷◌, ◌++◌, Some, Ok, arith}
-use Rattle.spectra_exprs.specs.declared.fault.SyntaxFault.TheVariants as faults
+use Rattle.std.proofs.Common.{ℕ, zero, suc, ◌<◌, List, [], ◌∷◌, ◌++◌, Some, arith}
 use Rattle.spectra_trees.specs.declared.class.Class.TheVariants as classes
-use Rattle.spectra_trees.specs.Classes.{same_class}
 use Rattle.spectra_trees.specs.Data.{Expression, RegexData, regexes, RepeatData}
 use Rattle.spectra_trees.specs.Lexemes.{Lexeme}
-use Rattle.spectra_exprs.specs.Read.{◌>>=◌, starts, expect}
+use Rattle.spectra_exprs.specs.Read.{starts}
 use Rattle.spectra_exprs.specs.Expressions.{inside}
 use Rattle.spectra_regexes.specs.Regexes.{between_of, exactly_of, counted, repeat, starts_repeat, repeated, InsideRegex, atom_of, group_of, ratom_of, post_of, starts_ratom, follower_of, followed_of, cat_of, branch_of, branched_of, regex_of, inside_regex}
 use Rattle.spectra_exprs.specs.Forms.{Gives, Token, ◌▸◌, ◌∣◌, Steps}
 use Rattle.spectra_exprs.specs.Grammar.{Levels}
 use Rattle.spectra_regexes.specs.RegexGrammar.{DeeperRegex, Repeat, Ratom, Repeated, Post, Follower, Cat, Branch, RegexOf, RegexLevels}
-use Rattle.spectra_exprs.specs.Grammar.{ExprOf}
 use Rattle.spectra_exprs.proofs.Opening.{Begun, FullAfter, Full, begun_first, full_wider, full_then, full_gives, full_same, full_deep, full_token, full_behind, full_if, begun_left, begun_right, begun_gives}
 use Rattle.spectra_exprs.proofs.OpeningSteps.{full_steps, begun_steps}
 use Rattle.spectra_exprs.proofs.Examples.{a_Bar, a_Close, a_CloseBrace, a_CloseBracket, a_Comma, a_Number, a_Open, a_OpenBrace, a_OpenBracket, a_Plus, a_Question, a_Star}

@@ -1,10 +1,10 @@
 -- Where reading a regular expression stops depends on the tokens up to there alone.
-use Rattle.std.proofs.Common.{◌≡◌, ℕ, zero, suc, cond, ◌||◌, List, [], ◌∷◌, ◌++◌, Some, Ok, refl}
+use Rattle.std.proofs.Common.{ℕ, zero, suc, cond, List, [], ◌∷◌, ◌++◌, Some, Ok, refl}
 use Rattle.spectra_trees.specs.declared.class.Class.TheVariants as classes
 use Rattle.spectra_trees.specs.Classes.{place_of}
 use Rattle.spectra_trees.specs.Data.{Expression, RegexData, regexes, RepeatData}
 use Rattle.spectra_trees.specs.Lexemes.{Lexeme}
-use Rattle.spectra_exprs.specs.Read.{Reader, ◌>>=◌, starts, expect, all_of}
+use Rattle.spectra_exprs.specs.Read.{◌>>=◌, starts, expect, all_of}
 use Rattle.spectra_exprs.specs.Expressions.{inside}
 use Rattle.spectra_regexes.specs.Regexes.{between_of, exactly_of, counted, repeat, starts_repeat, repeated, InsideRegex, atom_of, group_of, ratom_of, post_of, starts_ratom, follower_of, followed_of, cat_of, branch_of, branched_of, regex_of, inside_regex}
 use Rattle.spectra_exprs.proofs.Stopping.{StableAfter, Stable, stable_wider, stable_then, stable_gives, stable_same, stable_deep, stable_behind, OfHead, starts_of_head, or_tests_of_head, stable_if}
