@@ -75,5 +75,25 @@ behind_phrase ts at read =
       any = λ other p. (wide, begun_text (e.front ++ other) (e.any other p));
     }
 
-pub deep_begun : (ts : List Lexeme) (at : ℕ) → IsWholeFrom 0 ts → text_of ts ≡ Err (faults.TooDeep at) → BeginText wide (take (at + 1) ts)
-deep_begun ts at w read = let q = opens ts (faults.TooDeep at) (full_text.opens ts (faults.TooDeep at) read) in up_to_last ts q.used q.rest at (whole_numbered 0 ts w) q.front q.place q.begun
+deep_opens : (ts : List Lexeme) (at : ℕ) → text_of ts ≡ Err (faults.TooDeep at) → OpensAt (TextIn wide) ts (faults.TooDeep at)
+deep_opens ts at read = opens ts (faults.TooDeep at) (full_text.opens ts (faults.TooDeep at) read)
+
+pub deeper_begun : (ts : List Lexeme) (at : ℕ) → IsWholeFrom 0 ts → text_of ts ≡ Err (faults.TooDeep at) → BeginText wide (take (at + 1) ts)
+deeper_begun ts at w read = let q = deep_opens ts at read in up_to_last ts q.used q.rest at (whole_numbered 0 ts w) q.front q.place q.begun
+
+same_last : (front more : List Lexeme) (t u : Lexeme) → front ++ t ∷ [] ≡ more ++ u ∷ [] → t ≡ u
+same_last [] [] t u e = cc
+same_last [] (v ∷ []) t u e = absurd (cc)
+same_last [] (v ∷ w ∷ more) t u e = absurd (cc)
+same_last (v ∷ []) [] t u e = absurd (cc)
+same_last (v ∷ w ∷ front) [] t u e = absurd (cc)
+same_last (v ∷ front) (w ∷ more) t u e = let rest : front ++ t ∷ [] ≡ more ++ u ∷ [] = cc in same_last front more t u rest
+
+pub deep_begun : (ts : List Lexeme) (at : ℕ) → IsWholeFrom 0 ts → text_of ts ≡ Err (faults.TooDeep at) → BeginText wide (take at ts)
+deep_begun ts at w read =
+    let q = deep_opens ts at read in
+    let p = q.place in
+    let e = q.behind in
+    let last : e.token ≡ p.token = same_last e.front p.front e.token p.token (sym e.parts ∙ p.parts) in
+    let parts : ts ≡ e.front ++ e.token ∷ q.rest = q.front ∙ ap (λ (us : List Lexeme). us ++ q.rest) e.parts ∙ append_assoc e.front (e.token ∷ []) q.rest in
+    before_next ts e.front (e.token ∷ q.rest) at (whole_numbered 0 ts w) parts (ap (λ (t : Lexeme). t.number) last ∙ p.number) e.begun

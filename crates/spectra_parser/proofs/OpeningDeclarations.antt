@@ -1,20 +1,19 @@
 -- Where reading a declaration, a pattern or a monitor stops, what was used begins one.
-use Rattle.std.proofs.Common.{◌≡◌, ℕ, Bool, true, false, cond, ◌||◌, List, [], ◌∷◌, ◌++◌, append-nil, Ok, Err, ◌⊎◌, inl, inr, refl, sym, ap, subst, ◌∙◌}
+use Rattle.std.proofs.Common.{◌≡◌, ℕ, Bool, true, false, cond, ◌||◌, List, [], ◌∷◌, ◌++◌, append-nil, append_assoc, Err, ◌⊎◌, inl, inr, refl, sym, ap, subst, ◌∙◌}
 use Rattle.spectra_exprs.specs.declared.fault.SyntaxFault.TheVariants as faults
-use Rattle.spectra_trees.specs.declared.class.Class.{Class}
 use Rattle.spectra_trees.specs.declared.class.Class.TheVariants as classes
 use Rattle.spectra_trees.specs.declared.tree.Place.{Place}
 use Rattle.spectra_trees.specs.declared.tree.OwnerWord.{OwnerWord}
-use Rattle.spectra_trees.specs.Classes.{place_of, same_class}
+use Rattle.spectra_trees.specs.Classes.{place_of}
 use Rattle.spectra_trees.specs.Data.{NameData, Expression, TypeData, PartData, PartShape, ItemData}
 use Rattle.spectra_trees.specs.Lexemes.{Lexeme, name_of}
-use Rattle.spectra_exprs.specs.Read.{Read, Reader, ◌>>=◌, unexpected, first_number, starts, expect}
+use Rattle.spectra_exprs.specs.Read.{Read, unexpected, starts}
 use Rattle.spectra_parser.specs.Items.{vardecl, typedecl, definition, definition_after, define, parameter, parameter_after, some_parameters, parameters, predicate, own, part_formula, part_shape, part_line, pitem, mitem, pitem_after, mitem_after, inside_braces, pitems, mitems, name_parameters, pattern, monitor}
 use Rattle.spectra_exprs.specs.Forms.{Gives, Token, ◌▸◌, Steps}
 use Rattle.spectra_exprs.specs.Grammar.{ExprOf, Sum, Levels}
 use Rattle.spectra_parser.specs.ItemGrammar.{TypeIn, VardeclIn, TypedeclIn, DefinitionIn, DefinitionAfter, DefineIn, ParameterIn, ParameterAfter, ParametersIn, PredicateIn, ShapeIn, LineIn, PitemIn, MitemIn, PitemAfter, MitemAfter, NameParameters, PatternIn, MonitorIn}
-use Rattle.spectra_exprs.proofs.Opening.{Begun, EndsWhole, IsBehind, OpensAt, opens_as, spelled_append, begun_right, Full, Example, begun_first, opens_here, full_then, full_gives, full_same, full_token, full_if, full_only, full_unexpected, begun_gives}
-use Rattle.spectra_exprs.proofs.OpeningSteps.{FullLook, full_look, full_steps, begun_steps}
+use Rattle.spectra_exprs.proofs.Opening.{Begun, EndsWhole, IsBehind, OpensAt, opens_as, spelled_append, begun_right, Full, opens_here, full_then, full_gives, full_same, full_token, full_if, full_only, full_unexpected}
+use Rattle.spectra_exprs.proofs.OpeningSteps.{full_steps}
 use Rattle.spectra_exprs.proofs.Examples.{a_Alw, a_AlwEv, a_Becomes, a_Close, a_CloseBrace, a_Colon, a_Comma, a_Equal, a_Ini, a_Name, a_Open, a_OpenBrace, a_Semicolon, a_Var}
 use Rattle.spectra_exprs.proofs.Stopping.{err_is}
 use Rattle.spectra_exprs.proofs.ClassSets.{going, going_apart, starts_going}
@@ -232,7 +231,9 @@ module _ (ts used rest phrase : List Lexeme) (front : ts ≡ used ++ rest) (on :
 
 monitored_behind : (f : SyntaxFault) (ts used rest : List Lexeme) → ts ≡ used ++ rest → starts classes.Ini ts || starts classes.Alw ts ≡ true → IsBehind (PitemIn wide) f used → IsBehind (MitemIn wide) f used
 monitored_behind (faults.Unexpected at) ts used rest front on b = tt
-monitored_behind (faults.TooDeep at) ts used rest front on b = tt
+monitored_behind (faults.TooDeep at) ts used rest front on b =
+    let parts : ts ≡ b.front ++ b.token ∷ rest = front ∙ ap (λ (u : List Lexeme). u ++ rest) b.parts ∙ append_assoc b.front (b.token ∷ []) rest in
+    record { front = b.front; token = b.token; parts = b.parts; begun = monitored ts b.front (b.token ∷ rest) parts on b.begun }
 monitored_behind (faults.Parentheses at) ts used rest front on b = ends_by ts used rest b.phrase front on b.sort b.left b.whole b.front b.parts b.any
 monitored_behind (faults.Unsupported at) ts used rest front on b = tt
 monitored_behind faults.Memory ts used rest front on b = tt

@@ -1,21 +1,20 @@
 -- Where reading a type stops, what was used begins one.
-use Rattle.std.proofs.Common.{ℕ, suc, ◌+◌, ◌<◌, List, [], ◌∷◌, ◌++◌, Ok, arith}
+use Rattle.std.proofs.Common.{ℕ, suc, ◌+◌, ◌<◌, List, [], ◌∷◌, ◌++◌, arith}
 use Rattle.spectra_trees.specs.declared.class.Class.TheVariants as classes
 use Rattle.spectra_trees.specs.declared.tree.Place.{Place}
-use Rattle.spectra_trees.specs.Classes.{same_class}
-use Rattle.spectra_trees.specs.Data.{NameData, Expression, TypeData, TypeShape}
+use Rattle.spectra_trees.specs.Data.{NameData, Expression, TypeShape}
 use Rattle.spectra_trees.specs.Lexemes.{Lexeme, name_of}
-use Rattle.spectra_exprs.specs.Read.{Reader, ◌>>=◌, unexpected, first_number, starts, expect}
-use Rattle.spectra_exprs.specs.Expressions.{inside, bound_of, levels_of_a_text}
+use Rattle.spectra_exprs.specs.Read.{starts}
+use Rattle.spectra_exprs.specs.Expressions.{inside, bound_of}
 use Rattle.spectra_parser.specs.Items.{formula, name_after, names, name_type, range_type, named_type, type_of}
 use Rattle.spectra_exprs.specs.Forms.{Gives, Token, ◌▸◌}
 use Rattle.spectra_exprs.specs.Grammar.{ExprOf, Levels}
 use Rattle.spectra_parser.specs.ItemGrammar.{NameAfter, Names, Bound, TypeIn}
-use Rattle.spectra_exprs.proofs.Opening.{Begun, OpensAt, Full, Example, begun_first, opens_here, full_then, full_gives, full_same, full_token, full_if, full_only, full_unexpected, begun_gives}
-use Rattle.spectra_exprs.proofs.OpeningSteps.{FullLook, full_look, full_steps, begun_steps}
+use Rattle.spectra_exprs.proofs.Opening.{Full, full_then, full_gives, full_same, full_token, full_if, full_only}
+use Rattle.spectra_exprs.proofs.OpeningSteps.{full_steps}
 use Rattle.spectra_exprs.proofs.Examples.{a_Boolean, a_Close, a_CloseBrace, a_Comma, a_Int, a_Name, a_Open, a_OpenBrace, a_UpTo}
 use Rattle.spectra_exprs.proofs.OpeningExpressions.{full_inside, full_bound, full_whole}
-use Rattle.spectra_parser.proofs.SoundItems.{n, type_same, boolean_type, range_at, names_at}
+use Rattle.spectra_parser.proofs.SoundItems.{n, type_same}
 
 -- the levels of what is begun: a level too many may want one more behind it
 abbrev pub wide : ℕ

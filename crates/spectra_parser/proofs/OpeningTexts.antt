@@ -1,29 +1,26 @@
 -- Where reading a line, an item or a text stops, what was used begins one.
-use Rattle.std.proofs.Common.{◌≡◌, cond, List, [], ◌∷◌, ◌++◌, Option, Some, None, option_map, refl, sym, ap, subst}
-use Rattle.std.specs.Option.{option_map_or}
+use Rattle.std.proofs.Common.{List, [], ◌∷◌, ◌++◌, Some, None}
 use Rattle.spec_model.specs.declared.spec.Role.{Role}
-use Rattle.spectra_trees.specs.declared.class.Class.{Class}
 use Rattle.spectra_trees.specs.declared.class.Class.TheVariants as classes
 use Rattle.spectra_trees.specs.declared.tree.Place.{Place}
 use Rattle.spectra_trees.specs.declared.tree.OwnerWord.{OwnerWord}
-use Rattle.spectra_trees.specs.Classes.{same_class}
 use Rattle.spectra_trees.specs.Data.{NameData, Expression, RegexData, BodyData, ItemData}
 use Rattle.spectra_trees.specs.Lexemes.{Lexeme, name_of}
-use Rattle.spectra_exprs.specs.Read.{Read, Reader, ◌>>=◌, unexpected, first_number, starts, expect}
+use Rattle.spectra_exprs.specs.Read.{starts}
 use Rattle.spectra_exprs.specs.Expressions.{inside}
 use Rattle.spectra_regexes.specs.Regexes.{inside_regex}
-use Rattle.spectra_parser.specs.Items.{vardecl, typedecl, define, predicate, pattern, monitor, body_formula, trigger, use_behind, pattern_use, body_of, Said, labelled, unlabelled, named, said, line, owner_word, role_word, declaration, item_of, item_after, before_end, semicolon, imported, import_after, text_of}
+use Rattle.spectra_parser.specs.Items.{body_formula, trigger, use_behind, pattern_use, body_of, Said, labelled, unlabelled, named, said, line, declaration, item_of, item_after, before_end, semicolon, imported, import_after, text_of}
 use Rattle.spectra_exprs.specs.Forms.{Gives, Token, ◌▸◌, ◌∣◌}
 use Rattle.spectra_exprs.specs.Grammar.{ExprOf, Levels}
 use Rattle.spectra_regexes.specs.RegexGrammar.{RegexOf, RegexLevels}
 use Rattle.spectra_parser.specs.ItemGrammar.{Owner, RoleOf, TypedeclIn, DefineIn, PredicateIn, PatternIn, MonitorIn, UseIn, BodyIn, SaidIn, LineOf, ItemIn, ItemAfter, ImportAfter, TextIn}
-use Rattle.spectra_exprs.proofs.Opening.{Begun, OpensAt, Full, Example, begun_first, opens_here, full_then, full_gives, full_same, full_token, full_if, full_only, full_unexpected, begun_gives}
-use Rattle.spectra_exprs.proofs.OpeningSteps.{FullLook, full_look, full_steps, begun_steps}
+use Rattle.spectra_exprs.proofs.Opening.{Full, full_then, full_gives, full_same, full_token, full_if, full_only}
+use Rattle.spectra_exprs.proofs.OpeningSteps.{FullLook, never_before, full_look, full_steps}
 use Rattle.spectra_exprs.proofs.Examples.{a_Alw, a_AlwEv, a_Colon, a_Define, a_Head, a_Import, a_Ini, a_Monitor, a_Name, a_Open, a_Pattern, a_Predicate, a_Semicolon, a_Text, a_Then, a_Trig, a_TypeWord}
 use Rattle.spectra_exprs.proofs.OpeningExpressions.{full_inside, full_arguments}
 use Rattle.spectra_regexes.proofs.OpeningRegexes.{full_inside_regex, full_regex}
 use Rattle.spectra_parser.proofs.SoundItems.{n}
-use Rattle.spectra_parser.proofs.SoundTexts.{body_at, trigger_at, body_same, owner_at, owner_looks, role_at, role_looks, typedecl_at, define_at, predicate_at, pattern_at, monitor_at, declaration_same, item_same}
+use Rattle.spectra_parser.proofs.SoundTexts.{body_at, trigger_at, body_same, owner_at, owner_looks, role_at, role_looks, declaration_same, item_same}
 use Rattle.spectra_parser.proofs.StoppingTexts.{owner_look, role_look}
 use Rattle.spectra_parser.proofs.OpeningItems.{wide, inner, deeper, full_formula}
 use Rattle.spectra_parser.proofs.OpeningDeclarations.{full_vardecl, full_typedecl, full_define, full_predicate, full_pattern, full_monitor}
@@ -80,10 +77,10 @@ full_line at role =
 -- ---- items
 
 owner_full : FullLook (λ (x : Lexeme × OwnerWord). None) Owner owner_at
-owner_full = record { looks = owner_looks; stable = owner_look }
+owner_full = record { looks = owner_looks; stable = owner_look; whole = λ x t e. absurd (never_before t e) }
 
 role_full : FullLook (λ (x : Lexeme × Role). None) RoleOf role_at
-role_full = record { looks = role_looks; stable = role_look }
+role_full = record { looks = role_looks; stable = role_look; whole = λ x t e. absurd (never_before t e) }
 
 full_declaration : Full ((Token classes.TypeWord ▸ λ t. TypedeclIn wide t.at) ∣ (Token classes.Define ▸ λ t. DefineIn wide t.at) ∣ (Token classes.Predicate ▸ λ t. PredicateIn wide t.at)
     ∣ (Token classes.Pattern ▸ λ t. PatternIn wide t.at) ∣ (Token classes.Monitor ▸ λ t. MonitorIn wide t.at)) declaration

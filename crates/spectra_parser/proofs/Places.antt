@@ -8,11 +8,10 @@ use Rattle.spectra_trees.specs.Classes.{place_of, same_class}
 use Rattle.spectra_trees.specs.Data.{NameData, ItemData, TreeData}
 use Rattle.spectra_trees.specs.Lexemes.{Lexeme, name_of}
 use Rattle.spectra_exprs.specs.Read.{Read, Reader, ◌>>=◌, starts, expect, grow, all_of}
-use Rattle.spectra_exprs.specs.Expressions.{levels_of_a_text}
-use Rattle.spectra_exprs.proofs.Stopping.{NoEnd, Names, Passed, StopsAt, StopsBefore, Stable, StableAfter, ok_no_err, err_no_ok, stable_token, starts_of_head}
+use Rattle.spectra_exprs.proofs.Stopping.{NoEnd, Passed, StopsAt, Stable, err_no_ok, stable_token, starts_of_head}
 use Rattle.spectra_exprs.proofs.StoppingSteps.{stable_steps}
 use Rattle.spectra_parser.specs.Items.{item_after, at_end, before_end, import_after, text_of}
-use Rattle.spectra_parser.specs.Texts.{HasTree, IsWholeFrom, BeginText}
+use Rattle.spectra_parser.specs.Texts.{HasTree, IsWholeFrom, BeginNoText}
 use Rattle.spectra_parser.proofs.WholeText.{text_read}
 use Rattle.spectra_parser.proofs.StoppingTexts.{stable_item_after, uses_item_after, stable_import_after, uses_import_after, goes_on, to_first_end, stable_to_first_end}
 
@@ -195,7 +194,7 @@ number_at k (u ∷ used) t rest h = let same = number_at (k + 1) used t rest h.1
 -- a token of the list, up to which and with which the tokens begin no text
 pub record Refused (ts : List Lexeme) (at : ℕ) : Type 0 where
   pub within : at < length ts
-  pub refused : BeginText levels_of_a_text (take (at + 1) ts) → ⊥
+  pub refused : BeginNoText (take (at + 1) ts)
 
 refused_at : (ts : List Lexeme) (f : SyntaxFault) (at : ℕ) → IsWholeFrom 0 ts → (q : StopsAt to_first_end ts f) → q.token.number ≡ at → Refused ts at
 refused_at ts f at w q same =
@@ -206,9 +205,9 @@ refused_at ts f at w q same =
     let taken : take (at + 1) ts ≡ q.used ++ q.token ∷ [] = ap (take (at + 1)) parts ∙ take_at (q.used ++ q.token ∷ []) q.rest (at + 1) length-front in
     record {
       within = omega (arith, place, same, ap length q.front, length-append q.used (q.token ∷ q.rest));
-      refused = λ b.
-          let whole : take (at + 1) ts ++ b.more ≡ q.used ++ q.token ∷ b.more = ap (λ (us : List Lexeme). us ++ b.more) taken ∙ append_assoc q.used (q.token ∷ []) b.more in
-          no_text ts f q b.more b.tree (subst (λ (us : List Lexeme). HasTree us b.tree) whole b.grammar);
+      refused = λ more tree t.
+          let whole : take (at + 1) ts ++ more ≡ q.used ++ q.token ∷ more = ap (λ (us : List Lexeme). us ++ more) taken ∙ append_assoc q.used (q.token ∷ []) more in
+          no_text ts f q more tree (subst (λ (us : List Lexeme). HasTree us tree) whole t);
     }
 
 stopped : (ts : List Lexeme) (f : SyntaxFault) → IsWholeFrom 0 ts → text_of ts ≡ Err f → StopsAt to_first_end ts f

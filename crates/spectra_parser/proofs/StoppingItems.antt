@@ -1,5 +1,5 @@
 -- Where reading a declaration stops depends on the tokens up to there alone.
-use Rattle.std.proofs.Common.{◌≡◌, ◌<◌, ◌||◌, not, List, [], ◌∷◌, ◌++◌, length, Ok, refl, sym, ◌∙◌}
+use Rattle.std.proofs.Common.{◌≡◌, ◌<◌, ◌||◌, List, [], ◌∷◌, ◌++◌, length, Ok, refl}
 use Rattle.spectra_exprs.specs.declared.fault.SyntaxFault.TheVariants as faults
 use Rattle.spectra_trees.specs.declared.class.Class.TheVariants as classes
 use Rattle.spectra_trees.specs.declared.tree.Place.{Place}
@@ -7,7 +7,7 @@ use Rattle.spectra_trees.specs.declared.tree.OwnerWord.{OwnerWord}
 use Rattle.spectra_trees.specs.Classes.{place_of}
 use Rattle.spectra_trees.specs.Data.{NameData, Expression, TypeData, TypeShape, PartData, PartShape, ItemData}
 use Rattle.spectra_trees.specs.Lexemes.{Lexeme, name_of}
-use Rattle.spectra_exprs.specs.Read.{Read, Reader, ◌>>=◌, unexpected, starts, expect, all_of}
+use Rattle.spectra_exprs.specs.Read.{◌>>=◌, starts, expect}
 use Rattle.spectra_exprs.specs.Expressions.{inside, bound_of}
 use Rattle.spectra_parser.specs.Items.{formula, name_after, names, name_type, range_type, named_type, type_of, vardecl, typedecl, definition, definition_after, define, parameter, parameter_after, some_parameters, parameters, predicate, own, part_formula, part_shape, part_line, pitem, mitem, pitem_after, mitem_after, inside_braces, pitems, mitems, name_parameters, pattern, monitor}
 use Rattle.spectra_exprs.proofs.Stopping.{Stable, stable_then, stable_gives, stable_same, stable_unexpected, OfHead, starts_of_head, not_of_head, or_tests_of_head, stable_if, stable_told, err_no_ok}

@@ -1,7 +1,6 @@
 -- Where reading a line, an item or a text stops depends on the tokens up to there alone.
-use Rattle.std.proofs.Common.{◌≡◌, ℕ, zero, suc, ◌<◌, Bool, true, false, cond, not, List, [], ◌∷◌, ◌++◌, length, Option, Some, None, option_map, Ok, Err, refl, sym, ap, subst, ◌∙◌, arith}
+use Rattle.std.proofs.Common.{◌≡◌, Bool, false, not, List, [], ◌∷◌, ◌++◌, Option, Some, None, option_map, Ok, refl, sym, ap, ◌∙◌}
 use Rattle.spec_model.specs.declared.spec.Role.{Role}
-use Rattle.spectra_exprs.specs.declared.fault.SyntaxFault.{SyntaxFault}
 use Rattle.spectra_trees.specs.declared.class.Class.{Class}
 use Rattle.spectra_trees.specs.declared.class.Class.TheVariants as classes
 use Rattle.spectra_trees.specs.declared.tree.Place.{Place}
@@ -9,12 +8,12 @@ use Rattle.spectra_trees.specs.declared.tree.OwnerWord.{OwnerWord}
 use Rattle.spectra_trees.specs.Classes.{place_of, same_class}
 use Rattle.spectra_trees.specs.Data.{NameData, Expression, RegexData, BodyData, ItemData, TreeData}
 use Rattle.spectra_trees.specs.Lexemes.{Lexeme, name_of}
-use Rattle.spectra_exprs.specs.Read.{Read, Reader, ◌>>=◌, unexpected, starts, expect, grow, all_of}
+use Rattle.spectra_exprs.specs.Read.{Reader, ◌>>=◌, starts, expect, all_of}
 use Rattle.spectra_exprs.specs.Expressions.{inside}
-use Rattle.spectra_regexes.specs.Regexes.{inside_regex, regex_of}
-use Rattle.spectra_parser.specs.Items.{vardecl, typedecl, define, predicate, pattern, monitor, body_formula, trigger, use_behind, pattern_use, body_of, Said, labelled, unlabelled, named, said, line, owner_word, role_word, declaration, item_of, item_after, semicolon, imported, import_after}
+use Rattle.spectra_regexes.specs.Regexes.{inside_regex}
+use Rattle.spectra_parser.specs.Items.{vardecl, body_formula, trigger, use_behind, pattern_use, body_of, Said, labelled, unlabelled, named, said, line, owner_word, role_word, declaration, item_of, item_after, semicolon, imported, import_after}
 use Rattle.spectra_exprs.proofs.Soundness.{some_value, no_some}
-use Rattle.spectra_exprs.proofs.Stopping.{SameHead, StableAfter, Stable, stable_then, stable_gives, stable_same, stable_unexpected, OfHead, starts_of_head, not_of_head, stable_if}
+use Rattle.spectra_exprs.proofs.Stopping.{SameHead, Stable, stable_then, stable_gives, stable_same, stable_unexpected, starts_of_head, not_of_head, stable_if}
 use Rattle.spectra_exprs.proofs.StoppingSteps.{Looked, StableLook, stable_look, Uses, uses_token, uses_then, uses_if, uses_same, uses_unexpected, uses_look, stable_steps}
 use Rattle.spectra_exprs.proofs.WholeExpressions.{keys, lookup_some}
 use Rattle.spectra_exprs.proofs.StoppingExpressions.{stable_after, not_end_of, no_none, stable_inside, stable_arguments}

@@ -1,5 +1,5 @@
 -- The tokens of a text are a whole text: numbered from 0, and the last alone is its end.
-use Rattle.std.proofs.Common.{◌≡◌, ℕ, ◌+◌, ◌||◌, ◌&&◌, not, Bool, true, false, List, [], ◌∷◌, ◌++◌, refl, sym, ap, ◌∙◌}
+use Rattle.std.proofs.Common.{◌≡◌, ℕ, ◌+◌, ◌||◌, ◌&&◌, not, Bool, true, false, List, [], ◌∷◌, ◌++◌, refl}
 use Rattle.std.specs.Prelude.{Option, Some, None, codes, if◌then◌else◌}
 use Rattle.spectra_lexer.specs.declared.spot.Spot.{Spot}
 use Rattle.spectra_lexer.specs.declared.opening.Opening.{Opening}

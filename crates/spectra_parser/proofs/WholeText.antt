@@ -1,6 +1,5 @@
 -- Whole texts: what is read is a text, and a text is read.
 use Rattle.std.proofs.Common.{◌≡◌, ℕ, zero, suc, Bool, true, false, cond, not, append_assoc, List, [], ◌∷◌, ◌++◌, Ok, Err, refl, sym, ap, ◌∙◌, ◌<◌, length, length-append, arith}
-use Rattle.spectra_exprs.specs.declared.fault.SyntaxFault.{SyntaxFault}
 use Rattle.spectra_trees.specs.declared.class.Class.TheVariants as classes
 use Rattle.spectra_trees.specs.Classes.{place_of, same_class}
 use Rattle.spectra_trees.specs.Data.{NameData, ItemData, TreeData}

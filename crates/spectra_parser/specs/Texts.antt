@@ -35,18 +35,24 @@ pub record BeginText (left : ℕ) (ts : List Lexeme) : Type 0 where
   pub tree : TreeData
   pub grammar : Text left (ts ++ more) tree
 
+-- tokens that begin no text with at most 128 levels, whatever tokens stand behind them
+abbrev pub BeginNoText : List Lexeme → Type 0
+BeginNoText ts = (more : List Lexeme) → (tree : TreeData) → HasTree (ts ++ more) tree → ⊥
+
 -- a token of the list, by its number: up to it, and including it, the tokens begin no text with at most 128 levels, and
 -- those before it begin a text, with some number of levels
 pub record IsRefused (ts : List Lexeme) (at : ℕ) : Type 0 where
   pub within : at < length ts
-  pub refused : BeginText levels_of_a_text (take (at + 1) ts) → ⊥
+  pub refused : BeginNoText (take (at + 1) ts)
   pub begun : (left : ℕ) × BeginText left (take at ts)
 
--- a token of the list, by its number: up to it, and including it, the tokens begin a text, but none with at most 128 levels
+-- a token of the list, by its number: the tokens before it begin a text, and up to it, and including it, they do, but none
+-- with at most 128 levels
 pub record IsTooDeep (ts : List Lexeme) (at : ℕ) : Type 0 where
   pub within : at < length ts
-  pub refused : BeginText levels_of_a_text (take (at + 1) ts) → ⊥
-  pub begun : (left : ℕ) × BeginText left (take (at + 1) ts)
+  pub refused : BeginNoText (take (at + 1) ts)
+  pub begun : (left : ℕ) × BeginText left (take at ts)
+  pub deeper : (left : ℕ) × BeginText left (take (at + 1) ts)
 
 -- a token of the list, by its number: an operator behind a whole expression, or the whole bound of a range, in whose place
 -- each other one with as many levels may stand
