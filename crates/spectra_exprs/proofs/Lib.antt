@@ -13,3 +13,11 @@ pub mod Opening
 pub mod OpeningSteps
 pub mod Examples
 pub mod OpeningExpressions
+pub mod Awaiting
+pub mod Closing
+pub mod AwaitingExpressions
+pub mod Shapes
+pub mod ShapesOfExpressions
+pub mod Comparing
+pub mod ComparingSteps
+pub mod ComparingExpressions

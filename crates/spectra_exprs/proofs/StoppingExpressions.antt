@@ -340,7 +340,7 @@ module _ (r : Inside) (s : StableInside r) where
   unfolding argument_of place_of
   stable_argument all = stable_after classes.Comma (record { checked = refl }) (argument_behind all)
 
-  uses_argument : (all : List Expression) → Uses (argument_of r all)
+  pub uses_argument : (all : List Expression) → Uses (argument_of r all)
   unfolding argument_of
   uses_argument all = uses_then (uses_token classes.Comma) (argument_behind all)
 

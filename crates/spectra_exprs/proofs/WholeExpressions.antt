@@ -14,9 +14,9 @@ use Rattle.spectra_trees.specs.Lexemes.{Lexeme}
 use Rattle.spectra_exprs.specs.Read.{starts}
 use Rattle.spectra_exprs.specs.Operators.{operator_word, prefix_word, arrow_word, past_word, relation_word, sum_word, joins, is_operator, operator_at, prefix_at, starts_sum, starts_or, expect_or, closed}
 use Rattle.spectra_exprs.specs.Forms.{Gives}
-use Rattle.spectra_exprs.specs.Grammar.{Operator, Prefix, OrSign, Prim}
+use Rattle.spectra_exprs.specs.Grammar.{Operator, Prefix, OrSign}
 use Rattle.spectra_exprs.proofs.ClassSets.{among, going, Within, going_within}
-use Rattle.spectra_exprs.proofs.Completeness.{Whole, Begins, whole_token, begins_token, begins_wider, begins_or, follows_begins, whole_choice, Finds}
+use Rattle.spectra_exprs.proofs.Completeness.{Reaches, Whole, Begins, whole_token, begins_token, begins_wider, begins_or, follows_begins, whole_choice, Finds}
 
 -- ---- what may go on, by levels
 
@@ -182,7 +182,7 @@ or_going (t ∷ ts) = ap (λ (b : Bool). nat_eq (place_of t.class) (place_of cla
     last true = refl
     last false = refl
 
-pub whole_or_sign : Whole [] OrSign expect_or
+pub whole_or_sign : {E : Type 0} → Whole E [] OrSign expect_or
 unfolding expect_or place_of
 whole_or_sign =
     whole_choice classes.Bar (begins_token classes.Bar) (follows_begins (classes.Or ∷ []) (record { checked = refl }) (begins_token classes.Or)) (whole_token [] classes.Bar) (whole_token [] classes.Or)
@@ -201,7 +201,7 @@ none_of K within c e = first (nat_eq (place_of c) (place_of K)) (going_within (K
     first true e = e
     first false e = refl
 
-no_operator : (c : Class) → among c_expr (place_of c) ≡ false → is_operator c ≡ false
+pub no_operator : (c : Class) → among c_expr (place_of c) ≡ false → is_operator c ≡ false
 unfolding is_operator joins arrow_word past_word relation_word sum_word place_of
 no_operator c e =
     rw (
@@ -224,13 +224,13 @@ no_operator c e =
       none_of classes.Minus (record { checked = refl }) c e,
     ) refl
 
-pub whole_closed : {A : Type 0} (a : A) → Whole c_expr (Gives a) (closed a)
+pub whole_closed : {A E : Type 0} (a : A) → Whole E c_expr (Gives a) (closed a)
 unfolding closed
-whole_closed {A = A} a = record { reads = λ used b rest p off. at used b rest p.nothing p.same off }
+whole_closed {A = A} {E = E} a = record { reads = λ used b rest p off. at used b rest p.nothing p.same off }
   where
     on : (rest : List Lexeme) → going c_expr rest ≡ false → closed a rest ≡ Ok (a, rest)
     on [] off = refl
     on (t ∷ ts) off = let none : is_operator t.class ≡ false = no_operator t.class off in rw none refl
 
-    at : (used : List Lexeme) (b : A) (rest : List Lexeme) → used ≡ [] → b ≡ a → going c_expr rest ≡ false → closed a (used ++ rest) ≡ Ok (b, rest)
-    at used b rest nothing same off = rw (nothing, same) (on rest off)
+    at : (used : List Lexeme) (b : A) (rest : List Lexeme) → used ≡ [] → b ≡ a → going c_expr rest ≡ false → Reaches E (closed a (used ++ rest)) (b, rest)
+    at used b rest nothing same off = rw (nothing, same) (Reaches.read (on rest off))
