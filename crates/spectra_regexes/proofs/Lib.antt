@@ -3,3 +3,4 @@ pub mod SoundRegexes
 pub mod WholeRegexes
 pub mod StoppingRegexes
 pub mod OpeningRegexes
+pub mod ComparingRegexes

@@ -12,11 +12,11 @@ use Rattle.spectra_exprs.proofs.StoppingSteps.{Uses, uses_token, uses_before, us
 use Rattle.spectra_exprs.proofs.StoppingExpressions.{stable_after, stable_inside, stable_whole}
 use Rattle.spectra_regexes.proofs.SoundRegexes.{repeat_same}
 
-repeat_of_head : OfHead starts_repeat
+pub repeat_of_head : OfHead starts_repeat
 unfolding starts_repeat
 repeat_of_head = or_tests_of_head (or_tests_of_head (or_tests_of_head (starts_of_head classes.Star) (starts_of_head classes.Plus)) (starts_of_head classes.Question)) (starts_of_head classes.OpenBrace)
 
-ratom_of_head : OfHead starts_ratom
+pub ratom_of_head : OfHead starts_ratom
 unfolding starts_ratom
 ratom_of_head = or_tests_of_head (starts_of_head classes.OpenBracket) (starts_of_head classes.Open)
 
@@ -63,7 +63,7 @@ stable_repeated : (x : RegexData) → Stable (repeated x)
 unfolding repeated
 stable_repeated x = stable_then stable_repeat (λ (times : RepeatData). stable_gives (RegexData.Repeat x times))
 
-uses_repeated : (x : RegexData) → Uses (repeated x)
+pub uses_repeated : (x : RegexData) → Uses (repeated x)
 unfolding repeated
 uses_repeated x = uses_then uses_repeat (λ (times : RepeatData). stable_gives (RegexData.Repeat x times))
 
@@ -109,7 +109,7 @@ module _ (r : InsideRegex) (s : StableRegex r) where
   unfolding follower_of
   stable_follower all = stable_then stable_post (λ (x : RegexData). stable_gives (all ++ x ∷ []))
 
-  uses_follower : (all : List RegexData) → Uses (follower_of r all)
+  pub uses_follower : (all : List RegexData) → Uses (follower_of r all)
   unfolding follower_of
   uses_follower all = uses_then uses_post (λ (x : RegexData). stable_gives (all ++ x ∷ []))
 
@@ -130,7 +130,7 @@ module _ (r : InsideRegex) (s : StableRegex r) where
   unfolding branch_of place_of
   stable_branch all = stable_after classes.Bar (record { checked = refl }) (branch_behind all)
 
-  uses_branch : (all : List RegexData) → Uses (branch_of r all)
+  pub uses_branch : (all : List RegexData) → Uses (branch_of r all)
   unfolding branch_of
   uses_branch all = uses_then (uses_token classes.Bar) (branch_behind all)
 
