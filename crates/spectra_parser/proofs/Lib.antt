@@ -15,3 +15,6 @@ mod OpeningDeclarations
 mod OpeningTexts
 mod Beginnings
 mod TokenEnds
+pub mod ComparingItems
+pub mod ComparingTexts
+pub mod NoPhrase

@@ -194,9 +194,9 @@ monitored ts (u ∷ used) rest front on b =
 -- no phrase begins as a line does
 phrase_starts : (sort : Phrase) (left : ℕ) (phrase rest : List Lexeme) → ArePhrase sort left phrase → going b_expr (phrase ++ rest) ≡ true
 unfolding place_of
-phrase_starts Phrase.Whole left phrase rest p = (begins_expr (Levels left) (inside left) (whole_inside left)).first phrase p.0 rest p.1
+phrase_starts Phrase.Whole left phrase rest p = (begins_expr (Levels left) (inside left) (whole_inside {E = Unit {0}} left left (λ less. tt))).first phrase p.0 rest p.1
 phrase_starts Phrase.Bound left phrase rest p =
-    let b : Begins b_expr (Sum (Levels left)) = begins_wider (record { checked = refl }) (begins_sum (Levels left) (inside left) (whole_inside left)) in
+    let b : Begins b_expr (Sum (Levels left)) = begins_wider (record { checked = refl }) (begins_sum (Levels left) (inside left) (whole_inside {E = Unit {0}} left left (λ less. tt))) in
     b.first phrase p.0 rest p.1
 
 no_line : (ts : List Lexeme) → going b_expr ts ≡ true → starts classes.Ini ts || starts classes.Alw ts ≡ true → ⊥

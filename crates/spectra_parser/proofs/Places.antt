@@ -1,5 +1,5 @@
 -- A token at which reading stops is one up to which the tokens begin no text.
-use Rattle.std.proofs.Common.{◌≡◌, ℕ, zero, suc, ◌+◌, ◌<◌, Bool, true, false, cond, not, List, [], ◌∷◌, ◌++◌, length, take, Ok, Err, ◌⊎◌, inl, inr, refl, sym, ap, subst, ◌∙◌, append_assoc, arith, length-append}
+use Rattle.std.proofs.Common.{◌≡◌, ℕ, zero, suc, ◌+◌, ◌<◌, Bool, true, false, cond, not, List, [], ◌∷◌, ◌++◌, length, take, None, Ok, Err, ◌⊎◌, inl, inr, refl, sym, ap, subst, ◌∙◌, append_assoc, arith, length-append}
 use Rattle.std.proofs.lemmas.List.{take_at}
 use Rattle.spectra_exprs.specs.declared.fault.SyntaxFault.{SyntaxFault}
 use Rattle.spectra_exprs.specs.declared.fault.SyntaxFault.TheVariants as faults
@@ -7,12 +7,18 @@ use Rattle.spectra_trees.specs.declared.class.Class.TheVariants as classes
 use Rattle.spectra_trees.specs.Classes.{place_of, same_class}
 use Rattle.spectra_trees.specs.Data.{NameData, ItemData, TreeData}
 use Rattle.spectra_trees.specs.Lexemes.{Lexeme, name_of}
-use Rattle.spectra_exprs.specs.Read.{Read, Reader, ◌>>=◌, starts, expect, grow, all_of}
-use Rattle.spectra_exprs.proofs.Stopping.{NoEnd, Passed, StopsAt, Stable, err_no_ok, stable_token, starts_of_head}
+use Rattle.spectra_exprs.specs.Read.{Read, Reader, ◌>>=◌, unexpected, first_number, starts, expect, grow, all_of}
+use Rattle.spectra_exprs.proofs.Stopping.{NoEnd, Passed, StopsAt, Stable, err_is, err_no_ok, ok_no_err, stable_token, starts_of_head}
 use Rattle.spectra_exprs.proofs.StoppingSteps.{stable_steps}
+use Rattle.spectra_parser.proofs.SoundItems.{n}
+use Rattle.spectra_parser.proofs.SoundTexts.{owner_at, role_at, declaration_same, item_same}
+use Rattle.spectra_exprs.proofs.ClassSets.{going, going_apart, starts_going}
+use Rattle.spectra_exprs.proofs.Completeness.{Reaches}
+use Rattle.spectra_exprs.proofs.WholeExpressions.{keys}
+use Rattle.spectra_parser.proofs.WholeTexts.{owner_table, role_table, finds_owner, finds_role}
 use Rattle.spectra_parser.specs.Items.{item_after, at_end, before_end, import_after, text_of}
-use Rattle.spectra_parser.specs.Texts.{HasTree, IsWholeFrom, BeginNoText}
-use Rattle.spectra_parser.proofs.WholeText.{text_read}
+use Rattle.spectra_parser.specs.Texts.{IsWholeFrom, BeginNoText}
+use Rattle.spectra_parser.proofs.WholeText.{text_reaches}
 use Rattle.spectra_parser.proofs.StoppingTexts.{stable_item_after, uses_item_after, stable_import_after, uses_import_after, goes_on, to_first_end, stable_to_first_end}
 
 stable_imports : Stable (λ ts. all_of (starts classes.Import) import_after [] ts)
@@ -150,6 +156,66 @@ text_ok ts y e =
     (λ imports rest. bind_ok (expect classes.Head rest) (named_by before_end imports) (named_by goes_on imports) y
     (λ h rest. bind_ok (expect classes.Name rest) (items_by before_end imports) (items_by goes_on imports) y (λ m rest. items_by_ok imports m rest y))) (sym (text_is ts) ∙ e)
 
+-- ---- a level too many is opened before the first end
+
+-- no item begins at an end
+item_refused : (a : List ItemData) (ts : List Lexeme) → going (classes.Finish ∷ []) ts ≡ true → item_after a ts ≡ Err (faults.Unexpected (first_number ts))
+unfolding item_after unexpected place_of
+item_refused a ts on =
+    let owner : owner_at ts ≡ None = finds_owner.passes ts (going_apart (classes.Finish ∷ []) (keys owner_table) (record { checked = refl }) ts on) in
+    let role : role_at ts ≡ None = finds_role.passes ts (going_apart (classes.Finish ∷ []) (keys role_table) (record { checked = refl }) ts on) in
+    let type_off : starts classes.TypeWord ts ≡ false = starts_going classes.TypeWord ts ∙ going_apart (classes.Finish ∷ []) (classes.TypeWord ∷ []) (record { checked = refl }) ts on in
+    let define_off : starts classes.Define ts ≡ false = starts_going classes.Define ts ∙ going_apart (classes.Finish ∷ []) (classes.Define ∷ []) (record { checked = refl }) ts on in
+    let predicate_off : starts classes.Predicate ts ≡ false = starts_going classes.Predicate ts ∙ going_apart (classes.Finish ∷ []) (classes.Predicate ∷ []) (record { checked = refl }) ts on in
+    let pattern_off : starts classes.Pattern ts ≡ false = starts_going classes.Pattern ts ∙ going_apart (classes.Finish ∷ []) (classes.Pattern ∷ []) (record { checked = refl }) ts on in
+    let monitor_off : starts classes.Monitor ts ≡ false = starts_going classes.Monitor ts ∙ going_apart (classes.Finish ∷ []) (classes.Monitor ∷ []) (record { checked = refl }) ts on in
+    rw (item_same ts, owner, role, declaration_same ts, type_off, define_off, predicate_off, pattern_off, monitor_off) refl
+
+bind_deep : {A B : Type 0} (r : Read A) (F G : A → Reader B) (f : SyntaxFault) → ((x : A) (rest : List Lexeme) → F x rest ≡ Err f → G x rest ≡ Err f) → (r >>= F) ≡ Err f → (r >>= G) ≡ Err f
+bind_deep (Ok x) F G f same e = same x.0 x.1 e
+bind_deep (Err g) F G f same e = e
+
+not_off : (b : Bool) → not b ≡ false → b ≡ true
+not_off true e = refl
+not_off false e = absurd (cc)
+
+module _ (at : ℕ) (k : ℕ) (further : (a : List ItemData) (ts : List Lexeme) → grow before_end item_after k a ts ≡ Err (faults.TooDeep at) → grow goes_on item_after k a ts ≡ Err (faults.TooDeep at)) where
+  fault_on : (b : Bool) (f : SyntaxFault) (a : List ItemData) (ts : List Lexeme) → goes_on ts ≡ b → item_after a ts ≡ Err f → f ≡ faults.TooDeep at → b ≡ true
+  fault_on true f a ts is read deep = refl
+  fault_on false f a ts is read deep =
+      let none = item_refused a ts (sym (starts_going classes.Finish ts) ∙ not_off (starts classes.Finish ts) is) in
+      absurd (cc)
+
+  item_deep : (r : Read (List ItemData)) (a : List ItemData) (ts : List Lexeme) → item_after a ts ≡ r → (r >>= λ x rest. grow before_end item_after k x rest) ≡ Err (faults.TooDeep at)
+      → cond (goes_on ts) (r >>= λ x rest. grow goes_on item_after k x rest) (Ok (a, ts)) ≡ Err (faults.TooDeep at)
+  item_deep (Ok x) a ts read e = let on = item_goes_on a ts x read in rw on (further x.0 x.1 e)
+  item_deep (Err f) a ts read e = let on : goes_on ts ≡ true = fault_on (goes_on ts) f a ts refl read (err_is {A = List ItemData} f (faults.TooDeep at) e) in rw on e
+
+  turn_deep : (b : Bool) (a : List ItemData) (ts : List Lexeme) → cond b (item_after a ts >>= λ x rest. grow before_end item_after k x rest) (Ok (a, ts)) ≡ Err (faults.TooDeep at)
+      → cond (goes_on ts) (item_after a ts >>= λ x rest. grow goes_on item_after k x rest) (Ok (a, ts)) ≡ Err (faults.TooDeep at)
+  turn_deep true a ts e = item_deep (item_after a ts) a ts refl e
+  turn_deep false a ts e = absurd (ok_no_err (a, ts) (faults.TooDeep at) e)
+
+items_deep : (at k : ℕ) (a : List ItemData) (ts : List Lexeme) → grow before_end item_after k a ts ≡ Err (faults.TooDeep at) → grow goes_on item_after k a ts ≡ Err (faults.TooDeep at)
+unfolding grow
+items_deep at zero a ts e = e
+items_deep at (suc k) a ts e = turn_deep at k (items_deep at k) (before_end ts) a ts e
+
+items_by_deep : (at : ℕ) (imports : List NameData) (m : Lexeme) (ts : List Lexeme) → items_by before_end imports m ts ≡ Err (faults.TooDeep at) → items_by goes_on imports m ts ≡ Err (faults.TooDeep at)
+items_by_deep at imports m ts e = by (all_of before_end item_after [] ts) refl e
+  where
+    by : (r : Read (List ItemData)) → all_of before_end item_after [] ts ≡ r → ◌≡◌ {A = Read TreeData} (r >>= λ items rest. Ok (record { header = name_of m; imports = imports; items = items }, rest)) (Err (faults.TooDeep at)) → items_by goes_on imports m ts ≡ Err (faults.TooDeep at)
+    by (Ok x) read e = absurd (ok_no_err (record { header = name_of m; imports = imports; items = x.0 }, x.1) (faults.TooDeep at) e)
+    by (Err f) read e =
+        let all = items_deep at (suc (length ts)) [] ts (read ∙ ap (λ (h : SyntaxFault). Err h) (err_is {A = TreeData} f (faults.TooDeep at) e)) in
+        rw all refl
+
+text_deep : (ts : List Lexeme) (at : ℕ) → text_of ts ≡ Err (faults.TooDeep at) → to_first_end ts ≡ Err (faults.TooDeep at)
+text_deep ts at e =
+    bind_deep (all_of (starts classes.Import) import_after [] ts) (headed_by before_end) (headed_by goes_on) (faults.TooDeep at)
+    (λ imports rest. bind_deep (expect classes.Head rest) (named_by before_end imports) (named_by goes_on imports) (faults.TooDeep at)
+    (λ h rest. bind_deep (expect classes.Name rest) (items_by before_end imports) (items_by goes_on imports) (faults.TooDeep at) (λ m rest. items_by_deep at imports m rest))) (sym (text_is ts) ∙ e)
+
 -- ---- where reading stops, no text goes on
 
 stops_at : (ts : List Lexeme) (f : SyntaxFault) → (NoEnd ts → ⊥) → (StopsAt to_first_end ts f ⊎ NoEnd ts) ⊎ ⊥ → StopsAt to_first_end ts f
@@ -157,11 +223,14 @@ stops_at ts f ended (inl (inl q)) = q
 stops_at ts f ended (inl (inr q)) = absurd (ended q)
 stops_at ts f ended (inr q) = absurd q
 
-no_text : (ts : List Lexeme) (f : SyntaxFault) (q : StopsAt to_first_end ts f) (more : List Lexeme) (tree : TreeData) → HasTree (q.used ++ q.token ∷ more) tree → ⊥
-no_text ts f q more tree t =
-    let us : List Lexeme = q.used ++ q.token ∷ more in
-    let read = text_ok us (tree, t.end ∷ []) (text_read us tree t) in
-    err_no_ok f (tree, t.end ∷ []) (sym (q.again more) ∙ read)
+-- a text of any number of levels is read to its first end, or opens a level too many before
+pub to_end_reaches : {E : Type 0} (ts : List Lexeme) (x : TreeData × List Lexeme) → Reaches E (text_of ts) x → Reaches E (to_first_end ts) x
+to_end_reaches ts x (Reaches.read e) = Reaches.read (text_ok ts x e)
+to_end_reaches ts x (Reaches.opens deep at e) = Reaches.opens deep at (text_deep ts at e)
+
+pub refuted : {E : Type 0} (ts : List Lexeme) (f : SyntaxFault) (x : TreeData × List Lexeme) → (E → (at : ℕ) → f ≡ faults.TooDeep at → ⊥) → to_first_end ts ≡ Err f → Reaches E (to_first_end ts) x → ⊥
+refuted ts f x other stops (Reaches.read e) = err_no_ok f x (sym stops ∙ e)
+refuted ts f x other stops (Reaches.opens deep at e) = other deep at (err_is {A = TreeData} f (faults.TooDeep at) (sym stops ∙ e))
 
 -- ---- the tokens of a text
 
@@ -191,36 +260,50 @@ pub number_at : (k : ℕ) (used : List Lexeme) (t : Lexeme) (rest : List Lexeme)
 number_at k [] t rest h = let same = h.0 in omega (arith, same)
 number_at k (u ∷ used) t rest h = let same = number_at (k + 1) used t rest h.1 in omega (arith, same)
 
--- a token of the list, up to which and with which the tokens begin no text
-pub record Refused (ts : List Lexeme) (at : ℕ) : Type 0 where
+-- a token of the list, up to which and with which the tokens begin no text with at most so many levels
+pub record Refused (left : ℕ) (ts : List Lexeme) (at : ℕ) : Type 0 where
   pub within : at < length ts
-  pub refused : BeginNoText (take (at + 1) ts)
+  pub refused : BeginNoText left (take (at + 1) ts)
 
-refused_at : (ts : List Lexeme) (f : SyntaxFault) (at : ℕ) → IsWholeFrom 0 ts → (q : StopsAt to_first_end ts f) → q.token.number ≡ at → Refused ts at
-refused_at ts f at w q same =
-    let counted : q.token.number ≡ 0 + length q.used = number_at 0 q.used q.token q.rest (subst (λ (us : List Lexeme). Numbered 0 us) q.front (whole_numbered 0 ts w)) in
-    let place : q.token.number ≡ length q.used = omega (arith, counted) in
-    let length-front : length (q.used ++ q.token ∷ []) ≡ at + 1 = omega (arith, place, same, length-append q.used (q.token ∷ [])) in
-    let parts : ts ≡ (q.used ++ q.token ∷ []) ++ q.rest = q.front ∙ sym (append_assoc q.used (q.token ∷ []) q.rest) in
-    let taken : take (at + 1) ts ≡ q.used ++ q.token ∷ [] = ap (take (at + 1)) parts ∙ take_at (q.used ++ q.token ∷ []) q.rest (at + 1) length-front in
-    record {
-      within = omega (arith, place, same, ap length q.front, length-append q.used (q.token ∷ q.rest));
-      refused = λ more tree t.
-          let whole : take (at + 1) ts ++ more ≡ q.used ++ q.token ∷ more = ap (λ (us : List Lexeme). us ++ more) taken ∙ append_assoc q.used (q.token ∷ []) more in
-          no_text ts f q more tree (subst (λ (us : List Lexeme). HasTree us tree) whole t);
-    }
+module _ {E : Type 0} (left : ℕ) (deep : n < left → E) where
+  refused_at : (ts : List Lexeme) (f : SyntaxFault) (at : ℕ) → (E → (at : ℕ) → f ≡ faults.TooDeep at → ⊥) → IsWholeFrom 0 ts → (q : StopsAt to_first_end ts f) → q.token.number ≡ at → Refused left ts at
+  refused_at ts f at other w q same =
+      let counted : q.token.number ≡ 0 + length q.used = number_at 0 q.used q.token q.rest (subst (λ (us : List Lexeme). Numbered 0 us) q.front (whole_numbered 0 ts w)) in
+      let place : q.token.number ≡ length q.used = omega (arith, counted) in
+      let length-front : length (q.used ++ q.token ∷ []) ≡ at + 1 = omega (arith, place, same, length-append q.used (q.token ∷ [])) in
+      let parts : ts ≡ (q.used ++ q.token ∷ []) ++ q.rest = q.front ∙ sym (append_assoc q.used (q.token ∷ []) q.rest) in
+      let taken : take (at + 1) ts ≡ q.used ++ q.token ∷ [] = ap (take (at + 1)) parts ∙ take_at (q.used ++ q.token ∷ []) q.rest (at + 1) length-front in
+      record {
+        within = omega (arith, place, same, ap length q.front, length-append q.used (q.token ∷ q.rest));
+        refused = λ more tree t.
+            let whole : take (at + 1) ts ++ more ≡ q.used ++ q.token ∷ more = ap (λ (us : List Lexeme). us ++ more) taken ∙ append_assoc q.used (q.token ∷ []) more in
+            let read = to_end_reaches (take (at + 1) ts ++ more) (tree, t.end ∷ []) (text_reaches left deep (take (at + 1) ts ++ more) tree t) in
+            refuted (take (at + 1) ts ++ more) f (tree, t.end ∷ []) other (ap to_first_end whole ∙ q.again more) read;
+      }
 
-stopped : (ts : List Lexeme) (f : SyntaxFault) → IsWholeFrom 0 ts → text_of ts ≡ Err f → StopsAt to_first_end ts f
+pub stopped : (ts : List Lexeme) (f : SyntaxFault) → IsWholeFrom 0 ts → text_of ts ≡ Err f → StopsAt to_first_end ts f
 stopped ts f w read = stops_at ts f (whole_ended 0 ts w) (stable_to_first_end.stops ts f (sym (text_same ts (whole_once 0 ts w)) ∙ read))
 
-pub unexpected_refused : (ts : List Lexeme) (at : ℕ) → IsWholeFrom 0 ts → text_of ts ≡ Err (faults.Unexpected at) → Refused ts at
-unexpected_refused ts at w read = let q = stopped ts (faults.Unexpected at) w read in refused_at ts (faults.Unexpected at) at w q (sym q.names)
+pub not_deep : (at k : ℕ) → ◌≡◌ {A = SyntaxFault} (faults.Unexpected at) (faults.TooDeep k) → ⊥
+not_deep at k e = cc
 
-pub deep_refused : (ts : List Lexeme) (at : ℕ) → IsWholeFrom 0 ts → text_of ts ≡ Err (faults.TooDeep at) → Refused ts at
-deep_refused ts at w read = let q = stopped ts (faults.TooDeep at) w read in refused_at ts (faults.TooDeep at) at w q (sym q.names)
+not_too_deep : (at k : ℕ) → ◌≡◌ {A = SyntaxFault} (faults.Parentheses at) (faults.TooDeep k) → ⊥
+not_too_deep at k e = cc
 
-pub parentheses_refused : (ts : List Lexeme) (at : ℕ) → IsWholeFrom 0 ts → text_of ts ≡ Err (faults.Parentheses at) → Refused ts at
-parentheses_refused ts at w read = let q = stopped ts (faults.Parentheses at) w read in refused_at ts (faults.Parentheses at) at w q (sym q.names)
+pub unexpected_refused : (ts : List Lexeme) (at : ℕ) → IsWholeFrom 0 ts → text_of ts ≡ Err (faults.Unexpected at) → (left : ℕ) → Refused left ts at
+unexpected_refused ts at w read left =
+    let q = stopped ts (faults.Unexpected at) w read in
+    refused_at {E = Unit {0}} left (λ less. tt) ts (faults.Unexpected at) at (λ deep k. not_deep at k) w q (sym q.names)
+
+pub deep_refused : (ts : List Lexeme) (at : ℕ) → IsWholeFrom 0 ts → text_of ts ≡ Err (faults.TooDeep at) → Refused n ts at
+deep_refused ts at w read =
+    let q = stopped ts (faults.TooDeep at) w read in
+    refused_at {E = ⊥} n (λ less. absurd (omega arith)) ts (faults.TooDeep at) at (λ deep k e. deep) w q (sym q.names)
+
+pub parentheses_refused : (ts : List Lexeme) (at : ℕ) → IsWholeFrom 0 ts → text_of ts ≡ Err (faults.Parentheses at) → (left : ℕ) → Refused left ts at
+parentheses_refused ts at w read left =
+    let q = stopped ts (faults.Parentheses at) w read in
+    refused_at {E = Unit {0}} left (λ less. tt) ts (faults.Parentheses at) at (λ deep k. not_too_deep at k) w q (sym q.names)
 
 pub never_unsupported : (ts : List Lexeme) (at : ℕ) → IsWholeFrom 0 ts → text_of ts ≡ Err (faults.Unsupported at) → ⊥
 never_unsupported ts at w read = (stopped ts (faults.Unsupported at) w read).names

@@ -26,7 +26,7 @@ stable_name_after : (all : List NameData) → Stable (name_after all)
 unfolding name_after place_of
 stable_name_after all = stable_after classes.Comma (record { checked = refl }) (name_behind all)
 
-uses_name_after : (all : List NameData) → Uses (name_after all)
+pub uses_name_after : (all : List NameData) → Uses (name_after all)
 unfolding name_after
 uses_name_after all = uses_then (uses_token classes.Comma) (name_behind all)
 
@@ -95,7 +95,7 @@ stable_definition_after : (all : List (NameData × Expression)) → Stable (defi
 unfolding definition_after
 stable_definition_after all = stable_then stable_definition (λ (d : NameData × Expression). stable_gives (all ++ d ∷ []))
 
-uses_definition_after : (all : List (NameData × Expression)) → Uses (definition_after all)
+pub uses_definition_after : (all : List (NameData × Expression)) → Uses (definition_after all)
 unfolding definition_after
 uses_definition_after all = uses_then uses_definition (λ (d : NameData × Expression). stable_gives (all ++ d ∷ []))
 
@@ -116,7 +116,7 @@ stable_parameter_after : (all : List (TypeData × NameData)) → Stable (paramet
 unfolding parameter_after place_of
 stable_parameter_after all = stable_after classes.Comma (record { checked = refl }) (parameter_behind all)
 
-uses_parameter_after : (all : List (TypeData × NameData)) → Uses (parameter_after all)
+pub uses_parameter_after : (all : List (TypeData × NameData)) → Uses (parameter_after all)
 unfolding parameter_after
 uses_parameter_after all = uses_then (uses_token classes.Comma) (parameter_behind all)
 
@@ -207,7 +207,7 @@ stable_pitem_after : (all : List PartData) → Stable (pitem_after all)
 unfolding pitem_after
 stable_pitem_after all = stable_then stable_pitem (λ (p : PartData). stable_gives (all ++ p ∷ []))
 
-uses_pitem_after : (all : List PartData) → Uses (pitem_after all)
+pub uses_pitem_after : (all : List PartData) → Uses (pitem_after all)
 unfolding pitem_after
 uses_pitem_after all = uses_then uses_pitem (λ (p : PartData). stable_gives (all ++ p ∷ []))
 
@@ -215,11 +215,11 @@ stable_mitem_after : (all : List PartData) → Stable (mitem_after all)
 unfolding mitem_after
 stable_mitem_after all = stable_then stable_mitem (λ (p : PartData). stable_gives (all ++ p ∷ []))
 
-uses_mitem_after : (all : List PartData) → Uses (mitem_after all)
+pub uses_mitem_after : (all : List PartData) → Uses (mitem_after all)
 unfolding mitem_after
 uses_mitem_after all = uses_then uses_mitem (λ (p : PartData). stable_gives (all ++ p ∷ []))
 
-braces_of_head : OfHead inside_braces
+pub braces_of_head : OfHead inside_braces
 unfolding inside_braces
 braces_of_head = not_of_head (starts_of_head classes.CloseBrace)
 

@@ -7,10 +7,10 @@ use Rattle.spectra_trees.specs.Lexemes.{Lexeme, name_of}
 use Rattle.spectra_exprs.specs.Read.{Read, Reader, ◌>>=◌, starts, expect, all_of}
 use Rattle.spectra_parser.specs.Items.{item_after, at_end, before_end, import_after, text_of}
 use Rattle.spectra_exprs.specs.Forms.{Gives, Token, ◌▸◌, Steps}
-use Rattle.spectra_parser.specs.ItemGrammar.{ItemAfter, TextIn}
+use Rattle.spectra_parser.specs.ItemGrammar.{ItemAfter, TextIn, Text}
 use Rattle.spectra_parser.proofs.SoundItems.{n}
 use Rattle.spectra_exprs.proofs.ClassSets.{going}
-use Rattle.spectra_exprs.proofs.Completeness.{whole_token, begins_token, begins_then}
+use Rattle.spectra_exprs.proofs.Completeness.{Reaches, reaches_then, whole_token, begins_token, begins_then}
 use Rattle.spectra_exprs.proofs.ClassSets.{going_apart}
 use Rattle.spectra_exprs.specs.Read.{grow}
 use Rattle.spectra_parser.specs.Texts.{HasTree}
@@ -24,29 +24,50 @@ none_going (t ∷ ts) = refl
 
 -- ---- a text is read
 
-module _ (end : Lexeme) (finish : same_class end.class classes.Finish ≡ true) where
-  behind_name : (imports : List NameData) (used : List Lexeme) (tree : TreeData) → (Token classes.Name ▸ λ m. Steps (ItemAfter n) [] ▸ λ items. Gives (record { header = name_of m; imports = imports; items = items })) used tree
-      → (expect classes.Name (used ++ end ∷ []) >>= λ m rest. all_of before_end item_after [] rest >>= λ items rest. Ok (record { header = name_of m; imports = imports; items = items }, rest)) ≡ Ok (tree, end ∷ [])
+-- the grammar may have more levels than are read
+module _ {E : Type 0} (left : ℕ) (deep : n < left → E) (end : Lexeme) (finish : same_class end.class classes.Finish ≡ true) where
+  abbrev items_of : List NameData → Lexeme → Reader TreeData
+  items_of imports m ts = all_of before_end item_after [] ts >>= λ items rest. Ok (record { header = name_of m; imports = imports; items = items }, rest)
+
+  abbrev name_of_text : List NameData → Lexeme → Reader TreeData
+  name_of_text imports h ts = expect classes.Name ts >>= items_of imports
+
+  behind_name : (imports : List NameData) (used : List Lexeme) (tree : TreeData) → (Token classes.Name ▸ λ m. Steps (ItemAfter left) [] ▸ λ items. Gives (record { header = name_of m; imports = imports; items = items })) used tree
+      → Reaches E (expect classes.Name (used ++ end ∷ []) >>= items_of imports) (tree, end ∷ [])
   behind_name imports used tree t =
       let read = (whole_token [] classes.Name).reads t.front t.value (t.back ++ end ∷ []) t.before (none_going (t.back ++ end ∷ [])) in
-      rw (t.parts, append_assoc t.front t.back (end ∷ []), read) (tail_read end finish imports t.value t.back tree t.after)
+      rw (t.parts, append_assoc t.front t.back (end ∷ []))
+      (reaches_then (expect classes.Name (t.front ++ (t.back ++ end ∷ []))) (items_of imports) t.value (t.back ++ end ∷ []) (tree, end ∷ []) read (tail_read left deep end finish imports t.value t.back tree t.after))
 
-  behind_head : (imports : List NameData) (used : List Lexeme) (tree : TreeData) → (Token classes.Head ▸ λ h. Token classes.Name ▸ λ m. Steps (ItemAfter n) [] ▸ λ items. Gives (record { header = name_of m; imports = imports; items = items })) used tree
-      → (expect classes.Head (used ++ end ∷ []) >>= λ h rest. expect classes.Name rest >>= λ m rest. all_of before_end item_after [] rest >>= λ items rest. Ok (record { header = name_of m; imports = imports; items = items }, rest)) ≡ Ok (tree, end ∷ [])
+  behind_head : (imports : List NameData) (used : List Lexeme) (tree : TreeData) → (Token classes.Head ▸ λ h. Token classes.Name ▸ λ m. Steps (ItemAfter left) [] ▸ λ items. Gives (record { header = name_of m; imports = imports; items = items })) used tree
+      → Reaches E (expect classes.Head (used ++ end ∷ []) >>= name_of_text imports) (tree, end ∷ [])
   behind_head imports used tree t =
       let read = (whole_token [] classes.Head).reads t.front t.value (t.back ++ end ∷ []) t.before (none_going (t.back ++ end ∷ [])) in
-      rw (t.parts, append_assoc t.front t.back (end ∷ []), read) (behind_name imports t.back tree t.after)
+      rw (t.parts, append_assoc t.front t.back (end ∷ []))
+      (reaches_then (expect classes.Head (t.front ++ (t.back ++ end ∷ []))) (name_of_text imports) t.value (t.back ++ end ∷ []) (tree, end ∷ []) read (behind_name imports t.back tree t.after))
 
-  text_used : (used : List Lexeme) (tree : TreeData) → TextIn n used tree → text_of (used ++ end ∷ []) ≡ Ok (tree, end ∷ [])
+  text_used : (used : List Lexeme) (tree : TreeData) → TextIn left used tree → Reaches E (text_of (used ++ end ∷ [])) (tree, end ∷ [])
   unfolding text_of place_of
   text_used used tree t =
       let front : going (classes.Head ∷ []) (t.back ++ end ∷ []) ≡ true = (begins_then (begins_token classes.Head)).first t.back tree (end ∷ []) t.after in
       let quiet : going c_imports (t.back ++ end ∷ []) ≡ false = going_apart (classes.Head ∷ []) c_imports (record { checked = refl }) (t.back ++ end ∷ []) front in
       let read = whole_imports.reads t.front t.value (t.back ++ end ∷ []) t.before quiet in
-      rw (t.parts, append_assoc t.front t.back (end ∷ []), read) (behind_head t.value t.back tree t.after)
+      rw (t.parts, append_assoc t.front t.back (end ∷ []))
+      (reaches_then (all_of (starts classes.Import) import_after [] (t.front ++ (t.back ++ end ∷ []))) (λ imports rest. expect classes.Head rest >>= name_of_text imports) t.value (t.back ++ end ∷ []) (tree, end ∷ []) read (behind_head t.value t.back tree t.after))
+
+-- a text of any number of levels is read, or opens a level too many
+pub text_reaches : {E : Type 0} (left : ℕ) → (n < left → E) → (ts : List Lexeme) (tree : TreeData) (t : Text left ts tree) → Reaches E (text_of ts) (tree, t.end ∷ [])
+text_reaches left deep ts tree t = rw t.whole (text_used left deep t.end t.finish t.used tree t.derives)
+
+never : n < n → ⊥
+never less = absurd (omega arith)
+
+all_read : (r : Read TreeData) (x : TreeData × List Lexeme) → Reaches ⊥ r x → r ≡ Ok x
+all_read r x (Reaches.read e) = e
+all_read r x (Reaches.opens deep at e) = absurd deep
 
 pub text_read : (ts : List Lexeme) (tree : TreeData) (t : HasTree ts tree) → text_of ts ≡ Ok (tree, t.end ∷ [])
-text_read ts tree t = rw t.whole (text_used t.end t.finish t.used tree t.derives)
+text_read ts tree t = all_read (text_of ts) (tree, t.end ∷ []) (text_reaches n never ts tree t)
 
 value_of : {A : Type 0} (a b : A) (r s : List Lexeme) → ◌≡◌ {A = Read A} (Ok (a, r)) (Ok (b, s)) → (b ≡ a) × (s ≡ r)
 value_of {A = A} a b r s e =
@@ -65,7 +86,7 @@ module _ (k : ℕ) (further : (a : List ItemData) (ts : List Lexeme) (b : List I
   one_more : (r : Read (List ItemData)) (a : List ItemData) (ts : List Lexeme) (b : List ItemData) (rest : List Lexeme) → length ts < suc k → item_after a ts ≡ r → (r >>= λ b rest. grow before_end item_after k b rest) ≡ Ok (b, rest) → before_end rest ≡ false
   one_more (Ok x) a ts b rest lt read e =
       let g = (sound_item_after a).got ts x.0 x.1 read in
-      let some = some_tokens b_item g.used ((begins_then begins_item).first g.used x.0 [] g.derives) in
+      let some = some_tokens b_item g.used ((begins_then (begins_item n never)).first g.used x.0 [] g.derives) in
       let less = shorter ts g.used x.1 g.front some in
       further x.0 x.1 b rest (omega arith) e
   one_more (Err f) a ts b rest lt read e = absurd (cc)

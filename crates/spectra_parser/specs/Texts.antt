@@ -35,22 +35,22 @@ pub record BeginText (left : ℕ) (ts : List Lexeme) : Type 0 where
   pub tree : TreeData
   pub grammar : Text left (ts ++ more) tree
 
--- tokens that begin no text with at most 128 levels, whatever tokens stand behind them
-abbrev pub BeginNoText : List Lexeme → Type 0
-BeginNoText ts = (more : List Lexeme) → (tree : TreeData) → HasTree (ts ++ more) tree → ⊥
+-- tokens that begin no text with at most so many levels, whatever tokens stand behind them
+abbrev pub BeginNoText : ℕ → List Lexeme → Type 0
+BeginNoText left ts = (more : List Lexeme) → (tree : TreeData) → Text left (ts ++ more) tree → ⊥
 
--- a token of the list, by its number: up to it, and including it, the tokens begin no text with at most 128 levels, and
+-- a token of the list, by its number: up to it, and including it, the tokens begin no text, with no number of levels, and
 -- those before it begin a text, with some number of levels
 pub record IsRefused (ts : List Lexeme) (at : ℕ) : Type 0 where
   pub within : at < length ts
-  pub refused : BeginNoText (take (at + 1) ts)
+  pub refused : (left : ℕ) → BeginNoText left (take (at + 1) ts)
   pub begun : (left : ℕ) × BeginText left (take at ts)
 
 -- a token of the list, by its number: the tokens before it begin a text, and up to it, and including it, they do, but none
 -- with at most 128 levels
 pub record IsTooDeep (ts : List Lexeme) (at : ℕ) : Type 0 where
   pub within : at < length ts
-  pub refused : BeginNoText (take (at + 1) ts)
+  pub refused : BeginNoText levels_of_a_text (take (at + 1) ts)
   pub begun : (left : ℕ) × BeginText left (take at ts)
   pub deeper : (left : ℕ) × BeginText left (take (at + 1) ts)
 
@@ -69,9 +69,10 @@ pub record IsBehindPhrase (ts : List Lexeme) (at : ℕ) : Type 0 where
   pub whole : ArePhrase sort left phrase
   pub any : (other : List Lexeme) → ArePhrase sort left other → (levels : ℕ) × BeginText levels (front ++ other)
 
--- what a fault says of the tokens; of want of memory nothing is said
+-- what a fault says of the tokens: a refused token is Parentheses where it is an operator behind a whole phrase, and else
+-- Unexpected; of want of memory nothing is said
 abbrev pub Explains : List Lexeme → SyntaxFault → Type 0
-Explains ts (faults.Unexpected at) = IsRefused ts at
+Explains ts (faults.Unexpected at) = IsRefused ts at × (IsBehindPhrase ts at → ⊥)
 Explains ts (faults.TooDeep at) = IsTooDeep ts at
 Explains ts (faults.Parentheses at) = IsRefused ts at × IsBehindPhrase ts at
 Explains ts (faults.Unsupported at) = ((tree : TreeData) × HasTree ts tree) × (first_unbuilt ts ≡ Some at)

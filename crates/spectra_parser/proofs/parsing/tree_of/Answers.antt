@@ -13,18 +13,20 @@ use Rattle.spectra_parser.specs.Texts.{HasTree, IsWholeFrom, BeginText, IsRefuse
 use Rattle.spectra_parser.proofs.WholeText.{text_got}
 use Rattle.spectra_parser.proofs.Places.{Refused, unexpected_refused, deep_refused, parentheses_refused, never_unsupported}
 use Rattle.spectra_parser.proofs.OpeningItems.{wide}
+use Rattle.spectra_parser.proofs.SoundItems.{n}
 use Rattle.spectra_parser.proofs.Beginnings.{unexpected_begun, deep_begun, deeper_begun, parentheses_begun, behind_phrase}
+use Rattle.spectra_parser.proofs.NoPhrase.{no_phrase_behind}
 use Rattle.spectra_parser.proofs.parsing.tree_of.Goals as goal
 
 -- a token at which reading stops is refused, and what stands before it begins a text
-is_refused : (ts : List Lexeme) (at : ℕ) → Refused ts at → BeginText wide (take at ts) → IsRefused ts at
-is_refused ts at r b = record { within = r.within; refused = r.refused; begun = (wide, b) }
+is_refused : (ts : List Lexeme) (at : ℕ) → ((left : ℕ) → Refused left ts at) → BeginText wide (take at ts) → IsRefused ts at
+is_refused ts at r b = record { within = (r 0).within; refused = λ left. (r left).refused; begun = (wide, b) }
 
-is_too_deep : (ts : List Lexeme) (at : ℕ) → Refused ts at → BeginText wide (take at ts) → BeginText wide (take (at + 1) ts) → IsTooDeep ts at
+is_too_deep : (ts : List Lexeme) (at : ℕ) → Refused n ts at → BeginText wide (take at ts) → BeginText wide (take (at + 1) ts) → IsTooDeep ts at
 is_too_deep ts at r b d = record { within = r.within; refused = r.refused; begun = (wide, b); deeper = (wide, d) }
 
 explained : (ts : List Lexeme) (f : SyntaxFault) → IsWholeFrom 0 ts → Fails f (text_of ts) → Explains ts (refusal f)
-explained ts (faults.Unexpected at) w h = is_refused ts at (unexpected_refused ts at w h) (unexpected_begun ts at w h)
+explained ts (faults.Unexpected at) w h = (is_refused ts at (unexpected_refused ts at w h) (unexpected_begun ts at w h), no_phrase_behind ts at w h)
 explained ts (faults.TooDeep at) w h = is_too_deep ts at (deep_refused ts at w h) (deep_begun ts at w h) (deeper_begun ts at w h)
 explained ts (faults.Parentheses at) w h = (is_refused ts at (parentheses_refused ts at w h) (parentheses_begun ts at w h), behind_phrase ts at h)
 explained ts (faults.Unsupported at) w h = absurd (never_unsupported ts at w h)
