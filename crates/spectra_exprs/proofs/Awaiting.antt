@@ -252,15 +252,6 @@ module _ {B : Type 0} (class : Class) (apart : Apart (class ∷ []) operand_ends
 
 -- ---- one of two
 
-pub awaits_narrow : {A : Type 0} {test : List Lexeme → Bool} {b : Bool} {R : Reader A} → Awaits anywhere b R → Awaits test b R
-awaits_narrow r = record { goes = r.goes; stops = λ ts at on e. r.stops ts at refl e }
-
-pub awaits_free : {A : Type 0} {test : List Lexeme → Bool} {b : Bool} {R : Reader A} → Awaits test false R → Awaits test b R
-awaits_free {b = b} r = record {
-  goes = r.goes;
-  stops = λ ts at on e. let q = r.stops ts at on e in record { used = q.used; rest = q.rest; front = q.front; place = q.place; operand = λ o. awaits_anywhere b q.used (q.operand o) };
-}
-
 pub awaits_same : {A : Type 0} {test : List Lexeme → Bool} {b : Bool} {R S : Reader A} → ((ts : List Lexeme) → R ts ≡ S ts) → Awaits test b S → Awaits test b R
 awaits_same same s = record { goes = λ ts a rest e. s.goes ts a rest (sym (same ts) ∙ e); stops = λ ts at on e. s.stops ts at on (sym (same ts) ∙ e) }
 

@@ -139,9 +139,6 @@ pub number_apart : (k m : ℕ) → (k ≡ m → ⊥) → faults.Unexpected k ≡
 number_apart k m other e = other (cc)
 
 module _ (p : Pair) where
-  word_in : (F : List Class) → Within (classes.True ∷ []) F → among F (place_of p.word.class) ≡ true
-  word_in F within = within_one (classes.True ∷ []) F within p.word (same_going classes.True p.word [] p.says)
-
   pub word_off : (class : Class) → Apart (classes.True ∷ []) (class ∷ []) → same_class p.word.class class ≡ false
   word_off class apart = off_class (classes.True ∷ []) class apart p.word (same_going classes.True p.word [] p.says)
 
