@@ -10,21 +10,20 @@ use Rattle.spectra_exprs.specs.Forms.{Gives, Token, ◌▸◌, Steps}
 use Rattle.spectra_exprs.specs.Grammar.{Deeper, Prim, Prod, Sum, Cmp, Conj, Disj, ExprOf, Levels}
 use Rattle.spectra_exprs.specs.Phrases.{Phrase, ArePhrase}
 use Rattle.spectra_exprs.proofs.ClassSets.{among, going}
-use Rattle.spectra_exprs.proofs.Completeness.{Reaches, Begins, begins_wider}
+use Rattle.spectra_exprs.proofs.Completeness.{Reaches}
 use Rattle.spectra_exprs.proofs.WholeExpressions.{b_expr}
-use Rattle.spectra_exprs.proofs.WholeLevels.{whole_inside, begins_expr, begins_sum}
 use Rattle.spectra_exprs.proofs.Stopping.{err_is, err_no_ok}
 use Rattle.spectra_exprs.proofs.Awaiting.{awaits}
 use Rattle.spectra_exprs.proofs.Shapes.{depth}
 use Rattle.spectra_exprs.proofs.ShapesOfExpressions.{formed_expr, formed_sum, formed_inside}
 use Rattle.spectra_exprs.proofs.Examples.{a_True}
-use Rattle.spectra_exprs.proofs.Comparing.{Fresh, Pair, said, instead, Compared}
-use Rattle.spectra_exprs.specs.Expressions.{inside}
+use Rattle.spectra_exprs.proofs.Comparing.{Fresh, fresh_behind, Pair, said, instead, Compared}
 use Rattle.spectra_parser.specs.Items.{text_of}
 use Rattle.spectra_parser.specs.Texts.{IsWholeFrom, IsBehindPhrase}
 use Rattle.spectra_parser.proofs.WholeText.{text_reaches}
 use Rattle.spectra_parser.proofs.StoppingTexts.{to_first_end}
 use Rattle.spectra_parser.proofs.Places.{Numbered, whole_numbered, number_at, stopped, to_end_reaches, refuted, not_deep}
+use Rattle.spectra_parser.proofs.OpeningDeclarations.{phrase_starts}
 use Rattle.spectra_parser.proofs.ComparingTexts.{tells_text}
 
 -- ---- the word `true` is a phrase
@@ -60,13 +59,6 @@ true_phrase Phrase.Bound left = ((leaf a_True.token Form.True, true), true_sum (
 
 -- ---- what is known of a phrase
 
-phrase_begins : (sort : Phrase) (left : ℕ) (phrase rest : List Lexeme) → ArePhrase sort left phrase → going b_expr (phrase ++ rest) ≡ true
-unfolding place_of
-phrase_begins Phrase.Whole left phrase rest p = (begins_expr (Levels left) (inside left) (whole_inside {E = Unit {0}} left left (λ less. tt))).first phrase p.0 rest p.1
-phrase_begins Phrase.Bound left phrase rest p =
-    let b : Begins b_expr (Sum (Levels left)) = begins_wider (record { checked = refl }) (begins_sum (Levels left) (inside left) (whole_inside {E = Unit {0}} left left (λ less. tt))) in
-    b.first phrase p.0 rest p.1
-
 phrase_flat : (sort : Phrase) (left : ℕ) (phrase : List Lexeme) → ArePhrase sort left phrase → depth 0 phrase ≡ Some 0
 phrase_flat Phrase.Whole left phrase p = (formed_expr (Levels left) (formed_inside left)).level 0 phrase p.0 p.1
 phrase_flat Phrase.Bound left phrase p = (formed_sum (Levels left) (formed_inside left)).level 0 phrase p.0 p.1
@@ -98,10 +90,6 @@ less_fresh k (x ∷ u) t rest h =
 fresh_front : (t : Lexeme) (u v : List Lexeme) → Fresh t (u ++ v) → Fresh t u
 fresh_front t [] v h = tt
 fresh_front t (x ∷ u) v h = (h.0, fresh_front t u v h.1)
-
-fresh_back : (t : Lexeme) (u v : List Lexeme) → Fresh t (u ++ v) → Fresh t v
-fresh_back t [] v h = h
-fresh_back t (x ∷ u) v h = fresh_back t u v h.1
 
 same_front : (u v w z : List Lexeme) (x y : Lexeme) → u ++ x ∷ v ≡ w ++ y ∷ z → length u ≡ length w → (u ≡ w) × (x ≡ y)
 same_front [] v [] z x y e size = (refl, cc)
@@ -135,7 +123,7 @@ no_phrase_behind ts at w read b =
     let number = b.number in
     let size : length q.used ≡ length (b.front ++ b.phrase) = omega (arith, here, there, names, number) in
     let same = same_front q.used q.rest (b.front ++ b.phrase) b.rest q.token b.operator (sym q.front ∙ parts) size in
-    let first = first_of_phrase b.phrase (phrase_begins b.sort b.left b.phrase [] b.whole) in
+    let first = first_of_phrase b.phrase (phrase_starts b.sort b.left b.phrase [] b.whole) in
     let some : 0 < length b.phrase = subst (λ (us : List Lexeme). 0 < length us) (sym first.parts) (omega arith) in
     let fresh = less_fresh 0 (b.front ++ b.phrase) b.operator b.rest numbered in
     let begun = b.any (a_True.token ∷ []) (true_phrase b.sort b.left) in
@@ -153,7 +141,7 @@ no_phrase_behind ts at w read b =
       ends = phrase_ends b.sort b.left b.phrase b.whole;
       is = b.is;
       some = λ none. absurd (omega (arith, here, none, some, long));
-      fresh = fresh_back b.operator b.front b.phrase fresh;
+      fresh = fresh_behind b.operator b.front b.phrase fresh;
       says = a_True.is;
     } in
     let stops : to_first_end (b.front ++ said p) ≡ Err (faults.Unexpected p.operator.number) =

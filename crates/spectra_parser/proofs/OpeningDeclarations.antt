@@ -192,7 +192,7 @@ monitored ts (u ∷ used) rest front on b =
     record { more = b.more; spelled = b.spelled; value = b.value; derives = record { token = u; more = used ++ b.more; first = refl; word = mitem_word ts (u ∷ used) rest u used front refl on; part = b.derives } }
 
 -- no phrase begins as a line does
-phrase_starts : (sort : Phrase) (left : ℕ) (phrase rest : List Lexeme) → ArePhrase sort left phrase → going b_expr (phrase ++ rest) ≡ true
+pub phrase_starts : (sort : Phrase) (left : ℕ) (phrase rest : List Lexeme) → ArePhrase sort left phrase → going b_expr (phrase ++ rest) ≡ true
 unfolding place_of
 phrase_starts Phrase.Whole left phrase rest p = (begins_expr (Levels left) (inside left) (whole_inside {E = Unit {0}} left left (λ less. tt))).first phrase p.0 rest p.1
 phrase_starts Phrase.Bound left phrase rest p =
