@@ -1,0 +1,9 @@
+pub mod Naming
+pub mod Mapped
+pub mod Digits
+pub mod Declared
+pub mod Counting
+pub mod Walking
+pub mod Reaching
+pub mod Clearing
+pub mod Placed

@@ -1,0 +1,15 @@
+pub mod Findings
+pub mod Tables
+pub mod Walks
+pub mod Spaces
+pub mod Declarations
+pub mod ScopeViews
+pub mod Declaring
+pub mod Seeing
+pub mod Passes
+pub mod Todos
+pub mod Cycles
+pub mod Searching
+pub mod Numbers
+pub mod Orders
+pub mod Placing

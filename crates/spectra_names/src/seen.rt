@@ -1,0 +1,57 @@
+//! Names that stand twice where each may stand once.
+
+ghost use Rattle.std.specs.Prelude.{◌≡◌, ◌||◌, [], ◌∷◌, List, ℕ, Bool, false, map, option_to_list, OnOk, bytes_eq};
+ghost use Rattle.spectra_trees.specs.Data.{NameData};
+ghost use Rattle.spectra_trees.specs.Views.{name_data, type_data, item_data};
+ghost use Rattle.spectra_names.specs.Findings.{found_in, fault_if, place_of as place_of_lem, with_faults};
+ghost use Rattle.spectra_names.specs.Declarations.{line_name, twice, twice_after};
+ghost use Rattle.spectra_names.specs.Seeing.{is_seen};
+
+use crate::declaring::place_of;
+use crate::findings::Findings;
+use crate::table::Table;
+use spectra_trees::tree::Name;
+use std::alloc::{AllocError, Global};
+
+/// The names that stand in a list so far.
+#[derive(Drop)]
+pub struct Seen<'a> {
+    names: Table<'a, ()>,
+}
+
+impl<'a> Seen<'a> {
+    /// No names.
+    pub fn new(alloc: Global) -> Seen<'a>
+        ensures { is_seen result ≡ (λ text. false) }
+    {
+        Seen {
+            names: Table::new(alloc),
+        }
+    }
+
+    /// One more name, which is a fault where it was there.
+    pub fn see(&mut self, findings: &mut Findings, name: &'a Name) -> Result<(), AllocError>
+        ensures { OnOk result ((rest : List NameData) → with_faults (found_in findings.old) (twice_after (is_seen self.old) (name_data name.now ∷ rest))
+            ≡ with_faults (found_in findings.new) (twice_after (is_seen self.new) rest)) }
+    {
+        if self.names.get(name.text.as_str()).is_some() {
+            findings.report(8, place_of(name));
+        }
+        self.names.declare(name.text.as_str(), ())
+    }
+}
+
+/// Reports each name that stands in a list before it.
+pub fn report_twice(
+    alloc: Global,
+    findings: &mut Findings,
+    names: &[Name],
+) -> Result<(), AllocError>
+    ensures { OnOk result (found_in findings.new ≡ with_faults (found_in findings.old) (twice (map name_data names.now))) }
+{
+    let mut seen = Seen::new(alloc);
+    for name in names {
+        seen.see(findings, name)?;
+    }
+    Ok(())
+}
