@@ -1,0 +1,5 @@
+pub mod Texts
+pub mod Spans
+pub mod Depths
+pub mod Locality
+pub mod Enums
