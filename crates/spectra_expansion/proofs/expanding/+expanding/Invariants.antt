@@ -1,0 +1,33 @@
+use Rattle.std.proofs.Common.{◌≡◌, ◌+◌, ◌*◌, ◌++◌, map, drop}
+use denote.Param.Weighed.{most}
+use Rattle.spec_model.specs.Views.{formula}
+use Rattle.spec_model.specs.Syntax.{listed}
+use Rattle.spectra_trees.specs.declared.tree.ExprTree.{size-ExprTree}
+use Rattle.spectra_trees.specs.Data.{expressions}
+use Rattle.spectra_trees.specs.Views.{expr_data}
+use Rattle.spectra_expansion.specs.Within.{formulas_within}
+use Rattle.spectra_expansion.proofs.Depths.{depth_of_body, depth_below}
+use Rattle.spectra_expansion.proofs.expanding.+expanding.Given as goal
+
+abbrev pub decreases-formula_in : goal.decreases-formula_in
+decreases-formula_in l = 8 * (depth_below l.within.now l.within.now.deep + size-ExprTree l.e.now)
+
+abbrev pub decreases-formulas_in : goal.decreases-formulas_in
+decreases-formulas_in l = 8 * (depth_below l.within.now l.within.now.deep + most (λ e. size-ExprTree e) l.es.now) + 1
+
+abbrev pub decreases-call : goal.decreases-call
+decreases-call l = 8 * (depth_below l.within.now l.within.now.deep + most (λ e. size-ExprTree e) l.es.now) + 2
+
+abbrev pub decreases-read : goal.decreases-read
+decreases-read l = 8 * depth_below l.within.now l.within.now.deep + 2
+
+abbrev pub decreases-put : goal.decreases-put
+decreases-put l = 8 * depth_below l.within.now l.within.now.deep + 1
+
+abbrev pub decreases-body : goal.decreases-body
+decreases-body l = 8 * (depth_below l.within.now l.deep + depth_of_body l.definition.now) + 1
+
+-- those so far and those of what is left are all
+abbrev pub invariant-formulas_in-loop-e : goal.invariant-formulas_in-loop-e
+invariant-formulas_in-loop-e l =
+    map formula l.made.items ++ listed (formulas_within l.within (expressions (map expr_data (drop l.e-index l.es)))) ≡ listed (formulas_within l.within (expressions (map expr_data l.es)))

@@ -1,0 +1,9 @@
+pub mod Sizes
+pub mod Expansion
+pub mod Needs
+pub mod Within
+pub mod Measuring
+pub mod Counting
+pub mod Walking
+pub mod Telling
+pub mod Filling

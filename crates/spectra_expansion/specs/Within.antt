@@ -1,0 +1,35 @@
+-- What the program makes formulas by.
+use Rattle.std.specs.Prelude.{ℕ, List, map}
+use Rattle.spec_model.specs.Syntax.{Formula, Formulas}
+use Rattle.spec_model.specs.Views.{formula}
+use Rattle.spectra_trees.specs.Data.{Expression, Expressions}
+use Rattle.spectra_names.specs.Spaces.{Scope, Named, named}
+use Rattle.spectra_names.specs.ScopeViews.{places_in, scope_data}
+use Rattle.spectra_expansion.specs.declared.expanding.Within.{Within}
+use Rattle.spectra_expansion.specs.Expansion.{formula_in, formulas_in, expanded}
+use Rattle.spectra_expansion.specs.Needs.{HasRoom, MarksCycles}
+
+abbrev pub scope_within : Within → Scope
+scope_within w = scope_data w.scope.now
+
+-- what a definition stands for there
+abbrev pub put_within : Within → ℕ → List Formula → Formula
+put_within w = expanded w.deep (scope_within w)
+
+abbrev pub arguments_within : Within → List Formula
+arguments_within w = map formula w.arguments.now
+
+abbrev pub named_within : Within → List ℕ → Named
+named_within w = named (scope_within w) (places_in w.parameters.now)
+
+-- the formula of an expression there
+abbrev pub formula_within : Within → Expression → Formula
+formula_within w = formula_in (put_within w) (scope_within w) (places_in w.parameters.now) (arguments_within w)
+
+abbrev pub formulas_within : Within → Expressions → Formulas
+formulas_within w = formulas_in (put_within w) (scope_within w) (places_in w.parameters.now) (arguments_within w)
+
+-- the scope and the marks are as formulas need them
+pub record IsReady (w : Within) : Type 0 where
+  pub room : HasRoom (scope_within w)
+  pub marks : MarksCycles (scope_within w) w.on_cycle.now

@@ -1,0 +1,209 @@
+//! The formula that an expression means, with defines and predicates put in.
+
+ghost use Rattle.std.specs.Prelude.{◌≡◌, if◌then◌else◌, map, unwrap_or, slice_get, false, None, Some, IfOk};
+ghost use Rattle.spec_model.specs.Syntax.{listed, formulas};
+ghost use Rattle.spec_model.specs.Views.{formula};
+ghost use Rattle.spectra_trees.specs.Data.{expressions};
+ghost use Rattle.spectra_trees.specs.Views.{name_data, expr_data};
+ghost use Rattle.spectra_names.specs.Cycles.{is_on_cycle};
+ghost use Rattle.spectra_names.specs.ScopeViews.{definition_data, places_in, scope_data};
+ghost use Rattle.spectra_expansion.specs.Expansion.{read_formula, call_formula, body_formula, expanded, formula_of as formula_of_lem};
+ghost use Rattle.spectra_expansion.specs.Needs.{HasRoom, MarksCycles};
+ghost use Rattle.spectra_expansion.specs.Within.{scope_within, put_within, arguments_within, named_within, formula_within, formulas_within, IsReady};
+
+use crate::parts::{argument, binary, conjunction, disjunction, enum_name, no_meaning, prefix};
+use spec_model::expr::Expr;
+use spec_model::value::Value;
+use spectra_names::building::parameters_of;
+use spectra_names::numbers::{number_of, signed};
+use spectra_names::scope::{Definition, Named, Parameters, Scope};
+use spectra_trees::tree::{ExprForm, ExprTree, Name};
+use std::alloc::{AllocError, Global};
+
+// What an expression is made a formula by: the scope, a mark for each definition on a cycle, and how deep definitions are
+// put in.
+#[derive(Clone, Copy)]
+struct Within<'a> {
+    alloc: Global,
+    scope: &'a Scope<'a>,
+    on_cycle: &'a [bool],
+    deep: usize,
+    parameters: &'a Parameters<'a>,
+    arguments: &'a [Expr],
+}
+
+// The formula of an expression, where parameters stand for arguments.
+#[cycle(expanding)]
+fn formula_in(within: &Within<'_>, e: &ExprTree) -> Result<Expr, AllocError>
+    requires { IsReady within.now }
+    ensures { IfOk result (λ made. formula made ≡ formula_within within.now (expr_data e.now)) }
+{
+    match &e.form {
+        ExprForm::True => Ok(Expr::Const(Value::Bool(true))),
+        ExprForm::False => Ok(Expr::Const(Value::Bool(false))),
+        ExprForm::Number(negative, digits) => Ok(Expr::Const(Value::Int(signed(
+            *negative,
+            digits.as_str(),
+        )))),
+        ExprForm::Read(name) => read(within, name),
+        ExprForm::Call(name, es) => call(within, name, es),
+        ExprForm::Next(a) => Ok(Expr::Next(Box::new(within.alloc, formula_in(within, a)?)?)),
+        ExprForm::Prefix(word, a) => prefix(within.alloc, *word, formula_in(within, a)?),
+        ExprForm::Binary(word, a, b) => {
+            let left = formula_in(within, a)?;
+            let right = formula_in(within, b)?;
+            binary(within.alloc, *word, left, right)
+        }
+        ExprForm::Mod(a, _, digits) => Ok(Expr::Mod(
+            Box::new(within.alloc, formula_in(within, a)?)?,
+            number_of(digits.as_str()) as i64,
+        )),
+        ExprForm::And(es, _) => Ok(conjunction(formulas_in(within, es)?)),
+        ExprForm::Or(es, _) => Ok(disjunction(formulas_in(within, es)?)),
+    }
+}
+
+// The formulas of expressions.
+#[cycle(expanding)]
+fn formulas_in(within: &Within<'_>, es: &[ExprTree]) -> Result<Vec<Expr>, AllocError>
+    requires { IsReady within.now }
+    ensures { IfOk result (λ made. formulas (map formula made.items) ≡ formulas_within within.now (expressions (map expr_data es.now))) }
+{
+    let mut made = Vec::new(within.alloc);
+    for e in es {
+        made.push(formula_in(within, e)?)?;
+    }
+    Ok(made)
+}
+
+// The formula of a name read alone.
+#[cycle(expanding)]
+fn read(within: &Within<'_>, name: &Name) -> Result<Expr, AllocError>
+    requires { IsReady within.now }
+    ensures { IfOk result (λ made. formula made ≡ read_formula (put_within within.now) (scope_within within.now) (arguments_within within.now) (name_data name.now).text (named_within within.now (name_data name.now).text)) }
+{
+    match within.scope.named(within.parameters, name.text.as_str()) {
+        Named::Unknown => Ok(no_meaning()),
+        Named::Parameter(place) => argument(within.alloc, within.arguments, place),
+        Named::Variable(number) => Ok(Expr::Var(number as u32)),
+        Named::EnumName => Ok(enum_name(within.scope, name.text.as_str())),
+        Named::Define(number) => put(within, number, &[]),
+        Named::Predicate(_) => Ok(no_meaning()),
+    }
+}
+
+// The formula of a predicate's use.
+#[cycle(expanding)]
+fn call(within: &Within<'_>, name: &Name, es: &[ExprTree]) -> Result<Expr, AllocError>
+    requires { IsReady within.now }
+    ensures { IfOk result (λ made. formula made ≡ call_formula (put_within within.now) (named_within within.now (name_data name.now).text) (listed (formulas_within within.now (expressions (map expr_data es.now))))) }
+{
+    match within.scope.named(within.parameters, name.text.as_str()) {
+        Named::Predicate(number) => {
+            let own = formulas_in(within, es)?;
+            put(within, number, &own)
+        }
+        Named::Unknown => Ok(no_meaning()),
+        Named::Parameter(_) => Ok(no_meaning()),
+        Named::Variable(_) => Ok(no_meaning()),
+        Named::EnumName => Ok(no_meaning()),
+        Named::Define(_) => Ok(no_meaning()),
+    }
+}
+
+// Whether a definition is marked.
+pub fn is_marked(marks: &[bool], number: usize) -> bool
+    ensures { result ≡ unwrap_or (slice_get marks.now number) false }
+{
+    match marks.get(number) {
+        Some(mark) => *mark,
+        None => false,
+    }
+}
+
+#[tactic(auto, using(crate::proofs::Formulas::put_unmarked))]
+// The definition of a number, if it isn't used in its own body.
+fn definition_in<'a>(within: &Within<'a>, number: usize) -> Option<Definition<'a>>
+    requires { MarksCycles (scope_within within.now) within.now.on_cycle.now }
+    ensures { result ≡ (if is_on_cycle (scope_within within.now) number then None else slice_get within.now.scope.now.definitions.items number) }
+{
+    if is_marked(within.on_cycle, number) {
+        None
+    } else {
+        within.scope.definitions.get(number).copied()
+    }
+}
+
+// A definition's formula with its arguments.
+#[cycle(expanding)]
+fn put(within: &Within<'_>, number: usize, arguments: &[Expr]) -> Result<Expr, AllocError>
+    requires { IsReady within.now }
+    ensures { IfOk result (λ made. formula made ≡ put_within within.now number (map formula arguments.now)) }
+{
+    if within.deep == 0 {
+        return Ok(no_meaning());
+    }
+    match definition_in(within, number) {
+        Some(definition) => body(within, within.deep - 1, &definition, arguments),
+        None => Ok(no_meaning()),
+    }
+}
+
+// The body of a definition with these arguments, where others are put in so deep.
+#[cycle(expanding)]
+fn body(
+    within: &Within<'_>,
+    deep: usize,
+    definition: &Definition<'_>,
+    arguments: &[Expr],
+) -> Result<Expr, AllocError>
+    requires { IsReady within.now }
+    ensures { IfOk result (λ made. formula made ≡ body_formula (expanded deep (scope_within within.now)) (scope_within within.now) (map formula arguments.now) (Some (definition_data definition.now))) }
+{
+    match definition {
+        Definition::Type(_, _) => Ok(no_meaning()),
+        Definition::Define(_, e) => {
+            let none = Parameters::none(within.alloc);
+            let inside = Within {
+                deep,
+                parameters: &none,
+                arguments: &[],
+                ..*within
+            };
+            formula_in(&inside, e)
+        }
+        Definition::Predicate(p) => {
+            let own = parameters_of(within.alloc, p)?;
+            let inside = Within {
+                deep,
+                parameters: &own,
+                arguments,
+                ..*within
+            };
+            formula_in(&inside, &p.body)
+        }
+    }
+}
+
+/// The formula that an expression means. A parameter has no meaning there.
+pub fn formula_of<'a>(
+    alloc: Global,
+    scope: &'a Scope<'a>,
+    on_cycle: &'a [bool],
+    parameters: &'a Parameters<'a>,
+    e: &ExprTree,
+) -> Result<Expr, AllocError>
+    requires room { HasRoom (scope_data scope.now) }
+    requires marks { MarksCycles (scope_data scope.now) on_cycle.now }
+    ensures { IfOk result (λ made. formula made ≡ formula_of_lem (scope_data scope.now) (places_in parameters.now) (expr_data e.now)) }
+{
+    let within = Within {
+        alloc,
+        scope,
+        on_cycle,
+        deep: scope.definitions.len(),
+        parameters,
+        arguments: &[],
+    };
+    formula_in(&within, e)
+}
