@@ -1,0 +1,10 @@
+pub mod Folded
+pub mod Leftover
+pub mod Gathering
+pub mod First
+pub mod Meeting
+pub mod Placing
+pub mod Operands
+pub mod Measures
+pub mod Bodies
+pub mod Signing

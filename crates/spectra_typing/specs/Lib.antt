@@ -1,0 +1,9 @@
+pub mod Contents
+pub mod SettingViews
+pub mod Typed
+pub mod Misplaced
+pub mod Walked
+pub mod Placed
+pub mod Notes
+pub mod Noted
+pub mod Signatures

@@ -1,0 +1,186 @@
+//! What stands in an expression and in the bodies that its names stand for.
+
+ghost use Rattle.std.specs.Prelude.{◌≡◌, map, get_or};
+ghost use Rattle.spectra_trees.specs.Data.{Form, expressions};
+ghost use Rattle.spectra_trees.specs.Views.{name_data, expr_data};
+ghost use Rattle.spectra_names.specs.ScopeViews.{named_data};
+ghost use Rattle.spectra_typing.specs.Contents.{nothing as nothing_lem, both as both_lem, under_next as under_next_lem, unused, carried as carried_lem, name_contents as name_contents_lem, name_marks as name_marks_lem, contents_of as contents_of_lem, form_contents as form_contents_lem, contents_of_each as contents_of_each_lem, argument_contents as argument_contents_lem};
+ghost use Rattle.spectra_typing.specs.SettingViews.{setting_data};
+
+use crate::setting::{Contents, Mark, Setting, is_system_variable};
+use spectra_names::scope::Named;
+use spectra_trees::tree::{ExprForm, ExprTree, Name};
+
+/// Nothing of all this.
+pub fn nothing() -> Contents
+    ensures { result ≡ nothing_lem }
+{
+    Contents {
+        next: false,
+        variable: false,
+        system: false,
+        shifted: false,
+    }
+}
+
+/// What stands in one of two.
+pub fn both(a: Contents, b: Contents) -> Contents
+    ensures { result ≡ both_lem a b }
+{
+    Contents {
+        next: a.next || b.next,
+        variable: a.variable || b.variable,
+        system: a.system || b.system,
+        shifted: a.shifted || b.shifted,
+    }
+}
+
+/// The same under a `next`.
+pub fn under_next(contents: Contents) -> Contents
+    ensures { result ≡ under_next_lem contents }
+{
+    Contents {
+        next: true,
+        variable: contents.variable,
+        system: contents.system,
+        shifted: contents.system,
+    }
+}
+
+/// The mark at a place.
+pub fn mark_at(marks: &[Mark], place: usize) -> Mark
+    ensures { result ≡ get_or marks.now place unused }
+{
+    if place < marks.len() {
+        marks[place]
+    } else {
+        Mark {
+            used: false,
+            shifted: false,
+        }
+    }
+}
+
+/// An argument where its parameter stands.
+pub fn carried(mark: Mark, contents: Contents) -> Contents
+    ensures { result ≡ carried_lem mark contents }
+{
+    Contents {
+        next: contents.next,
+        variable: contents.variable,
+        system: contents.system,
+        shifted: contents.shifted || mark.shifted && contents.system,
+    }
+}
+
+/// What stands in the body of a numbered definition.
+pub fn body_contents(setting: &Setting<'_, '_>, number: usize) -> Contents
+    ensures { result ≡ ((setting_data setting.now).note number).contents }
+{
+    match setting.note(number) {
+        Some(note) => note.contents,
+        None => nothing(),
+    }
+}
+
+/// What stands in what a name alone stands for.
+pub fn name_contents(setting: &Setting<'_, '_>, named: Named) -> Contents
+    ensures { result ≡ name_contents_lem (setting_data setting.now) (named_data named) }
+{
+    match named {
+        Named::Variable(number) => Contents {
+            next: false,
+            variable: true,
+            system: is_system_variable(setting.scope, number),
+            shifted: false,
+        },
+        Named::Define(number) => body_contents(setting, number),
+        Named::Predicate(number) => body_contents(setting, number),
+        Named::Unknown => nothing(),
+        Named::Parameter(_) => nothing(),
+        Named::EnumName => nothing(),
+    }
+}
+
+// The marks of a numbered definition's parameters.
+fn body_marks<'s>(setting: &Setting<'s, '_>, number: usize) -> &'s [Mark]
+    ensures { result.now ≡ ((setting_data setting.now).note number).marks }
+{
+    match setting.note(number) {
+        Some(note) => note.marks.as_slice(),
+        None => &[],
+    }
+}
+
+/// The marks of the parameters of what a name stands for.
+pub fn name_marks<'s>(setting: &Setting<'s, '_>, named: Named) -> &'s [Mark]
+    ensures { result.now ≡ name_marks_lem (setting_data setting.now) (named_data named) }
+{
+    match named {
+        Named::Predicate(number) => body_marks(setting, number),
+        Named::Unknown => &[],
+        Named::Parameter(_) => &[],
+        Named::Variable(_) => &[],
+        Named::EnumName => &[],
+        Named::Define(_) => &[],
+    }
+}
+
+/// What stands in an expression.
+#[cycle(contents)]
+pub fn contents_of(setting: &Setting<'_, '_>, tree: &ExprTree) -> Contents
+    ensures { result ≡ contents_of_lem (setting_data setting.now) (expr_data tree.now) }
+{
+    match &tree.form {
+        ExprForm::True => nothing(),
+        ExprForm::False => nothing(),
+        ExprForm::Number(_, _) => nothing(),
+        ExprForm::Read(name) => name_contents(setting, setting.named(name)),
+        ExprForm::Call(name, es) => call_contents(setting, name, es),
+        ExprForm::Next(e) => under_next(contents_of(setting, e)),
+        ExprForm::Prefix(_, e) => contents_of(setting, e),
+        ExprForm::Binary(_, a, b) => both(contents_of(setting, a), contents_of(setting, b)),
+        ExprForm::Mod(e, _, _) => contents_of(setting, e),
+        ExprForm::And(es, _) => contents_of_each(setting, es),
+        ExprForm::Or(es, _) => contents_of_each(setting, es),
+    }
+}
+
+// What stands in a call.
+#[cycle(contents)]
+fn call_contents(setting: &Setting<'_, '_>, name: &Name, es: &[ExprTree]) -> Contents
+    ensures { result ≡ form_contents_lem (setting_data setting.now) (Form.Call (name_data name.now) (expressions (map expr_data es.now))) }
+{
+    let named = setting.named(name);
+    let marks = name_marks(setting, named);
+    both(
+        name_contents(setting, named),
+        argument_contents(setting, marks, es),
+    )
+}
+
+// What stands in several expressions.
+#[cycle(contents)]
+#[tactic(auto, using(crate::proofs::Gathering::both_nothing, crate::proofs::Gathering::contents_left))]
+fn contents_of_each(setting: &Setting<'_, '_>, es: &[ExprTree]) -> Contents
+    ensures { result ≡ contents_of_each_lem (setting_data setting.now) (expressions (map expr_data es.now)) }
+{
+    let mut all = nothing();
+    for e in es {
+        all = both(all, contents_of(setting, e));
+    }
+    all
+}
+
+// What stands in arguments where their parameters stand.
+#[cycle(contents)]
+#[tactic(auto, using(crate::proofs::Gathering::both_nothing))]
+fn argument_contents(setting: &Setting<'_, '_>, marks: &[Mark], es: &[ExprTree]) -> Contents
+    ensures { result ≡ argument_contents_lem (setting_data setting.now) marks.now (expressions (map expr_data es.now)) }
+{
+    let mut all = nothing();
+    for (place, e) in es.iter().enumerate() {
+        all = both(all, carried(mark_at(marks, place), contents_of(setting, e)));
+    }
+    all
+}
