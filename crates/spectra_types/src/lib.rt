@@ -1,0 +1,29 @@
+//! From the tree of a text to the specification that it means: names, types, and what stands for what.
+//!
+//! Every name is looked up in its name space, every expression has a kind and a whole-number expression a span, and
+//! defines, predicates and named types are put in. Where faults stand in a text, the one with the least place is told.
+//!
+//! Path: text → tokens → trees → **specification** → game → regions → layers → strategy → verdict → lines.
+#![tactic(auto)]
+
+mod bounds;
+mod definitions;
+mod facts;
+mod fault;
+mod laws;
+mod lines;
+mod meaning;
+mod notes;
+mod reporting;
+mod resolving;
+mod signing;
+mod sizes;
+mod statements;
+mod tables;
+
+pub use fault::TypeFault;
+pub use laws::{
+    faultless_texts_are_well_typed, plain_lines_have_no_tables, typed_games_are_made,
+    typed_lines_rise,
+};
+pub use resolving::resolve;
