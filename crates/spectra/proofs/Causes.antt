@@ -65,8 +65,7 @@ module _ (failed : Type 0) (before after : Moment) where
       of_text text status (top.bad_character line column is writes) = by_writing _ Refused status tt writes
       of_text text status (top.too_long is writes) = by_writing _ Refused status tt writes
       of_text text status (top.ungrammatical tokens fault at words lexed explains named writes) = by_writing _ Refused status tt writes
-      of_text text status (top.twice tokens line column lexed repeats writes) = by_writing _ Refused status tt writes
-      of_text text status (top.refused tokens lexed none writes) = by_writing _ Refused status tt writes
+      of_text text status (top.mistyped number line column is writes) = by_writing _ Refused status tt writes
       of_text text status (top.means s reads serves) = of_specification s status serves
       of_text text status (top.no_memory wants) = by_wanting status wants
 

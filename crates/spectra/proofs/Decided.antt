@@ -1,5 +1,6 @@
 -- What is done for a game, a specification and a file, from what was done for its parts.
-use Rattle.std.proofs.Common.{◌≡◌, ◌⊎◌, ℕ, ◌<◌, List, length, codes, Option, inl, inr, refl}
+use Rattle.std.proofs.Common.{◌≡◌, ◌⊎◌, ℕ, ◌<◌, List, length, codes, Option, Ok, Err, inl, inr, refl, ap}
+use Rattle.std.specs.Result.{IsErrOf}
 use Rattle.std.proofs.KnownBytes.{Appends-nil}
 use Rattle.sp_outside.specs.Files.{HasNoFile}
 use Rattle.spec_model.specs.Syntax.{Specification}
@@ -17,9 +18,10 @@ use Rattle.spectra_words.specs.declared.words.Command.TheVariants.{Synth, Run}
 use Rattle.spectra.specs.declared.status.Status.{Status}
 use Rattle.spectra.specs.declared.status.Status.TheVariants.{Done, Other, Refused, ShelfFault, Memory, NoFile}
 use Rattle.spectra.specs.Sessions.{Moment, moment, Writes, WantsMemory, realizable, Holds}
-use Rattle.spectra.specs.Reading.{IsUnsupported, RepeatsAName, most_variables}
+use Rattle.spec_model.specs.Steps.{states_of}
+use Rattle.spectra.specs.Reading.{HasTypeFault, type_fault, most_states}
 use Rattle.spectra.specs.Verdict.{IsWonGame, IsLostGame, IsUncontrolledGame}
-use Rattle.spectra.specs.Top.{Decides, won, lost, uncontrolled, held, no_memory, DecidesGame, DecidesSpecification, IsSaidOfSyntax, no_controller, unrealizable, too_many_states, unsupported, fault_line, no_such_file, file_fault, ServesSpecification, ServesText, ServesFile}
+use Rattle.spectra.specs.Top.{Decides, won, lost, uncontrolled, held, no_memory, DecidesGame, DecidesSpecification, IsSaidOfSyntax, no_controller, unrealizable, too_many_states, fault_line, no_such_file, file_fault, ServesSpecification, ServesText, ServesFile}
 use Rattle.spectra.specs.Top as top
 use Rattle.spectra.proofs.Found.{won_found, lost_found, uncontrolled_found}
 
@@ -57,8 +59,15 @@ module _ (command : Command) (s : Specification) (before after : Moment) (status
   pub is_uncontrolled : IsUncontrolledGame (game_of s) → Writes no_controller Other before after status → DecidesGame command s before after status
   is_uncontrolled = uncontrolled_by command s (IsWonGame (game_of s)) (IsLostGame (game_of s)) (IsUncontrolledGame (game_of s)) before after status
 
+-- a result that is none of a fault, and one that is
+pub not_err : {T E : Type 0} (x : T) (e : E) → IsErrOf (Ok x) e → ⊥
+not_err x e same = absurd (cc)
+
+pub err_of : {T E : Type 0} (e f : E) → e ≡ f → IsErrOf {T = T} (Err e) f
+err_of e f same = ap (λ x. Err x) same
+
 -- for a specification
-pub too_many : (command : Command) (name : List ℕ) (before after : Moment) (s : Specification) (status : Status) → most_variables < length s.variables →
+pub too_many : (command : Command) (name : List ℕ) (before after : Moment) (s : Specification) (status : Status) → most_states < length (states_of (game_of s)) →
     Writes (too_many_states name) Refused before after status ⊎ WantsMemory before after status → ServesSpecification command name before after s status
 too_many command name before after s status more (inl writes) = top.too_many more writes
 too_many command name before after s status more (inr wants) = top.no_memory wants
@@ -72,16 +81,11 @@ module _ (command : Command) (s : Specification) (plain : HasPlainLines s) (made
   decided status (no_memory wants) = no_memory wants
 
 -- for a text
-pub refused_text : (command : Command) (name : List ℕ) (before after : Moment) (text : List ℕ) (status : Status) (tokens : List Token) → AreTokens text tokens → IsUnsupported text →
-    Writes (unsupported name) Refused before after status ⊎ WantsMemory before after status → ServesText command name before after text status
-refused_text command name before after text status tokens lexed none (inl writes) = top.refused tokens lexed none writes
-refused_text command name before after text status tokens lexed none (inr wants) = top.no_memory wants
-
 module _ (command : Command) (name : List ℕ) (before after : Moment) (text : List ℕ) (status : Status) where
-  pub repeating_text : (tokens : List Token) (line column : ℕ) → AreTokens text tokens → RepeatsAName text tokens line column →
-      Writes (fault_line name line column (codes "8 Twice\n")) Refused before after status ⊎ WantsMemory before after status → ServesText command name before after text status
-  repeating_text tokens line column lexed repeats (inl writes) = top.twice tokens line column lexed repeats writes
-  repeating_text tokens line column lexed repeats (inr wants) = top.no_memory wants
+  pub mistyped_text : (number line column : ℕ) → HasTypeFault text number line column →
+      Writes (fault_line name line column (type_fault number)) Refused before after status ⊎ WantsMemory before after status → ServesText command name before after text status
+  mistyped_text number line column is (inl writes) = top.mistyped number line column is writes
+  mistyped_text number line column is (inr wants) = top.no_memory wants
 
   pub broken_text : (line column : ℕ) → IsNotUtf8At text line column →
       Writes (fault_line name line column (codes "1 NotUtf8\n")) Refused before after status ⊎ WantsMemory before after status → ServesText command name before after text status

@@ -7,7 +7,7 @@ use Rattle.spectra_lexer.specs.declared.lexing.TheConstants.{MAX_BYTES}
 use Rattle.spectra_words.specs.declared.words.Command.{Command}
 use Rattle.spectra.specs.declared.status.Status.{Status}
 use Rattle.spectra.specs.Sessions.{Moment}
-use Rattle.spectra.specs.Top.{ServesText, not_utf8, bad_character, too_long, ungrammatical, twice, refused, means, no_memory, ServesFile, of_text}
+use Rattle.spectra.specs.Top.{ServesText, not_utf8, bad_character, too_long, ungrammatical, mistyped, means, no_memory, ServesFile, of_text}
 
 -- the front is the file, or both are too long
 front : (file bytes : List ℕ) → bytes ≡ take (MAX_BYTES + 1) file → (file ≡ bytes) ⊎ ((MAX_BYTES < length bytes) × (MAX_BYTES < length file))
@@ -23,8 +23,7 @@ module _ (command : Command) (name : List ℕ) (before after : Moment) (status :
   of_long bytes file long long' (bad_character line column is writes) = absurd (let short = is.short in omega arith)
   of_long bytes file long long' (too_long is writes) = too_long long' writes
   of_long bytes file long long' (ungrammatical tokens fault at words lexed explains named writes) = absurd (let short = lexed.short in omega arith)
-  of_long bytes file long long' (twice tokens line column lexed repeats writes) = absurd (let short = lexed.short in omega arith)
-  of_long bytes file long long' (refused tokens lexed none writes) = absurd (let short = lexed.short in omega arith)
+  of_long bytes file long long' (mistyped number line column is writes) = absurd (let short = is.lexed.short in omega arith)
   of_long bytes file long long' (means s reads serves) = absurd (let short = reads.lexed.short in omega arith)
   of_long bytes file long long' (no_memory wants) = no_memory wants
 

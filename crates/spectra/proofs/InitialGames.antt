@@ -1,4 +1,4 @@
--- The game of a specification all of whose lines are initial is decided by its first moves, and has few states where there are few variables.
+-- The game of a specification all of whose lines are initial is decided by its first moves.
 use Rattle.std.proofs.Common.{◌≡◌, ℕ, zero, suc, ◌+◌, ◌*◌, ◌^◌, ◌<◌, ◌≤◌, Bool, true, false, not, ◌&&◌, ◌||◌, List, [], ◌∷◌, ◌++◌, length, length-append, map, flat_map, Some, None, cond, if◌then◌else◌, refl, sym, ap, subst, ◌∙◌, arith, inl, inr}
 use Rattle.std.specs.List.{AllByRecursion, list_all, list_any}
 use Rattle.std.proofs.lemmas.Bool.{and_from, false≢true}
@@ -28,63 +28,8 @@ use Rattle.hidden_game.proofs.Agreeing.{moves_agree}
 use Rattle.hidden_game.proofs.Choices.{some_choice, all_alike}
 use Rattle.safety.specs.Solution.{IsShiftCount, IsRoundCount, IsDenialCount}
 use Rattle.spectra.specs.First.{IsInitialLine, IsInitialOnly, answers_all}
-use Rattle.spectra.specs.Reading.{most_variables}
 use Rattle.spectra.specs.Verdict.{IsKept, IsLostGame}
 use Rattle.spectra.proofs.Bounds.{environment_wins}
-
--- ---- how many states there are
-
-length-pairs : {X Y : Type 0} (f : X → List Y) (m : ℕ) → ((x : X) → length (f x) ≡ m) → (xs : List X) → length (flat_map f xs) ≡ length xs * m
-length-pairs f m each [] = omega arith
-length-pairs f m each (x ∷ xs) = let e = length-append (f x) (flat_map f xs) in let one = each x in let rest = length-pairs f m each xs in let more = suc-mul (length xs) m in omega (arith, e, one, rest, more)
-
-abbrev AreTruthValues : List DomainData → Type 0
-AreTruthValues ds = AllByRecursion (λ d. d ≡ TruthValues) ds
-
-length-assignments : (ds : List DomainData) → AreTruthValues ds → length (assignments_of ds) ≡ 2 ^ length ds
-length-assignments [] all = refl
-length-assignments (d ∷ ds) all =
-    subst (λ d. length (assignments_of (d ∷ ds)) ≡ 2 ^ suc (length ds)) (sym all.0)
-    (length-pairs (λ (v : Value). map (λ vs. v ∷ vs) (assignments_of ds)) (length (assignments_of ds)) (λ v. length-map (assignments_of ds) (λ (vs : List Value). v ∷ vs)) (value.Bool false ∷ value.Bool true ∷ [])
-    ∙ twice (length (assignments_of ds)) (length-assignments ds all.1))
-  where
-    twice : (n : ℕ) → n ≡ 2 ^ length ds → 2 * n ≡ 2 ^ suc (length ds)
-    twice n e = let more = pow-suc 2 (length ds) in omega (arith, e, more)
-
-domains_are : (test : Owner → Bool) (vs : List VariableData) → AllByRecursion (λ v. v.domain ≡ TruthValues) vs → AreTruthValues (domains_of test vs)
-domains_are test [] all = tt
-domains_are test (v ∷ vs) all = by_owner (test v.owner) (domains_are test vs all.1)
-  where
-    by_owner : (b : Bool) → AreTruthValues (domains_of test vs) → AreTruthValues (cond b (v.domain ∷ domains_of test vs) (domains_of test vs))
-    by_owner true rest = (all.0, rest)
-    by_owner false rest = rest
-
--- each variable has one owner
-two_owners : (vs : List VariableData) → length (domains_of is_env vs) + length (domains_of (λ o. not (is_env o)) vs) ≡ length vs
-two_owners [] = refl
-two_owners (v ∷ vs) = by_owner (is_env v.owner) (two_owners vs)
-  where
-    by_owner : (b : Bool) → length (domains_of is_env vs) + length (domains_of (λ o. not (is_env o)) vs) ≡ length vs →
-        length (cond b (v.domain ∷ domains_of is_env vs) (domains_of is_env vs)) + length (cond (not b) (v.domain ∷ domains_of (λ o. not (is_env o)) vs) (domains_of (λ o. not (is_env o)) vs)) ≡ suc (length vs)
-    by_owner true rest = omega (arith, rest)
-    by_owner false rest = omega (arith, rest)
-
-module _ (s : Specification) (booleans : AllByRecursion (λ v. v.domain ≡ TruthValues) s.variables) where
-  pub length-states : length (states_of (game_of s)) ≡ 2 ^ length s.variables
-  length-states =
-      let a = length-assignments (domains_of is_env s.variables) (domains_are is_env s.variables booleans) in
-      let b = length-assignments (domains_of (λ o. not (is_env o)) s.variables) (domains_are (λ o. not (is_env o)) s.variables booleans) in
-      length-append (flat_map (λ x. map (λ y. record { hidden = []; position = record { input = x; output = y } }) (outputs_of (game_of s))) (inputs_of (game_of s))) []
-      ∙ (zero_more _
-      ∙ (length-pairs (λ x. map (λ y. record { hidden = []; position = record { input = x; output = y } }) (outputs_of (game_of s))) (length (outputs_of (game_of s))) (λ x. length-map (outputs_of (game_of s)) (λ y. record { hidden = []; position = record { input = x; output = y } })) (inputs_of (game_of s))
-      ∙ (ap (λ n. n * length (outputs_of (game_of s))) a ∙ (ap (λ n. 2 ^ length (domains_of is_env s.variables) * n) b
-      ∙ (sym (pow-add 2 (length (domains_of is_env s.variables)) (length (domains_of (λ o. not (is_env o)) s.variables))) ∙ ap (λ n. 2 ^ n) (two_owners s.variables))))))
-    where
-      zero_more : (n : ℕ) → n + 0 ≡ n
-      zero_more n = omega arith
-
-  pub few_states : length s.variables ≤ most_variables → length (states_of (game_of s)) ≤ 1024
-  few_states few = let e = length-states in let most : 2 ^ length s.variables ≤ 2 ^ 10 = pow_mono few in omega (arith, e, most)
 
 -- ---- lines that are judged at the first position alone
 

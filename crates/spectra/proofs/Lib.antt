@@ -1,9 +1,8 @@
+mod Clean
+mod BuiltExpressions
+mod BuiltTexts
 mod FirstMoves
-mod Naming
-mod Extending
-mod Forms
 mod Bounds
-mod MadeGames
 mod InitialGames
 mod Found
 mod Placed
@@ -12,7 +11,4 @@ mod Fronts
 mod Exchanges
 mod Decided
 mod Causes
-mod Plainly
-mod Numbering
-mod Repeating
 mod Statuses

@@ -1,6 +1,8 @@
 -- Which status there is, by what is asked and told.
 use Rattle.std.proofs.Common.{◌≡◌, ℕ, List, Option, Some, None, inl, inr, refl, length, ap, sym, subst, arith, ◌∙◌}
 use Rattle.spec_model.specs.Syntax.{Specification}
+use Rattle.spec_model.specs.Steps.{states_of}
+use Rattle.hidden_game.specs.GameOf.{game_of}
 use Rattle.sp_outside.specs.Files.{Files, told_file, HasFile, HasNoFile}
 use Rattle.spectra_words.specs.declared.words.Command.{Command}
 use Rattle.spectra.specs.declared.status.Status.{Status}
@@ -43,8 +45,7 @@ module _ (before after : Moment) where
     of_text status (top.bad_character line column is writes) = or_fault Refused status (written _ Refused status writes)
     of_text status (top.too_long is writes) = or_fault Refused status (written _ Refused status writes)
     of_text status (top.ungrammatical tokens fault at words lexed explains named writes) = or_fault Refused status (written _ Refused status writes)
-    of_text status (top.twice tokens line column lexed repeats writes) = or_fault Refused status (written _ Refused status writes)
-    of_text status (top.refused tokens lexed none writes) = or_fault Refused status (written _ Refused status writes)
+    of_text status (top.mistyped number line column is writes) = or_fault Refused status (written _ Refused status writes)
     of_text status (top.no_memory wants) = or_fault Refused status (wanted Refused status wants)
     of_text status (top.means s reads serves) = by refuses serves
       where
@@ -52,7 +53,7 @@ module _ (before after : Moment) where
         by (inl none) serves = absurd (none s reads)
         by (inr many) (top.too_many more writes) = or_fault Refused status (written _ Refused status writes)
         by (inr many) (top.no_memory wants) = or_fault Refused status (wanted Refused status wants)
-        by (inr many) (top.few few decides) = absurd (let e = ap (λ (s : Specification). length s.variables) (one_meaning text many.0 s many.1 reads) in let more = many.2 in omega arith)
+        by (inr many) (top.few few decides) = absurd (let e = ap (λ (s : Specification). length (states_of (game_of s))) (one_meaning text many.0 s many.1 reads) in let more = many.2 in omega arith)
 
     of_told : (told : Option (Option (List ℕ))) → told ≡ Some (Some text) → (failed : Type 0) (status : Status) → ServesFile command name before after told failed status → IsUnlessFault Refused status
     of_told told is failed status (top.no_file none writes) = absurd (let none = subst HasNoFile is none in cc)

@@ -1,6 +1,4 @@
 pub mod First
-pub mod Trees
-pub mod Names
 pub mod Status
 pub mod Reading
 pub mod Verdict

@@ -1,6 +1,7 @@
 -- Which specification a text means, if it means one.
-use Rattle.std.specs.Prelude.{◌⊎◌, ℕ, ◌<◌, List, length, codes, Option, Some, None, option_map, unwrap_or, slice_get}
+use Rattle.std.specs.Prelude.{◌≡◌, ◌⊎◌, ℕ, ◌<◌, ◌==◌, List, length, codes, Option, Some, None, option_map, unwrap_or, slice_get, if◌then◌else◌}
 use Rattle.spec_model.specs.Syntax.{Specification}
+use Rattle.spec_model.specs.Steps.{states_of}
 use Rattle.spectra_lexer.specs.declared.token.Token.{Token}
 use Rattle.spectra_lexer.specs.Tokens.{AreTokens}
 use Rattle.spectra_trees.specs.Data.{TreeData}
@@ -9,9 +10,12 @@ use Rattle.spectra_exprs.specs.declared.fault.SyntaxFault.{SyntaxFault}
 use Rattle.spectra_exprs.specs.declared.fault.SyntaxFault.TheVariants as syntax
 use Rattle.spectra_parser.specs.Texts.{IsBuilt}
 use Rattle.spectra_parser.specs.Texts as parsing
+use Rattle.spectra_names.specs.Findings.{fault, first_of_faults}
+use Rattle.spectra_types.specs.Meanings.{faults_of}
+use Rattle.spectra_types.specs.Resolved.{Means}
+use Rattle.hidden_game.specs.GameOf.{game_of}
 use Rattle.spectra.specs.declared.reading.ReadFault.{ReadFault}
-use Rattle.spectra.specs.declared.reading.ReadFault.TheVariants.{Syntax, Meaning, Twice, Memory}
-use Rattle.spectra.specs.Trees.{IsMeant, Means, IsRepeated}
+use Rattle.spectra.specs.declared.reading.ReadFault.TheVariants.{Syntax, Types, Memory}
 
 -- the text has tokens and a tree, whose forms are all built, and its tree means the specification
 pub record Reads (text : List ℕ) (s : Specification) : Type 0 where
@@ -21,30 +25,22 @@ pub record Reads (text : List ℕ) (s : Specification) : Type 0 where
   pub parsed : IsBuilt (lexemes text tokens) tree
   pub means : Means tree s
 
--- the text means nothing, as far as forms are built
-abbrev pub IsUnsupported : List ℕ → Type 0
-IsUnsupported text = (s : Specification) → ¬ (Reads text s)
+-- the text has tokens and a tree, whose forms are all built, and of the tree's faults this one comes first
+pub record HasTypeFault (text : List ℕ) (number line column : ℕ) : Type 0 where
+  pub tokens : List Token
+  pub tree : TreeData
+  pub lexed : AreTokens text tokens
+  pub parsed : IsBuilt (lexemes text tokens) tree
+  pub first : first_of_faults (faults_of tree) ≡ Some (fault number (record { line = line; column = column }))
 
--- its tree would mean a specification, but at this place a line has the name of a line before it
-abbrev pub RepeatsAName : (text : List ℕ) → List Token → (line column : ℕ) → Type 0
-RepeatsAName text tokens line column = (tree : TreeData) × IsBuilt (lexemes text tokens) tree × IsRepeated tree line column
-
--- what a fault says of a tree that is a specification but for the names of its lines
-abbrev pub Repeats : TreeData → ReadFault → Type 0
-Repeats tree (Twice line column) = IsRepeated tree line column
-Repeats tree Memory = Unit {0}
-Repeats tree _ = ⊥
-
--- what a fault says of a tree that means nothing
-abbrev pub MeansNothing : TreeData → ReadFault → Type 0
-MeansNothing tree Meaning = (s : Specification) → IsMeant tree s → ⊥
-MeansNothing tree fault = Repeats tree fault
+-- the text means nothing
+abbrev pub MeansNothing : List ℕ → Type 0
+MeansNothing text = (s : Specification) → ¬ (Reads text s)
 
 -- what a fault says of the text with these tokens; of want of memory nothing is said
 abbrev pub Explains : List ℕ → List Token → ReadFault → Type 0
 Explains text tokens (Syntax fault) = parsing.Explains (lexemes text tokens) fault
-Explains text tokens Meaning = IsUnsupported text
-Explains text tokens (Twice line column) = RepeatsAName text tokens line column
+Explains text tokens (Types number line column) = HasTypeFault text number line column
 Explains text tokens Memory = Unit {0}
 
 -- the token that a fault names, and the fault's number and word; want of memory names none
@@ -55,18 +51,34 @@ named_by (syntax.Parentheses at) = Some (at, codes "6 Parentheses\n")
 named_by (syntax.Unsupported at) = Some (at, codes "23 Unsupported\n")
 named_by syntax.Memory = None
 
+-- the number of a fault of names and types, and its word
+unfoldable pub type_fault : ℕ → List ℕ
+type_fault n =
+    if n == 7 then codes "7 Unknown\n"
+    else if n == 8 then codes "8 Twice\n"
+    else if n == 9 then codes "9 WrongType\n"
+    else if n == 10 then codes "10 NextHere\n"
+    else if n == 11 then codes "11 NextNested\n"
+    else if n == 12 then codes "12 NextOfSystem\n"
+    else if n == 13 then codes "13 SystemInInitial\n"
+    else if n == 14 then codes "14 WideInt\n"
+    else if n == 15 then codes "15 Cycle\n"
+    else if n == 16 then codes "16 Arity\n"
+    else if n == 18 then codes "18 TooMany\n"
+    else codes "19 TooLarge\n"
+
 -- the line and the column of a token, by its number
 abbrev pub place_of_token : List Token → ℕ → ℕ × ℕ
 place_of_token tokens at = unwrap_or (option_map (λ t. (t.line, t.column)) (slice_get tokens at)) (1, 1)
 
--- how many variables a specification may have as long as its first moves are listed
-abbrev pub most_variables : ℕ
-most_variables = 10
+-- how many states a game may have as long as they are numbered one by one
+abbrev pub most_states : ℕ
+most_states = 1024
 
--- the text means a specification with more variables than that
+-- the text means a specification whose game has more states than that
 abbrev pub HasTooManyStates : List ℕ → Type 0
-HasTooManyStates text = (s : Specification) × Reads text s × (most_variables < length s.variables)
+HasTooManyStates text = (s : Specification) × Reads text s × (most_states < length (states_of (game_of s)))
 
 -- the text gets no verdict
 abbrev pub IsRefused : List ℕ → Type 0
-IsRefused text = IsUnsupported text ⊎ HasTooManyStates text
+IsRefused text = MeansNothing text ⊎ HasTooManyStates text

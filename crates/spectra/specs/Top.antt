@@ -16,7 +16,8 @@ use Rattle.spectra.specs.declared.status.Status.{Status}
 use Rattle.spectra.specs.declared.status.Status.TheVariants.{Done, Other, Words, Refused, ShelfFault, NoFile}
 use Rattle.spectra_words.specs.Commands.{Asks, AskNothing}
 use Rattle.spectra.specs.Sessions.{Moment, moment, Writes, WantsMemory, realizable, Holds}
-use Rattle.spectra.specs.Reading.{Reads, IsUnsupported, RepeatsAName, named_by, place_of_token, most_variables}
+use Rattle.spec_model.specs.Steps.{states_of}
+use Rattle.spectra.specs.Reading.{Reads, HasTypeFault, named_by, type_fault, place_of_token, most_states}
 use Rattle.spectra.specs.Verdict.{IsWonGame, IsLostGame, IsUncontrolledGame, IsWonBySystem, IsWonByEnvironment, IsUncontrolled}
 
 -- ---- lines, each with its line feed
@@ -41,9 +42,6 @@ IsSaidOfSyntax written faults name tokens fault old new status =
     let before = moment left (written old) read_faults (faults old) in
     let after = moment left (written new) read_faults (faults new) in
     ((at : ℕ) × (words : List ℕ) × (named_by fault ≡ Some (at, words)) × (let place = place_of_token tokens at in Writes (fault_line name place.0 place.1 words) Refused before after status)) ⊎ WantsMemory before after status
-
-abbrev pub unsupported : List ℕ → List ℕ
-unsupported name = name ++ codes ":1:1: fault 23 Unsupported\n"
 
 abbrev pub too_many_states : List ℕ → List ℕ
 too_many_states name = name ++ codes ":1:1: fault 24 TooManyStates\n"
@@ -78,21 +76,19 @@ module _ (command : Command) where
   module _ (name : List ℕ) (before after : Moment) where
     -- for a specification, in a file of this name
     pub data ServesSpecification (s : Specification) : Status → Type 0 where
-      too_many : {status : Status} → most_variables < length s.variables → Writes (too_many_states name) Refused before after status → ServesSpecification s status
-      few : {status : Status} → length s.variables ≤ most_variables → DecidesSpecification s before after status → ServesSpecification s status
+      too_many : {status : Status} → most_states < length (states_of (game_of s)) → Writes (too_many_states name) Refused before after status → ServesSpecification s status
+      few : {status : Status} → length (states_of (game_of s)) ≤ most_states → DecidesSpecification s before after status → ServesSpecification s status
       no_memory : {status : Status} → WantsMemory before after status → ServesSpecification s status
 
     -- for a text: one that has no tokens, or whose tokens are no text of the grammar or have a form that isn't built, is refused
-    -- by its fault, and so is one that gives two lines one name and would mean something else; one that means nothing is refused
-    -- as a whole
+    -- by its fault, and so is one whose tree has a fault of names or types
     pub data ServesText (text : List ℕ) : Status → Type 0 where
       not_utf8 : {status : Status} (line column : ℕ) → IsNotUtf8At text line column → Writes (fault_line name line column (codes "1 NotUtf8\n")) Refused before after status → ServesText text status
       bad_character : {status : Status} (line column : ℕ) → IsBadAt text line column → Writes (fault_line name line column (codes "2 BadCharacter\n")) Refused before after status → ServesText text status
       too_long : {status : Status} → IsTooLong text → Writes (fault_line name 1 1 (codes "3 TooLong\n")) Refused before after status → ServesText text status
       ungrammatical : {status : Status} (tokens : List Token) (fault : SyntaxFault) (at : ℕ) (words : List ℕ) → AreTokens text tokens → Explains (lexemes text tokens) fault → named_by fault ≡ Some (at, words) →
           (let place = place_of_token tokens at in Writes (fault_line name place.0 place.1 words) Refused before after status) → ServesText text status
-      twice : {status : Status} (tokens : List Token) (line column : ℕ) → AreTokens text tokens → RepeatsAName text tokens line column → Writes (fault_line name line column (codes "8 Twice\n")) Refused before after status → ServesText text status
-      refused : {status : Status} (tokens : List Token) → AreTokens text tokens → IsUnsupported text → Writes (unsupported name) Refused before after status → ServesText text status
+      mistyped : {status : Status} (number line column : ℕ) → HasTypeFault text number line column → Writes (fault_line name line column (type_fault number)) Refused before after status → ServesText text status
       means : {status : Status} (s : Specification) → Reads text s → ServesSpecification s status → ServesText text status
       no_memory : {status : Status} → WantsMemory before after status → ServesText text status
 

@@ -1,18 +1,15 @@
 //! Who wins a specification, and what is done then.
 
-ghost use Rattle.std.specs.Prelude.{◌≡◌, ◌≤◌, length, None, true};
-ghost use Rattle.std.specs.List.{AllByRecursion};
-ghost use Rattle.spec_model.specs.Values.{TruthValues};
+ghost use Rattle.std.specs.Prelude.{◌≡◌, None, true};
 ghost use Rattle.spec_model.specs.Views.{spec_data};
 ghost use Rattle.spec_model.specs.Laws.{NumbersRise};
-ghost use Rattle.spec_model.specs.Steps.{states_of};
 ghost use Rattle.spec_model.specs.WellMade.{WellMade};
 ghost use Rattle.spec_model.specs.GameViews.{game_data};
 ghost use Rattle.hidden_game.specs.GameOf.{game_of};
 ghost use Rattle.hidden_game.specs.Agreement.{HasPlainLines};
 ghost use Rattle.gr1_law.specs.Layers.{LayerSets};
 ghost use Rattle.controller.specs.Made.{AreLayersOf};
-ghost use Rattle.spectra.specs.Reading.{most_variables};
+ghost use Rattle.spectra_types.specs.WellTyped.{WellTyped, all_hidden};
 ghost use Rattle.spectra.specs.Verdict.{Escapes, has_no_goals as has_no_goals_lem};
 ghost use Rattle.spectra.specs.Sessions.{moment};
 ghost use Rattle.spectra.specs.Top.{DecidesGame, ServesSpecification};
@@ -30,9 +27,6 @@ use spec_model::game::Game;
 use spec_model::spec::Spec;
 use spectra_words::Command;
 use std::alloc::Global;
-
-/// The greatest number of variables of a specification, as long as its states are numbered: 2^10 states.
-const MAX_VARIABLES: usize = 10;
 
 // Does what the command wants where the system wins with these layers.
 fn do_won<G: Regions + Drop, I: Source, O: Sink>(
@@ -149,10 +143,11 @@ fn decide<G: Regions + Drop, I: Source, O: Sink>(
     }
 }
 
-// Does what the command wants with a specification, whose game has few states.
-fn decide_game<I: Source, O: Sink>(
+// Does what the command wants with a specification and its game.
+fn serve_game<I: Source, O: Sink>(
     alloc: Global,
     command: Command,
+    name: &str,
     spec: &Spec,
     game: Game,
     input: &mut I,
@@ -161,20 +156,19 @@ fn decide_game<I: Source, O: Sink>(
     requires game { game_data game ≡ game_of (spec_data spec.now) }
     requires plain { HasPlainLines (spec_data spec.now) }
     requires rising { NumbersRise (spec_data spec.now).lines }
-    requires made { WellMade (game_data game) }
-    requires few { length (states_of (game_data game)) ≤ 1024 }
+    requires made { WellMade (game_of (spec_data spec.now)) }
     ensures { let before = moment (I.left input.old) (O.written output.old) (I.faults input.old) (O.faults output.old) in
         let after = moment (I.left input.new) (O.written output.new) (I.faults input.new) (O.faults output.new) in
-        DecidesGame command (spec_data spec.now) before after result }
+        ServesSpecification command name.now before after (spec_data spec.now) result }
 {
     match RegionRows::make(alloc, game) {
         Ok(rows) => decide(alloc, command, spec, rows, input, output),
-        Err(RowsRefusal::TooManyStates) => unreachable!(),
+        Err(RowsRefusal::TooManyStates) => say_too_many_states(alloc, name, output),
         Err(RowsRefusal::Memory) => Status::Memory,
     }
 }
 
-/// Does what the command wants with a specification of Boolean variables, whose game is well made.
+/// Does what the command wants with a well-typed specification that needs no hidden tables.
 pub fn serve_specification<I: Source, O: Sink>(
     alloc: Global,
     command: Command,
@@ -183,19 +177,14 @@ pub fn serve_specification<I: Source, O: Sink>(
     input: &mut I,
     output: &mut O,
 ) -> Status
-    requires booleans { AllByRecursion (λ v. v.domain ≡ TruthValues) (spec_data spec.now).variables }
-    requires plain { HasPlainLines (spec_data spec.now) }
-    requires rising { NumbersRise (spec_data spec.now).lines }
-    requires made { length (spec_data spec.now).variables ≤ most_variables → WellMade (game_of (spec_data spec.now)) }
+    requires typed { WellTyped (spec_data spec.now) }
+    requires plain { all_hidden (spec_data spec.now) ≡ 0 }
     ensures { let before = moment (I.left input.old) (O.written output.old) (I.faults input.old) (O.faults output.old) in
         let after = moment (I.left input.new) (O.written output.new) (I.faults input.new) (O.faults output.new) in
         ServesSpecification command name.now before after (spec_data spec.now) result }
 {
-    if spec.vars.len() > MAX_VARIABLES {
-        return say_too_many_states(alloc, name, output);
-    }
     match expand(alloc, spec) {
-        Ok(game) => decide_game(alloc, command, spec, game, input, output),
+        Ok(game) => serve_game(alloc, command, name, spec, game, input, output),
         Err(_) => Status::Memory,
     }
 }

@@ -8,15 +8,11 @@
 //! Contract: `top::spectra`. Path: words and bytes → tokens → trees → specification → verdict → **lines and status**.
 #![tactic(auto)]
 
-mod allowed;
 mod closing;
 mod deciding;
 mod holding;
-mod line_names;
-mod names;
 mod placing;
 mod reading;
-mod resolve;
 mod saying;
 mod serving;
 mod status;

@@ -1,7 +1,7 @@
-//! The faults of a text's syntax, each at its token.
+//! The faults of a text by their numbers and words; those of its syntax each at its token.
 
 ghost use Rattle.std.specs.Prelude.{◌≡◌, option_map};
-ghost use Rattle.spectra.specs.Reading.{named_by as named_by_lem, place_of_token as place_of_token_lem};
+ghost use Rattle.spectra.specs.Reading.{named_by as named_by_lem, place_of_token as place_of_token_lem, type_fault as type_fault_lem};
 ghost use Rattle.spectra.specs.Top.{IsSaidOfSyntax};
 
 use crate::saying::say_fault;
@@ -50,5 +50,26 @@ pub fn say_syntax<O: Sink>(
             say_fault(alloc, name, line, column, words, output)
         }
         None => Status::Memory,
+    }
+}
+
+#[tactic(auto, unfolding(crate::specs::Reading::type_fault))]
+/// The number of a fault of names and types, and its word.
+pub fn type_fault(number: u8) -> &'static str
+    ensures { result.now ≡ type_fault_lem number }
+{
+    match number {
+        7 => "7 Unknown\n",
+        8 => "8 Twice\n",
+        9 => "9 WrongType\n",
+        10 => "10 NextHere\n",
+        11 => "11 NextNested\n",
+        12 => "12 NextOfSystem\n",
+        13 => "13 SystemInInitial\n",
+        14 => "14 WideInt\n",
+        15 => "15 Cycle\n",
+        16 => "16 Arity\n",
+        18 => "18 TooMany\n",
+        _ => "19 TooLarge\n",
     }
 }

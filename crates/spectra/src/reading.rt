@@ -3,16 +3,17 @@
 ghost use Rattle.std.specs.Prelude.{◌≡◌, List, IfOk, IfErr};
 ghost use Rattle.spec_model.specs.Views.{spec_data};
 ghost use Rattle.spectra_lexer.specs.Tokens.{AreTokens};
-ghost use Rattle.spectra.specs.declared.reading.ReadFault.TheVariants.{Syntax};
+ghost use Rattle.spectra_trees.specs.Lexemes.{lexemes};
 ghost use Rattle.spectra_trees.specs.Views.{tree_data};
-ghost use Rattle.spectra.specs.Trees.{IsMeant, Means};
-ghost use Rattle.spectra.specs.Reading.{Reads, Repeats, MeansNothing, Explains};
+ghost use Rattle.spectra_parser.specs.Texts.{IsBuilt};
+ghost use Rattle.spectra_types.specs.WellTyped.{WellTyped, all_hidden};
+ghost use Rattle.spectra.specs.declared.reading.ReadFault.TheVariants.{Syntax};
+ghost use Rattle.spectra.specs.Reading.{Reads, Explains};
 
-use crate::line_names::repeated_line_name;
-use crate::resolve::{ResolveFault, resolve};
 use spec_model::spec::Spec;
 use spectra_lexer::Token;
 use spectra_parser::{SyntaxFault, Tree, parse};
+use spectra_types::{TypeFault, resolve};
 use std::alloc::Global;
 
 /// Why a text has no specification.
@@ -20,10 +21,8 @@ use std::alloc::Global;
 pub enum ReadFault {
     /// Its tokens are no text of the grammar, or have a form that isn't built.
     Syntax(SyntaxFault),
-    /// Its tree means nothing, as far as meanings are built.
-    Meaning,
-    /// At this place a line has the name of a line before it.
-    Twice { line: u32, column: u32 },
+    /// The fault of names or types with this number stands first in its tree, at this line and column.
+    Types { number: u8, line: u32, column: u32 },
     /// No memory was given.
     Memory,
 }
@@ -36,46 +35,42 @@ impl From<SyntaxFault> for ReadFault {
     }
 }
 
-// The specification that a tree is, unless two of its lines have one name.
-fn named_once(alloc: Global, tree: &Tree, spec: Spec) -> Result<Spec, ReadFault>
-    requires meant { IsMeant (tree_data tree.now) (spec_data spec) }
-    ensures means { IfOk result (λ s. Means (tree_data tree.now) (spec_data s)) }
-    ensures fault { IfErr result (Repeats (tree_data tree.now)) }
+// The specification that a tree of these tokens means.
+fn meaning(alloc: Global, text: &[u8], tokens: &[Token], tree: Tree) -> Result<Spec, ReadFault>
+    requires lexed { AreTokens text.now tokens.now }
+    requires built { IsBuilt (lexemes text.now tokens.now) (tree_data tree) }
+    ensures reads { IfOk result (λ s. Reads text.now (spec_data s)) }
+    ensures typed { IfOk result (λ s. WellTyped (spec_data s)) }
+    ensures plain { IfOk result (λ s. all_hidden (spec_data s) ≡ 0) }
+    ensures fault { IfErr result (Explains text.now tokens.now) }
 {
-    match repeated_line_name(alloc, &tree.items) {
-        Ok(None) => Ok(spec),
-        Ok(Some(name)) => Err(ReadFault::Twice {
-            line: name.line,
-            column: name.column,
+    let trees = [tree];
+    match resolve(alloc, &trees) {
+        Ok(spec) => Ok(spec),
+        Err(
+            TypeFault::Refused {
+                number,
+                tree: _,
+                line,
+                column,
+            },
+        ) => Err(ReadFault::Types {
+            number,
+            line,
+            column,
         }),
-        Err(_) => Err(ReadFault::Memory),
-    }
-}
-
-// The specification that a tree means.
-#[tactic(auto, using(crate::proofs::Readings::meanings))]
-fn meaning(alloc: Global, tree: &Tree) -> Result<Spec, ReadFault>
-    ensures means { IfOk result (λ s. Means (tree_data tree.now) (spec_data s)) }
-    ensures fault { IfErr result (MeansNothing (tree_data tree.now)) }
-{
-    match resolve(alloc, tree) {
-        Ok(spec) => named_once(alloc, tree, spec),
-        Err(ResolveFault::Unsupported) => Err(ReadFault::Meaning),
-        Err(ResolveFault::Memory) => Err(ReadFault::Memory),
+        Err(TypeFault::Memory) => Err(ReadFault::Memory),
     }
 }
 
 /// The specification that a text with these tokens means.
-#[tactic(auto, using(crate::proofs::Readings::refusals))]
 pub fn read(alloc: Global, text: &[u8], tokens: &[Token]) -> Result<Spec, ReadFault>
     requires lexed { AreTokens text.now tokens.now }
-    requires only { (others : List Token) → AreTokens text.now others → others ≡ tokens.now }
     ensures reads { IfOk result (λ s. Reads text.now (spec_data s)) }
+    ensures typed { IfOk result (λ s. WellTyped (spec_data s)) }
+    ensures plain { IfOk result (λ s. all_hidden (spec_data s) ≡ 0) }
     ensures fault { IfErr result (Explains text.now tokens.now) }
 {
     let tree = parse(alloc, text, tokens)?;
-    match meaning(alloc, &tree) {
-        Ok(spec) => Ok(spec),
-        Err(fault) => Err(fault),
-    }
+    meaning(alloc, text, tokens, tree)
 }

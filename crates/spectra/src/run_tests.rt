@@ -36,10 +36,15 @@ const ECHO: &str = "env boolean r; sys boolean g; gar alw r -> g;";
 
 const SHOWN: &str = "env boolean r; sys boolean g; gar alw r -> g; gar alwEv g;";
 
+const LAMP: &str =
+    "env {OPEN, SHUT} door; sys Int(-1..2) lamp; define shut := door = SHUT; predicate bright(Int(0..4) n): n > 1; gar alw shut -> bright(lamp + 2) & lamp mod 2 = 0;";
+
+const COUNT: &str = "env Int(0..4) x; sys boolean g;";
+
 const LATE: &str = "env boolean a; sys boolean g; asm alw g -> a; gar alw g;";
 
 // The statements after `spec X`, the input, what is written, and the status.
-const SESSIONS: [(&str, &str, &str, u8); 33] = [
+const SESSIONS: [(&str, &str, &str, u8); 39] = [
     ("", "", "realizable K=2\n", 0),
     // Without variables a line of blanks is the input, and the output is the empty line.
     ("", "\n \t\n", "realizable K=2\n\n\n", 0),
@@ -197,6 +202,18 @@ const SESSIONS: [(&str, &str, &str, u8); 33] = [
         "realizable K=2\ng=true\ng=true\n",
         0,
     ),
+    // Enum names and whole numbers: shut asks for lamp + 2 above 1 and an even lamp.
+    (
+        LAMP,
+        "door=OPEN\ndoor=SHUT\n",
+        "realizable K=2\nlamp=-1\nlamp=0\n",
+        0,
+    ),
+    (COUNT, "x=4\n", "realizable K=2\ng=false\n", 0),
+    (COUNT, "x=9\n", "realizable K=2\nline 1 refused\n", 6),
+    (COUNT, "x=1 x=1\n", "realizable K=2\nline 1 refused\n", 6),
+    (COUNT, "\nx=1\n", "realizable K=2\nline 1 refused\n", 6),
+    (COUNT, "x=01\n", "realizable K=2\nline 1 refused\n", 6),
 ];
 
 #[test]

@@ -2,7 +2,7 @@
 
 ghost use Rattle.std.specs.Prelude.{◌≤◌, List, ℕ, Option};
 ghost use Rattle.spectra.specs.Sessions.{moment, Writes, IsSaid, realizable};
-ghost use Rattle.spectra.specs.Top.{no_such_file, file_fault, fault_line, unsupported, too_many_states, unrealizable};
+ghost use Rattle.spectra.specs.Top.{no_such_file, file_fault, fault_line, too_many_states, unrealizable};
 
 use crate::status::Status;
 use sp_outside::{Sink, write_line};
@@ -52,16 +52,6 @@ pub fn say_fault<O: Sink>(
     ensures { IsSaid O.written O.faults (fault_line name.now line column fault.now) Status.Refused output.old output.new result }
 {
     match format!(in alloc; "{name}:{line}:{column}: fault {fault}") {
-        Ok(line) => say(output, line.as_bytes(), Status::Refused),
-        Err(_) => Status::Memory,
-    }
-}
-
-/// Says that the text of this file isn't of the form that is built so far.
-pub fn say_unsupported<O: Sink>(alloc: Global, name: &str, output: &mut O) -> Status
-    ensures { IsSaid O.written O.faults (unsupported name.now) Status.Refused output.old output.new result }
-{
-    match format!(in alloc; "{name}:1:1: fault 23 Unsupported\n") {
         Ok(line) => say(output, line.as_bytes(), Status::Refused),
         Err(_) => Status::Memory,
     }

@@ -1,6 +1,6 @@
 //! What is done for a command and a file.
 
-ghost use Rattle.std.specs.Prelude.{◌≡◌, List};
+ghost use Rattle.std.specs.Prelude.{◌≡◌};
 ghost use Rattle.sp_outside.specs.Causes.{Rose};
 ghost use Rattle.sp_outside.specs.Files.{told_file};
 ghost use Rattle.spectra_lexer.specs.Tokens.{AreTokens};
@@ -8,9 +8,9 @@ ghost use Rattle.spectra.specs.Sessions.{moment};
 ghost use Rattle.spectra.specs.Top.{ServesText, ServesFile};
 
 use crate::deciding::serve_specification;
-use crate::placing::say_syntax;
+use crate::placing::{say_syntax, type_fault};
 use crate::reading::{ReadFault, read};
-use crate::saying::{say_fault, say_no_file, say_shelf_fault, say_unsupported};
+use crate::saying::{say_fault, say_no_file, say_shelf_fault};
 use crate::status::Status;
 use sp_outside::{FileFault, Shelf, Sink, Source, read_file};
 use spectra_lexer::{LexFault, MAX_BYTES, Token, lex};
@@ -28,7 +28,6 @@ fn serve_tokens<I: Source, O: Sink>(
     output: &mut O,
 ) -> Status
     requires lexed { AreTokens text.now tokens.now }
-    requires only { (others : List Token) → AreTokens text.now others → others ≡ tokens.now }
     ensures { let before = moment (I.left input.old) (O.written output.old) (I.faults input.old) (O.faults output.old) in
         let after = moment (I.left input.new) (O.written output.new) (I.faults input.new) (O.faults output.new) in
         ServesText command name.now before after text.now result }
@@ -36,10 +35,13 @@ fn serve_tokens<I: Source, O: Sink>(
     match read(alloc, text, tokens) {
         Ok(spec) => serve_specification(alloc, command, name, &spec, input, output),
         Err(ReadFault::Syntax(fault)) => say_syntax(alloc, name, tokens, fault, output),
-        Err(ReadFault::Twice { line, column }) => {
-            say_fault(alloc, name, line, column, "8 Twice\n", output)
-        }
-        Err(ReadFault::Meaning) => say_unsupported(alloc, name, output),
+        Err(
+            ReadFault::Types {
+                number,
+                line,
+                column,
+            },
+        ) => say_fault(alloc, name, line, column, type_fault(number), output),
         Err(ReadFault::Memory) => Status::Memory,
     }
 }

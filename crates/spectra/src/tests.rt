@@ -1,12 +1,18 @@
 //! Whole runs over files, input and output in memory. Lines and statuses are worked out by hand from the rules of
 //! reading and of first moves.
 
+use self::kinds::KINDS;
+use self::names::NAMES;
 use self::texts::TEXTS;
 use crate::top::spectra;
 use sp_outside::{Failed, MemoryShelf, MemorySink, MemorySource, Sink};
 use std::alloc::Global;
+use std::process::Abort;
 use std::test::Fail;
 
+mod kinds;
+mod limits;
+mod names;
 mod texts;
 
 /// A sink that takes one byte at each call.
@@ -37,21 +43,50 @@ pub fn words_of(alloc: Global, line: &str) -> Result<Vec<String>, Fail> {
     Ok(words)
 }
 
-#[test]
-fn each_text_has_its_line_and_status(rt: HostRuntime) -> Result<(), Fail> {
-    let alloc = rt.alloc();
+/// What `synth` writes for a text, and its status.
+pub fn synth_writes(
+    rt: &impl Abort,
+    alloc: Global,
+    text: &str,
+    written: &str,
+    number: u8,
+) -> Result<(), Fail> {
     let words = words_of(alloc, "spectra synth t.spectra")?;
-    for (statements, line, number) in TEXTS {
+    let mut shelf = MemoryShelf::make(alloc, &[])?;
+    shelf.put("t.spectra", text.as_bytes())?;
+    let mut input = MemorySource::make(alloc, b"", &[])?;
+    let mut output = MemorySink::make(alloc, 64, &[])?;
+    let status = spectra(alloc, &words, &mut shelf, &mut input, &mut output);
+    assert_eq!(rt; output.written(), written.as_bytes(), "at {text}");
+    assert_eq!(rt; status.number(), number, "at {text}");
+    Ok(())
+}
+
+fn each_has_its_line(
+    rt: &impl Abort,
+    alloc: Global,
+    table: &[(&str, &str, u8)],
+) -> Result<(), Fail> {
+    for (statements, line, number) in table {
         let text = format!(in alloc; "spec X\n{statements}\n")?;
-        let mut shelf = MemoryShelf::make(alloc, &[])?;
-        shelf.put("t.spectra", text.as_bytes())?;
-        let mut input = MemorySource::make(alloc, b"", &[])?;
-        let mut output = MemorySink::make(alloc, 64, &[])?;
-        let status = spectra(alloc, &words, &mut shelf, &mut input, &mut output);
-        assert_eq!(rt; output.written(), line.as_bytes(), "at {statements}");
-        assert_eq!(rt; status.number(), number, "at {statements}");
+        synth_writes(rt, alloc, &text, line, *number)?;
     }
     Ok(())
+}
+
+#[test]
+fn each_text_has_its_line_and_status(rt: HostRuntime) -> Result<(), Fail> {
+    each_has_its_line(&rt, rt.alloc(), &TEXTS)
+}
+
+#[test]
+fn each_fault_of_names_stands_at_its_place(rt: HostRuntime) -> Result<(), Fail> {
+    each_has_its_line(&rt, rt.alloc(), &NAMES)
+}
+
+#[test]
+fn each_fault_of_kinds_stands_at_its_place(rt: HostRuntime) -> Result<(), Fail> {
+    each_has_its_line(&rt, rt.alloc(), &KINDS)
 }
 
 // The words, the calls of the shelf and of the sink that fail, what is written, and the status.

@@ -1,7 +1,7 @@
 //! Texts with their verdicts and faults, worked out by hand from the rules of reading, of first moves and of layers.
 
 // The statements after `spec X`, the line, and the status.
-pub const TEXTS: [(&str, &str, u8); 50] = [
+pub const TEXTS: [(&str, &str, u8); 44] = [
     (
         "env boolean a; sys boolean g; gar ini a & g;",
         "unrealizable N=0 M=1\n",
@@ -54,11 +54,6 @@ pub const TEXTS: [(&str, &str, u8); 50] = [
         "t.spectra:1:1: fault 24 TooManyStates\n",
         3,
     ),
-    (
-        "sys Int(0..3) x;",
-        "t.spectra:1:1: fault 23 Unsupported\n",
-        3,
-    ),
     // The file ends behind its line feed, where a semicolon is wanted.
     (
         "sys boolean g; gar ini g",
@@ -67,18 +62,17 @@ pub const TEXTS: [(&str, &str, u8); 50] = [
     ),
     (
         "sys boolean g; sys boolean g;",
-        "t.spectra:1:1: fault 23 Unsupported\n",
+        "t.spectra:2:28: fault 8 Twice\n",
         3,
     ),
     (
         "env boolean g; sys boolean g;",
-        "t.spectra:1:1: fault 23 Unsupported\n",
+        "t.spectra:2:28: fault 8 Twice\n",
         3,
     ),
-    ("gar ini g;", "t.spectra:1:1: fault 23 Unsupported\n", 3),
     (
         "sys boolean g; asm ini g;",
-        "t.spectra:1:1: fault 23 Unsupported\n",
+        "t.spectra:2:24: fault 13 SystemInInitial\n",
         3,
     ),
     (
@@ -147,21 +141,6 @@ pub const TEXTS: [(&str, &str, u8); 50] = [
     ),
     ("sys boolean g; gar ini g -> !g;", "realizable K=2\n", 0),
     (
-        "sys boolean g; gar alw next(next(g));",
-        "t.spectra:1:1: fault 23 Unsupported\n",
-        3,
-    ),
-    (
-        "sys boolean g; gar ini next(g);",
-        "t.spectra:1:1: fault 23 Unsupported\n",
-        3,
-    ),
-    (
-        "sys boolean g; asm alw next(g);",
-        "t.spectra:1:1: fault 23 Unsupported\n",
-        3,
-    ),
-    (
         "sys boolean g; gar alw g -> g -> g;",
         "t.spectra:2:31: fault 6 Parentheses\n",
         3,
@@ -218,10 +197,5 @@ pub const TEXTS: [(&str, &str, u8); 50] = [
         "sys boolean g; gar one: alw g; gar alw g; gar two: alwEv g; gar alw g;",
         "realizable K=3\n",
         0,
-    ),
-    (
-        "sys boolean g; gar alwEv next(g);",
-        "t.spectra:1:1: fault 23 Unsupported\n",
-        3,
     ),
 ];
