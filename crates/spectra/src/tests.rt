@@ -3,6 +3,7 @@
 
 use self::kinds::KINDS;
 use self::names::NAMES;
+use self::sound::SOUND;
 use self::texts::TEXTS;
 use crate::top::spectra;
 use sp_outside::{Failed, MemoryShelf, MemorySink, MemorySource, Sink};
@@ -13,6 +14,7 @@ use std::test::Fail;
 mod kinds;
 mod limits;
 mod names;
+mod sound;
 mod texts;
 
 /// A sink that takes one byte at each call.
@@ -82,6 +84,11 @@ fn each_text_has_its_line_and_status(rt: HostRuntime) -> Result<(), Fail> {
 #[test]
 fn each_fault_of_names_stands_at_its_place(rt: HostRuntime) -> Result<(), Fail> {
     each_has_its_line(&rt, rt.alloc(), &NAMES)
+}
+
+#[test]
+fn each_sound_text_has_its_verdict(rt: HostRuntime) -> Result<(), Fail> {
+    each_has_its_line(&rt, rt.alloc(), &SOUND)
 }
 
 #[test]
