@@ -1,6 +1,6 @@
 //! The program `spectra`: from the words of the command line to a verdict line, a session and a status.
 //!
-//! `synth FILE` reads a specification of Boolean variables and of lines that are initial, hold at each position or recur, and
+//! `synth FILE` reads a specification over Booleans, whole numbers and enums, whose lines are initial, hold or recur, and
 //! says whether it is realizable. `run FILE` says the same and, where the system wins, answers each line of the input by one
 //! line, so that the exchanged lines are one play of legal moves that keeps what recurs within the printed K rounds. The
 //! verdict is decided over sets of its game's states.
