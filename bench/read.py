@@ -5,9 +5,9 @@ A text of n variables has an enum, n - 1 ranges, as many defines, 16 predicates,
 sums and remainders. It has no fault but that its states are too many, which is told once it is read.
 """
 import os
-import subprocess
 import sys
-import time
+
+from runs import seconds
 
 
 def text_of(count):
@@ -24,19 +24,6 @@ def text_of(count):
     return "\n".join(lines) + "\n"
 
 
-def seconds(program, path, rounds):
-    """The least seconds of some runs, each of which is to tell that the states are too many."""
-    least = None
-    for _ in range(rounds):
-        before = time.perf_counter()
-        run = subprocess.run([program, "synth", path], stdout=subprocess.PIPE, text=True, check=False)
-        took = time.perf_counter() - before
-        if run.stdout != f"{path}:1:1: fault 24 TooManyStates\n":
-            sys.exit(f"{path}: {run.stdout!r}")
-        least = took if least is None else min(least, took)
-    return least
-
-
 def main():
     program, folder, rounds = sys.argv[1], sys.argv[2], int(sys.argv[3])
     print("| Variables | Lines | Bytes | s |\n|---|---|---|---|")
@@ -44,7 +31,8 @@ def main():
         path = f"{folder}/reader{count}.spectra"
         with open(path, "w", encoding="ascii") as text:
             text.write(text_of(count))
-        print(f"| {count:,} | {4 * count:,} | {os.path.getsize(path):,} | {seconds(program, path, rounds):.3f} |")
+        took = seconds([program, "synth", path], f"{path}:1:1: fault 24 TooManyStates\n", rounds)
+        print(f"| {count:,} | {4 * count:,} | {os.path.getsize(path):,} | {took:.3f} |")
 
 
 main()

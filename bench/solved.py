@@ -4,9 +4,9 @@
 An arbiter of n clients has n requests and n grants, no two of which hold together; each request is answered again and
 again. Its game has 4^n states and n goals of two ranks each, so K is 1 + 2n.
 """
-import subprocess
 import sys
-import time
+
+from runs import seconds
 
 
 def arbiter(n):
@@ -17,19 +17,6 @@ def arbiter(n):
     lines += [f"gar alw !(g{i} & g{k});" for i in range(n) for k in range(i + 1, n)]
     lines += [f"gar alwEv r{i} -> g{i};" for i in range(n)]
     return "\n".join(lines) + "\n"
-
-
-def seconds(command, expected, rounds):
-    """The least seconds of some runs, each of which is to write the expected line."""
-    least = None
-    for _ in range(rounds):
-        before = time.perf_counter()
-        run = subprocess.run(command, stdout=subprocess.PIPE, text=True, check=False)
-        took = time.perf_counter() - before
-        if run.stdout != expected:
-            sys.exit(f"{command}: {run.stdout!r}")
-        least = took if least is None else min(least, took)
-    return least
 
 
 def main():
