@@ -4,8 +4,8 @@ use Rattle.std.proofs.lemmas.Bool.{cases_lt, false≢true}
 use Rattle.std.proofs.lemmas.Option.{none-some, slice_get-map, slice_get_past, slice_get_within}
 use Rattle.spec_model.specs.Syntax.{Formula}
 use Rattle.spectra_names.specs.Spaces.{Scope, Definition}
-use Rattle.spectra_names.specs.Cycles.{all_uses, uses_of, is_on_cycle}
-use Rattle.spectra_names.specs.Orders.{IsUse, IsOrder}
+use Rattle.spectra_order.specs.Cycles.{all_uses, uses_of, is_on_cycle}
+use Rattle.spectra_order.specs.Orders.{IsUse, IsOrder}
 use Rattle.spectra_expansion.specs.declared.measure.Measure.{Measure}
 use Rattle.spectra_expansion.specs.Sizes.{nodes_in, levels_in}
 use Rattle.spectra_expansion.specs.Expansion.{no_meaning, body_formula, expanded}

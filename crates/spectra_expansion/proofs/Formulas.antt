@@ -7,7 +7,7 @@ use Rattle.spec_model.specs.Syntax.{Formula, Formulas, formulas, listed}
 use Rattle.spectra_names.specs.declared.scope.Definition as code_definition
 use Rattle.spectra_names.specs.Spaces.{Scope}
 use Rattle.spectra_names.specs.ScopeViews.{definition_data}
-use Rattle.spectra_names.specs.Cycles.{is_on_cycle}
+use Rattle.spectra_order.specs.Cycles.{is_on_cycle}
 use Rattle.spectra_expansion.specs.Expansion.{no_meaning, body_formula, expanded}
 use Rattle.spectra_expansion.specs.Needs.{MarksCycles}
 

@@ -6,7 +6,7 @@ use Rattle.spec_model.specs.Syntax.{Formula}
 use Rattle.spectra_trees.specs.Data.{NameData, Expression}
 use Rattle.spectra_names.specs.Walks.{names_in}
 use Rattle.spectra_names.specs.Spaces.{Scope, Places, named}
-use Rattle.spectra_names.specs.Cycles.{definition_named, used_in}
+use Rattle.spectra_order.specs.Cycles.{definition_named, used_in}
 use Rattle.spectra_expansion.specs.declared.measure.Use.{Use}
 use Rattle.spectra_expansion.specs.declared.measure.Measure.{Measure}
 use Rattle.spectra_expansion.specs.Sizes.{nodes_in, nodes_in_each, levels_in, levels_in_each}

@@ -11,7 +11,7 @@ use Rattle.spectra_trees.specs.declared.tree.BinaryWord.{BinaryWord}
 use Rattle.spectra_trees.specs.declared.tree.BinaryWord.TheVariants as binary
 use Rattle.spectra_trees.specs.Data.{Expression, expression, Form, Expressions}
 use Rattle.spectra_names.specs.Spaces.{Named, unknown, parameter, variable, enum_name, define, predicate, Definition, DefineBody, PredicateBody, Scope, Places, no_parameters, named, parameters_of}
-use Rattle.spectra_names.specs.Cycles.{is_on_cycle}
+use Rattle.spectra_order.specs.Cycles.{is_on_cycle}
 use Rattle.spectra_names.specs.Numbers.{number_of, signed}
 
 -- what stands where a faulty name has no meaning

@@ -1,8 +1,8 @@
 -- Filling the table of measures along an order of definitions.
 use Rattle.std.specs.Prelude.{◌≡◌, ◌⊎◌, ℕ, ◌≤◌, true, false, List, [], length, Some, set, slice_get}
 use Rattle.spectra_names.specs.Spaces.{Scope, Definition}
-use Rattle.spectra_names.specs.Cycles.{is_on_cycle}
-use Rattle.spectra_names.specs.Orders.{StandsBefore}
+use Rattle.spectra_order.specs.Cycles.{is_on_cycle}
+use Rattle.spectra_order.specs.Orders.{StandsBefore}
 use Rattle.spectra_expansion.specs.declared.measure.Measure.{Measure}
 use Rattle.spectra_expansion.specs.Expansion.{expanded}
 use Rattle.spectra_expansion.specs.Telling.{Tells, MeasuresBody}

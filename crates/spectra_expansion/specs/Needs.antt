@@ -1,7 +1,7 @@
 -- What a formula needs of the scope and of the marks that it is made by.
 use Rattle.std.specs.Prelude.{◌≡◌, ℕ, ◌<◌, ◌≤◌, ◌^◌, Bool, List, length, Some, slice_get}
 use Rattle.spectra_names.specs.Spaces.{Scope, variable}
-use Rattle.spectra_names.specs.Cycles.{is_on_cycle}
+use Rattle.spectra_order.specs.Cycles.{is_on_cycle}
 
 -- the numbers of variables and of enum names are no larger than a formula has room for
 pub record HasRoom (scope : Scope) : Type 0 where

@@ -3,7 +3,7 @@ use Rattle.std.specs.Prelude.{◌≡◌, ℕ, ◌+◌, max, List, length, map, S
 use Rattle.spec_model.specs.Syntax.{Formula}
 use Rattle.spectra_trees.specs.Data.{Expression}
 use Rattle.spectra_names.specs.Spaces.{Scope, Places, parameter, named, Definition}
-use Rattle.spectra_names.specs.Cycles.{uses_of}
+use Rattle.spectra_order.specs.Cycles.{uses_of}
 use Rattle.spectra_expansion.specs.declared.measure.Use.{Use}
 use Rattle.spectra_expansion.specs.declared.measure.Measure.{Measure}
 use Rattle.spectra_expansion.specs.Sizes.{nodes_in, levels_in}

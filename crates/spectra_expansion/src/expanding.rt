@@ -5,7 +5,7 @@ ghost use Rattle.spec_model.specs.Syntax.{listed, formulas};
 ghost use Rattle.spec_model.specs.Views.{formula};
 ghost use Rattle.spectra_trees.specs.Data.{expressions};
 ghost use Rattle.spectra_trees.specs.Views.{name_data, expr_data};
-ghost use Rattle.spectra_names.specs.Cycles.{is_on_cycle};
+ghost use Rattle.spectra_order.specs.Cycles.{is_on_cycle};
 ghost use Rattle.spectra_names.specs.ScopeViews.{definition_data, places_in, scope_data};
 ghost use Rattle.spectra_expansion.specs.Expansion.{read_formula, call_formula, body_formula, expanded, formula_of as formula_of_lem};
 ghost use Rattle.spectra_expansion.specs.Needs.{HasRoom, MarksCycles};

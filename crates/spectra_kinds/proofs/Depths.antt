@@ -7,9 +7,9 @@ use Rattle.std.proofs.lemmas.Bool.{cases_lt, eqb-true, eqb-false}
 use Rattle.std.proofs.lemmas.List.{length-map}
 use Rattle.std.proofs.Math.ListN.{length-set}
 use Rattle.spectra_names.specs.Spaces.{Definition, Scope}
-use Rattle.spectra_names.specs.Cycles.{uses_of, all_uses, is_on_cycle}
+use Rattle.spectra_order.specs.Cycles.{uses_of, all_uses, is_on_cycle}
 use Rattle.spectra_kinds.specs.Depths.{Counts, IsByDepth, told, HasValues}
-use Rattle.spectra_names.specs.Orders.{StandsBefore, IsUse, IsOrder}
+use Rattle.spectra_order.specs.Orders.{StandsBefore, IsUse, IsOrder}
 
 -- what stands in an order at a place, as the code reads it
 pub stands : (order : List ℕ) (place : ℕ) → place < length order → slice_get order place ≡ Some (get_or order place 0)

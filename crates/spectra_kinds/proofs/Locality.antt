@@ -7,7 +7,7 @@ use Rattle.std.proofs.lemmas.List.Elements.{filter_map-append}
 use Rattle.spectra_trees.specs.Data.{NameData, Expression, expression, Form, TypeShape}
 use Rattle.spectra_names.specs.Walks.{names_in, names_in_form}
 use Rattle.spectra_names.specs.Spaces.{Named, unknown, parameter, variable, enum_name, define, predicate, Definition, TypeBody, DefineBody, PredicateBody, Scope, no_parameters, named}
-use Rattle.spectra_names.specs.Cycles.{is_on_cycle, definition_named, used_in, used_in_type, uses_of}
+use Rattle.spectra_order.specs.Cycles.{is_on_cycle, definition_named, used_in, used_in_type, uses_of}
 use Rattle.spectra_names.specs.Numbers.{number_of}
 use Rattle.spectra_kinds.specs.Types.{Worth, joined_worth, remainder_worth, name_worth, worth_in, form_worth, body_worth, define_worth, shape_kind, body_kind, alias_kind}
 use Rattle.spectra_kinds.specs.Kinds.{Kind, Anything}

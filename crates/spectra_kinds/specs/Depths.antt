@@ -1,7 +1,7 @@
 -- Values of definitions that rest on the values of those that they use, to a depth, and tables of such values.
 use Rattle.std.specs.Prelude.{◌≡◌, ℕ, zero, suc, ◌<◌, Bool, true, List, Option, Some, None, length, slice_get, option_map, unwrap_or}
 use Rattle.spectra_names.specs.Spaces.{Definition, Scope}
-use Rattle.spectra_names.specs.Cycles.{uses_of, is_on_cycle}
+use Rattle.spectra_order.specs.Cycles.{uses_of, is_on_cycle}
 
 -- one of a definition's uses, where not both are used in their own bodies
 pub record Counts (scope : Scope) (uses : List ℕ) (on_cycle : Bool) (used : ℕ) : Type 0 where

@@ -7,7 +7,7 @@ use Rattle.spectra_trees.specs.declared.tree.BinaryWord.{BinaryWord}
 use Rattle.spectra_trees.specs.declared.tree.BinaryWord.TheVariants as binary
 use Rattle.spectra_trees.specs.Data.{NameData, Expression, expression, Form, TypeData, TypeShape, PredicateData}
 use Rattle.spectra_names.specs.Spaces.{Named, enum_name, define, Definition, TypeBody, DefineBody, Scope, no_parameters, named}
-use Rattle.spectra_names.specs.Cycles.{is_on_cycle}
+use Rattle.spectra_order.specs.Cycles.{is_on_cycle}
 use Rattle.spectra_kinds.specs.Kinds.{Kind, Truth, Whole, NameOf, Anything, is_wide, added, subtracted, multiplied, reduced}
 use Rattle.spectra_names.specs.Numbers.{number_of, signed}
 

@@ -3,8 +3,8 @@
 ghost use Rattle.std.specs.Prelude.{◌≡◌, Some, option_map, map, IfOk, length};
 ghost use Rattle.spectra_trees.specs.Views.{name_data, expr_data, type_shape, type_data};
 ghost use Rattle.spectra_names.specs.ScopeViews.{scope_data, definition_data, predicate_data};
-ghost use Rattle.spectra_names.specs.Cycles.{all_uses, AreOnCycle};
-ghost use Rattle.spectra_names.specs.Orders.{IsOrder};
+ghost use Rattle.spectra_order.specs.Cycles.{all_uses, AreOnCycle};
+ghost use Rattle.spectra_order.specs.Orders.{IsOrder};
 ghost use Rattle.spectra_kinds.specs.Kinds.{Anything};
 ghost use Rattle.spectra_kinds.specs.KindViews.{kind_data};
 ghost use Rattle.spectra_kinds.specs.WorthViews.{worth_data, AreWorths};

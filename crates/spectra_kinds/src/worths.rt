@@ -8,8 +8,8 @@ ghost use Rattle.spectra_kinds.specs.Kinds.{Whole, added, subtracted, multiplied
 ghost use Rattle.spectra_kinds.specs.KindViews.{kind_data};
 ghost use Rattle.spectra_kinds.specs.Types.{worth_of as worth_of_lem, joined_worth as joined_worth_lem, remainder_worth as remainder_worth_lem, name_worth as name_worth_lem, worth_in as worth_in_lem};
 ghost use Rattle.spectra_kinds.specs.Spans.{IsInSpan};
-ghost use Rattle.spectra_names.specs.Cycles.{all_uses, AreOnCycle};
-ghost use Rattle.spectra_names.specs.Orders.{IsOrder};
+ghost use Rattle.spectra_order.specs.Cycles.{all_uses, AreOnCycle};
+ghost use Rattle.spectra_order.specs.Orders.{IsOrder};
 ghost use Rattle.spectra_kinds.specs.Bodies.{defined_worth};
 ghost use Rattle.spectra_kinds.specs.WorthViews.{worth_data, worths_in, AreWorths};
 

@@ -3,7 +3,4 @@ pub mod Mapped
 pub mod Digits
 pub mod Declared
 pub mod Counting
-pub mod Walking
-pub mod Reaching
-pub mod Clearing
-pub mod Placed
+pub mod First

@@ -1,5 +1,5 @@
 -- Faults with their places, and the one that comes first.
-use Rattle.std.specs.Prelude.{ℕ, Bool, ◌==◌, nat_lt, List, [], ◌∷◌, Option, Some, None, if◌then◌else◌}
+use Rattle.std.specs.Prelude.{ℕ, Bool, true, false, ◌==◌, nat_lt, List, [], ◌∷◌, Option, Some, None, if◌then◌else◌}
 use Rattle.spectra_trees.specs.declared.tree.Place.{Place}
 use Rattle.spectra_trees.specs.Data.{NameData}
 use Rattle.spectra_names.specs.declared.findings.Finding.{Finding}
@@ -35,6 +35,11 @@ with_faults found (f ∷ fs) = with_faults (with_fault found f) fs
 -- the fault that comes first
 abbrev pub first_of_faults : List Finding → Option Finding
 first_of_faults fs = with_faults None fs
+
+-- nothing is wrong
+abbrev pub is_faultless : List Finding → Bool
+is_faultless [] = true
+is_faultless (f ∷ fs) = false
 
 -- what the program has found so far
 abbrev pub found_in : Findings → Option Finding

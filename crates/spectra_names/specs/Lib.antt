@@ -7,9 +7,4 @@ pub mod ScopeViews
 pub mod Declaring
 pub mod Seeing
 pub mod Passes
-pub mod Todos
-pub mod Cycles
-pub mod Searching
 pub mod Numbers
-pub mod Orders
-pub mod Placing

@@ -5,7 +5,7 @@ abbrev pub written_after : ℕ → List ℕ → ℕ
 written_after n [] = n
 written_after n (c ∷ cs) = written_after (n * 10 + (c - 48)) cs
 
--- the number that digits write, at most the greatest one of 64 bits
+-- the number that digits write, at most the greatest signed one of 64 bits
 abbrev pub number_of : List ℕ → ℕ
 number_of digits = min (written_after 0 digits) (2 ^ 63 - 1)
 

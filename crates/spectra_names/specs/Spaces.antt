@@ -152,3 +152,11 @@ is_system Sys = Bool.true
 
 abbrev pub is_system_variable : Scope → ℕ → Bool
 is_system_variable scope k = unwrap_or (option_map (λ v. is_system (owner_of v.owner)) (slice_get scope.variables k)) false
+
+-- a numbered definition, where it is a predicate
+abbrev pub predicate_in : Scope → ℕ → Option PredicateData
+predicate_in scope k = only (slice_get scope.definitions k)
+  where
+    only : Option Definition → Option PredicateData
+    only (Some (PredicateBody p)) = Some p
+    only _ = None

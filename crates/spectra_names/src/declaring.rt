@@ -3,13 +3,13 @@
 ghost use Rattle.std.specs.Prelude.{◌≡◌, [], ◌∷◌, OnOk, length, map, option_map};
 ghost use Rattle.spectra_trees.specs.Data.{ItemData};
 ghost use Rattle.spectra_trees.specs.Views.{name_data, expr_data, type_data, item_data};
-ghost use Rattle.spectra_names.specs.Findings.{found_in, place_of as place_of_lem, with_faults};
+ghost use Rattle.spectra_names.specs.Findings.{found_in, with_faults};
 ghost use Rattle.spectra_names.specs.Spaces.{enum_name, enums, TypeBody};
 ghost use Rattle.spectra_names.specs.Declarations.{clash};
 ghost use Rattle.spectra_names.specs.ScopeViews.{named_data, var_data, predicate_data, definition_data};
 ghost use Rattle.spectra_names.specs.Declaring.{known, with_value, with_values, with_parameters, with_variable, with_definition, with_defines, with_item, with_items};
 
-use crate::findings::Findings;
+use crate::findings::{Findings, place_of};
 use crate::scope::{Definition, Named};
 use crate::table::Table;
 use spectra_trees::tree::{
@@ -24,16 +24,6 @@ pub struct Declaring<'a> {
     pub variables: Vec<&'a VarItem>,
     pub definitions: Vec<Definition<'a>>,
     pub findings: Findings,
-}
-
-/// Where a name stands.
-pub fn place_of(name: &Name) -> Place
-    ensures { result ≡ place_of_lem (name_data name.now) }
-{
-    Place {
-        line: name.line,
-        column: name.column,
-    }
 }
 
 // Reports a declaration whose name stands for something else already.

@@ -1,9 +1,10 @@
 //! The fault that comes first among those that were found.
 
 ghost use Rattle.std.specs.Prelude.{◌≡◌, None};
-ghost use Rattle.spectra_names.specs.Findings.{found_in, precedes as precedes_lem, with_fault, with_faults};
+ghost use Rattle.spectra_trees.specs.Views.{name_data};
+ghost use Rattle.spectra_names.specs.Findings.{found_in, fault_if, place_of as place_of_lem, precedes as precedes_lem, with_fault, with_faults};
 
-use spectra_trees::tree::Place;
+use spectra_trees::tree::{Name, Place};
 
 /// What is wrong, and where.
 #[derive(Clone, Copy, Debug, PartialEq, Eq)]
@@ -18,7 +19,17 @@ pub struct Findings {
     first: Option<Finding>,
 }
 
-/// Whether a finding comes before another: at a lesser place, or with a smaller number at the same one.
+/// Where a name stands.
+pub fn place_of(name: &Name) -> Place
+    ensures { result ≡ place_of_lem (name_data name.now) }
+{
+    Place {
+        line: name.line,
+        column: name.column,
+    }
+}
+
+// Whether a finding comes before another: at a lesser place, or with a smaller number at the same one.
 fn precedes(a: Finding, b: Finding) -> bool
     ensures { result ≡ precedes_lem a b }
 {
@@ -59,5 +70,14 @@ impl Findings {
         ensures { result ≡ found_in self.now }
     {
         self.first
+    }
+}
+
+/// Reports a fault where a test holds.
+pub fn report_if(findings: &mut Findings, wrong: bool, number: u8, at: Place)
+    ensures { found_in findings.new ≡ with_faults (found_in findings.old) (fault_if wrong number at) }
+{
+    if wrong {
+        findings.report(number, at);
     }
 }

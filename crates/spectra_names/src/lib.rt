@@ -1,23 +1,19 @@
-//! The names of a text: what they stand for, which definitions use which, and which are used in their own bodies.
+//! The names of a text: what each stands for in its name space, and the faults of their declarations.
 //!
-//! Every name is looked up in its name space: a table gives its first declaration. Where faults stand in a text, the one
-//! with the least place is kept.
+//! A name stands for its first declaration. Each later one is a fault, and so is the first item past a limit. Of all faults
+//! the one with the least place is kept.
+//!
+//! Contract: `building::scope_of` gives every declaration of a text and the first fault among them, exactly.
 //!
 //! Path: text → tokens → trees → **specification** → game → regions → layers → strategy → verdict → lines.
 #![tactic(auto)]
 
 pub mod building;
-mod cycles;
 mod declaring;
 mod enum_names;
 pub mod findings;
 mod limits;
-mod marks;
 pub mod numbers;
-pub mod order;
-mod placing;
 pub mod scope;
 pub mod seen;
 pub mod table;
-mod todo;
-pub mod uses;

@@ -1,6 +1,6 @@
 //! How many variables, lines and enum names a text may have.
 
-ghost use Rattle.std.specs.Prelude.{◌≡◌, [], map, length, IfOk, OnOk};
+ghost use Rattle.std.specs.Prelude.{◌≡◌, [], map, IfOk, OnOk};
 ghost use Rattle.spectra_trees.specs.Views.{name_data, type_data, item_data};
 ghost use Rattle.spectra_names.specs.Findings.{found_in, with_faults};
 ghost use Rattle.spectra_names.specs.Walks.{enum_names as enum_names_lem};

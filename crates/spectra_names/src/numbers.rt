@@ -13,7 +13,7 @@ fn with_digit(number: u64, digit: u8) -> u64
         .saturating_add(u64::from(digit.saturating_sub(48)))
 }
 
-/// The number that digits write, at most the greatest one of 64 bits.
+/// The number that digits write, at most the greatest `i64`.
 pub fn number_of(digits: &str) -> u64
     ensures value { result ≡ number_of_lem digits.now }
     ensures within { result < 2 ^ 63 }

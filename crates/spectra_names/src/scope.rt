@@ -1,9 +1,8 @@
-//! What the names of a text stand for.
+//! What the names of a text stand for, by the tables that hold it.
 
-ghost use Rattle.std.specs.Prelude.{◌≡◌, Some, option_map, slice_get};
+ghost use Rattle.std.specs.Prelude.{◌≡◌, Some};
 ghost use Rattle.spectra_names.specs.Spaces.{no_parameters, named as named_lem};
-ghost use Rattle.spectra_names.specs.Tables.{in_table};
-ghost use Rattle.spectra_names.specs.ScopeViews.{named_data, definition_data, places_in, scope_data};
+ghost use Rattle.spectra_names.specs.ScopeViews.{named_data, places_in, scope_data};
 
 use crate::enum_names::EnumNames;
 use crate::table::Table;

@@ -1,14 +1,13 @@
 //! Names that stand twice where each may stand once.
 
-ghost use Rattle.std.specs.Prelude.{◌≡◌, ◌||◌, [], ◌∷◌, List, ℕ, Bool, false, map, option_to_list, OnOk, bytes_eq};
+ghost use Rattle.std.specs.Prelude.{◌≡◌, ◌∷◌, List, false, map, OnOk};
 ghost use Rattle.spectra_trees.specs.Data.{NameData};
-ghost use Rattle.spectra_trees.specs.Views.{name_data, type_data, item_data};
-ghost use Rattle.spectra_names.specs.Findings.{found_in, fault_if, place_of as place_of_lem, with_faults};
-ghost use Rattle.spectra_names.specs.Declarations.{line_name, twice, twice_after};
+ghost use Rattle.spectra_trees.specs.Views.{name_data};
+ghost use Rattle.spectra_names.specs.Findings.{found_in, with_faults};
+ghost use Rattle.spectra_names.specs.Declarations.{twice, twice_after};
 ghost use Rattle.spectra_names.specs.Seeing.{is_seen};
 
-use crate::declaring::place_of;
-use crate::findings::Findings;
+use crate::findings::{Findings, place_of};
 use crate::table::Table;
 use spectra_trees::tree::Name;
 use std::alloc::{AllocError, Global};

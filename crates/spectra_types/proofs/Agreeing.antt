@@ -6,13 +6,13 @@ use Rattle.spectra_names.specs.Walks.{names_in, names_in_form, names_in_each}
 use Rattle.spectra_names.specs.Findings.{place_of}
 use Rattle.spectra_names.specs.Spaces.{Named, unknown, parameter, variable, enum_name, define, predicate, Scope, Places, named}
 use Rattle.spectra_kinds.specs.Kinds.{Kind}
-use Rattle.spectra_typing.specs.Contents.{Note, Setting, nothing, both, under_next, carried, name_contents, name_marks, first_mark, later_marks, contents_of, form_contents, contents_of_each, argument_contents, name_standing, standing, form_standing, standing_in_each, argument_standing}
+use Rattle.spectra_contents.specs.Contents.{Note, Setting, nothing, both, under_next, carried, name_contents, name_marks, first_mark, later_marks, contents_of, form_contents, contents_of_each, argument_contents, name_standing, standing, form_standing, standing_in_each, argument_standing}
 use Rattle.spectra_typing.specs.Typed.{read_kind, binary_kind, kind_of, form_kind, kinds_of}
-use Rattle.spectra_typing.specs.declared.setting.Mark.{Mark}
-use Rattle.spectra_typing.specs.declared.misplaced.Ban.{Ban}
-use Rattle.spectra_typing.specs.Misplaced.{next_faults, body_misplaced, name_misplaced, shifted_contents, call_misplaced, misplaced, form_misplaced, misplaced_in_each}
+use Rattle.spectra_contents.specs.declared.setting.Mark.{Mark}
+use Rattle.spectra_contents.specs.declared.misplaced.Ban.{Ban}
+use Rattle.spectra_contents.specs.Misplaced.{next_faults, body_misplaced, name_misplaced, shifted_contents, call_misplaced, misplaced, form_misplaced, misplaced_in_each}
 use Rattle.spectra_types.proofs.Empty.{every_parts}
-use Rattle.spectra_names.specs.Cycles.{definition_named}
+use Rattle.spectra_order.specs.Cycles.{definition_named}
 use Rattle.spec_model.proofs.AllStates.{Every}
 use Rattle.std.specs.List.{filter_map}
 

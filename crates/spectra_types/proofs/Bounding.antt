@@ -22,12 +22,12 @@ use Rattle.spectra_names.specs.Spaces.{Named, unknown, parameter, variable, enum
 use Rattle.spectra_kinds.specs.Kinds.{Kind, is_truth}
 use Rattle.spectra_kinds.specs.Types.{parameter_kinds}
 use Rattle.spectra_expansion.specs.Expansion.{no_meaning, read_formula, call_formula, prefix_formula, binary_formula, formula_in, form_formula, formulas_in, put_in, formula_of}
-use Rattle.spectra_typing.specs.declared.setting.Contents.{Contents}
-use Rattle.spectra_typing.specs.declared.setting.Mark.{Mark}
-use Rattle.spectra_typing.specs.Contents.{Note, Setting, named_in, unused, nothing, both, carried, name_contents, name_marks, first_mark, later_marks, contents_of, form_contents, contents_of_each, argument_contents, Standing, name_standing, standing, form_standing, standing_in_each, argument_standing, with_marks}
+use Rattle.spectra_contents.specs.declared.setting.Contents.{Contents}
+use Rattle.spectra_contents.specs.declared.setting.Mark.{Mark}
+use Rattle.spectra_contents.specs.Contents.{Note, Setting, named_in, unused, nothing, both, carried, name_contents, name_marks, first_mark, later_marks, contents_of, form_contents, contents_of_each, argument_contents, Standing, name_standing, standing, form_standing, standing_in_each, argument_standing, with_marks}
 use Rattle.spectra_typing.specs.Typed.{kind_of, typing_faults, faults_with}
-use Rattle.spectra_typing.specs.declared.misplaced.Ban.{Ban}
-use Rattle.spectra_typing.specs.Misplaced.{no_ban, next_faults, name_misplaced, shifted_contents, call_misplaced, misplaced, form_misplaced, misplaced_in_each}
+use Rattle.spectra_contents.specs.declared.misplaced.Ban.{Ban}
+use Rattle.spectra_contents.specs.Misplaced.{no_ban, next_faults, name_misplaced, shifted_contents, call_misplaced, misplaced, form_misplaced, misplaced_in_each}
 use Rattle.spectra_typing.specs.Notes.{depth_of, expression_faults, notes_of}
 use Rattle.spectra_types.specs.Meanings.{variable_of}
 use Rattle.spectra_types.specs.Built.{is_built_prefix, is_built_binary, is_built, is_built_form, are_built}

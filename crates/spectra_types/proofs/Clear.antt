@@ -7,11 +7,11 @@ use Rattle.spectra_trees.specs.Data.{NameData, Expression, expression, Form, Exp
 use Rattle.spectra_names.specs.Walks.{names_in, names_in_form, names_in_each}
 use Rattle.spectra_names.specs.Findings.{fault_if, place_of}
 use Rattle.spectra_names.specs.Spaces.{Named, unknown, parameter, variable, enum_name, define, predicate, is_system_variable}
-use Rattle.spectra_typing.specs.declared.setting.Contents.{Contents}
-use Rattle.spectra_typing.specs.declared.setting.Mark.{Mark}
-use Rattle.spectra_typing.specs.Contents.{Setting, named_in, nothing, both, carried, name_contents, name_marks, first_mark, later_marks, contents_of, form_contents, contents_of_each, argument_contents}
-use Rattle.spectra_typing.specs.declared.misplaced.Ban.{Ban}
-use Rattle.spectra_typing.specs.Misplaced.{is_system, names_system, next_faults, body_misplaced, name_misplaced, shifted_contents, call_misplaced, misplaced, form_misplaced, misplaced_in_each}
+use Rattle.spectra_contents.specs.declared.setting.Contents.{Contents}
+use Rattle.spectra_contents.specs.declared.setting.Mark.{Mark}
+use Rattle.spectra_contents.specs.Contents.{Setting, named_in, nothing, both, carried, name_contents, name_marks, first_mark, later_marks, contents_of, form_contents, contents_of_each, argument_contents}
+use Rattle.spectra_contents.specs.declared.misplaced.Ban.{Ban}
+use Rattle.spectra_contents.specs.Misplaced.{is_system, names_system, next_faults, body_misplaced, name_misplaced, shifted_contents, call_misplaced, misplaced, form_misplaced, misplaced_in_each}
 use Rattle.spectra_types.proofs.Empty.{empty_parts, no_fault}
 
 pub not_second : (a b : Bool) → (a && b) ≡ false → a ≡ true → b ≡ false

@@ -19,10 +19,10 @@ use Rattle.spectra_kinds.specs.Kinds.{Kind, is_truth}
 use Rattle.spectra_kinds.specs.Types.{variable_kinds, parameter_kinds}
 use Rattle.spectra_expansion.specs.Sizes.{nodes_in, nodes_in_each, levels_in, levels_in_each}
 use Rattle.spectra_expansion.specs.Expansion.{no_meaning, read_formula, call_formula, prefix_formula, binary_formula, formula_in, form_formula, formulas_in, put_in}
-use Rattle.spectra_typing.specs.declared.setting.Mark.{Mark}
-use Rattle.spectra_typing.specs.Contents.{Note, Setting, named_in, unused, name_marks, first_mark, later_marks, Standing, name_standing, standing, form_standing, standing_in_each, argument_standing}
+use Rattle.spectra_contents.specs.declared.setting.Mark.{Mark}
+use Rattle.spectra_contents.specs.Contents.{Note, Setting, named_in, unused, name_marks, first_mark, later_marks, Standing, name_standing, standing, form_standing, standing_in_each, argument_standing}
 use Rattle.spectra_typing.specs.Typed.{kind_of, call_faults, node_faults, typing_faults, form_typing_faults, typing_faults_of_each, argument_typing_faults, put_in_faults, faults_with}
-use Rattle.spectra_typing.specs.Misplaced.{no_ban, misplaced}
+use Rattle.spectra_contents.specs.Misplaced.{no_ban, misplaced}
 use Rattle.spectra_typing.specs.Notes.{depth_of, expression_faults, boolean_faults, setting_within, notes_of}
 use Rattle.spectra_types.proofs.Empty.{not_empty, empty_parts, every_parts, every_joined, every_then}
 use Rattle.spectra_types.proofs.Uses.{Meant, meant, LowName, LowNames, IsLow, rank_of, predicate_low}

@@ -20,10 +20,10 @@ use Rattle.spectra_kinds.specs.Kinds.{Kind, Truth, Whole, SomeWhole, NameOf, One
 use Rattle.spectra_kinds.specs.Types.{type_kind, variable_kinds, parameter_kinds}
 use Rattle.spectra_expansion.specs.Sizes.{nodes_in, nodes_in_each, levels_in, levels_in_each}
 use Rattle.spectra_expansion.specs.Expansion.{no_meaning, read_formula, call_formula, prefix_formula, binary_formula, formula_in, form_formula, formulas_in, put_in, formula_of, most_nodes, most_levels, is_small}
-use Rattle.spectra_typing.specs.declared.setting.Mark.{Mark}
-use Rattle.spectra_typing.specs.Contents.{Note, Setting, named_in, unused, name_marks, first_mark, later_marks, Standing, name_standing, standing, form_standing, standing_in_each, argument_standing, with_marks}
+use Rattle.spectra_contents.specs.declared.setting.Mark.{Mark}
+use Rattle.spectra_contents.specs.Contents.{Note, Setting, named_in, unused, name_marks, first_mark, later_marks, Standing, name_standing, standing, form_standing, standing_in_each, argument_standing, with_marks}
 use Rattle.spectra_typing.specs.Typed.{read_kind, call_kind, binary_kind, kind_of, form_kind, kinds_of, wrong, later_operands, operands, wrong_arguments, takes_kinds, read_faults, has_arity, call_faults, remainder_faults, node_faults, given_each, called_faults, moved_to, put_in_faults, typing_faults, form_typing_faults, typing_faults_of_each, argument_typing_faults, within, body_faults, faults_with}
-use Rattle.spectra_typing.specs.Misplaced.{no_ban, misplaced}
+use Rattle.spectra_contents.specs.Misplaced.{no_ban, misplaced}
 use Rattle.spectra_typing.specs.Notes.{depth_of, expression_faults, notes_of}
 use Rattle.spectra_types.specs.Meanings.{domain_of, variable_of, type_faults, types_faults}
 use Rattle.spectra_types.proofs.Empty.{not_empty, empty_parts, no_fault, not_map, every_parts, every_empty, every_behind, every_both, every_mapped, every_then}

@@ -11,8 +11,8 @@ use Rattle.spectra_names.specs.Findings.{fault_if}
 use Rattle.spectra_names.specs.Spaces.{no_parameters}
 use Rattle.spectra_expansion.specs.Sizes.{nodes_in, levels_in}
 use Rattle.spectra_expansion.specs.Expansion.{formula_of, most_nodes, most_levels}
-use Rattle.spectra_typing.specs.Contents.{Setting}
-use Rattle.spectra_typing.specs.declared.misplaced.Ban.{Ban}
+use Rattle.spectra_contents.specs.Contents.{Setting}
+use Rattle.spectra_contents.specs.declared.misplaced.Ban.{Ban}
 use Rattle.spectra_types.specs.Meanings.{is_too_large, line_faults, faults_of_line, nodes_of_line, ban_of, content_of, expression_of, lines_faults, lines_from}
 use Rattle.spectra_types.proofs.Empty.{empty_parts, no_fault}
 

@@ -5,8 +5,8 @@ use Rattle.std.proofs.lemmas.List.{get_or-set_same, get_or-set_other, get_or_pas
 use Rattle.spec_model.proofs.AllStates.{Every}
 use Rattle.spectra_trees.specs.Data.{NameData, Expression, expression, Form, Expressions, TypeData, PredicateData}
 use Rattle.spectra_names.specs.Spaces.{Named, unknown, parameter, variable, enum_name, define, predicate, Scope, places_from, parameters_of, named}
-use Rattle.spectra_typing.specs.declared.setting.Mark.{Mark}
-use Rattle.spectra_typing.specs.Contents.{Setting, named_in, unused, name_marks, first_mark, later_marks, Standing, name_standing, standing, form_standing, standing_in_each, argument_standing, marked, with_mark, with_marks}
+use Rattle.spectra_contents.specs.declared.setting.Mark.{Mark}
+use Rattle.spectra_contents.specs.Contents.{Setting, named_in, unused, name_marks, first_mark, later_marks, Standing, name_standing, standing, form_standing, standing_in_each, argument_standing, marked, with_mark, with_marks}
 use Rattle.spectra_types.proofs.Empty.{every_joined}
 use Rattle.spectra_types.proofs.Named.{found_holds, IsWhole}
 use Rattle.spectra_types.proofs.Uses.{means}

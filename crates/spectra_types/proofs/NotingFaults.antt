@@ -7,18 +7,18 @@ use Rattle.spectra_trees.specs.declared.tree.Place.{Place}
 use Rattle.spectra_trees.specs.Data.{NameData, Expression, expression, Form, Expressions, first_of, PredicateData}
 use Rattle.spectra_names.specs.declared.findings.Finding.{Finding}
 use Rattle.spectra_names.specs.Walks.{names_in, names_in_form, names_in_each}
-use Rattle.spectra_names.specs.Findings.{fault, fault_if, place_of}
-use Rattle.spectra_names.specs.Spaces.{Named, unknown, parameter, variable, enum_name, define, predicate, Definition, TypeBody, DefineBody, PredicateBody, Scope, Places, no_parameters, parameters_of, named}
+use Rattle.spectra_names.specs.Findings.{fault, fault_if, place_of, is_faultless}
+use Rattle.spectra_names.specs.Spaces.{Named, unknown, parameter, variable, enum_name, define, predicate, Definition, TypeBody, DefineBody, PredicateBody, Scope, Places, no_parameters, parameters_of, named, predicate_in}
 use Rattle.spectra_names.specs.Declarations.{twice}
-use Rattle.spectra_names.specs.Cycles.{is_on_cycle}
+use Rattle.spectra_order.specs.Cycles.{is_on_cycle}
 use Rattle.spectra_names.specs.Numbers.{number_of}
 use Rattle.spectra_kinds.specs.Kinds.{Kind, Truth, Anything, is_truth, is_whole, can_equal, is_wide}
 use Rattle.spectra_kinds.specs.Types.{variable_kinds, parameter_kinds}
-use Rattle.spectra_typing.specs.declared.setting.Mark.{Mark}
-use Rattle.spectra_typing.specs.Contents.{Note, Setting, unused, name_marks, first_mark, later_marks, with_marks}
-use Rattle.spectra_typing.specs.Typed.{binary_kind, kind_of, kinds_of, takes, wrong, later_operands, operands, wrong_arguments, predicate_in, takes_kinds, call_faults, remainder_faults, node_faults, given_each, called_faults, moved_to, typing_faults, form_typing_faults, typing_faults_of_each, argument_typing_faults, body_faults, faults_with}
-use Rattle.spectra_typing.specs.Misplaced.{no_ban}
-use Rattle.spectra_typing.specs.Notes.{depth_of, setting_of, is_faultless, note_of, note_of_body, note_with, notes_of}
+use Rattle.spectra_contents.specs.declared.setting.Mark.{Mark}
+use Rattle.spectra_contents.specs.Contents.{Note, Setting, unused, name_marks, first_mark, later_marks, with_marks}
+use Rattle.spectra_typing.specs.Typed.{binary_kind, kind_of, kinds_of, takes, wrong, later_operands, operands, wrong_arguments, takes_kinds, call_faults, remainder_faults, node_faults, given_each, called_faults, moved_to, typing_faults, form_typing_faults, typing_faults_of_each, argument_typing_faults, body_faults, faults_with}
+use Rattle.spectra_contents.specs.Misplaced.{no_ban}
+use Rattle.spectra_typing.specs.Notes.{depth_of, setting_of, note_of, note_of_body, note_with, notes_of}
 use Rattle.spectra_types.proofs.Empty.{every_parts}
 use Rattle.spectra_types.proofs.Named.{IsWhole}
 use Rattle.spectra_types.proofs.Uses.{LowName, LowNames, IsLow, size, rank_of, Acyclic, low_rank, define_low, predicate_low}

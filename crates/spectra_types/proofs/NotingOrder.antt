@@ -7,15 +7,15 @@ use Rattle.std.proofs.lemmas.Bool.{cases_lt, false≢true}
 use Rattle.spectra_trees.specs.Data.{PredicateData}
 use Rattle.spectra_names.specs.Walks.{names_in}
 use Rattle.spectra_names.specs.Spaces.{Definition, PredicateBody, Scope, parameters_of}
-use Rattle.spectra_names.specs.Cycles.{uses_of, all_uses, is_on_cycle, AreOnCycle}
-use Rattle.spectra_names.specs.Orders.{StandsBefore, IsUse, IsOrder}
+use Rattle.spectra_order.specs.Cycles.{uses_of, all_uses, is_on_cycle, AreOnCycle}
+use Rattle.spectra_order.specs.Orders.{StandsBefore, IsUse, IsOrder}
 use Rattle.spectra_kinds.specs.Depths.{told, HasValues}
 use Rattle.spectra_kinds.proofs.Depths.{stands, is_definition, one_more, nothing_past}
-use Rattle.spectra_typing.specs.declared.setting.Note as code_note
-use Rattle.spectra_typing.specs.Contents.{Note, blank}
+use Rattle.spectra_contents.specs.declared.setting.Note as code_note
+use Rattle.spectra_contents.specs.Contents.{Note, blank}
 use Rattle.spectra_typing.specs.Noted.{note_of_some}
 use Rattle.spectra_typing.specs.Notes.{setting_of, notes_seen, note_of_body, note_with, notes_of}
-use Rattle.spectra_typing.specs.SettingViews.{note_data, note_or_blank, note_among}
+use Rattle.spectra_contents.specs.SettingViews.{note_data, note_or_blank, note_among}
 use Rattle.spectra_types.specs.Noting.{PutsNote}
 use Rattle.spectra_types.proofs.Agreeing.{Agree, are_named}
 use Rattle.spectra_types.proofs.AgreeingFaults.{IsClosed, note_of_same}

@@ -11,7 +11,7 @@ use Rattle.spectra_trees.specs.declared.tree.BinaryWord.{BinaryWord}
 use Rattle.spectra_trees.specs.declared.tree.BinaryWord.TheVariants as binary
 use Rattle.spectra_trees.specs.Data.{Expression, expression, Form, Expressions, ItemData}
 use Rattle.spectra_names.specs.Spaces.{Named, unknown, parameter, variable, enum_name, define, predicate, Definition, TypeBody, DefineBody, PredicateBody, Scope, Places, no_parameters, named, parameters_of, definitions_of, definitions_in}
-use Rattle.spectra_names.specs.Cycles.{is_on_cycle}
+use Rattle.spectra_order.specs.Cycles.{is_on_cycle}
 use Rattle.spectra_expansion.specs.Expansion.{no_meaning, read_formula, call_formula, prefix_formula, binary_formula, formula_in, form_formula, formulas_in, body_formula, expanded}
 use Rattle.spectra_types.specs.Built.{is_built_prefix, is_built_binary, is_built, is_built_form, are_built, is_built_item}
 use Rattle.spectra_types.proofs.Empty.{empty_parts, every_from, every_joined, every_mapped}

@@ -4,9 +4,9 @@ use Rattle.std.specs.List.{list_any}
 use Rattle.std.proofs.lemmas.Bool.{or_cases, or_left, or_right, false≢true, cases_Bool, cases_lt}
 use Rattle.std.proofs.lemmas.Bool.Decides.{Decides-eqb}
 use Rattle.std.proofs.lemmas.Option.{slice_get_past}
-use Rattle.spectra_names.specs.Cycles.{reaches}
-use Rattle.spectra_names.specs.Searching.{next_of}
-use Rattle.spectra_names.proofs.Reaching.{one_step, first_step, in_more_steps}
+use Rattle.spectra_order.specs.Cycles.{reaches}
+use Rattle.spectra_order.specs.Searching.{next_of}
+use Rattle.spectra_order.proofs.Reaching.{one_step, first_step, in_more_steps}
 
 -- ---- counting
 

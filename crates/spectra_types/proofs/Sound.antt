@@ -6,12 +6,13 @@ use Rattle.spec_model.proofs.AllStates.{Every}
 use Rattle.spectra_trees.specs.Data.{NameData, Expression, TypeData, VarData, PredicateData, ItemData, TreeData}
 use Rattle.spectra_names.specs.Walks.{enum_names}
 use Rattle.spectra_names.specs.Spaces.{Definition, TypeBody, DefineBody, PredicateBody, Scope, scope_of, values_from, variables_in, definitions_of, definitions_in, no_names}
-use Rattle.spectra_names.specs.Cycles.{is_on_cycle}
+use Rattle.spectra_order.specs.Cycles.{is_on_cycle}
 use Rattle.spectra_names.proofs.Declared.{after-no_names}
 use Rattle.spectra_kinds.specs.Kinds.{Truth, Anything}
-use Rattle.spectra_typing.specs.Contents.{Note, Setting, unused, contents_of, standing, with_marks}
+use Rattle.spectra_contents.specs.Contents.{Note, Setting, unused, contents_of, standing, with_marks}
 use Rattle.spectra_typing.specs.Typed.{kind_of}
-use Rattle.spectra_typing.specs.Notes.{predicate_faults, setting_of, setting_within, is_faultless, notes_of}
+use Rattle.spectra_typing.specs.Notes.{predicate_faults, setting_of, setting_within, notes_of}
+use Rattle.spectra_names.specs.Findings.{is_faultless}
 use Rattle.spectra_types.specs.Meanings.{type_faults, types_faults, definition_faults}
 use Rattle.spectra_types.specs.Shapes.{has_names, types_of, has_shape}
 use Rattle.spectra_types.proofs.Empty.{empty_parts, every_empty, every_from, every_mapped, every_behind, every_joined, every_both}

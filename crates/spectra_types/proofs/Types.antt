@@ -18,12 +18,12 @@ use Rattle.spectra_names.specs.Findings.{fault, fault_if, place_of}
 use Rattle.spectra_names.specs.Walks.{enum_names}
 use Rattle.spectra_names.specs.Spaces.{enum_name, TypeBody, Scope, no_parameters}
 use Rattle.spectra_names.specs.Declarations.{twice_after}
-use Rattle.spectra_names.specs.Cycles.{used_in_type}
+use Rattle.spectra_order.specs.Cycles.{used_in_type}
 use Rattle.spectra_kinds.specs.Kinds.{Kind, Truth, Whole, SomeWhole, NameOf, OneName, Anything, is_whole, is_wide}
 use Rattle.spectra_kinds.specs.Types.{Worth, define_worth, bound_worth, is_range, range_kind, is_enum_name, is_sound_enum, shape_kind, body_kind, alias_kind, type_kind}
-use Rattle.spectra_typing.specs.Contents.{Setting}
+use Rattle.spectra_contents.specs.Contents.{Setting}
 use Rattle.spectra_typing.specs.Typed.{kind_of, typing_faults, faults_with}
-use Rattle.spectra_typing.specs.Misplaced.{bound_ban, misplaced}
+use Rattle.spectra_contents.specs.Misplaced.{bound_ban, misplaced}
 use Rattle.spectra_typing.specs.Notes.{depth_of, expression_faults}
 use Rattle.spectra_types.specs.WellTyped.{is_domain_of}
 use Rattle.spectra_types.specs.Meanings.{bound_faults, range_faults, type_faults, domain_of, variable_of, number_of_name}

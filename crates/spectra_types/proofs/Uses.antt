@@ -8,8 +8,8 @@ use Rattle.spectra_trees.specs.Data.{NameData, Expression, PredicateData}
 use Rattle.spectra_names.specs.Findings.{fault_if, place_of}
 use Rattle.spectra_names.specs.Walks.{names_in}
 use Rattle.spectra_names.specs.Spaces.{Named, unknown, parameter, variable, enum_name, define, predicate, Definition, DefineBody, PredicateBody, Scope, Places, no_parameters, parameters_of, named}
-use Rattle.spectra_names.specs.Cycles.{definition_named, uses_of, all_uses, is_on_cycle, reaches}
-use Rattle.spectra_typing.specs.Contents.{Setting}
+use Rattle.spectra_order.specs.Cycles.{definition_named, uses_of, all_uses, is_on_cycle, reaches}
+use Rattle.spectra_contents.specs.Contents.{Setting}
 use Rattle.spectra_types.specs.Meanings.{definition_faults, name_of_definition, definitions_faults}
 use Rattle.spectra_types.proofs.Empty.{empty_parts, no_fault}
 use Rattle.spectra_types.proofs.Ranks.{rank, NoCycle, rank_below, rank_falls}

@@ -7,21 +7,20 @@ ghost use Rattle.spectra_names.specs.Findings.{found_in, with_faults};
 ghost use Rattle.spectra_names.specs.ScopeViews.{predicate_data};
 ghost use Rattle.spectra_kinds.specs.Types.{bound_worth};
 ghost use Rattle.spectra_kinds.specs.WorthViews.{worth_data};
-ghost use Rattle.spectra_typing.specs.Misplaced.{bound_ban as bound_ban_lem};
+ghost use Rattle.spectra_contents.specs.Misplaced.{bound_ban as bound_ban_lem};
 ghost use Rattle.spectra_types.specs.FactsViews.{scope_in, setting_in, AreFacts};
 ghost use Rattle.spectra_types.specs.Meanings.{bound_faults, range_faults, type_faults, types_faults};
 
 use crate::facts::Facts;
-use crate::reporting::{place_of, report_if};
 use crate::sizes::depth_of;
 use spectra_kinds::kinds::is_whole;
 use spectra_kinds::types::is_range;
 use spectra_kinds::worth::Worth;
 use spectra_kinds::worths::worth_in;
-use spectra_names::findings::Findings;
+use spectra_names::findings::{Findings, place_of, report_if};
 use spectra_names::seen::report_twice;
 use spectra_trees::tree::{ExprTree, Name, Place, PredicateItem, TypeForm, TypeTree};
-use spectra_typing::misplaced::Ban;
+use spectra_contents::misplaced::Ban;
 use spectra_typing::notes::look;
 use std::alloc::AllocError;
 
@@ -37,7 +36,7 @@ fn bound_ban() -> Ban
     }
 }
 
-#[tactic(auto, using(spectra_typing::proofs::First::with_faults_append))]
+#[tactic(auto, using(spectra_names::proofs::First::with_faults_append))]
 // Reports what is wrong with a bound.
 fn report_bound<'a>(
     facts: &Facts<'_, 'a>,
@@ -81,7 +80,7 @@ fn report_worths(
     report_range(findings, low, high, at);
 }
 
-#[tactic(auto, using(spectra_typing::proofs::First::with_faults_append))]
+#[tactic(auto, using(spectra_names::proofs::First::with_faults_append))]
 // Reports what is wrong with a range of numbers.
 fn report_bounds<'a>(
     facts: &Facts<'_, 'a>,
@@ -141,7 +140,7 @@ pub fn report_type<'a>(
     report_form(facts, findings, tree.at, &tree.form)
 }
 
-#[tactic(auto, using(spectra_typing::proofs::First::with_faults_append))]
+#[tactic(auto, using(spectra_names::proofs::First::with_faults_append))]
 // Reports what is wrong with the first of several types.
 fn report_next_type<'a>(
     facts: &Facts<'_, 'a>,

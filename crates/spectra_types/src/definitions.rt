@@ -6,28 +6,27 @@ ghost use Rattle.spectra_trees.specs.Views.{name_data, expr_data, type_data};
 ghost use Rattle.spectra_names.specs.Findings.{found_in, fault_if, place_of as place_of_lem, with_faults};
 ghost use Rattle.spectra_names.specs.Spaces.{Definition as DefinitionData, PredicateBody, parameters_of as parameters_of_lem};
 ghost use Rattle.spectra_names.specs.Declarations.{twice};
-ghost use Rattle.spectra_names.specs.Cycles.{is_on_cycle as is_on_cycle_lem};
+ghost use Rattle.spectra_order.specs.Cycles.{is_on_cycle as is_on_cycle_lem};
 ghost use Rattle.spectra_names.specs.ScopeViews.{definition_data, predicate_data, places_in};
 ghost use Rattle.spectra_kinds.specs.KindViews.{kind_data};
-ghost use Rattle.spectra_typing.specs.Misplaced.{no_ban as no_ban_lem};
+ghost use Rattle.spectra_contents.specs.Misplaced.{no_ban as no_ban_lem};
 ghost use Rattle.spectra_typing.specs.Notes.{define_faults, predicate_faults, setting_within as setting_within_lem, boolean_faults, depth_of as depth_of_lem};
 ghost use Rattle.spectra_typing.specs.Placed.{IsSigned};
-ghost use Rattle.spectra_typing.specs.SettingViews.{setting_data};
+ghost use Rattle.spectra_contents.specs.SettingViews.{setting_data};
 ghost use Rattle.spectra_types.specs.FactsViews.{scope_in, setting_in, AreFacts};
 ghost use Rattle.spectra_types.specs.Meanings.{definition_faults, definitions_faults, name_of_definition};
 
 use crate::bounds::{report_parameter_types, report_type};
 use crate::facts::Facts;
-use crate::reporting::{place_of, report_if};
 use crate::sizes::depth_of;
 use spectra_kinds::types::parameter_kinds;
 use spectra_names::building::parameters_of;
-use spectra_names::findings::Findings;
+use spectra_names::findings::{Findings, place_of, report_if};
 use spectra_names::scope::Definition;
 use spectra_names::seen::Seen;
 use spectra_trees::tree::{ExprTree, Name, PredicateItem};
 use spectra_typing::notes::{look, look_boolean, no_ban};
-use spectra_typing::setting::Setting;
+use spectra_contents::setting::Setting;
 use std::alloc::AllocError;
 
 // Reports what is wrong with the body of a define.
@@ -89,7 +88,7 @@ fn report_body<'a>(
     Ok(())
 }
 
-#[tactic(auto, using(spectra_typing::proofs::First::with_faults_append))]
+#[tactic(auto, using(spectra_names::proofs::First::with_faults_append))]
 // Reports what is wrong with a predicate, but for the types of its parameters.
 fn report_inside<'a>(
     facts: &Facts<'_, 'a>,
@@ -103,7 +102,7 @@ fn report_inside<'a>(
     report_body(facts, findings, predicate)
 }
 
-#[tactic(auto, using(spectra_typing::proofs::First::with_faults_append))]
+#[tactic(auto, using(spectra_names::proofs::First::with_faults_append))]
 // Reports what is wrong with a predicate.
 fn report_predicate<'a>(
     facts: &Facts<'_, 'a>,
@@ -156,7 +155,7 @@ fn is_on_cycle(facts: &Facts<'_, '_>, number: usize) -> bool
     }
 }
 
-#[tactic(auto, using(spectra_typing::proofs::First::with_faults_append))]
+#[tactic(auto, using(spectra_names::proofs::First::with_faults_append))]
 // Reports what is wrong with a numbered definition.
 fn report_numbered<'a>(
     facts: &Facts<'_, 'a>,

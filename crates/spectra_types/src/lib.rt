@@ -14,7 +14,6 @@ mod laws;
 mod lines;
 mod meaning;
 mod notes;
-mod reporting;
 mod resolving;
 mod signing;
 mod sizes;

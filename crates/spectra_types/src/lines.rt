@@ -12,12 +12,11 @@ ghost use Rattle.spectra_types.specs.FactsViews.{scope_in, setting_in, line_item
 ghost use Rattle.spectra_types.specs.Meanings.{expression_of as expression_of_lem, is_asm as is_asm_lem, ban_of as ban_of_lem, line_faults, faults_of_line, nodes_of_line, lines_faults};
 
 use crate::facts::Facts;
-use crate::reporting::report_if;
 use crate::sizes::{is_too_large, line_depth, size_in};
 use spec_model::spec::Role;
-use spectra_names::findings::Findings;
+use spectra_names::findings::{Findings, report_if};
 use spectra_trees::tree::{BodyTree, ExprTree, Item, LineItem, Place};
-use spectra_typing::misplaced::Ban;
+use spectra_contents::misplaced::Ban;
 use spectra_typing::notes::look_boolean;
 use std::alloc::AllocError;
 
@@ -65,7 +64,7 @@ fn expression_of(body: &BodyTree) -> Option<&ExprTree>
     }
 }
 
-#[tactic(auto, using(spectra_typing::proofs::First::with_faults_append))]
+#[tactic(auto, using(spectra_names::proofs::First::with_faults_append))]
 // Reports what is wrong with a line's expression, where so many nodes stand in the lines before it, and gives how many
 // stand in the lines up to it.
 fn report_expression<'a>(
@@ -109,7 +108,7 @@ fn report_line<'a>(
     }
 }
 
-#[tactic(auto, using(spectra_typing::proofs::First::with_faults_append, crate::proofs::Held::lines_held))]
+#[tactic(auto, using(spectra_names::proofs::First::with_faults_append, crate::proofs::Held::lines_held))]
 // Reports what is wrong with an item that is a line, where so many nodes stand in the lines before it, and gives how many
 // stand in the lines up to it.
 fn report_item<'a>(

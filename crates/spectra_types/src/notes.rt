@@ -2,15 +2,15 @@
 
 ghost use Rattle.std.specs.Prelude.{◌≡◌, ◌<◌, [], Some, length, map, IfOk, OnOk};
 ghost use Rattle.spectra_trees.specs.Views.{expr_data};
-ghost use Rattle.spectra_names.specs.Cycles.{all_uses, AreOnCycle};
-ghost use Rattle.spectra_names.specs.Orders.{IsOrder};
+ghost use Rattle.spectra_order.specs.Cycles.{all_uses, AreOnCycle};
+ghost use Rattle.spectra_order.specs.Orders.{IsOrder};
 ghost use Rattle.spectra_names.specs.ScopeViews.{scope_data, places_in, definition_data};
 ghost use Rattle.spectra_kinds.specs.KindViews.{kind_data};
 ghost use Rattle.spectra_kinds.specs.Types.{variable_kinds};
 ghost use Rattle.spectra_expansion.specs.Telling.{AreMeasures};
 ghost use Rattle.spectra_typing.specs.Noted.{depth_of_body as depth_of_body_lem};
 ghost use Rattle.spectra_typing.specs.Notes.{depth_of as depth_of_lem, setting_of as setting_of_lem, notes_seen, notes_of};
-ghost use Rattle.spectra_typing.specs.SettingViews.{note_data, note_among, setting_data};
+ghost use Rattle.spectra_contents.specs.SettingViews.{note_data, note_among, setting_data};
 ghost use Rattle.spectra_typing.specs.Placed.{IsSigned};
 ghost use Rattle.spectra_types.specs.Noting.{AreTables, PutsNote, made_note as made_note_lem};
 ghost use Rattle.spectra_types.specs.Signatures.{AreSignatures};
@@ -19,11 +19,11 @@ use spectra_expansion::measure::Measure;
 use spectra_expansion::sizes::size_of;
 use spectra_kinds::kinds::Kind;
 use spectra_names::building::parameters_of;
-use spectra_names::order::Order;
+use spectra_order::order::Order;
 use spectra_names::scope::{Definition, Parameters, Scope};
 use spectra_trees::tree::ExprTree;
 use spectra_typing::notes::{blank, note_of};
-use spectra_typing::setting::{Note, Setting, Signature};
+use spectra_contents::setting::{Note, Setting, Signature};
 use std::alloc::{AllocError, Global};
 
 /// What notes are made from, but for the notes themselves. `none` are the parameters of a define.

@@ -29,11 +29,11 @@ use spectra_names::building::scope_of;
 use spectra_names::findings::{Finding, Findings};
 use spectra_names::scope::{Parameters, Scope};
 use spectra_trees::tree::Tree;
-use spectra_typing::setting::Setting;
+use spectra_contents::setting::Setting;
 use spectra_typing::signatures::signatures_are_signed;
 use std::alloc::{AllocError, Global};
 
-#[tactic(auto, using(spectra_typing::proofs::First::with_faults_append))]
+#[tactic(auto, using(spectra_names::proofs::First::with_faults_append))]
 // Reports the faults of types, definitions and lines.
 fn report_text<'a>(
     facts: &Facts<'_, 'a>,
@@ -70,7 +70,7 @@ fn meaning_of_text(facts: &Facts<'_, '_>, tree: &Tree) -> Result<Spec, AllocErro
     meaning_of(facts, &tree.items)
 }
 
-#[tactic(auto, using(spectra_typing::proofs::First::with_faults_append))]
+#[tactic(auto, using(spectra_names::proofs::First::with_faults_append))]
 // The first fault of a text, where those of its names and limits were reported.
 fn first_fault<'a>(
     facts: &Facts<'_, 'a>,

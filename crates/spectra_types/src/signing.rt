@@ -10,7 +10,7 @@ use spectra_kinds::kinds::Kind;
 use spectra_kinds::types::parameter_kinds;
 use spectra_kinds::worth::Worth;
 use spectra_names::scope::{Definition, Scope};
-use spectra_typing::setting::Signature;
+use spectra_contents::setting::Signature;
 use spectra_typing::signatures::{no_signature, signature};
 use std::alloc::{AllocError, Global};
 

@@ -2,9 +2,9 @@
 
 ghost use Rattle.std.specs.Prelude.{length, IfOk};
 ghost use Rattle.spectra_names.specs.ScopeViews.{scope_data};
-ghost use Rattle.spectra_names.specs.Cycles.{all_uses, AreOnCycle};
+ghost use Rattle.spectra_order.specs.Cycles.{all_uses, AreOnCycle};
 ghost use Rattle.spectra_expansion.specs.Needs.{MarksCycles};
-ghost use Rattle.spectra_names.specs.Orders.{IsOrder};
+ghost use Rattle.spectra_order.specs.Orders.{IsOrder};
 ghost use Rattle.spectra_expansion.specs.Telling.{HasNoParameters};
 ghost use Rattle.spectra_types.specs.TableViews.{AreTables};
 
@@ -16,9 +16,9 @@ use spectra_kinds::kinds::Kind;
 use spectra_kinds::types::{alias_kinds, variable_kinds};
 use spectra_kinds::worth::Worth;
 use spectra_kinds::worths::define_worths;
-use spectra_names::order::Order;
+use spectra_order::order::Order;
 use spectra_names::scope::Scope;
-use spectra_typing::setting::{Note, Signature};
+use spectra_contents::setting::{Note, Signature};
 use std::alloc::{AllocError, Global};
 
 /// What is found out of a text's definitions: their order, what each is worth, stands for as a type and is for those that

@@ -6,12 +6,13 @@ use Rattle.spectra_trees.specs.Data.{Expressions, PredicateData}
 use Rattle.spectra_trees.specs.Views.{expr_data}
 use Rattle.spectra_names.specs.declared.findings.Finding.{Finding}
 use Rattle.spectra_names.specs.Findings.{with_faults}
-use Rattle.spectra_names.specs.Spaces.{Named, unknown, parameter, variable, enum_name, define, predicate, Places, parameters_of}
+use Rattle.spectra_names.specs.Spaces.{Named, unknown, parameter, variable, enum_name, define, predicate, Places, parameters_of, predicate_in}
 use Rattle.spectra_kinds.specs.Kinds.{Kind, is_truth}
-use Rattle.spectra_typing.specs.Contents.{Setting, Mark, unused}
-use Rattle.spectra_typing.specs.Typed.{kind_of, kinds_of, wrong, later_operands, predicate_in, takes_kinds, moved_to, given_each, called_faults, typing_faults, typing_faults_of_each, argument_typing_faults, within, body_faults, faults_with}
+use Rattle.spectra_contents.specs.declared.setting.Mark.{Mark}
+use Rattle.spectra_contents.specs.Contents.{Setting, unused}
+use Rattle.spectra_typing.specs.Typed.{kind_of, kinds_of, wrong, later_operands, takes_kinds, moved_to, given_each, called_faults, typing_faults, typing_faults_of_each, argument_typing_faults, within, body_faults, faults_with}
 use Rattle.spectra_typing.specs.Placed.{placed, found_with, moved_place, called_with, own_body_faults}
-use Rattle.spectra_typing.proofs.Leftover.{from_place, left, first_dropped, later_dropped}
+use Rattle.spectra_contents.proofs.Leftover.{from_place, left, first_dropped, later_dropped}
 use Rattle.spectra_typing.proofs.Placing.{found_with_append, found_with_turned, found_with_later, interleaved}
 use Rattle.spectra_typing.proofs.Operands.{operand_left}
 use Rattle.std.proofs.lemmas.List.{map-append, append_assoc}

@@ -1,8 +1,3 @@
-pub mod Folded
-pub mod Leftover
-pub mod Gathering
-pub mod First
-pub mod Meeting
 pub mod Placing
 pub mod Operands
 pub mod Measures

@@ -3,11 +3,10 @@ use Rattle.std.proofs.Common.{◌≡◌, ℕ, zero, suc, ◌+◌, ◌*◌, ◌<�
 use Rattle.spectra_trees.specs.declared.tree.ExprTree.{ExprTree}
 use Rattle.spectra_trees.specs.Data.{PredicateData}
 use Rattle.spectra_trees.specs.Views.{expr_data}
-use Rattle.spectra_names.specs.Spaces.{Scope, Definition, TypeBody, DefineBody, PredicateBody}
+use Rattle.spectra_names.specs.Spaces.{Scope, Definition, TypeBody, DefineBody, PredicateBody, predicate_in}
 use Rattle.spectra_names.specs.Walks.{weight, weight_of_each}
-use Rattle.spectra_typing.specs.Contents.{Setting}
-use Rattle.spectra_typing.specs.Typed.{predicate_in}
-use Rattle.spectra_typing.proofs.Leftover.{from_place}
+use Rattle.spectra_contents.specs.Contents.{Setting}
+use Rattle.spectra_contents.proofs.Leftover.{from_place}
 
 -- how many expressions stand in the bodies of predicates
 abbrev pub in_bodies : List Definition → ℕ

@@ -10,10 +10,10 @@ use Rattle.spectra_kinds.specs.KindViews.{kind_data}
 use Rattle.spectra_kinds.specs.declared.kinds.Kind as code
 use Rattle.std.proofs.Math.Seq.{drop-cons}
 use Rattle.std.proofs.lemmas.List.{drop-map}
-use Rattle.spectra_typing.specs.Contents.{Setting}
+use Rattle.spectra_contents.specs.Contents.{Setting}
 use Rattle.spectra_typing.specs.Typed.{kind_of, kinds_of, wrong, wrong_arguments, later_operands, operands}
 use Rattle.spectra_typing.specs.Placed.{found_with, unfit}
-use Rattle.spectra_typing.proofs.Leftover.{from_place, left, drop_one, first_left}
+use Rattle.spectra_contents.proofs.Leftover.{from_place, left, drop_one, first_left}
 use Rattle.spectra_typing.proofs.Placing.{found_with_append}
 
 module _ (s : Setting) where

@@ -5,7 +5,7 @@ use Rattle.spectra_trees.specs.declared.tree.Place.{Place}
 use Rattle.spectra_names.specs.declared.findings.Finding.{Finding}
 use Rattle.spectra_names.specs.Findings.{with_faults}
 use Rattle.spectra_typing.specs.Placed.{placed, found_with}
-use Rattle.spectra_typing.proofs.First.{with_faults_append, with_faults_turned}
+use Rattle.spectra_names.proofs.First.{with_faults_append, with_faults_turned}
 
 module _ (found : Option Finding) (moved : Option Place) (fs gs : List Finding) where
   pub found_with_append : found_with found moved (fs ++ gs) ≡ found_with (found_with found moved fs) moved gs

@@ -2,10 +2,10 @@
 use Rattle.std.proofs.Common.{◌≡◌, ℕ, List, [], map, Option, Some, None, option_map, slice_get, refl, sym, ap, ◌∙◌}
 use Rattle.std.proofs.lemmas.Option.{slice_get-map}
 use Rattle.spectra_trees.specs.Data.{PredicateData}
-use Rattle.spectra_names.specs.Spaces.{Definition, TypeBody, DefineBody, PredicateBody, Scope, Places, parameters_of}
+use Rattle.spectra_names.specs.Spaces.{Definition, TypeBody, DefineBody, PredicateBody, Scope, Places, parameters_of, predicate_in}
 use Rattle.spectra_kinds.specs.Kinds.{Kind}
-use Rattle.spectra_typing.specs.declared.setting.Signature as code_signature
-use Rattle.spectra_typing.specs.Typed.{predicate_in, takes_kinds}
+use Rattle.spectra_contents.specs.declared.setting.Signature as code_signature
+use Rattle.spectra_typing.specs.Typed.{takes_kinds}
 use Rattle.spectra_typing.specs.Placed.{kinds_in, places_in_signature}
 use Rattle.spectra_typing.specs.Signatures.{SignatureData, signature_data, signature_of}
 

@@ -1,8 +1,4 @@
-pub mod Contents
-pub mod SettingViews
 pub mod Typed
-pub mod Misplaced
-pub mod Walked
 pub mod Placed
 pub mod Notes
 pub mod Noted

@@ -2,7 +2,7 @@
 use Rattle.std.specs.Prelude.{ℕ, Bool, [], Option, Some, None}
 use Rattle.spectra_trees.specs.Data.{NameData}
 use Rattle.spectra_names.specs.Spaces.{Definition, DefineBody, PredicateBody, Scope, no_parameters, parameters_of}
-use Rattle.spectra_typing.specs.Contents.{Setting, Note, blank}
+use Rattle.spectra_contents.specs.Contents.{Setting, Note, blank}
 use Rattle.spectra_typing.specs.Notes.{depth_of, note_of}
 
 -- A define's note doesn't depend on its name.

@@ -2,16 +2,17 @@
 use Rattle.std.specs.Prelude.{ℕ, zero, suc, Bool, true, false, not, ◌&&◌, if◌then◌else◌, List, [], ◌∷◌, ◌++◌, Option, Some, None, length, map, replicate, slice_get}
 use Rattle.spectra_trees.specs.Data.{Expression, first_of, PredicateData}
 use Rattle.spectra_names.specs.declared.findings.Finding.{Finding}
-use Rattle.spectra_names.specs.Findings.{fault_if}
+use Rattle.spectra_names.specs.Findings.{fault_if, is_faultless}
 use Rattle.spectra_names.specs.Spaces.{Definition, TypeBody, DefineBody, PredicateBody, Scope, Places, no_parameters, parameters_of}
 use Rattle.spectra_names.specs.Declarations.{twice}
-use Rattle.spectra_names.specs.Cycles.{is_on_cycle}
+use Rattle.spectra_order.specs.Cycles.{is_on_cycle}
 use Rattle.spectra_kinds.specs.Kinds.{Truth, Anything, is_truth}
 use Rattle.spectra_kinds.specs.Types.{variable_kinds, parameter_kinds}
 use Rattle.spectra_expansion.specs.Expansion.{formula_of, is_small}
-use Rattle.spectra_typing.specs.Contents.{Setting, Note, blank, unused, contents_of, standing, with_marks}
+use Rattle.spectra_contents.specs.Contents.{Setting, Note, blank, unused, contents_of, standing, with_marks}
 use Rattle.spectra_typing.specs.Typed.{kind_of, typing_faults, faults_with, within}
-use Rattle.spectra_typing.specs.Misplaced.{Ban, no_ban, misplaced}
+use Rattle.spectra_contents.specs.declared.misplaced.Ban.{Ban}
+use Rattle.spectra_contents.specs.Misplaced.{no_ban, misplaced}
 
 -- Bodies are put in to look for faults as deep as there are definitions, where the whole is no larger than a line may be.
 -- What is larger stands in no line.
@@ -42,10 +43,6 @@ define_faults s e = expression_faults no_ban (depth_of s.scope e no_parameters) 
 -- the faults of a predicate's body and of its parameters' names
 abbrev pub predicate_faults : Setting → PredicateData → List Finding
 predicate_faults s p = twice (map (λ a. a.1) p.params) ++ boolean_faults no_ban (depth_of s.scope p.body (parameters_of p)) (setting_within s p) p.body
-
-abbrev pub is_faultless : List Finding → Bool
-is_faultless [] = true
-is_faultless (f ∷ fs) = false
 
 -- What a definition is for those that use it. A define with a fault, or on a cycle, fits everything.
 abbrev pub note_of : Setting → (on_cycle : Bool) → Definition → Note

@@ -4,14 +4,14 @@ use Rattle.spectra_trees.specs.declared.tree.Place.{Place}
 use Rattle.spectra_names.specs.declared.findings.Finding.{Finding}
 use Rattle.spectra_names.specs.Findings.{fault, place_of, with_faults}
 use Rattle.spectra_trees.specs.Data.{NameData, Form, PredicateData, Expressions}
-use Rattle.spectra_names.specs.Spaces.{Named, predicate, Places, parameters_of}
+use Rattle.spectra_names.specs.Spaces.{Named, predicate, Places, parameters_of, predicate_in}
 use Rattle.spectra_kinds.specs.Kinds.{Kind, can_equal}
 use Rattle.spectra_kinds.specs.KindViews.{kind_data}
 use Rattle.spectra_names.specs.ScopeViews.{scope_data, places_in}
-use Rattle.spectra_typing.specs.declared.setting.Signature as code_signature
-use Rattle.spectra_typing.specs.declared.setting.Setting as code_setting
-use Rattle.spectra_typing.specs.Contents.{Setting, named_in}
-use Rattle.spectra_typing.specs.Typed.{call_faults, typing_faults, form_typing_faults, given_each, kinds_of, wrong_arguments, moved_to, wrong, predicate_in, takes_kinds}
+use Rattle.spectra_contents.specs.declared.setting.Signature as code_signature
+use Rattle.spectra_contents.specs.declared.setting.Setting as code_setting
+use Rattle.spectra_contents.specs.Contents.{Setting, named_in}
+use Rattle.spectra_typing.specs.Typed.{call_faults, typing_faults, form_typing_faults, given_each, kinds_of, wrong_arguments, moved_to, wrong, takes_kinds}
 
 -- a fault where it stands, or moved to a place
 abbrev pub placed : Option Place → Finding → Finding

@@ -5,7 +5,7 @@ use Rattle.spectra_names.specs.ScopeViews.{places_in}
 use Rattle.spectra_kinds.specs.Kinds.{Kind}
 use Rattle.spectra_kinds.specs.KindViews.{kind_data}
 use Rattle.spectra_kinds.specs.Types.{parameter_kinds}
-use Rattle.spectra_typing.specs.declared.setting.Signature as code_signature
+use Rattle.spectra_contents.specs.declared.setting.Signature as code_signature
 
 -- the kinds of parameters, and their places by name
 pub record SignatureData : Type 0 where

@@ -7,11 +7,12 @@ use Rattle.spectra_trees.specs.declared.tree.BinaryWord.TheVariants as binary
 use Rattle.spectra_trees.specs.Data.{NameData, Expression, expression, Form, Expressions, first_of, PredicateData}
 use Rattle.spectra_names.specs.declared.findings.Finding.{Finding}
 use Rattle.spectra_names.specs.Findings.{fault, fault_if, place_of}
-use Rattle.spectra_names.specs.Spaces.{Named, unknown, parameter, variable, enum_name, define, predicate, Definition, PredicateBody, Scope, parameters_of}
+use Rattle.spectra_names.specs.Spaces.{Named, unknown, parameter, variable, enum_name, define, predicate, Definition, PredicateBody, Scope, parameters_of, predicate_in}
 use Rattle.spectra_kinds.specs.Kinds.{Kind, Truth, Whole, OneName, Anything, is_truth, is_whole, can_equal, given, is_wide, added, subtracted, multiplied, reduced}
 use Rattle.spectra_names.specs.Numbers.{number_of, signed}
 use Rattle.spectra_kinds.specs.Types.{parameter_kinds}
-use Rattle.spectra_typing.specs.Contents.{Setting, Mark, named_in, name_marks, first_mark, later_marks}
+use Rattle.spectra_contents.specs.declared.setting.Mark.{Mark}
+use Rattle.spectra_contents.specs.Contents.{Setting, named_in, name_marks, first_mark, later_marks}
 
 -- ---- kinds
 
@@ -88,13 +89,6 @@ abbrev pub wrong_arguments : Setting → List Kind → Expressions → List Find
 wrong_arguments s [] es = []
 wrong_arguments s (k ∷ ks) Expressions.none = []
 wrong_arguments s (k ∷ ks) (Expressions.one_more e es) = wrong (can_equal k (kind_of s e)) (first_of e) ++ wrong_arguments s ks es
-
-abbrev pub predicate_in : Scope → ℕ → Option PredicateData
-predicate_in scope k = only (slice_get scope.definitions k)
-  where
-    only : Option Definition → Option PredicateData
-    only (Some (PredicateBody p)) = Some p
-    only _ = None
 
 -- the kinds of a predicate's parameters
 abbrev pub takes_kinds : Scope → ℕ → List Kind

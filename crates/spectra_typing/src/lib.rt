@@ -3,14 +3,10 @@
 //! Path: text → tokens → trees → **specification** → game → regions → layers → strategy → verdict → lines.
 #![tactic(auto)]
 
-pub mod contents;
-pub mod kind_of;
+mod node_kinds;
 pub mod manner;
-pub mod misplaced;
 pub mod notes;
 pub mod putting;
 mod reporting;
-pub mod setting;
 pub mod signatures;
-pub mod standing;
 pub mod typed;

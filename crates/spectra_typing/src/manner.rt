@@ -5,9 +5,9 @@ ghost use Rattle.spectra_names.specs.ScopeViews.{places_in};
 ghost use Rattle.spectra_kinds.specs.KindViews.{kind_data};
 ghost use Rattle.spectra_typing.specs.Typed.{given_each as given_each_lem};
 ghost use Rattle.spectra_typing.specs.Placed.{moved_place, IsSigned};
-ghost use Rattle.spectra_typing.specs.SettingViews.{setting_data};
+ghost use Rattle.spectra_contents.specs.SettingViews.{setting_data};
 
-use crate::setting::{Mark, Setting};
+use spectra_contents::setting::{Mark, Setting};
 use spectra_kinds::kinds::{Kind, given};
 use spectra_names::scope::Parameters;
 use spectra_trees::tree::Place;

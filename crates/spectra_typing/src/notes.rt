@@ -11,23 +11,22 @@ ghost use Rattle.spectra_names.specs.Seeing.{is_seen};
 ghost use Rattle.spectra_kinds.specs.Kinds.{Anything};
 ghost use Rattle.spectra_kinds.specs.KindViews.{kind_data};
 ghost use Rattle.spectra_kinds.specs.Types.{parameter_kinds};
-ghost use Rattle.spectra_typing.specs.Contents.{blank as blank_lem, contents_of, standing, unused, with_marks};
-ghost use Rattle.spectra_typing.specs.Misplaced.{no_ban as no_ban_lem};
+ghost use Rattle.spectra_contents.specs.Contents.{blank as blank_lem, contents_of, standing, unused, with_marks};
+ghost use Rattle.spectra_contents.specs.Misplaced.{no_ban as no_ban_lem};
 ghost use Rattle.spectra_typing.specs.Typed.{kind_of};
 ghost use Rattle.spectra_typing.specs.Notes.{depth_of, expression_faults, boolean_faults, note_of as note_of_lem};
 ghost use Rattle.spectra_typing.specs.Noted.{nameless, depth_of_body, note_of_some};
 ghost use Rattle.spectra_typing.specs.Placed.{IsSigned};
-ghost use Rattle.spectra_typing.specs.SettingViews.{note_data, setting_data};
+ghost use Rattle.spectra_contents.specs.SettingViews.{note_data, setting_data};
 
-use crate::contents::nothing;
+use spectra_contents::contents::nothing;
 use crate::manner::{Manner, within};
-use crate::misplaced::{Ban, misplaced};
+use spectra_contents::misplaced::{Ban, misplaced};
 use crate::putting::typed;
-use crate::reporting::report_if;
-use crate::setting::{Contents, Mark, Note, Setting, Signature};
-use crate::standing::mark_standing;
+use spectra_contents::setting::{Contents, Mark, Note, Setting, Signature};
+use spectra_contents::standing::mark_standing;
 use spectra_kinds::kinds::{Kind, is_truth};
-use spectra_names::findings::Findings;
+use spectra_names::findings::{Findings, report_if};
 use spectra_names::scope::Definition;
 use spectra_names::seen::Seen;
 use spectra_trees::tree::{ExprTree, Name, PredicateItem, TypeTree};
@@ -52,7 +51,7 @@ pub fn no_ban() -> Ban
     }
 }
 
-#[tactic(auto, using(crate::proofs::First::with_faults_append, crate::proofs::Placing::unmoved))]
+#[tactic(auto, using(spectra_names::proofs::First::with_faults_append, crate::proofs::Placing::unmoved))]
 /// Reports the faults of an expression, with bodies put in so deep.
 pub fn look<'a>(
     alloc: Global,
@@ -80,7 +79,7 @@ pub fn look<'a>(
     })
 }
 
-#[tactic(auto, using(crate::proofs::First::with_faults_append))]
+#[tactic(auto, using(spectra_names::proofs::First::with_faults_append))]
 /// Reports the faults of an expression that is to be Boolean.
 pub fn look_boolean<'a>(
     alloc: Global,
@@ -111,7 +110,7 @@ fn define_kind<'a>(on_cycle: bool, faultless: bool, kind: Kind<'a>) -> Kind<'a>
     }
 }
 
-#[tactic(auto, using(crate::proofs::First::faultless))]
+#[tactic(auto, using(spectra_names::proofs::First::faultless))]
 /// What a define is for those that use it.
 pub fn define_note<'a>(
     alloc: Global,
@@ -197,7 +196,7 @@ fn is_sound(on_cycle: bool, faultless: bool) -> bool
     !on_cycle && faultless
 }
 
-#[tactic(auto, using(crate::proofs::First::faultless, crate::proofs::First::with_faults_append))]
+#[tactic(auto, using(spectra_names::proofs::First::faultless, spectra_names::proofs::First::with_faults_append))]
 /// What a predicate with this signature is for those that use it.
 pub fn predicate_note<'a>(
     alloc: Global,

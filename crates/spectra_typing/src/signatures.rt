@@ -6,10 +6,10 @@ ghost use Rattle.spectra_names.specs.ScopeViews.{predicate_data, scope_data};
 ghost use Rattle.spectra_kinds.specs.KindViews.{kind_data};
 ghost use Rattle.spectra_kinds.specs.Types.{parameter_kinds};
 ghost use Rattle.spectra_typing.specs.Placed.{IsSigned};
-ghost use Rattle.spectra_typing.specs.SettingViews.{setting_data};
+ghost use Rattle.spectra_contents.specs.SettingViews.{setting_data};
 ghost use Rattle.spectra_typing.specs.Signatures.{signature_data, signature_of, no_signature as no_signature_lem};
 
-use crate::setting::{Setting, Signature};
+use spectra_contents::setting::{Setting, Signature};
 use spectra_kinds::kinds::Kind;
 use spectra_names::building::parameters_of;
 use spectra_names::scope::{Parameters, Scope};

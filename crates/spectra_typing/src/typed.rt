@@ -10,11 +10,11 @@ ghost use Rattle.spectra_kinds.specs.Kinds.{is_whole as is_whole_lem, is_wide as
 ghost use Rattle.spectra_kinds.specs.KindViews.{kind_data};
 ghost use Rattle.spectra_typing.specs.Typed.{form_kind, binary_kind as binary_kind_lem, kinds_of, wrong, takes as takes_lem, wrong_arguments as wrong_arguments_lem, read_faults, call_faults, remainder_faults, node_faults};
 ghost use Rattle.spectra_typing.specs.Placed.{found_with, unfit, taken_faults, IsSigned};
-ghost use Rattle.spectra_typing.specs.SettingViews.{setting_data};
+ghost use Rattle.spectra_contents.specs.SettingViews.{setting_data};
 
-use crate::kind_of::{binary_kind, number_kind};
+use crate::node_kinds::{binary_kind, number_kind};
 use crate::reporting::{report_placed, report_wrong};
-use crate::setting::{Setting, kind_at};
+use spectra_contents::setting::{Setting, kind_at};
 use spectra_kinds::kinds::{Kind, can_equal, is_truth, is_whole, is_wide, reduced};
 use spectra_names::findings::Findings;
 use spectra_names::scope::Named;

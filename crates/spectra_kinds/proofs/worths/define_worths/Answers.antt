@@ -1,7 +1,7 @@
 use Rattle.std.proofs.Common.{◌≡◌, ◌<◌, None, option_map, length, get_or, ap, rules, arith}
 use Rattle.std.proofs.lemmas.Option.{slice_get_within, get_or_from_slice_get}
 use Rattle.std.proofs.lemmas.List.{length-map}
-use Rattle.spectra_names.specs.Cycles.{is_on_cycle}
+use Rattle.spectra_order.specs.Cycles.{is_on_cycle}
 use Rattle.spectra_names.specs.ScopeViews.{scope_data, definition_data}
 use Rattle.spectra_kinds.specs.Types.{define_worth}
 use Rattle.spectra_kinds.specs.Bodies.{defined_worth}

@@ -2,7 +2,7 @@ use Rattle.std.proofs.Common.{◌≡◌, Option, Some, IfOk, subst, sym, ap, ◌
 use Rattle.spectra_names.specs.Spaces.{Definition}
 use Rattle.spectra_names.specs.ScopeViews.{definition_data}
 use Rattle.spectra_typing.specs.Noted.{note_of_some}
-use Rattle.spectra_typing.specs.SettingViews.{note_data, setting_data}
+use Rattle.spectra_contents.specs.SettingViews.{note_data, setting_data}
 use Rattle.spectra_typing.proofs.notes.note_of.Goals as goal
 
 pub returns-in-Some-Define : goal.returns-in-Some-Define

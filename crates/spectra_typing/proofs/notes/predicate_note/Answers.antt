@@ -8,11 +8,11 @@ use Rattle.spectra_names.specs.ScopeViews.{predicate_data}
 use Rattle.spectra_names.specs.Spaces.{parameters_of}
 use Rattle.spectra_kinds.specs.Kinds.{Truth}
 use Rattle.spectra_kinds.specs.KindViews.{kind_data}
-use Rattle.spectra_typing.specs.Contents.{contents_of, standing, unused, with_marks}
-use Rattle.spectra_typing.specs.Misplaced.{no_ban}
+use Rattle.spectra_contents.specs.Contents.{contents_of, standing, unused, with_marks}
+use Rattle.spectra_contents.specs.Misplaced.{no_ban}
 use Rattle.spectra_typing.specs.Notes.{depth_of, boolean_faults, setting_within, predicate_faults}
-use Rattle.spectra_typing.specs.SettingViews.{setting_data}
-use Rattle.spectra_typing.proofs.First.{turned, faultless, with_faults_append}
+use Rattle.spectra_contents.specs.SettingViews.{setting_data}
+use Rattle.spectra_names.proofs.First.{turned, faultless, with_faults_append}
 use Rattle.spectra_typing.proofs.Bodies.{put_into}
 use Rattle.spectra_typing.proofs.notes.predicate_note.Goals as goal
 

@@ -1,5 +1,5 @@
 use Rattle.std.proofs.Common.{◌≡◌, replicate}
-use Rattle.spectra_typing.specs.Contents.{unused}
+use Rattle.spectra_contents.specs.Contents.{unused}
 use Rattle.spectra_typing.proofs.notes.unused_marks.Given as goal
 
 -- so many so far

@@ -4,7 +4,7 @@ use Rattle.spectra_trees.specs.declared.tree.ExprTree.{ExprTree}
 use Rattle.spectra_trees.specs.declared.tree.Place.{Place}
 use Rattle.spectra_trees.specs.Data.{PredicateData, expressions}
 use Rattle.spectra_names.specs.declared.findings.Finding.{Finding}
-use Rattle.spectra_names.specs.Spaces.{predicate, parameters_of}
+use Rattle.spectra_names.specs.Spaces.{predicate, parameters_of, predicate_in}
 use Rattle.spectra_trees.specs.Views.{name_data, expr_data}
 use Rattle.spectra_names.specs.Findings.{found_in, fault_if, place_of}
 use Rattle.spectra_names.specs.Numbers.{number_of}
@@ -12,13 +12,13 @@ use Rattle.spectra_names.specs.ScopeViews.{predicate_data, places_in}
 use Rattle.spectra_names.specs.Walks.{weight, weight_of_each}
 use Rattle.spectra_kinds.specs.Kinds.{is_truth, is_whole, is_wide}
 use Rattle.spectra_kinds.specs.KindViews.{kind_data}
-use Rattle.spectra_typing.specs.Contents.{named_in, name_marks}
-use Rattle.spectra_typing.specs.Typed.{kind_of, predicate_in, binary_kind, wrong, takes, call_faults, moved_to, put_in_faults, remainder_faults, later_operands, operands, typing_faults, typing_faults_of_each, argument_typing_faults, faults_with}
+use Rattle.spectra_contents.specs.Contents.{named_in, name_marks}
+use Rattle.spectra_typing.specs.Typed.{kind_of, binary_kind, wrong, takes, call_faults, moved_to, put_in_faults, remainder_faults, later_operands, operands, typing_faults, typing_faults_of_each, argument_typing_faults, faults_with}
 use Rattle.spectra_typing.specs.declared.manner.Manner.{Manner}
 use Rattle.spectra_typing.specs.Placed.{kinds_in, places_in_signature, own_body_faults, found_with, called_with, call_typing_faults}
-use Rattle.spectra_typing.specs.SettingViews.{setting_data}
-use Rattle.spectra_typing.proofs.Folded.{call_folded, binary_folded, and_folded, or_folded}
-use Rattle.spectra_typing.proofs.Leftover.{from_place}
+use Rattle.spectra_contents.specs.SettingViews.{setting_data}
+use Rattle.spectra_trees.proofs.Folded.{call_folded, binary_folded, and_folded, or_folded}
+use Rattle.spectra_contents.proofs.Leftover.{from_place}
 use Rattle.spectra_typing.proofs.Placing.{found_with_later}
 use Rattle.spectra_typing.proofs.Bodies.{same_places, put_into, put_in_is, called_is, call_placed, both_placed, kinds_pushed, operand_faults_left, argument_faults_left}
 use Rattle.spectra_typing.proofs.Measures.{room, heavier, lighter_body, smaller, less_deep}

@@ -5,8 +5,8 @@ use Rattle.spectra_names.specs.Walks.{weight, weight_of_each}
 use Rattle.spectra_kinds.specs.KindViews.{kind_data}
 use Rattle.spectra_typing.specs.Typed.{kinds_of, later_operands, typing_faults_of_each, argument_typing_faults, faults_with}
 use Rattle.spectra_typing.specs.Placed.{found_with}
-use Rattle.spectra_typing.specs.SettingViews.{setting_data}
-use Rattle.spectra_typing.proofs.Leftover.{from_place}
+use Rattle.spectra_contents.specs.SettingViews.{setting_data}
+use Rattle.spectra_contents.proofs.Leftover.{from_place}
 use Rattle.spectra_typing.proofs.Measures.{room, measure}
 use Rattle.spectra_typing.proofs.putting.+typing.Given as goal
 

@@ -1,4 +1,4 @@
-use Rattle.spectra_typing.specs.SettingViews.{setting_data}
+use Rattle.spectra_contents.specs.SettingViews.{setting_data}
 use Rattle.spectra_typing.proofs.Signing.{signed_kinds, signed_places}
 use Rattle.spectra_typing.proofs.signatures.signatures_are_signed.Goals as goal
 

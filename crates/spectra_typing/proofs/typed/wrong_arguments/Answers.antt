@@ -3,8 +3,8 @@ use Rattle.spectra_names.specs.Findings.{found_in}
 use Rattle.spectra_kinds.specs.KindViews.{kind_data}
 use Rattle.spectra_typing.specs.Typed.{wrong_arguments}
 use Rattle.spectra_typing.specs.Placed.{found_with, unfit}
-use Rattle.spectra_typing.specs.SettingViews.{setting_data}
-use Rattle.spectra_typing.proofs.Leftover.{from_place, none_left}
+use Rattle.spectra_contents.specs.SettingViews.{setting_data}
+use Rattle.spectra_contents.proofs.Leftover.{from_place, none_left}
 use Rattle.spectra_typing.proofs.Operands.{no_arguments, kind_there, unfit_left}
 use Rattle.spectra_typing.proofs.typed.wrong_arguments.Goals as goal
 

@@ -3,8 +3,8 @@ use Rattle.spectra_names.specs.Findings.{found_in}
 use Rattle.spectra_kinds.specs.KindViews.{kind_data}
 use Rattle.spectra_typing.specs.Typed.{wrong_arguments}
 use Rattle.spectra_typing.specs.Placed.{found_with}
-use Rattle.spectra_typing.specs.SettingViews.{setting_data}
-use Rattle.spectra_typing.proofs.Leftover.{from_place}
+use Rattle.spectra_contents.specs.SettingViews.{setting_data}
+use Rattle.spectra_contents.proofs.Leftover.{from_place}
 use Rattle.spectra_typing.proofs.typed.wrong_arguments.Given as goal
 
 -- what is left is the answer

@@ -1,0 +1,4 @@
+pub mod Contents
+pub mod SettingViews
+pub mod Misplaced
+pub mod Walked
