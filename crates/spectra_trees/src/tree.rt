@@ -189,7 +189,7 @@ pub enum BinaryWord {
 /// What an expression is made of. A number is whether `-` stands before it, and its digits as written. The place in
 /// `Mod` is that of its number. `And` and `Or` have all their operands, and the places of the operators between them.
 #[cycle(tree)]
-#[derive(Debug, Drop)]
+#[derive(Debug)]
 pub enum ExprForm {
     True,
     False,
@@ -204,13 +204,50 @@ pub enum ExprForm {
     Or(Vec<ExprTree>, Vec<Place>),
 }
 
+impl Drop for ExprForm {
+    /// A loop over first operands, since a sum nests to the left as deep as its text is long. Only the other operands
+    /// are a recursion, and brackets bound how deep those nest.
+    #[cycle(tree)]
+    fn drop(mut self) {
+        loop {
+            match self {
+                ExprForm::True | ExprForm::False => return,
+                ExprForm::Number(_, _digits) => return,
+                ExprForm::Read(_name) => return,
+                ExprForm::Call(_name, _arguments) => return,
+                ExprForm::And(_operands, _operators) => return,
+                ExprForm::Or(_operands, _operators) => return,
+                ExprForm::Next(first) => self = Box::into_inner(first).form,
+                ExprForm::Prefix(_, first) => self = Box::into_inner(first).form,
+                ExprForm::Mod(first, _, _digits) => self = Box::into_inner(first).form,
+                ExprForm::Binary(_, first, _second) => self = Box::into_inner(first).form,
+            }
+        }
+    }
+}
+
 /// A regular expression over positions. `Cat` and `Alt` have all their parts.
-#[derive(Debug, Drop)]
+#[derive(Debug)]
 pub enum RegexTree {
     Atom(Box<ExprTree>),
     Cat(Vec<RegexTree>),
     Alt(Vec<RegexTree>),
     Repeat(Box<RegexTree>, RepeatTree),
+}
+
+impl Drop for RegexTree {
+    /// A loop over repeated parts, since repeats nest as deep as the text is long. Only the parts of `Cat` and `Alt`
+    /// are a recursion, and brackets bound how deep those nest.
+    fn drop(mut self) {
+        loop {
+            match self {
+                RegexTree::Atom(_formula) => return,
+                RegexTree::Cat(_parts) => return,
+                RegexTree::Alt(_parts) => return,
+                RegexTree::Repeat(part, _times) => self = Box::into_inner(part),
+            }
+        }
+    }
 }
 
 /// How often a part is repeated, with numbers as written.
