@@ -8,5 +8,7 @@
 pub mod class;
 pub mod lexeme;
 mod signs;
+#[cfg(test)]
+mod tests;
 pub mod tree;
 mod words;
