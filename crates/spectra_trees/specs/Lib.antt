@@ -2,3 +2,5 @@ pub mod Data
 pub mod Views
 pub mod Classes
 pub mod Lexemes
+pub mod Chains
+pub mod ChainViews

@@ -5,6 +5,7 @@
 //! Contract: `class_of` is the table of words and signs. Path: tokens → **trees** → specification.
 #![tactic(auto)]
 
+pub mod chain;
 pub mod class;
 pub mod lexeme;
 mod signs;
