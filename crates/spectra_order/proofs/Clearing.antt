@@ -4,7 +4,7 @@ use Rattle.std.proofs.lemmas.Bool.{false≢true, cases_lt}
 use Rattle.std.proofs.lemmas.Option.{slice_get_past}
 use Rattle.spectra_order.specs.Cycles.{reaches}
 use Rattle.spectra_order.specs.Searching.{Searching, next_of, is_unmarked, IsKnown, AreKnown, marked, IsSearch, Finds, AreFollowed, IsDone, HasNoMark, AreClear}
-use Rattle.spectra_order.proofs.Reaching.{not-unmarked, at_place, past-from, nowhere, push-before, push-last, set-known, set-marked, length-marks, never_reached, found_marked, found_unmarked}
+use Rattle.spectra_order.proofs.Reaching.{not-unmarked, unmarked, at_place, past-from, nowhere, push-before, push-last, set-known, set-marked, length-marks, never_reached, found_marked, found_unmarked}
 
 -- ---- marks
 
@@ -79,6 +79,10 @@ next_known marks list k within known before i w below at = elim (cases_lt i k) [
         let e : Some (get_or list k 0) ≡ Some w = sym (at_place list k within) ∙ ap (slice_get list) (sym here) ∙ at in
         let same : get_or list k 0 ≡ w = cc in
         subst (IsKnown marks) same (not-unmarked (slice_get marks (get_or list k 0)) known)
+
+-- a list with one that has no mark is not known
+pub new_there : (marks : List Bool) (list : List ℕ) (k : ℕ) → k < length list → is_unmarked (slice_get marks (get_or list k 0)) ≡ true → AreKnown marks list → ⊥
+new_there marks list k within new known = known k (get_or list k 0) (at_place list k within) (unmarked (slice_get marks (get_or list k 0)) new)
 
 -- past the definitions nothing is used
 pub none_past : (uses : List (List ℕ)) (marks : List Bool) (v : ℕ) → length uses ≤ v → AreKnown marks (next_of uses v)

@@ -1,6 +1,6 @@
 //! Marks of definitions: which of them a walk has come to.
 
-ghost use Rattle.std.specs.Prelude.{◌≡◌, IsTrue, IfOk, false, map, replicate, slice_get};
+ghost use Rattle.std.specs.Prelude.{◌≡◌, ◌↔◌, IsTrue, IfOk, false, map, replicate, slice_get};
 ghost use Rattle.spectra_order.specs.Searching.{next_of, is_unmarked, AreKnown};
 
 use std::alloc::{AllocError, Global};
@@ -36,7 +36,7 @@ pub fn is_new(marks: &[bool], number: usize) -> bool
 
 /// Whether none of a list is a definition without a mark.
 pub fn are_known(marks: &[bool], list: &[usize]) -> bool
-    ensures { IsTrue result → AreKnown marks.now list.now }
+    ensures { IsTrue result ↔ AreKnown marks.now list.now }
 {
     for number in list {
         if is_new(marks, *number) {

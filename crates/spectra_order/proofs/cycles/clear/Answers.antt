@@ -13,7 +13,7 @@ loop-number-preserved c =
     elim c.if-is_new.branch [
       | then-is_new+then-are_known w ↦
           let new = (λ i. is_unmarked (slice_get (sym c.deref.ensures.value i) k)) ∙ sym c.is_new.ensures ∙ w.if-is_new.true in
-          let known = subst (λ ms. AreKnown ms w.uses_at.result.now) w.deref-then-is_new.ensures.value (w.are_known.ensures w.if-are_known.true) in
+          let known = subst (λ ms. AreKnown ms w.uses_at.result.now) w.deref-then-is_new.ensures.value (w.are_known.ensures.0 w.if-are_known.true) in
           subst (λ m. AreClear uses m.items) (sym w.marks-is) (one_more_clear uses marks k c.loop-number.invariant (unmarked (slice_get marks k) new) (subst (AreKnown marks) w.uses_at.ensures known))
       | else-is_new w ↦ subst (λ m. AreClear uses m.items) (sym w.marks-is) c.loop-number.invariant
     ]
