@@ -29,13 +29,3 @@ module _ {X : Type 0} (look : List ℕ → Option X) (name : List ℕ) (x : X) w
           let turned = eq-comm name text ∙ is in
           rw (turned, is, nothing) refl
       by false is = let turned = eq-comm name text ∙ is in rw (turned, is) (sym (or-none (look text)))
-
-  -- a name that stands for something keeps it
-  pub put_again : (y : X) → look name ≡ Some y → (text : List ℕ) → look text ≡ and_name look name x text
-  put_again y there text = by (bytes_eq text name) refl
-    where
-      by : (b : Bool) → bytes_eq text name ≡ b → look text ≡ and_name look name x text
-      by true is =
-          let found : look text ≡ Some y = ap look ((bytes_eq-Decides text name).0 is) ∙ there in
-          rw (is, found) refl
-      by false is = rw is (sym (or-none (look text)))

@@ -1,10 +1,9 @@
 -- Searches that begin anew, and definitions that are used in no body of their own.
-use Rattle.std.proofs.Common.{◌≡◌, ℕ, zero, suc, ◌+◌, ◌<◌, ◌≤◌, Bool, true, false, not, List, [], ◌∷◌, ◌++◌, length, Option, Some, None, unwrap_or, get_or, slice_get, slice_set, replicate, refl, sym, ap, subst, ◌∙◌, inl, inr, arith}
+use Rattle.std.proofs.Common.{◌≡◌, ℕ, zero, suc, ◌+◌, ◌<◌, ◌≤◌, Bool, true, false, not, List, [], ◌∷◌, ◌++◌, length, Option, Some, None, get_or, slice_get, slice_set, replicate, refl, sym, ap, subst, ◌∙◌, inl, inr, arith}
 use Rattle.std.proofs.lemmas.Bool.{false≢true, cases_lt}
-use Rattle.std.proofs.lemmas.Option.{slice_get_past}
 use Rattle.spectra_order.specs.Cycles.{reaches}
 use Rattle.spectra_order.specs.Searching.{Searching, next_of, is_unmarked, IsKnown, AreKnown, marked, IsSearch, Finds, AreFollowed, IsDone, HasNoMark, AreClear}
-use Rattle.spectra_order.proofs.Reaching.{not-unmarked, unmarked, at_place, past-from, nowhere, push-before, push-last, set-known, set-marked, length-marks, never_reached, found_marked, found_unmarked}
+use Rattle.spectra_order.proofs.Reaching.{at_place, past-from, nowhere, push-before, push-last, set-known, set-marked, length-marks, never_reached, found_marked, found_unmarked}
 
 -- ---- marks
 
@@ -38,11 +37,6 @@ unset (b ∷ marks) zero (suc w) at = (λ same. omega arith, at)
 unset (b ∷ marks) (suc v) zero at = (λ same. omega arith, at)
 unset (b ∷ marks) (suc v) (suc w) at = let rest = unset marks v w at in (λ same. rest.0 (omega arith), rest.1)
 
-pub length-unmarked : (marks : List Bool) (v : ℕ) → length (slice_set marks v false) ≡ length marks
-length-unmarked [] v = refl
-length-unmarked (b ∷ marks) zero = refl
-length-unmarked (b ∷ marks) (suc v) = ap suc (length-unmarked marks v)
-
 -- the marks that are left are of those from a place on
 abbrev pub Left : (marks : List Bool) (reached : List ℕ) (place : ℕ) → Type 0
 Left marks reached place = (v : ℕ) → slice_get marks v ≡ Some true → (i : ℕ) × (place ≤ i) × (slice_get reached i ≡ Some v)
@@ -63,30 +57,6 @@ one_less marks reached place within left v at =
         same i e here differs =
             let eq : Some v ≡ Some (get_or reached place 0) = sym here ∙ ap (slice_get reached) e ∙ at_place reached place within in
             differs (cc)
-
--- ---- lists
-
--- those of a list up to a place are known, and the next one
-pub next_known : (marks : List Bool) (list : List ℕ) (k : ℕ) → k < length list → is_unmarked (slice_get marks (get_or list k 0)) ≡ false
-    → ((i w : ℕ) → i < k → slice_get list i ≡ Some w → IsKnown marks w) → (i w : ℕ) → i < k + 1 → slice_get list i ≡ Some w → IsKnown marks w
-next_known marks list k within known before i w below at = elim (cases_lt i k) [
-  | inl less ↦ before i w less at
-  | inr behind ↦ last (omega arith)
-]
-  where
-    last : i ≡ k → IsKnown marks w
-    last here =
-        let e : Some (get_or list k 0) ≡ Some w = sym (at_place list k within) ∙ ap (slice_get list) (sym here) ∙ at in
-        let same : get_or list k 0 ≡ w = cc in
-        subst (IsKnown marks) same (not-unmarked (slice_get marks (get_or list k 0)) known)
-
--- a list with one that has no mark is not known
-pub new_there : (marks : List Bool) (list : List ℕ) (k : ℕ) → k < length list → is_unmarked (slice_get marks (get_or list k 0)) ≡ true → AreKnown marks list → ⊥
-new_there marks list k within new known = known k (get_or list k 0) (at_place list k within) (unmarked (slice_get marks (get_or list k 0)) new)
-
--- past the definitions nothing is used
-pub none_past : (uses : List (List ℕ)) (marks : List Bool) (v : ℕ) → length uses ≤ v → AreKnown marks (next_of uses v)
-none_past uses marks v past i w at = absurd (nowhere i w (sym (ap (λ o. slice_get (unwrap_or o []) i) (slice_get_past uses v past)) ∙ at))
 
 -- ---- searches
 
@@ -120,19 +90,6 @@ found_itself s k done from within = subst (λ f. not (is_unmarked (slice_get s.m
     by None is = absurd (let size = done.search.size in let past = past-from s.marks k is in omega arith)
 
 -- ---- definitions that are clear
-
-pub nothing_clear : (uses : List (List ℕ)) → AreClear uses (replicate (length uses) false)
-nothing_clear uses =
-    record {
-      size = length-none (length uses);
-      closed = λ v known. none_past uses (replicate (length uses) false) v (past (length uses) v known);
-      free = λ v at. absurd (no_mark (length uses) v at);
-    }
-  where
-    past : (n v : ℕ) → IsKnown (replicate n false) v → n ≤ v
-    past zero v known = omega arith
-    past (suc n) zero known = absurd (known refl)
-    past (suc n) (suc v) known = let rest = past n v known in omega arith
 
 pub one_more_clear : (uses : List (List ℕ)) (marks : List Bool) (k : ℕ) → AreClear uses marks → slice_get marks k ≡ Some false → AreKnown marks (next_of uses k) → AreClear uses (slice_set marks k true)
 one_more_clear uses marks k old new known =

@@ -165,9 +165,6 @@ unmarked (Some false) new = refl
 unmarked (Some true) new = absurd (false≢true new)
 unmarked None new = absurd (false≢true new)
 
-pub not-unmarked : (o : Option Bool) → is_unmarked o ≡ false → o ≡ Some false → ⊥
-not-unmarked o known is = false≢true (sym known ∙ ap is_unmarked is)
-
 -- one more is reached
 pub found_one : (s : Searching) (v : ℕ) → IsSearch s → slice_get s.marks v ≡ Some false → reaches s.uses (suc (length s.reached)) s.from v ≡ true → Finds s (with_one s v) (v ∷ [])
 found_one s v search new near =
@@ -196,14 +193,6 @@ found_one s v search new near =
   where
     only : (i w : ℕ) → slice_get (v ∷ []) i ≡ Some w → IsKnown (slice_set s.marks v true) w
     only zero w at = let same : v ≡ w = cc in subst (IsKnown (slice_set s.marks v true)) same (set-there s.marks v)
-    only (suc i) w at = absurd (cc)
-
--- one that is known is found already
-pub found_known : (s : Searching) (v : ℕ) → IsSearch s → IsKnown s.marks v → Finds s s (v ∷ [])
-found_known s v search known = record { search = search; on = same_search s; known = λ i w at. only i w at }
-  where
-    only : (i w : ℕ) → slice_get (v ∷ []) i ≡ Some w → IsKnown s.marks w
-    only zero w at = let same : v ≡ w = cc in subst (IsKnown s.marks) same known
     only (suc i) w at = absurd (cc)
 
 -- no more are reached than there are
