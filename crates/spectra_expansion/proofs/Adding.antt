@@ -155,12 +155,13 @@ pub adds_under : (parameters : Naming) (a b c : Measure) (times above below : �
 adds_under parameters a b c times above below n l one node operand =
     adds_as parameters a c _ _ (λ ns. times * (1 + n ns)) (λ ns. above + (1 + l ns)) (adds_both parameters a b c _ _ _ _ node operand) (λ ns covers. omega arith) (λ ns covers. omega (arith, one))
 
+-- the second operand may come before the first
 pub adds_between : (parameters : Naming) (a b c d : Measure) (times above below : ℕ) (n1 l1 n2 l2 : List ℕ → ℕ) → below ≡ held (above + 1) → Adds parameters a b (λ ns. times * 1) (λ ns. above + 1)
-    → Adds parameters b c (λ ns. times * n1 ns) (λ ns. below + l1 ns) → Adds parameters c d (λ ns. times * n2 ns) (λ ns. below + l2 ns)
+    → Adds parameters b c (λ ns. times * n2 ns) (λ ns. below + l2 ns) → Adds parameters c d (λ ns. times * n1 ns) (λ ns. below + l1 ns)
     → Adds parameters a d (λ ns. times * (1 + (n1 ns + n2 ns))) (λ ns. above + (1 + max (l1 ns) (l2 ns)))
-adds_between parameters a b c d times above below n1 l1 n2 l2 one node first second =
+adds_between parameters a b c d times above below n1 l1 n2 l2 one node second first =
     adds_as parameters a d _ _ (λ ns. times * (1 + (n1 ns + n2 ns))) (λ ns. above + (1 + max (l1 ns) (l2 ns)))
-    (adds_both parameters a b d _ _ _ _ node (adds_both parameters b c d _ _ _ _ first second)) (λ ns covers. omega arith) (λ ns covers. omega (arith, one))
+    (adds_both parameters a b d _ _ _ _ node (adds_both parameters b c d _ _ _ _ second first)) (λ ns covers. omega arith) (λ ns covers. omega (arith, one))
 
 pub adds_several : (parameters : Naming) (a b c : Measure) (times above below : ℕ) (n : List ℕ → ℕ) (ls : List ℕ → List ℕ) → below ≡ held (above + 1) → Adds parameters a b (λ ns. times * 1) (λ ns. above + 1)
     → Adds parameters b c (λ ns. times * n ns) (λ ns. deepest below (ls ns)) → Adds parameters a c (λ ns. times * (1 + n ns)) (λ ns. above + (1 + joined max (ls ns)))

@@ -19,29 +19,34 @@ pub struct Counting<'a> {
     pub table: &'a [Measure],
 }
 
-/// Adds the formula of an expression to a measure, so often and below so many levels.
+/// Adds the formula of an expression to a measure, so often and below so many levels. Sums nest to the left as deep as
+/// their text is long: so the first operands are gone down in a loop.
 #[cycle(counting)]
 pub fn count(within: &Counting<'_>, m: &mut Measure, times: u64, above: u64, e: &ExprTree)
     requires { 0 < times }
     ensures { Adds (named_inside within.now) m.old m.new (λ ns. times * nodes_inside within.now ns (expr_data e.now)) (λ ns. above + levels_inside within.now ns (expr_data e.now)) }
 {
-    match &e.form {
-        ExprForm::True => m.add(times, above),
-        ExprForm::False => m.add(times, above),
-        ExprForm::Number(_, _) => m.add(times, above),
-        ExprForm::Read(name) => count_read(within, m, times, above, name),
-        ExprForm::Call(name, es) => count_call(within, m, times, above, name, es),
-        ExprForm::Next(a) => count_under(within, m, times, above, a),
-        ExprForm::Prefix(_, a) => count_under(within, m, times, above, a),
-        ExprForm::Binary(_, a, b) => {
-            let below = above.saturating_add(1);
-            m.add(times, above);
-            count(within, m, times, below, a);
-            count(within, m, times, below, b);
+    let mut left = e;
+    let mut depth = above;
+    'down: loop {
+        match &left.form {
+            ExprForm::True => return m.add(times, depth),
+            ExprForm::False => return m.add(times, depth),
+            ExprForm::Number(_, _) => return m.add(times, depth),
+            ExprForm::Read(name) => return count_read(within, m, times, depth, name),
+            ExprForm::Call(name, es) => return count_call(within, m, times, depth, name, es),
+            ExprForm::Next(a) => return count_under(within, m, times, depth, a),
+            ExprForm::Prefix(_, a) => return count_under(within, m, times, depth, a),
+            ExprForm::Binary(_, a, b) => {
+                m.add(times, depth);
+                depth = depth.saturating_add(1);
+                count(within, m, times, depth, b);
+                left = a;
+            }
+            ExprForm::Mod(a, _, _) => return count_under(within, m, times, depth, a),
+            ExprForm::And(es, _) => return count_several(within, m, times, depth, es),
+            ExprForm::Or(es, _) => return count_several(within, m, times, depth, es),
         }
-        ExprForm::Mod(a, _, _) => count_under(within, m, times, above, a),
-        ExprForm::And(es, _) => count_several(within, m, times, above, es),
-        ExprForm::Or(es, _) => count_several(within, m, times, above, es),
     }
 }
 

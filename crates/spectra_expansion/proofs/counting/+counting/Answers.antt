@@ -1,6 +1,7 @@
-use Rattle.std.proofs.Common.{◌≡◌, ◌+◌, ◌*◌, max, ℕ, ◌∷◌, Some, map, drop, sym, ap, subst, ◌∙◌}
+use Rattle.std.proofs.Common.{◌≡◌, ◌+◌, ◌*◌, max, ℕ, ◌∷◌, Some, map, drop, sym, ap, subst, arith, ◌∙◌}
 use Rattle.std.proofs.lemmas.List.{drop_more, drop_all}
 use Rattle.std.proofs.lemmas.Option.{slice_get-get_or, slice_get_past}
+use Rattle.spectra_trees.specs.declared.tree.ExprTree.{size-ExprTree}
 use Rattle.spectra_trees.specs.Data.{Form, Expressions, expressions}
 use Rattle.spectra_trees.specs.Views.{name_data, form_data, expr_data}
 use Rattle.spectra_names.specs.Spaces.{Named}
@@ -9,7 +10,7 @@ use Rattle.spectra_expansion.specs.declared.counting.Counting.{Counting}
 use Rattle.spectra_expansion.specs.Measuring.{joined, call_measure}
 use Rattle.spectra_expansion.specs.Counting.{argument_nodes, argument_levels, nodes_of, levels_of, nodes_put, levels_put, deepest, Adds}
 use Rattle.spectra_expansion.specs.Walking.{named_inside, nodes_inside, levels_inside, each_nodes, each_levels, form_nodes, form_levels}
-use Rattle.spectra_expansion.proofs.Trees.{call_data, and_data, or_data, true_data, false_data, number_data, binary_data}
+use Rattle.spectra_expansion.proofs.Trees.{true_data, false_data, number_data, read_data, call_data, next_data, prefix_data, binary_data, mod_data, and_data, or_data, first_smaller}
 use Rattle.spectra_expansion.proofs.Adding.{adds_under, adds_between, adds_several, adds_first, adds_argument, adds_put, adds_used, adds_none}
 use Rattle.spectra_expansion.proofs.counting.+counting.Goals as goal
 
@@ -26,49 +27,102 @@ at-name w a b times above es n m same adds =
 
 pub count-returns-in-True : goal.count-returns-in-True
 count-returns-in-True t c =
-    at-form c.args.within.now c.args.m.now c.add.new.self c.args.times c.args.above _ _ (ap form_data c.in-True.is ∙ true_data) (c.add.ensures (named_inside c.args.within.now))
+    let w = c.args.within.now in
+    c.down.invariant.adds c.add.new.self
+    (at-form w c.down.m c.add.new.self c.args.times c.down.depth _ _ (ap form_data c.in-True.is ∙ true_data) (c.add.ensures (named_inside w)))
 
 pub count-returns-in-False : goal.count-returns-in-False
 count-returns-in-False t c =
-    at-form c.args.within.now c.args.m.now c.add-in-False.new.self c.args.times c.args.above _ _ (ap form_data c.in-False.is ∙ false_data) (c.add-in-False.ensures (named_inside c.args.within.now))
+    let w = c.args.within.now in
+    c.down.invariant.adds c.add-in-False.new.self
+    (at-form w c.down.m c.add-in-False.new.self c.args.times c.down.depth _ _ (ap form_data c.in-False.is ∙ false_data) (c.add-in-False.ensures (named_inside w)))
 
 pub count-returns-in-Number : goal.count-returns-in-Number
 count-returns-in-Number t c =
-    at-form c.args.within.now c.args.m.now c.add-in-Number.new.self c.args.times c.args.above _ _ (ap form_data c.in-Number.is ∙ number_data c.in-Number.field-0 c.in-Number.field-1) (c.add-in-Number.ensures (named_inside c.args.within.now))
+    let w = c.args.within.now in
+    c.down.invariant.adds c.add-in-Number.new.self
+    (at-form w c.down.m c.add-in-Number.new.self c.args.times c.down.depth _ _ (ap form_data c.in-Number.is ∙ number_data c.in-Number.field-0 c.in-Number.field-1) (c.add-in-Number.ensures (named_inside w)))
 
 pub count-returns-in-And : goal.count-returns-in-And
 count-returns-in-And t c =
     let w = c.args.within.now in
-    at-form w c.args.m.now c.count_several.new.m c.args.times c.args.above _ _ (ap form_data c.in-And.is ∙ and_data c.in-And.es c.in-And.field-1)
-    (subst (λ es. Adds (named_inside w) c.args.m.now c.count_several.new.m (λ ns. c.args.times * (1 + joined (λ x y. x + y) (each_nodes w ns (expressions (map expr_data es))))) (λ ns. c.args.above + (1 + joined max (each_levels w ns (expressions (map expr_data es)))))) c.deref-in-And.ensures.value
-    c.count_several.ensures)
+    let end = c.count_several.new.m in
+    c.down.invariant.adds end
+    (at-form w c.down.m end c.args.times c.down.depth _ _ (ap form_data c.in-And.is ∙ and_data c.in-And.es c.in-And.field-1)
+    (subst (λ es. Adds (named_inside w) c.down.m end (λ ns. c.args.times * (1 + joined (λ x y. x + y) (each_nodes w ns (expressions (map expr_data es))))) (λ ns. c.down.depth + (1 + joined max (each_levels w ns (expressions (map expr_data es)))))) c.deref-in-And.ensures.value
+    c.count_several.ensures))
 
 pub count-returns-in-Or : goal.count-returns-in-Or
 count-returns-in-Or t c =
     let w = c.args.within.now in
-    at-form w c.args.m.now c.count_several-in-Or.new.m c.args.times c.args.above _ _ (ap form_data c.in-Or.is ∙ or_data c.in-Or.es c.in-Or.field-1)
-    (subst (λ es. Adds (named_inside w) c.args.m.now c.count_several-in-Or.new.m (λ ns. c.args.times * (1 + joined (λ x y. x + y) (each_nodes w ns (expressions (map expr_data es))))) (λ ns. c.args.above + (1 + joined max (each_levels w ns (expressions (map expr_data es)))))) c.deref-in-Or.ensures.value
-    c.count_several-in-Or.ensures)
+    let end = c.count_several-in-Or.new.m in
+    c.down.invariant.adds end
+    (at-form w c.down.m end c.args.times c.down.depth _ _ (ap form_data c.in-Or.is ∙ or_data c.in-Or.es c.in-Or.field-1)
+    (subst (λ es. Adds (named_inside w) c.down.m end (λ ns. c.args.times * (1 + joined (λ x y. x + y) (each_nodes w ns (expressions (map expr_data es))))) (λ ns. c.down.depth + (1 + joined max (each_levels w ns (expressions (map expr_data es)))))) c.deref-in-Or.ensures.value
+    c.count_several-in-Or.ensures))
 
 pub count-returns-in-Call : goal.count-returns-in-Call
 count-returns-in-Call t c =
     let w = c.args.within.now in
     let name = named_inside w (name_data c.in-Call.name).text in
-    at-form w c.args.m.now c.count_call.new.m c.args.times c.args.above _ _ (ap form_data c.in-Call.is ∙ call_data c.in-Call.name c.in-Call.es)
-    (subst (λ es. Adds (named_inside w) c.args.m.now c.count_call.new.m (λ ns. c.args.times * call_measure (nodes_put w.table.now) name (each_nodes w ns (expressions (map expr_data es)))) (λ ns. c.args.above + call_measure (levels_put w.table.now) name (each_levels w ns (expressions (map expr_data es))))) c.deref.ensures.value
-    c.count_call.ensures)
+    let end = c.count_call.new.m in
+    c.down.invariant.adds end
+    (at-form w c.down.m end c.args.times c.down.depth _ _ (ap form_data c.in-Call.is ∙ call_data c.in-Call.name c.in-Call.es)
+    (subst (λ es. Adds (named_inside w) c.down.m end (λ ns. c.args.times * call_measure (nodes_put w.table.now) name (each_nodes w ns (expressions (map expr_data es)))) (λ ns. c.down.depth + call_measure (levels_put w.table.now) name (each_levels w ns (expressions (map expr_data es))))) c.deref.ensures.value
+    c.count_call.ensures))
 
-pub count-returns-in-Binary : goal.count-returns-in-Binary
-count-returns-in-Binary t c =
+pub count-down-preserved : goal.count-down-preserved
+count-down-preserved t c =
     let w = c.args.within.now in
     let first = c.add-in-Binary.new.self in
-    let below = c.saturating_add-below.result in
-    at-form w c.args.m.now c.count-in-Binary.new.m c.args.times c.args.above _ _ (ap form_data c.in-Binary.is ∙ binary_data c.in-Binary.field-0 c.in-Binary.a c.in-Binary.b)
-    (adds_between (named_inside w) c.args.m.now first c.count.new.m c.count-in-Binary.new.m c.args.times c.args.above below
-    (λ ns. nodes_inside w ns (expr_data c.in-Binary.a.value)) (λ ns. levels_inside w ns (expr_data c.in-Binary.a.value)) (λ ns. nodes_inside w ns (expr_data c.in-Binary.b.value)) (λ ns. levels_inside w ns (expr_data c.in-Binary.b.value))
-    c.saturating_add-below.ensures (c.add-in-Binary.ensures (named_inside w))
-    (subst (λ e. Adds (named_inside w) first c.count.new.m (λ ns. c.args.times * nodes_inside w ns (expr_data e)) (λ ns. below + levels_inside w ns (expr_data e))) c.deref-in-Binary.ensures c.count.ensures)
-    (subst (λ e. Adds (named_inside w) c.count.new.m c.count-in-Binary.new.m (λ ns. c.args.times * nodes_inside w ns (expr_data e)) (λ ns. below + levels_inside w ns (expr_data e))) c.deref-in-Binary-2.ensures c.count-in-Binary.ensures))
+    let below = c.saturating_add-depth.result in
+    record {
+      no_deeper =
+          let smaller = first_smaller c.down.left.now c.in-Binary.field-0 c.in-Binary.a c.in-Binary.b c.in-Binary.is in
+          let same = ap (λ e. size-ExprTree e) c.deref-left.ensures in
+          let so_far = c.down.invariant.no_deeper in
+          omega (arith, smaller, same, so_far);
+      adds =
+          λ end rest.
+          c.down.invariant.adds end
+          (at-form w c.down.m end c.args.times c.down.depth _ _ (ap form_data c.in-Binary.is ∙ binary_data c.in-Binary.field-0 c.in-Binary.a c.in-Binary.b)
+          (adds_between (named_inside w) c.down.m first c.count.new.m end c.args.times c.down.depth below
+          (λ ns. nodes_inside w ns (expr_data c.in-Binary.a.value)) (λ ns. levels_inside w ns (expr_data c.in-Binary.a.value)) (λ ns. nodes_inside w ns (expr_data c.in-Binary.b.value)) (λ ns. levels_inside w ns (expr_data c.in-Binary.b.value))
+          c.saturating_add-depth.ensures (c.add-in-Binary.ensures (named_inside w))
+          (subst (λ e. Adds (named_inside w) first c.count.new.m (λ ns. c.args.times * nodes_inside w ns (expr_data e)) (λ ns. below + levels_inside w ns (expr_data e))) c.deref-in-Binary.ensures c.count.ensures)
+          (subst (λ e. Adds (named_inside w) c.count.new.m end (λ ns. c.args.times * nodes_inside w ns (expr_data e)) (λ ns. below + levels_inside w ns (expr_data e))) c.deref-left.ensures rest)));
+    }
+
+pub count-returns-in-Read : goal.count-returns-in-Read
+count-returns-in-Read t c =
+    let w = c.args.within.now in
+    let end = c.count_read.new.m in
+    c.down.invariant.adds end
+    (at-form w c.down.m end c.args.times c.down.depth _ _ (ap form_data c.in-Read.is ∙ read_data c.in-Read.name) c.count_read.ensures)
+
+pub count-returns-in-Next : goal.count-returns-in-Next
+count-returns-in-Next t c =
+    let w = c.args.within.now in
+    let end = c.count_under.new.m in
+    c.down.invariant.adds end
+    (at-form w c.down.m end c.args.times c.down.depth _ _ (ap form_data c.in-Next.is ∙ next_data c.in-Next.a)
+    (subst (λ e. Adds (named_inside w) c.down.m end (λ ns. c.args.times * (1 + nodes_inside w ns (expr_data e))) (λ ns. c.down.depth + (1 + levels_inside w ns (expr_data e)))) c.deref-in-Next.ensures c.count_under.ensures))
+
+pub count-returns-in-Prefix : goal.count-returns-in-Prefix
+count-returns-in-Prefix t c =
+    let w = c.args.within.now in
+    let end = c.count_under-in-Prefix.new.m in
+    c.down.invariant.adds end
+    (at-form w c.down.m end c.args.times c.down.depth _ _ (ap form_data c.in-Prefix.is ∙ prefix_data c.in-Prefix.field-0 c.in-Prefix.a)
+    (subst (λ e. Adds (named_inside w) c.down.m end (λ ns. c.args.times * (1 + nodes_inside w ns (expr_data e))) (λ ns. c.down.depth + (1 + levels_inside w ns (expr_data e)))) c.deref-in-Prefix.ensures c.count_under-in-Prefix.ensures))
+
+pub count-returns-in-Mod : goal.count-returns-in-Mod
+count-returns-in-Mod t c =
+    let w = c.args.within.now in
+    let end = c.count_under-in-Mod.new.m in
+    c.down.invariant.adds end
+    (at-form w c.down.m end c.args.times c.down.depth _ _ (ap form_data c.in-Mod.is ∙ mod_data c.in-Mod.a c.in-Mod.field-1 c.in-Mod.field-2)
+    (subst (λ e. Adds (named_inside w) c.down.m end (λ ns. c.args.times * (1 + nodes_inside w ns (expr_data e))) (λ ns. c.down.depth + (1 + levels_inside w ns (expr_data e)))) c.deref-in-Mod.ensures c.count_under-in-Mod.ensures))
 
 pub count_argument-returns-then-used-gt0 : goal.count_argument-returns-then-used-gt0
 count_argument-returns-then-used-gt0 t c =

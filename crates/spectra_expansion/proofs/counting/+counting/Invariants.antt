@@ -1,11 +1,21 @@
-use Rattle.std.proofs.Common.{◌+◌, ◌*◌, map, drop}
+use Rattle.std.proofs.Common.{◌+◌, ◌*◌, ◌≤◌, map, drop}
+use Rattle.spectra_trees.specs.declared.tree.ExprTree.{size-ExprTree}
 use Rattle.spectra_trees.specs.Data.{expressions}
 use Rattle.spectra_trees.specs.Views.{expr_data}
 use Rattle.spectra_expansion.specs.declared.measure.Measure.{Measure}
 use Rattle.spectra_expansion.specs.Measuring.{joined}
 use Rattle.spectra_expansion.specs.Counting.{argument_nodes, argument_levels, deepest, Adds}
-use Rattle.spectra_expansion.specs.Walking.{named_inside, each_nodes, each_levels}
+use Rattle.spectra_expansion.specs.Walking.{named_inside, nodes_inside, levels_inside, each_nodes, each_levels}
 use Rattle.spectra_expansion.proofs.counting.+counting.Given as goal
+
+-- what adds the operand that is left adds all
+abbrev pub invariant-count-down : goal.invariant-count-down
+invariant-count-down l = record {
+  no_deeper : size-ExprTree l.left ≤ size-ExprTree l.e;
+  adds : (end : Measure)
+      → Adds (named_inside l.within) l.m end (λ ns. l.times * nodes_inside l.within ns (expr_data l.left)) (λ ns. l.depth + levels_inside l.within ns (expr_data l.left))
+      → Adds (named_inside l.within) l.fn.m end (λ ns. l.times * nodes_inside l.within ns (expr_data l.e)) (λ ns. l.above + levels_inside l.within ns (expr_data l.e));
+}
 
 -- what adds those that are left adds all
 abbrev pub invariant-count_each-loop-e : goal.invariant-count_each-loop-e
