@@ -1,5 +1,5 @@
 -- Formulas as lists, and definitions put in.
-use Rattle.std.proofs.Common.{◌≡◌, ℕ, zero, suc, ◌-◌, Bool, true, false, if◌then◌else◌, List, [], ◌∷◌, length, map, Option, None, option_map, slice_get, unwrap_or, refl, ap, sym, ◌∙◌, arith, inl, inr}
+use Rattle.std.proofs.Common.{◌≡◌, ℕ, suc, Bool, true, false, if◌then◌else◌, List, [], ◌∷◌, length, map, Option, None, option_map, slice_get, unwrap_or, refl, ap, sym, ◌∙◌, arith, inl, inr}
 use Rattle.std.proofs.lemmas.Option.{slice_get_past, slice_get-map}
 use Rattle.std.proofs.lemmas.Bool.{cases_lt}
 use Rattle.std.proofs.lemmas.List.{length-map}
@@ -42,20 +42,12 @@ put_unmarked scope definitions marks k is are =
       | inr past ↦ none-at _ _ _ (slice_get_past definitions k (omega arith))
     ]
 
-at-body : (n : ℕ) (scope : Scope) (definitions : List code_definition.Definition) (k : ℕ) (arguments : List Formula) (found : Option code_definition.Definition)
-    → scope.definitions ≡ map definition_data definitions → found ≡ (if is_on_cycle scope k then None else slice_get definitions k)
-    → body_formula (expanded n scope) scope arguments (option_map definition_data found) ≡ expanded (suc n) scope k arguments
-at-body n scope definitions k arguments found is there =
-    let same : option_map definition_data (slice_get definitions k) ≡ slice_get scope.definitions k = sym (slice_get-map definition_data definitions k) ∙ ap (λ ds. slice_get ds k) (sym is) in
-    ap (λ f. body_formula (expanded n scope) scope arguments (option_map definition_data f)) there
-    ∙ either-body (expanded n scope) scope arguments (slice_get definitions k) (is_on_cycle scope k)
-    ∙ ap (λ d. if is_on_cycle scope k then no_meaning else body_formula (expanded n scope) scope arguments d) same
-
 -- what is put in stands for its body
 pub put_found : (deep : ℕ) (scope : Scope) (definitions : List code_definition.Definition) (k : ℕ) (arguments : List Formula) (found : Option code_definition.Definition)
-    → (deep ≡ 0 → ⊥) → scope.definitions ≡ map definition_data definitions → found ≡ (if is_on_cycle scope k then None else slice_get definitions k)
-    → body_formula (expanded (deep - 1) scope) scope arguments (option_map definition_data found) ≡ expanded deep scope k arguments
-put_found zero scope definitions k arguments found some is there = absurd (some refl)
-put_found (suc n) scope definitions k arguments found some is there =
-    let less : suc n - 1 ≡ n = omega arith in
-    ap (λ d. body_formula (expanded d scope) scope arguments (option_map definition_data found)) less ∙ at-body n scope definitions k arguments found is there
+    → scope.definitions ≡ map definition_data definitions → found ≡ (if is_on_cycle scope k then None else slice_get definitions k)
+    → body_formula (expanded deep scope) scope arguments (option_map definition_data found) ≡ expanded (suc deep) scope k arguments
+put_found deep scope definitions k arguments found is there =
+    let same : option_map definition_data (slice_get definitions k) ≡ slice_get scope.definitions k = sym (slice_get-map definition_data definitions k) ∙ ap (λ ds. slice_get ds k) (sym is) in
+    ap (λ f. body_formula (expanded deep scope) scope arguments (option_map definition_data f)) there
+    ∙ either-body (expanded deep scope) scope arguments (slice_get definitions k) (is_on_cycle scope k)
+    ∙ ap (λ d. if is_on_cycle scope k then no_meaning else body_formula (expanded deep scope) scope arguments d) same

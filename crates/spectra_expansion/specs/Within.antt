@@ -6,6 +6,8 @@ use Rattle.spectra_trees.specs.Data.{Expression, Expressions}
 use Rattle.spectra_names.specs.Spaces.{Scope, Named, named}
 use Rattle.spectra_names.specs.ScopeViews.{places_in, scope_data}
 use Rattle.spectra_expansion.specs.declared.expanding.Within.{Within}
+use Rattle.spectra_expansion.specs.declared.expanding.Meaning.{Meaning}
+use Rattle.spectra_expansion.specs.declared.expanding.Meaning.TheVariants as meanings
 use Rattle.spectra_expansion.specs.Expansion.{formula_in, formulas_in, expanded}
 use Rattle.spectra_expansion.specs.Needs.{HasRoom, MarksCycles}
 
@@ -28,6 +30,11 @@ formula_within w = formula_in (put_within w) (scope_within w) (places_in w.param
 
 abbrev pub formulas_within : Within → Expressions → Formulas
 formulas_within w = formulas_in (put_within w) (scope_within w) (places_in w.parameters.now) (arguments_within w)
+
+-- the formula of what an expression is; `put` is a definition's formula with its arguments
+abbrev pub meant : (put : ℕ → List Formula → Formula) → Meaning → Formula
+meant put (meanings.Formula e) = formula e
+meant put (meanings.Put k es) = put k (map formula es.items)
 
 -- the scope and the marks are as formulas need them
 pub record IsReady (w : Within) : Type 0 where

@@ -1,6 +1,6 @@
 //! The formula that an expression means, with defines and predicates put in.
 
-ghost use Rattle.std.specs.Prelude.{◌≡◌, if◌then◌else◌, map, unwrap_or, slice_get, false, None, Some, IfOk};
+ghost use Rattle.std.specs.Prelude.{◌≡◌, suc, if◌then◌else◌, map, unwrap_or, slice_get, false, None, Some, IfOk};
 ghost use Rattle.spec_model.specs.Syntax.{listed, formulas};
 ghost use Rattle.spec_model.specs.Views.{formula};
 ghost use Rattle.spectra_trees.specs.Data.{expressions};
@@ -9,7 +9,7 @@ ghost use Rattle.spectra_order.specs.Cycles.{is_on_cycle};
 ghost use Rattle.spectra_names.specs.ScopeViews.{definition_data, places_in, scope_data};
 ghost use Rattle.spectra_expansion.specs.Expansion.{read_formula, call_formula, body_formula, expanded, formula_of as formula_of_lem};
 ghost use Rattle.spectra_expansion.specs.Needs.{HasRoom, MarksCycles};
-ghost use Rattle.spectra_expansion.specs.Within.{scope_within, put_within, arguments_within, named_within, formula_within, formulas_within, IsReady};
+ghost use Rattle.spectra_expansion.specs.Within.{meant, scope_within, put_within, arguments_within, named_within, formula_within, formulas_within, IsReady};
 
 use crate::parts::{argument, binary, conjunction, disjunction, enum_name, no_meaning, prefix};
 use spec_model::expr::Expr;
@@ -32,6 +32,13 @@ struct Within<'a> {
     arguments: &'a [Expr],
 }
 
+// What an expression is: a formula, or nothing but a definition with these arguments.
+#[derive(Drop)]
+enum Meaning {
+    Formula(Expr),
+    Put(usize, Vec<Expr>),
+}
+
 // The formula of an expression, where parameters stand for arguments.
 #[cycle(expanding)]
 fn formula_in(within: &Within<'_>, e: &ExprTree) -> Result<Expr, AllocError>
@@ -45,8 +52,8 @@ fn formula_in(within: &Within<'_>, e: &ExprTree) -> Result<Expr, AllocError>
             *negative,
             digits.as_str(),
         )))),
-        ExprForm::Read(name) => read(within, name),
-        ExprForm::Call(name, es) => call(within, name, es),
+        ExprForm::Read(name) => put(within, read(within, name)?),
+        ExprForm::Call(name, es) => put(within, call(within, name, es)?),
         ExprForm::Next(a) => Ok(Expr::Next(Box::new(within.alloc, formula_in(within, a)?)?)),
         ExprForm::Prefix(word, a) => prefix(within.alloc, *word, formula_in(within, a)?),
         ExprForm::Binary(word, a, b) => {
@@ -76,38 +83,50 @@ fn formulas_in(within: &Within<'_>, es: &[ExprTree]) -> Result<Vec<Expr>, AllocE
     Ok(made)
 }
 
-// The formula of a name read alone.
-#[cycle(expanding)]
-fn read(within: &Within<'_>, name: &Name) -> Result<Expr, AllocError>
+// What a name read alone is.
+fn read(within: &Within<'_>, name: &Name) -> Result<Meaning, AllocError>
     requires { IsReady within.now }
-    ensures { IfOk result (λ made. formula made ≡ read_formula (put_within within.now) (scope_within within.now) (arguments_within within.now) (name_data name.now).text (named_within within.now (name_data name.now).text)) }
+    ensures { IfOk result (λ m. meant (put_within within.now) m ≡ read_formula (put_within within.now) (scope_within within.now) (arguments_within within.now) (name_data name.now).text (named_within within.now (name_data name.now).text)) }
 {
     match within.scope.named(within.parameters, name.text.as_str()) {
-        Named::Unknown => Ok(no_meaning()),
-        Named::Parameter(place) => argument(within.alloc, within.arguments, place),
-        Named::Variable(number) => Ok(Expr::Var(number as u32)),
-        Named::EnumName => Ok(enum_name(within.scope, name.text.as_str())),
-        Named::Define(number) => put(within, number, &[]),
-        Named::Predicate(_) => Ok(no_meaning()),
+        Named::Unknown => Ok(Meaning::Formula(no_meaning())),
+        Named::Parameter(place) => {
+            let own = argument(within.alloc, within.arguments, place)?;
+            Ok(Meaning::Formula(own))
+        }
+        Named::Variable(number) => Ok(Meaning::Formula(Expr::Var(number as u32))),
+        Named::EnumName => Ok(Meaning::Formula(enum_name(within.scope, name.text.as_str()))),
+        Named::Define(number) => Ok(Meaning::Put(number, Vec::new(within.alloc))),
+        Named::Predicate(_) => Ok(Meaning::Formula(no_meaning())),
     }
 }
 
-// The formula of a predicate's use.
+// What a predicate's use is.
 #[cycle(expanding)]
-fn call(within: &Within<'_>, name: &Name, es: &[ExprTree]) -> Result<Expr, AllocError>
+fn call(within: &Within<'_>, name: &Name, es: &[ExprTree]) -> Result<Meaning, AllocError>
     requires { IsReady within.now }
-    ensures { IfOk result (λ made. formula made ≡ call_formula (put_within within.now) (named_within within.now (name_data name.now).text) (listed (formulas_within within.now (expressions (map expr_data es.now))))) }
+    ensures { IfOk result (λ m. meant (put_within within.now) m ≡ call_formula (put_within within.now) (named_within within.now (name_data name.now).text) (listed (formulas_within within.now (expressions (map expr_data es.now))))) }
 {
     match within.scope.named(within.parameters, name.text.as_str()) {
-        Named::Predicate(number) => {
-            let own = formulas_in(within, es)?;
-            put(within, number, &own)
-        }
-        Named::Unknown => Ok(no_meaning()),
-        Named::Parameter(_) => Ok(no_meaning()),
-        Named::Variable(_) => Ok(no_meaning()),
-        Named::EnumName => Ok(no_meaning()),
-        Named::Define(_) => Ok(no_meaning()),
+        Named::Predicate(number) => Ok(Meaning::Put(number, formulas_in(within, es)?)),
+        Named::Unknown => Ok(Meaning::Formula(no_meaning())),
+        Named::Parameter(_) => Ok(Meaning::Formula(no_meaning())),
+        Named::Variable(_) => Ok(Meaning::Formula(no_meaning())),
+        Named::EnumName => Ok(Meaning::Formula(no_meaning())),
+        Named::Define(_) => Ok(Meaning::Formula(no_meaning())),
+    }
+}
+
+// What an expression is, where a name or a use of a predicate is left to be put in.
+#[cycle(expanding)]
+fn meaning_of(within: &Within<'_>, e: &ExprTree) -> Result<Meaning, AllocError>
+    requires { IsReady within.now }
+    ensures { IfOk result (λ m. meant (put_within within.now) m ≡ formula_within within.now (expr_data e.now)) }
+{
+    match &e.form {
+        ExprForm::Read(name) => read(within, name),
+        ExprForm::Call(name, es) => call(within, name, es),
+        _ => Ok(Meaning::Formula(formula_in(within, e)?)),
     }
 }
 
@@ -134,34 +153,36 @@ fn definition_in<'a>(within: &Within<'a>, number: usize) -> Option<Definition<'a
     }
 }
 
-// A definition's formula with its arguments.
+// What a definition with its arguments is, where others are put in so deep.
 #[cycle(expanding)]
-fn put(within: &Within<'_>, number: usize, arguments: &[Expr]) -> Result<Expr, AllocError>
+fn put_one(
+    within: &Within<'_>,
+    deep: usize,
+    number: usize,
+    arguments: &[Expr],
+) -> Result<Meaning, AllocError>
     requires { IsReady within.now }
-    ensures { IfOk result (λ made. formula made ≡ put_within within.now number (map formula arguments.now)) }
+    ensures { IfOk result (λ m. meant (expanded deep (scope_within within.now)) m ≡ expanded (suc deep) (scope_within within.now) number (map formula arguments.now)) }
 {
-    if within.deep == 0 {
-        return Ok(no_meaning());
-    }
     match definition_in(within, number) {
-        Some(definition) => body(within, within.deep - 1, &definition, arguments),
-        None => Ok(no_meaning()),
+        Some(definition) => body(within, deep, &definition, arguments),
+        None => Ok(Meaning::Formula(no_meaning())),
     }
 }
 
-// The body of a definition with these arguments, where others are put in so deep.
+// What a body with these arguments is, where others are put in so deep.
 #[cycle(expanding)]
 fn body(
     within: &Within<'_>,
     deep: usize,
     definition: &Definition<'_>,
     arguments: &[Expr],
-) -> Result<Expr, AllocError>
+) -> Result<Meaning, AllocError>
     requires { IsReady within.now }
-    ensures { IfOk result (λ made. formula made ≡ body_formula (expanded deep (scope_within within.now)) (scope_within within.now) (map formula arguments.now) (Some (definition_data definition.now))) }
+    ensures { IfOk result (λ m. meant (expanded deep (scope_within within.now)) m ≡ body_formula (expanded deep (scope_within within.now)) (scope_within within.now) (map formula arguments.now) (Some (definition_data definition.now))) }
 {
     match definition {
-        Definition::Type(_, _) => Ok(no_meaning()),
+        Definition::Type(_, _) => Ok(Meaning::Formula(no_meaning())),
         Definition::Define(_, e) => {
             let none = Parameters::none(within.alloc);
             let inside = Within {
@@ -170,7 +191,7 @@ fn body(
                 arguments: &[],
                 ..*within
             };
-            formula_in(&inside, e)
+            meaning_of(&inside, e)
         }
         Definition::Predicate(p) => {
             let own = parameters_of(within.alloc, p)?;
@@ -180,7 +201,30 @@ fn body(
                 arguments,
                 ..*within
             };
-            formula_in(&inside, &p.body)
+            meaning_of(&inside, &p.body)
+        }
+    }
+}
+
+// The formula of what an expression is. Definitions that are only another one are followed in a loop, since a text has
+// room for more of them than the machine's stack has for calls.
+#[cycle(expanding)]
+fn put(within: &Within<'_>, first: Meaning) -> Result<Expr, AllocError>
+    requires { IsReady within.now }
+    ensures { IfOk result (λ made. formula made ≡ meant (put_within within.now) first) }
+{
+    let mut found = first;
+    let mut deep = within.deep;
+    'follow: loop {
+        match found {
+            Meaning::Formula(e) => return Ok(e),
+            Meaning::Put(number, arguments) => {
+                if deep == 0 {
+                    return Ok(no_meaning());
+                }
+                deep -= 1;
+                found = put_one(within, deep, number, &arguments)?;
+            }
         }
     }
 }

@@ -5,8 +5,8 @@ use Rattle.spec_model.specs.Views.{formula}
 use Rattle.spectra_trees.specs.Data.{expressions}
 use Rattle.spectra_trees.specs.Views.{name_data, form_data, expr_data}
 use Rattle.spectra_names.specs.ScopeViews.{places_in}
-use Rattle.spectra_expansion.specs.Expansion.{form_formula, call_formula}
-use Rattle.spectra_expansion.specs.Within.{scope_within, put_within, arguments_within, named_within, formulas_within}
+use Rattle.spectra_expansion.specs.Expansion.{form_formula, call_formula, expanded}
+use Rattle.spectra_expansion.specs.Within.{meant, scope_within, put_within, arguments_within, named_within, formulas_within}
 use Rattle.spectra_expansion.proofs.Formulas.{formulas_listed, listed_formulas, put_found}
 use Rattle.spectra_expansion.proofs.Trees.{call_data, and_data, or_data}
 use Rattle.spectra_expansion.proofs.Depths.{lower}
@@ -28,11 +28,21 @@ formula_in-returns-in_ok-formulas_in-in-Or t c =
     ∙ ap (λ es. Disjunction (formulas_within w (expressions (map expr_data es)))) c.deref-in-Or.ensures.value
     ∙ sym (ap (λ f. form_formula (put_within w) (scope_within w) (places_in w.parameters.now) (arguments_within w) f) (ap form_data c.in-Or.is ∙ or_data c.in-Or.es c.in-Or.field-1))
 
-pub formula_in-returns-in-Call : goal.formula_in-returns-in-Call
-formula_in-returns-in-Call t c =
+pub formula_in-returns-in_ok-call-in-Call : goal.formula_in-returns-in_ok-call-in-Call
+formula_in-returns-in_ok-call-in-Call t c =
     let w = c.args.within.now in
     let name = c.in-Call.name in
-    subst (λ f. IfOk c.call.result (λ made. formula made ≡ f))
+    subst (λ f. IfOk c.put-in-Call.result (λ made. formula made ≡ f))
+    (c.in_ok-call-in-Call.ensures
+    ∙ ap (λ es. call_formula (put_within w) (named_within w (name_data name).text) (listed (formulas_within w (expressions (map expr_data es))))) c.deref.ensures.value
+    ∙ sym (ap (λ f. form_formula (put_within w) (scope_within w) (places_in w.parameters.now) (arguments_within w) f) (ap form_data c.in-Call.is ∙ call_data name c.in-Call.es)))
+    c.put-in-Call.ensures
+
+pub meaning_of-returns-in-Call : goal.meaning_of-returns-in-Call
+meaning_of-returns-in-Call t c =
+    let w = c.args.within.now in
+    let name = c.in-Call.name in
+    subst (λ f. IfOk c.call.result (λ m. meant (put_within w) m ≡ f))
     (ap (λ es. call_formula (put_within w) (named_within w (name_data name).text) (listed (formulas_within w (expressions (map expr_data es))))) c.deref.ensures.value
     ∙ sym (ap (λ f. form_formula (put_within w) (scope_within w) (places_in w.parameters.now) (arguments_within w) f) (ap form_data c.in-Call.is ∙ call_data name c.in-Call.es)))
     c.call.ensures
@@ -44,32 +54,29 @@ formulas_in-returns t c =
     let all = ap (λ es. map formula c.loop-e.made.items ++ listed (formulas_within w (expressions (map expr_data es)))) (sym left) ∙ c.loop-e.invariant in
     ap formulas (sym (append-nil (map formula c.loop-e.made.items)) ∙ all) ∙ formulas_listed (formulas_within w (expressions (map expr_data c.args.es.now)))
 
-pub call-returns-in_ok-own-in-Predicate : goal.call-returns-in_ok-own-in-Predicate
-call-returns-in_ok-own-in-Predicate t c =
+pub call-returns-in_ok-formulas_in-in-Predicate : goal.call-returns-in_ok-formulas_in-in-Predicate
+call-returns-in_ok-formulas_in-in-Predicate t c =
     let w = c.args.within.now in
     let fs = formulas_within w (expressions (map expr_data c.args.es.now)) in
-    let own = c.in_ok-own-in-Predicate.own.items in
-    subst (λ f. IfOk c.put.result (λ made. formula made ≡ f))
-    (ap (λ es. put_within w c.in-Predicate.number (map formula es)) c.deref.ensures.value
-    ∙ ap (λ gs. put_within w c.in-Predicate.number gs) (sym (listed_formulas (map formula own)) ∙ ap listed c.in_ok-own-in-Predicate.ensures)
-    ∙ ap (λ n. call_formula (put_within w) n (listed fs)) (c.in-Predicate.ensures ∙ ap (λ text. named_within w text) c.as_str.ensures.value))
-    c.put.ensures
+    let own = c.in_ok-formulas_in-in-Predicate.field-0.items in
+    ap (λ gs. put_within w c.in-Predicate.number gs) (sym (listed_formulas (map formula own)) ∙ ap listed c.in_ok-formulas_in-in-Predicate.ensures)
+    ∙ ap (λ n. call_formula (put_within w) n (listed fs)) (c.in-Predicate.ensures ∙ ap (λ text. named_within w text) c.as_str.ensures.value)
 
-pub put-body-requires : goal.put-body-requires
-put-body-requires t c =
-    let below = lower c.args.within.now c.args.number c.in-Some.definition _ c.if-within-eq0.false c.in-Some.ensures in
+pub put_one-body-requires : goal.put_one-body-requires
+put_one-body-requires t c =
+    let below = lower c.args.within.now c.args.deep c.args.number c.in-Some.definition _ c.in-Some.ensures in
     let here = c.decreases in
     (omega (arith, below, here), c.requires)
 
-pub put-returns-in-Some : goal.put-returns-in-Some
-put-returns-in-Some t c =
+pub put_one-returns-in-Some : goal.put_one-returns-in-Some
+put_one-returns-in-Some t c =
     let w = c.args.within.now in
-    subst (λ f. IfOk c.body.result (λ made. formula made ≡ f))
-    (put_found w.deep (scope_within w) w.scope.now.definitions.items c.args.number (map formula c.args.arguments.now) (Some c.in-Some.definition) c.if-within-eq0.false refl c.in-Some.ensures)
+    subst (λ f. IfOk c.body.result (λ m. meant (expanded c.args.deep (scope_within w)) m ≡ f))
+    (put_found c.args.deep (scope_within w) w.scope.now.definitions.items c.args.number (map formula c.args.arguments.now) (Some c.in-Some.definition) refl c.in-Some.ensures)
     c.body.ensures
 
-pub put-returns-in-None : goal.put-returns-in-None
-put-returns-in-None t c =
+pub put_one-returns-in-None : goal.put_one-returns-in-None
+put_one-returns-in-None t c =
     let w = c.args.within.now in
-    c.no_meaning-in-None.ensures
-    ∙ put_found w.deep (scope_within w) w.scope.now.definitions.items c.args.number (map formula c.args.arguments.now) None c.if-within-eq0.false refl c.in-None.ensures
+    c.no_meaning.ensures
+    ∙ put_found c.args.deep (scope_within w) w.scope.now.definitions.items c.args.number (map formula c.args.arguments.now) None refl c.in-None.ensures
