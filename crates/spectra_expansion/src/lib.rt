@@ -9,3 +9,5 @@ pub mod filling;
 pub mod measure;
 mod parts;
 pub mod sizes;
+#[cfg(test)]
+mod tests;
