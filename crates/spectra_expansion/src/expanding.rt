@@ -131,7 +131,7 @@ fn meaning_of(within: &Within<'_>, e: &ExprTree) -> Result<Meaning, AllocError>
 }
 
 // Whether a definition is marked.
-pub fn is_marked(marks: &[bool], number: usize) -> bool
+pub(crate) fn is_marked(marks: &[bool], number: usize) -> bool
     ensures { result ≡ unwrap_or (slice_get marks.now number) false }
 {
     match marks.get(number) {

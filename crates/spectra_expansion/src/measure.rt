@@ -40,7 +40,7 @@ impl Use {
 
 impl Measure {
     // Adds a node, so often and below so many levels.
-    pub fn add(&mut self, times: u64, above: u64)
+    pub(crate) fn add(&mut self, times: u64, above: u64)
         ensures { (parameters : Naming) → Adds parameters self.old self.new (λ ns. times * 1) (λ ns. above + 1) }
     {
         self.nodes = self.nodes.saturating_add(times);
@@ -48,7 +48,7 @@ impl Measure {
     }
 
     // Adds another formula but for its arguments, so often and below so many levels.
-    pub fn add_own(&mut self, times: u64, above: u64, own: &Measure)
+    pub(crate) fn add_own(&mut self, times: u64, above: u64, own: &Measure)
         ensures { (parameters : Naming) → Adds parameters self.old self.new (λ ns. times * own.now.nodes) (λ ns. above + own.now.levels) }
     {
         self.nodes = self.nodes.saturating_add(times.saturating_mul(own.nodes));
@@ -56,7 +56,7 @@ impl Measure {
     }
 
     // Adds the argument of a parameter, so often and below so many levels.
-    pub fn add_argument(&mut self, place: usize, times: u64, above: u64)
+    pub(crate) fn add_argument(&mut self, place: usize, times: u64, above: u64)
         requires within { place < length self.old.uses.items }
         requires some { 0 < times }
         ensures { (parameters : Naming) → Adds parameters self.old self.new (λ ns. times * get_or ns place 1) (λ ns. above + get_or ns place 1) }
@@ -65,7 +65,7 @@ impl Measure {
     }
 
     // Adds the argument of a parameter, where its uses are counted, and else a leaf.
-    pub fn add_place(&mut self, place: usize, times: u64, above: u64)
+    pub(crate) fn add_place(&mut self, place: usize, times: u64, above: u64)
         requires { 0 < times }
         ensures { (parameters : Naming) (text : List ℕ) → parameters text ≡ parameter place → Adds parameters self.old self.new (λ ns. times * get_or ns place 1) (λ ns. above + get_or ns place 1) }
     {
@@ -90,7 +90,7 @@ impl Measure {
     }
 
     // Adds a leaf for each of several parameters, where others are used so often and below so many levels.
-    pub fn add_leaves(&mut self, times: u64, above: u64, uses: &[Use])
+    pub(crate) fn add_leaves(&mut self, times: u64, above: u64, uses: &[Use])
         requires { 0 < times }
         ensures { (parameters : Naming) → Adds parameters self.old self.new (λ ns. times * argument_nodes uses.now []) (λ ns. argument_levels above uses.now []) }
     {

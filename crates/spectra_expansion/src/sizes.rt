@@ -23,7 +23,7 @@ pub struct Size {
 }
 
 // The measure of an expression, where these uses of parameters are counted.
-pub fn measure_of(
+pub(crate) fn measure_of(
     scope: &Scope<'_>,
     parameters: &Parameters<'_>,
     table: &[Measure],
