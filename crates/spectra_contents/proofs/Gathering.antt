@@ -1,5 +1,5 @@
 -- What is gathered from several expressions.
-use Rattle.std.proofs.Common.{◌≡◌, ℕ, ◌+◌, ◌<◌, Bool, ◌&&◌, ◌||◌, List, [], ◌∷◌, ◌++◌, length, drop, get_or, refl, sym, ap, ◌∙◌}
+use Rattle.std.proofs.Common.{◌≡◌, ℕ, zero, suc, ◌+◌, ◌<◌, Bool, true, false, ◌&&◌, ◌||◌, List, [], ◌∷◌, ◌++◌, length, drop, get_or, refl, sym, ap, ◌∙◌}
 use Rattle.std.proofs.Math.Bool.{or_assoc, or-false}
 use Rattle.spectra_trees.specs.declared.tree.ExprTree.{ExprTree}
 use Rattle.spectra_trees.specs.Views.{expr_data}
@@ -38,6 +38,35 @@ module _ (s : Setting) (es : List ExprTree) (k : ℕ) (e : ExprTree) (below : k 
 pub with_marks_append : (ms : List Mark) (ps qs : List Standing) → with_marks ms (ps ++ qs) ≡ with_marks (with_marks ms ps) qs
 with_marks_append ms [] qs = refl
 with_marks_append ms (p ∷ ps) qs = with_marks_append (with_mark ms p) ps qs
+
+or-turned : (a b c : Bool) → ((a || b) || c) ≡ ((a || c) || b)
+or-turned true b c = refl
+or-turned false true true = refl
+or-turned false true false = refl
+or-turned false false true = refl
+or-turned false false false = refl
+
+-- two marks at places of a list, where each is there or under a `next`
+turned-at : (ms : List Mark) (i j : ℕ) (t u v w : Bool)
+    → with_mark (with_mark ms (record { place = i; there = t; under = u })) (record { place = j; there = v; under = w })
+    ≡ with_mark (with_mark ms (record { place = j; there = v; under = w })) (record { place = i; there = t; under = u })
+turned-at [] i j t u v w = refl
+turned-at (m ∷ ms) zero zero t u v w = λ i. record { used = or-turned m.used t v i; shifted = or-turned m.shifted u w i } ∷ ms
+turned-at (m ∷ ms) zero (suc j) t u v w = refl
+turned-at (m ∷ ms) (suc i) zero t u v w = refl
+turned-at (m ∷ ms) (suc i) (suc j) t u v w = ap (λ xs. m ∷ xs) (turned-at ms i j t u v w)
+
+with_marks-one : (ms : List Mark) (p : Standing) (qs : List Standing) → with_marks (with_mark ms p) qs ≡ with_mark (with_marks ms qs) p
+with_marks-one ms p [] = refl
+with_marks-one ms p (q ∷ qs) = ap (λ xs. with_marks xs qs) (turned-at ms p.place q.place p.there p.under q.there q.under) ∙ with_marks-one (with_mark ms q) p qs
+
+with_marks-turned : (ms : List Mark) (ps qs : List Standing) → with_marks (with_marks ms ps) qs ≡ with_marks (with_marks ms qs) ps
+with_marks-turned ms [] qs = refl
+with_marks-turned ms (p ∷ ps) qs = with_marks-turned (with_mark ms p) ps qs ∙ ap (λ xs. with_marks xs ps) (with_marks-one ms p qs)
+
+-- what is marked later may stand earlier in a list
+pub marked_later : (ms : List Mark) (ps qs : List Standing) → with_marks (with_marks ms qs) ps ≡ with_marks ms (ps ++ qs)
+marked_later ms ps qs = sym (with_marks_append ms ps qs ∙ with_marks-turned ms ps qs)
 
 module _ (s : Setting) (es : List ExprTree) (k : ℕ) (e : ExprTree) (below : k < length es) (is : e ≡ get_or es k e) where
   pub standing_left : (marks : List Mark) (there under : Bool)

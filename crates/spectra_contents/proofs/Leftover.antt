@@ -1,10 +1,11 @@
 -- What is left of a list in a loop over it.
-use Rattle.std.proofs.Common.{◌≡◌, ℕ, zero, suc, ◌+◌, ◌<◌, ◌≤◌, List, [], ◌∷◌, length, map, drop, get_or, refl, sym, ap, ◌∙◌, add-one}
+use Rattle.std.proofs.Common.{◌≡◌, ℕ, zero, suc, ◌+◌, ◌<◌, ◌≤◌, List, [], ◌∷◌, length, map, drop, get_or, refl, sym, ap, ◌∙◌, add-one, arith}
 use Rattle.std.proofs.Math.Seq.{drop-cons}
 use Rattle.std.proofs.lemmas.List.{drop_all}
 use Rattle.spectra_trees.specs.declared.tree.ExprTree.{ExprTree}
 use Rattle.spectra_trees.specs.Data.{Expressions, expressions}
 use Rattle.spectra_trees.specs.Views.{expr_data}
+use Rattle.spectra_names.specs.Walks.{weight, weight_of_each}
 use Rattle.spectra_contents.specs.Contents.{Mark, unused, first_mark, later_marks}
 
 -- the expressions from one place on
@@ -17,6 +18,12 @@ left es k e below is =
     ap (λ xs. expressions (map expr_data xs)) (drop-cons es k e below)
     ∙ ap (λ x. Expressions.one_more (expr_data x) (from_place es (suc k))) (sym is)
     ∙ rw add-one refl
+
+-- each of several expressions is no heavier than they together
+pub heavier : (es : List ExprTree) (k : ℕ) (e : ExprTree) → k < length es → e ≡ get_or es k e → weight (expr_data e) ≤ weight_of_each (from_place es 0)
+heavier [] k e below is = absurd (omega arith)
+heavier (x ∷ es) zero e below is = rw is (omega arith)
+heavier (x ∷ es) (suc k) e below is = let there : weight (expr_data e) ≤ weight_of_each (from_place es 0) = heavier es k e (omega arith) is in omega arith
 
 -- past the end there are none
 pub none_left : (es : List ExprTree) (k : ℕ) → length es ≤ k → from_place es k ≡ Expressions.none

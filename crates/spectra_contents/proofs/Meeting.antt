@@ -3,6 +3,8 @@ use Rattle.std.proofs.Common.{◌≡◌, ℕ, ◌+◌, ◌<◌, Bool, ◌||◌, 
 use Rattle.std.proofs.Math.Bool.{or_assoc, or-false}
 use Rattle.std.proofs.lemmas.List.Folds.{list_any-append}
 use Rattle.spectra_trees.specs.declared.tree.ExprTree.{ExprTree}
+use Rattle.spectra_trees.specs.declared.tree.BinaryWord.{BinaryWord}
+use Rattle.spectra_trees.specs.Data.{Expression, Form}
 use Rattle.spectra_trees.specs.Views.{expr_data}
 use Rattle.spectra_names.specs.declared.findings.Finding.{Finding}
 use Rattle.spectra_names.specs.Findings.{with_faults}
@@ -11,7 +13,7 @@ use Rattle.spectra_contents.specs.declared.misplaced.Met.{Met}
 use Rattle.spectra_contents.specs.declared.misplaced.Carried.{Carried}
 use Rattle.spectra_contents.specs.Contents.{Contents, Mark, Setting, nothing, both, unused, named_in, contents_of}
 use Rattle.spectra_contents.specs.Misplaced.{Ban, is_system, names_system, shifted_contents, misplaced, misplaced_in_each}
-use Rattle.spectra_contents.specs.Walked.{joined_met, joined_carried, carried_so, nothing_carried, some_system, met_in, met_in_each, carried_in}
+use Rattle.spectra_contents.specs.Walked.{joined_met, joined_carried, carried_so, nothing_carried, some_system, met_in, met_in_form, met_in_each, carried_in}
 use Rattle.spectra_contents.proofs.Leftover.{from_place, left, first_dropped, later_dropped}
 use Rattle.spectra_contents.proofs.Gathering.{both_assoc, both_nothing, contents_left, arguments_left}
 use Rattle.spectra_names.proofs.First.{with_faults_append, found_later}
@@ -27,6 +29,13 @@ call_order found own shifted each = sym (with_faults_append found own (shifted +
 module _ (s : Setting) where
   pub some_system-append : (a b : List _) → some_system s (a ++ b) ≡ (some_system s a || some_system s b)
   some_system-append a b = list_any-append (λ name. is_system s (named_in s name)) a b
+
+pub joined_assoc : (a b c : Met) → joined_met (joined_met a b) c ≡ joined_met a (joined_met b c)
+joined_assoc a b c = λ i. record { contents = both_assoc a.contents b.contents c.contents i; names_system = or_assoc a.names_system b.names_system c.names_system i }
+
+-- what stands in two operands
+pub met_in_both : (s : Setting) (word : BinaryWord) (a b : Expression) → met_in_form s (Form.Binary word a b) ≡ joined_met (met_in s a) (met_in s b)
+met_in_both s word a b = λ i. record { contents = both (contents_of s a) (contents_of s b); names_system = some_system-append s (names_in a) (names_in b) i }
 
 module _ (s : Setting) (es : List ExprTree) (k : ℕ) (e : ExprTree) (below : k < length es) (is : e ≡ get_or es k e) where
   names-left : (all : Bool) → (all || names_system s (expr_data e) || some_system s (names_in_each (from_place es (k + 1)))) ≡ (all || some_system s (names_in_each (from_place es k)))

@@ -221,11 +221,7 @@ pub fn misplaced(
         ExprForm::Call(name, es) => misplaced_call(findings, ban, setting, under, name, es),
         ExprForm::Next(e) => misplaced_next(findings, ban, setting, under, tree.at, e),
         ExprForm::Prefix(_, e) => misplaced(findings, ban, setting, under, e),
-        ExprForm::Binary(_, a, b) => {
-            let first = misplaced(findings, ban, setting, under, a);
-            let second = misplaced(findings, ban, setting, under, b);
-            both_met(first, second)
-        }
+        ExprForm::Binary(_, a, b) => misplaced_operands(findings, ban, setting, under, a, b),
         ExprForm::Mod(e, _, _) => misplaced(findings, ban, setting, under, e),
         ExprForm::And(es, _) => misplaced_in_each(findings, ban, setting, under, es),
         ExprForm::Or(es, _) => misplaced_in_each(findings, ban, setting, under, es),
@@ -251,6 +247,29 @@ fn misplaced_next(
         contents: under_next(met.contents),
         names_system: met.names_system,
     }
+}
+
+// What stands in two operands, whose faults are reported. First operands nest as deep as a text is long, and so a loop goes
+// down them.
+#[cycle(misplaced)]
+fn misplaced_operands(
+    findings: &mut Findings,
+    ban: Ban,
+    setting: &Setting<'_, '_>,
+    under: bool,
+    a: &ExprTree,
+    b: &ExprTree,
+) -> Met
+    ensures met { result ≡ joined_met (met_in (setting_data setting.now) (expr_data a.now)) (met_in (setting_data setting.now) (expr_data b.now)) }
+    ensures found { found_in findings.new ≡ with_faults (found_in findings.old) (misplaced_lem ban (setting_data setting.now) under (expr_data a.now) ++ misplaced_lem ban (setting_data setting.now) under (expr_data b.now)) }
+{
+    let mut all = misplaced(findings, ban, setting, under, b);
+    let mut first = a;
+    while let ExprForm::Binary(_, inner, second) = &first.form {
+        all = both_met(misplaced(findings, ban, setting, under, second), all);
+        first = inner;
+    }
+    both_met(misplaced(findings, ban, setting, under, first), all)
 }
 
 // What stands in a call, whose faults are reported.

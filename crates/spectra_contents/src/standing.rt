@@ -1,6 +1,6 @@
 //! Where parameters stand in a body: whether they are read when all bodies are put in, and whether under a `next`.
 
-ghost use Rattle.std.specs.Prelude.{◌≡◌, ◌&&◌, ◌||◌, map};
+ghost use Rattle.std.specs.Prelude.{◌≡◌, ◌&&◌, ◌||◌, ◌++◌, map};
 ghost use Rattle.spectra_trees.specs.Data.{Form, expressions};
 ghost use Rattle.spectra_trees.specs.Views.{name_data, expr_data};
 ghost use Rattle.spectra_names.specs.ScopeViews.{named_data};
@@ -68,14 +68,32 @@ pub fn mark_standing(
         ExprForm::Call(name, es) => mark_call(marks, setting, there, under, name, es),
         ExprForm::Next(e) => mark_standing(marks, setting, there, true, e),
         ExprForm::Prefix(_, e) => mark_standing(marks, setting, there, under, e),
-        ExprForm::Binary(_, a, b) => {
-            mark_standing(marks, setting, there, under, a);
-            mark_standing(marks, setting, there, under, b);
-        }
+        ExprForm::Binary(_, a, b) => mark_operands(marks, setting, there, under, a, b),
         ExprForm::Mod(e, _, _) => mark_standing(marks, setting, there, under, e),
         ExprForm::And(es, _) => mark_each(marks, setting, there, under, es),
         ExprForm::Or(es, _) => mark_each(marks, setting, there, under, es),
     }
+}
+
+// Marks where parameters stand in two operands. First operands nest as deep as a text is long, and so a loop goes down them.
+#[cycle(standing)]
+fn mark_operands(
+    marks: &mut [Mark],
+    setting: &Setting<'_, '_>,
+    there: bool,
+    under: bool,
+    a: &ExprTree,
+    b: &ExprTree,
+)
+    ensures { marks.new ≡ with_marks marks.old (standing (setting_data setting.now) there under (expr_data a.now) ++ standing (setting_data setting.now) there under (expr_data b.now)) }
+{
+    mark_standing(marks, setting, there, under, b);
+    let mut first = a;
+    while let ExprForm::Binary(_, inner, second) = &first.form {
+        mark_standing(marks, setting, there, under, second);
+        first = inner;
+    }
+    mark_standing(marks, setting, there, under, first);
 }
 
 // Marks where parameters stand in a call.

@@ -1,16 +1,17 @@
-use Rattle.std.proofs.Common.{◌+◌, ◌++◌, Bool, ◌&&◌, drop, map, sym, ap, ◌∙◌}
+use Rattle.std.proofs.Common.{◌+◌, ◌++◌, Bool, ◌&&◌, drop, map, sym, ap, ◌∙◌, rules, arith}
 use Rattle.spectra_trees.specs.Data.{Form, expressions}
-use Rattle.spectra_trees.specs.Views.{name_data, expr_data}
+use Rattle.spectra_trees.specs.Views.{name_data, form_data, expr_data}
+use Rattle.spectra_names.specs.Walks.{weight, form_weight}
 use Rattle.spectra_names.specs.Findings.{found_in, fault_if, with_faults, place_of}
 use Rattle.spectra_contents.specs.declared.misplaced.Carried.{Carried}
 use Rattle.spectra_contents.specs.Contents.{named_in, name_marks}
 use Rattle.spectra_contents.specs.Misplaced.{name_misplaced, shifted_contents, call_misplaced, next_faults, misplaced, form_misplaced, misplaced_in_each}
-use Rattle.spectra_contents.specs.Walked.{joined_met, joined_carried, carried_so, met_in_form, met_in_each, carried_in}
+use Rattle.spectra_contents.specs.Walked.{joined_met, joined_carried, carried_so, met_in, met_in_form, met_in_each, carried_in}
 use Rattle.spectra_contents.specs.SettingViews.{setting_data}
 use Rattle.spectra_trees.proofs.Folded.{call_folded, binary_folded}
-use Rattle.spectra_contents.proofs.Leftover.{from_place, none_left}
-use Rattle.spectra_names.proofs.First.{with_faults_append, found_later}
-use Rattle.spectra_contents.proofs.Meeting.{call_order, met_left, carried_nothing, carried_left, misplaced_left}
+use Rattle.spectra_contents.proofs.Leftover.{from_place, none_left, heavier}
+use Rattle.spectra_names.proofs.First.{found_later}
+use Rattle.spectra_contents.proofs.Meeting.{joined_assoc, met_in_both, call_order, met_left, carried_nothing, carried_left, misplaced_left}
 use Rattle.spectra_contents.proofs.misplaced.+misplaced.Goals as goal
 
 pub misplaced-returns-in-Call-clause-met : goal.misplaced-returns-in-Call-clause-met
@@ -30,12 +31,9 @@ misplaced-returns-in-Binary-clause-found t c =
     let s = setting_data c.args.setting.now in
     let ban = c.args.ban in
     let under = c.args.under in
-    let a = misplaced ban s under (expr_data c.in-Binary.a.value) in
-    let b = misplaced ban s under (expr_data c.in-Binary.b.value) in
-    let first = c.misplaced-first.ensures.found ∙ (λ i. with_faults (found_in c.args.findings.now) (misplaced ban s under (expr_data (c.deref-in-Binary.ensures i)))) in
-    let second = c.misplaced-second.ensures.found ∙ (λ i. with_faults (found_in c.misplaced-first.new.findings) (misplaced ban s under (expr_data (c.deref-in-Binary-2.ensures i)))) in
     rw (c.in-Binary.is, binary_folded c.in-Binary.field-0 c.in-Binary.a c.in-Binary.b)
-    (second ∙ ap (λ f. with_faults f b) first ∙ sym (with_faults_append (found_in c.args.findings.now) a b))
+    (c.misplaced_operands.ensures.found
+    ∙ (λ i. with_faults (found_in c.args.findings.now) (misplaced ban s under (expr_data (c.deref-in-Binary.ensures i)) ++ misplaced ban s under (expr_data (c.deref-in-Binary-2.ensures i)))))
 
 pub misplaced_next-returns-clause-found : goal.misplaced_next-returns-clause-found
 misplaced_next-returns-clause-found t c =
@@ -99,4 +97,52 @@ misplaced_arguments-loop-place-preserved t c =
           ∙ carried_left s es k e c.loop-place-test.true c.index-es-place.is ms c.loop-place.all ∙ c.loop-place.invariant.met;
       found = ap (λ f. with_faults f (misplaced_in_each c.args.ban s c.args.under (from_place es (k + 1)))) c.misplaced-met.ensures.found
           ∙ misplaced_left s es k e c.loop-place-test.true c.index-es-place.is c.args.ban c.args.under (found_in c.loop-place.findings) ∙ c.loop-place.invariant.found;
+    }
+
+pub misplaced_in_each-misplaced-requires : goal.misplaced_in_each-misplaced-requires
+misplaced_in_each-misplaced-requires t c =
+    let less = heavier c.args.es.now c.loop-e.e-index c.e-item.result c.loop-e-test.true c.e-item.is in
+    search rules
+
+pub misplaced_arguments-misplaced-met-requires : goal.misplaced_arguments-misplaced-met-requires
+misplaced_arguments-misplaced-met-requires t c =
+    let less = heavier c.args.es.now c.loop-place.place c.index-es-place.result c.loop-place-test.true c.index-es-place.is in
+    search rules
+
+pub misplaced_operands-loop-first-init : goal.misplaced_operands-loop-first-init
+misplaced_operands-loop-first-init t c =
+    let s = setting_data c.args.setting.now in
+    let a = misplaced c.args.ban s c.args.under (expr_data c.args.a.now) in
+    let b = misplaced c.args.ban s c.args.under (expr_data c.args.b.now) in
+    record {
+      met = ap (joined_met (met_in s (expr_data c.args.a.now))) c.misplaced-all.ensures.met;
+      found = ap (λ f. with_faults f a) c.misplaced-all.ensures.found ∙ sym (found_later (found_in c.args.findings.now) a b);
+      lighter = omega arith;
+    }
+
+pub misplaced_operands-loop-first-preserved : goal.misplaced_operands-loop-first-preserved
+misplaced_operands-loop-first-preserved t c =
+    let s = setting_data c.args.setting.now in
+    let ban = c.args.ban in
+    let under = c.args.under in
+    let all = c.loop-first.all in
+    let found = found_in c.loop-first.findings in
+    let inner = expr_data c.in-Binary.inner.value in
+    let second = expr_data c.in-Binary.second.value in
+    let word = c.in-Binary.field-0 in
+    let parts = ap form_data c.in-Binary.is ∙ binary_folded word c.in-Binary.inner c.in-Binary.second in
+    let met = c.both_met-all.ensures ∙ (λ i. joined_met ((c.misplaced.ensures.met ∙ ap (λ e. met_in s (expr_data e)) c.deref.ensures) i) all) in
+    let behind = c.misplaced.ensures.found ∙ (λ i. with_faults found (misplaced ban s under (expr_data (c.deref.ensures i)))) in
+    let heavy = ap form_weight parts in
+    let same = ap (λ e. weight (expr_data e)) c.deref-first.ensures in
+    record {
+      met = (λ i. joined_met (met_in s (expr_data (c.deref-first.ensures i))) (met i))
+          ∙ sym (joined_assoc (met_in s inner) (met_in s second) all)
+          ∙ ap (λ m. joined_met m all) (sym (ap (met_in_form s) parts ∙ met_in_both s word inner second))
+          ∙ c.loop-first.invariant.met;
+      found = (λ i. with_faults (behind i) (misplaced ban s under (expr_data (c.deref-first.ensures i))))
+          ∙ sym (found_later found (misplaced ban s under inner) (misplaced ban s under second))
+          ∙ ap (λ form. with_faults found (form_misplaced ban s under c.loop-first.first.now.at form)) (sym parts)
+          ∙ c.loop-first.invariant.found;
+      lighter = omega (arith, c.loop-first.invariant.lighter);
     }
