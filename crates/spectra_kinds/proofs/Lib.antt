@@ -3,3 +3,4 @@ pub mod Spans
 pub mod Depths
 pub mod Locality
 pub mod Enums
+pub mod Chains

@@ -48,15 +48,18 @@ fn range_kind<'a>(low: Option<Worth>, high: Option<Worth>) -> Kind<'a>
 
 // What the bounds of a range stand for.
 fn bounds_kind<'a>(
+    alloc: Global,
     scope: &Scope<'_>,
     worths: &[Option<Worth>],
     low: &ExprTree,
     high: &ExprTree,
-) -> Kind<'a>
+) -> Result<Kind<'a>, AllocError>
     requires worths { AreWorths (scope_data scope.now) worths.now }
-    ensures { kind_data result ≡ range_kind_lem (bound_worth (scope_data scope.now) (expr_data low.now)) (bound_worth (scope_data scope.now) (expr_data high.now)) }
+    ensures { IfOk result (λ kind. kind_data kind ≡ range_kind_lem (bound_worth (scope_data scope.now) (expr_data low.now)) (bound_worth (scope_data scope.now) (expr_data high.now))) }
 {
-    range_kind(worth_in(worths, scope, low), worth_in(worths, scope, high))
+    let low = worth_in(alloc, worths, scope, low)?;
+    let high = worth_in(alloc, worths, scope, high)?;
+    Ok(range_kind(low, high))
 }
 
 // Whether a name is first declared by an enum.
@@ -134,7 +137,7 @@ fn shape_kind<'a>(
 {
     match form {
         TypeForm::Boolean => Ok(Kind::Truth),
-        TypeForm::Range(low, high) => Ok(bounds_kind(scope, worths, low, high)),
+        TypeForm::Range(low, high) => bounds_kind(alloc, scope, worths, low, high),
         TypeForm::Names(names) => names_kind(alloc, scope, names),
         TypeForm::Named(name) => Ok(named_kind(scope, aliases, name)),
     }

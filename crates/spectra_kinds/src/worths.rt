@@ -1,6 +1,7 @@
 //! What bounds of ranges are worth.
 
 ghost use Rattle.std.specs.Prelude.{◌≡◌, ◌<◌, ◌^◌, ◌+ℤ◌, ◌-ℤ◌, ◌*ℤ◌, Some, option_map, IfOk, length};
+ghost use Rattle.spectra_trees.specs.ChainViews.{chain_data};
 ghost use Rattle.spectra_trees.specs.Views.{name_data, expr_data};
 ghost use Rattle.spectra_names.specs.Spaces.{no_parameters, named};
 ghost use Rattle.spectra_names.specs.ScopeViews.{scope_data, definition_data};
@@ -17,6 +18,7 @@ use crate::kinds::{Kind, difference_of, is_wide, product_of, reduced, sum_of};
 use crate::worth::Worth;
 use spectra_names::numbers::{number_of, signed};
 use spectra_names::scope::{Definition, Named, Scope};
+use spectra_trees::chain::{Chain, chain_of};
 use spectra_trees::tree::{BinaryWord, ExprForm, ExprTree, Name};
 use std::alloc::{AllocError, Global};
 
@@ -138,43 +140,68 @@ fn name_worth(known: &[Option<Worth>], scope: &Scope<'_>, name: &Name) -> Option
 }
 
 /// What an expression is worth, where it is a whole number that reads no variable and nothing in it is faulty.
-pub fn worth_in(known: &[Option<Worth>], scope: &Scope<'_>, tree: &ExprTree) -> Option<Worth>
-    ensures { option_map worth_data result ≡ worth_in_lem (worths_in known.now) (scope_data scope.now) (expr_data tree.now) }
+#[cycle(worth)]
+pub fn worth_in(
+    alloc: Global,
+    known: &[Option<Worth>],
+    scope: &Scope<'_>,
+    tree: &ExprTree,
+) -> Result<Option<Worth>, AllocError>
+    ensures { IfOk result (λ worth. option_map worth_data worth ≡ worth_in_lem (worths_in known.now) (scope_data scope.now) (expr_data tree.now)) }
 {
     match &tree.form {
-        ExprForm::Number(negative, digits) => number_worth(signed(*negative, digits.as_str())),
-        ExprForm::Read(name) => name_worth(known, scope, name),
-        ExprForm::Binary(word, a, b) => joined_worth(
-            *word,
-            worth_in(known, scope, a),
-            worth_in(known, scope, b),
-        ),
-        ExprForm::Mod(e, _, digits) => {
-            remainder_worth(number_of(digits.as_str()), worth_in(known, scope, e))
+        ExprForm::Number(negative, digits) => Ok(number_worth(signed(*negative, digits.as_str()))),
+        ExprForm::Read(name) => Ok(name_worth(known, scope, name)),
+        ExprForm::Binary(_, _, _) => {
+            let chain = chain_of(alloc, tree)?;
+            chain_worth(alloc, known, scope, &chain)
         }
-        ExprForm::True | ExprForm::False | ExprForm::Call(_, _) | ExprForm::Next(_) => None,
-        ExprForm::Prefix(_, _) | ExprForm::And(_, _) | ExprForm::Or(_, _) => None,
+        ExprForm::Mod(e, _, digits) => {
+            let worth = worth_in(alloc, known, scope, e)?;
+            Ok(remainder_worth(number_of(digits.as_str()), worth))
+        }
+        ExprForm::True | ExprForm::False | ExprForm::Call(_, _) | ExprForm::Next(_) => Ok(None),
+        ExprForm::Prefix(_, _) | ExprForm::And(_, _) | ExprForm::Or(_, _) => Ok(None),
     }
+}
+
+// What operators in text order are worth. A loop takes them, since they are as many as a text is long.
+#[cycle(worth)]
+fn chain_worth(
+    alloc: Global,
+    known: &[Option<Worth>],
+    scope: &Scope<'_>,
+    chain: &Chain<'_>,
+) -> Result<Option<Worth>, AllocError>
+    ensures { IfOk result (λ worth. option_map worth_data worth ≡ worth_in_lem (worths_in known.now) (scope_data scope.now) (chain_data chain.now)) }
+{
+    let mut worth = worth_in(alloc, known, scope, chain.head)?;
+    for link in &chain.links {
+        let second = worth_in(alloc, known, scope, link.second)?;
+        worth = joined_worth(link.word, worth, second);
+    }
+    Ok(worth)
 }
 
 // What a definition is worth, where it is a define and isn't on a cycle.
 fn define_worth(
+    alloc: Global,
     known: &[Option<Worth>],
     scope: &Scope<'_>,
     on_cycle: bool,
     definition: &Definition<'_>,
-) -> Option<Worth>
-    ensures { option_map worth_data result ≡ defined_worth (scope_data scope.now) (worths_in known.now) on_cycle (Some (definition_data definition.now)) }
+) -> Result<Option<Worth>, AllocError>
+    ensures { IfOk result (λ worth. option_map worth_data worth ≡ defined_worth (scope_data scope.now) (worths_in known.now) on_cycle (Some (definition_data definition.now))) }
 {
     match definition {
         Definition::Define(_, body) => {
             if on_cycle {
-                None
+                Ok(None)
             } else {
-                worth_in(known, scope, body)
+                worth_in(alloc, known, scope, body)
             }
         }
-        Definition::Type(_, _) | Definition::Predicate(_) => None,
+        Definition::Type(_, _) | Definition::Predicate(_) => Ok(None),
     }
 }
 
@@ -192,7 +219,9 @@ pub fn define_worths(
 {
     let mut worths = vec![in alloc; None; scope.definitions.len()]?;
     for k in order {
-        worths[*k] = define_worth(&worths, scope, on_cycle[*k], &scope.definitions[*k]);
+        let definition = &scope.definitions[*k];
+        let worth = define_worth(alloc, &worths, scope, on_cycle[*k], definition)?;
+        worths[*k] = worth;
     }
     Ok(worths)
 }

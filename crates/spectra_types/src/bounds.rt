@@ -70,14 +70,15 @@ fn report_worths(
     at: Place,
     low: &ExprTree,
     high: &ExprTree,
-)
+) -> Result<(), AllocError>
     requires { AreFacts facts.now }
-    ensures { found_in findings.new ≡ with_faults (found_in findings.old) (range_faults (bound_worth (scope_in facts.now) (expr_data low.now)) (bound_worth (scope_in facts.now) (expr_data high.now)) at) }
+    ensures { OnOk result (found_in findings.new ≡ with_faults (found_in findings.old) (range_faults (bound_worth (scope_in facts.now) (expr_data low.now)) (bound_worth (scope_in facts.now) (expr_data high.now)) at)) }
 {
     let scope = facts.setting.scope;
-    let low = worth_in(facts.worths, scope, low);
-    let high = worth_in(facts.worths, scope, high);
+    let low = worth_in(facts.alloc, facts.worths, scope, low)?;
+    let high = worth_in(facts.alloc, facts.worths, scope, high)?;
     report_range(findings, low, high, at);
+    Ok(())
 }
 
 #[tactic(auto, using(spectra_names::proofs::First::with_faults_append))]
@@ -92,7 +93,7 @@ fn report_bounds<'a>(
     requires { AreFacts facts.now }
     ensures { OnOk result (found_in findings.new ≡ with_faults (found_in findings.old) (type_faults (setting_in facts.now) at (TypeShape.Range (expr_data low.now) (expr_data high.now)))) }
 {
-    report_worths(facts, findings, at, low, high);
+    report_worths(facts, findings, at, low, high)?;
     report_bound(facts, findings, low)?;
     report_bound(facts, findings, high)
 }

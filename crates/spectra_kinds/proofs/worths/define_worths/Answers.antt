@@ -15,8 +15,8 @@ bounds-on_cycle-k c =
     let within = is_definition (scope_data c.args.scope.now) c.args.order.now c.requires.order c.loop-k.k-index (omega arith) in
     slice_get_within c.args.on_cycle.now _ _ (c.requires.cycles.each _ within)
 
-pub index-requires : goal.index-requires
-index-requires c =
+pub index-definition-requires : goal.index-definition-requires
+index-definition-requires c =
     let within = is_definition (scope_data c.args.scope.now) c.args.order.now c.requires.order c.loop-k.k-index (omega arith) in
     let long = length-map c.args.scope.now.definitions.items definition_data in search (rules, within, long)
 
@@ -33,11 +33,11 @@ loop-k-preserved c =
     let lt : place < length c.args.order.now = omega arith in
     let within = is_definition scope c.args.order.now c.requires.order place lt in
     let k = get_or c.args.order.now place 0 in
-    filled (option_map worth_data) None scope (defined_worth scope) (λ n j. define_worth n scope j) (worths_by_depth scope) c.args.order.now c.requires.order place c.loop-k.worths.items c.define_worth.result
+    filled (option_map worth_data) None scope (defined_worth scope) (λ n j. define_worth n scope j) (worths_by_depth scope) c.args.order.now c.requires.order place c.loop-k.worths.items c.in_ok-worth.worth
     (worths_in c.deref.result.now) _ _ c.loop-k.invariant lt (ap worths_in c.deref.ensures.value)
     (get_or_from_slice_get c.args.on_cycle.now k (is_on_cycle scope k) _ (c.requires.cycles.each k within))
-    (read_definition definition_data c.args.scope.now.definitions.items k c.index.result.now within c.index.ensures)
-    c.define_worth.ensures
+    (read_definition definition_data c.args.scope.now.definitions.items k c.index-definition.result.now within c.index-definition.ensures)
+    c.in_ok-worth.ensures
 
 pub returns : goal.returns
 returns c =
