@@ -1,12 +1,9 @@
 -- Why a walk that puts bodies in comes to an end.
-use Rattle.std.proofs.Common.{◌≡◌, ℕ, zero, suc, ◌+◌, ◌*◌, ◌<◌, ◌≤◌, List, [], ◌∷◌, length, get_or, Some, arith}
-use Rattle.spectra_trees.specs.declared.tree.ExprTree.{ExprTree}
+use Rattle.std.proofs.Common.{◌≡◌, ℕ, zero, suc, ◌+◌, ◌*◌, ◌<◌, ◌≤◌, List, [], ◌∷◌, Some, arith}
 use Rattle.spectra_trees.specs.Data.{PredicateData}
-use Rattle.spectra_trees.specs.Views.{expr_data}
 use Rattle.spectra_names.specs.Spaces.{Scope, Definition, TypeBody, DefineBody, PredicateBody, predicate_in}
-use Rattle.spectra_names.specs.Walks.{weight, weight_of_each}
+use Rattle.spectra_names.specs.Walks.{weight}
 use Rattle.spectra_contents.specs.Contents.{Setting}
-use Rattle.spectra_contents.proofs.Leftover.{from_place}
 
 -- how many expressions stand in the bodies of predicates
 abbrev pub in_bodies : List Definition → ℕ
@@ -21,11 +18,6 @@ room s = suc (in_bodies s.scope.definitions)
 
 abbrev pub measure : (rank deep room weight : ℕ) → ℕ
 measure rank deep r w = 10 * (deep * r + w) + rank
-
-pub heavier : (es : List ExprTree) (k : ℕ) (e : ExprTree) → k < length es → e ≡ get_or es k e → weight (expr_data e) ≤ weight_of_each (from_place es 0)
-heavier [] k e below is = absurd (omega arith)
-heavier (x ∷ es) zero e below is = rw is (omega arith)
-heavier (x ∷ es) (suc k) e below is = let there : weight (expr_data e) ≤ weight_of_each (from_place es 0) = heavier es k e (omega arith) is in omega arith
 
 lighter-body : (scope : Scope) (ds : List Definition) (k : ℕ) (p : PredicateData) → Some p ≡ predicate_in (record scope { definitions = ds }) k → weight p.body ≤ in_bodies ds
 lighter-body scope [] zero p is = absurd (cc)
@@ -45,3 +37,6 @@ smaller d r w v less = omega arith
 
 pub less_deep : (d r w : ℕ) → w < r → measure 0 d r w < measure 4 (suc d) r 0
 less_deep d r w less = omega arith
+
+pub smaller_part : (rank d r w v : ℕ) → rank < 10 → w < v → measure rank d r w < measure 0 d r v
+smaller_part rank d r w v low less = omega arith

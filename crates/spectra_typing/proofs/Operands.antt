@@ -11,7 +11,7 @@ use Rattle.spectra_kinds.specs.declared.kinds.Kind as code
 use Rattle.std.proofs.Math.Seq.{drop-cons}
 use Rattle.std.proofs.lemmas.List.{drop-map}
 use Rattle.spectra_contents.specs.Contents.{Setting}
-use Rattle.spectra_typing.specs.Typed.{kind_of, kinds_of, wrong, wrong_arguments, later_operands, operands}
+use Rattle.spectra_typing.specs.Typed.{kind_of, kinds_of, wrong, wrong_arguments, later_operands}
 use Rattle.spectra_typing.specs.Placed.{found_with, unfit}
 use Rattle.spectra_contents.proofs.Leftover.{from_place, left, drop_one, first_left}
 use Rattle.spectra_typing.proofs.Placing.{found_with_append}
@@ -31,11 +31,6 @@ module _ (s : Setting) where
       → later_operands s at (Expressions.one_more e es) ps ≡ wrong (is_truth (kind_of s e)) (get_or ps 0 at) ++ later_operands s at es (drop 1 ps)
   operand-first at e es [] = refl
   operand-first at e es (p ∷ ps) = refl
-
-  -- the first operand's operator is the one behind it
-  pub operands_later : (at : Place) (es : Expressions) (ops : List Place) → later_operands s at es (at ∷ ops) ≡ operands s at es ops
-  operands_later at Expressions.none ops = refl
-  operands_later at (Expressions.one_more e es) ops = refl
 
 pub no_arguments : (s : Setting) (ks : List Kind) → wrong_arguments s ks Expressions.none ≡ []
 no_arguments s [] = refl

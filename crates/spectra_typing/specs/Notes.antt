@@ -1,5 +1,5 @@
 -- The faults in the bodies of definitions, and what each definition is for those that use it.
-use Rattle.std.specs.Prelude.{ℕ, zero, suc, Bool, true, false, not, ◌&&◌, if◌then◌else◌, List, [], ◌∷◌, ◌++◌, Option, Some, None, length, map, replicate, slice_get}
+use Rattle.std.specs.Prelude.{ℕ, zero, suc, Bool, true, false, not, ◌&&◌, if◌then◌else◌, List, [], ◌++◌, Option, Some, None, length, map, replicate, slice_get}
 use Rattle.spectra_trees.specs.Data.{Expression, first_of, PredicateData}
 use Rattle.spectra_names.specs.declared.findings.Finding.{Finding}
 use Rattle.spectra_names.specs.Findings.{fault_if, is_faultless}

@@ -1,13 +1,13 @@
 -- The kind of an expression, and the faults of kinds and spans: unknown names, wrong kinds, wide spans, arguments too many
 -- or too few.
-use Rattle.std.specs.Prelude.{true, ℕ, zero, suc, ◌==◌, Bool, not, ◌&&◌, if◌then◌else◌, List, [], ◌∷◌, ◌++◌, Option, Some, None, length, map, get_or, slice_get}
+use Rattle.std.specs.Prelude.{true, ℕ, zero, suc, ◌==◌, Bool, not, ◌&&◌, if◌then◌else◌, List, [], ◌∷◌, ◌++◌, Option, Some, None, length, map, get_or}
 use Rattle.spectra_trees.specs.declared.tree.Place.{Place}
 use Rattle.spectra_trees.specs.declared.tree.BinaryWord.{BinaryWord}
 use Rattle.spectra_trees.specs.declared.tree.BinaryWord.TheVariants as binary
 use Rattle.spectra_trees.specs.Data.{NameData, Expression, expression, Form, Expressions, first_of, PredicateData}
 use Rattle.spectra_names.specs.declared.findings.Finding.{Finding}
 use Rattle.spectra_names.specs.Findings.{fault, fault_if, place_of}
-use Rattle.spectra_names.specs.Spaces.{Named, unknown, parameter, variable, enum_name, define, predicate, Definition, PredicateBody, Scope, parameters_of, predicate_in}
+use Rattle.spectra_names.specs.Spaces.{Named, unknown, parameter, variable, enum_name, define, predicate, Scope, parameters_of, predicate_in}
 use Rattle.spectra_kinds.specs.Kinds.{Kind, Truth, Whole, OneName, Anything, is_truth, is_whole, can_equal, given, is_wide, added, subtracted, multiplied, reduced}
 use Rattle.spectra_names.specs.Numbers.{number_of, signed}
 use Rattle.spectra_kinds.specs.Types.{parameter_kinds}

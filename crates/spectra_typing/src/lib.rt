@@ -3,8 +3,8 @@
 //! Path: text → tokens → trees → **specification** → game → regions → layers → strategy → verdict → lines.
 #![tactic(auto)]
 
-mod node_kinds;
 pub mod manner;
+mod node_kinds;
 pub mod notes;
 pub mod putting;
 mod reporting;

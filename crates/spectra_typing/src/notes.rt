@@ -19,10 +19,10 @@ ghost use Rattle.spectra_typing.specs.Noted.{nameless, depth_of_body, note_of_so
 ghost use Rattle.spectra_typing.specs.Placed.{IsSigned};
 ghost use Rattle.spectra_contents.specs.SettingViews.{note_data, setting_data};
 
-use spectra_contents::contents::nothing;
 use crate::manner::{Manner, within};
-use spectra_contents::misplaced::{Ban, misplaced};
 use crate::putting::typed;
+use spectra_contents::contents::nothing;
+use spectra_contents::misplaced::{Ban, misplaced};
 use spectra_contents::setting::{Contents, Mark, Note, Setting, Signature};
 use spectra_contents::standing::mark_standing;
 use spectra_kinds::kinds::{Kind, is_truth};

@@ -1,6 +1,7 @@
 //! The faults of kinds and spans of an expression and of the bodies that it calls, found in one walk that also gives its kind.
 
 ghost use Rattle.std.specs.Prelude.{◌≡◌, ◌<◌, ◌++◌, [], Some, slice_get, map, if◌then◌else◌, IfOk, OnOk};
+ghost use Rattle.spectra_trees.specs.ChainViews.{chain_data};
 ghost use Rattle.spectra_trees.specs.Data.{Form, expressions};
 ghost use Rattle.spectra_trees.specs.Views.{name_data, expr_data};
 ghost use Rattle.spectra_names.specs.Findings.{found_in, place_of as place_of_lem};
@@ -14,16 +15,17 @@ ghost use Rattle.spectra_names.specs.Spaces.{predicate_in};
 ghost use Rattle.spectra_typing.specs.Placed.{found_with, called_with, call_typing_faults, own_body_faults, IsSigned};
 ghost use Rattle.spectra_contents.specs.SettingViews.{setting_data};
 
-use spectra_contents::contents::{mark_at, name_marks};
-use crate::node_kinds::{binary_kind, call_kind, read_kind};
 use crate::manner::{Manner, given_each, in_argument, in_body, operator_at, within};
+use crate::node_kinds::{binary_kind, call_kind, read_kind};
 use crate::reporting::report_wrong;
-use spectra_contents::setting::{Mark, Setting, Signature};
 use crate::typed::{report_binary, report_call, report_read, report_remainder, typed_number};
+use spectra_contents::contents::{mark_at, name_marks};
+use spectra_contents::setting::{Mark, Setting, Signature};
 use spectra_kinds::kinds::{Kind, given, is_truth, reduced};
 use spectra_names::findings::{Findings, place_of};
 use spectra_names::numbers::number_of;
 use spectra_names::scope::Named;
+use spectra_trees::chain::{Chain, chain_of};
 use spectra_trees::tree::{ExprForm, ExprTree, Name, Place};
 use std::alloc::{AllocError, Global};
 
@@ -73,11 +75,9 @@ pub fn typed<'a>(
         ExprForm::Call(name, es) => typed_call(alloc, findings, manner, setting, name, es),
         ExprForm::Next(e) => typed(alloc, findings, manner, setting, e),
         ExprForm::Prefix(_, e) => typed_prefix(alloc, findings, manner, setting, tree.at, e),
-        ExprForm::Binary(word, a, b) => {
-            let first = typed(alloc, findings, manner, setting, a)?;
-            let second = typed(alloc, findings, manner, setting, b)?;
-            report_binary(findings, manner.moved, tree.at, *word, first, second);
-            Ok(binary_kind(*word, first, second))
+        ExprForm::Binary(_, _, _) => {
+            let chain = chain_of(alloc, tree)?;
+            typed_chain(alloc, findings, manner, setting, &chain)
         }
         ExprForm::Mod(e, number, digits) => {
             typed_remainder(
@@ -96,6 +96,30 @@ pub fn typed<'a>(
         ),
         ExprForm::Or(es, ops) => typed_operands(alloc, findings, manner, setting, tree.at, es, ops),
     }
+}
+
+// Operators in text order, each of which has all before it as its first operand. A loop takes them, since they are as many as a
+// text is long.
+#[cycle(typing)]
+fn typed_chain<'a>(
+    alloc: Global,
+    findings: &mut Findings,
+    manner: Manner,
+    setting: &Setting<'_, 'a>,
+    chain: &Chain<'a>,
+) -> Result<Kind<'a>, AllocError>
+    requires signed { IsSigned setting.now }
+    ensures kind { IfOk result (λ k. kind_data k ≡ kind_of_lem (setting_data setting.now) (chain_data chain.now)) }
+    ensures found { OnOk result (found_in findings.new ≡ found_with (found_in findings.old) manner.moved
+        (typing_faults (faults_with manner.deep (setting_data setting.now)) manner.there (setting_data setting.now) (chain_data chain.now))) }
+{
+    let mut kind = typed(alloc, findings, manner, setting, chain.head)?;
+    for link in &chain.links {
+        let second = typed(alloc, findings, manner, setting, link.second)?;
+        report_binary(findings, manner.moved, link.at, link.word, kind, second);
+        kind = binary_kind(link.word, kind, second);
+    }
+    Ok(kind)
 }
 
 // An operand behind an operator that takes a truth value and gives one.

@@ -1,15 +1,18 @@
-use Rattle.std.proofs.Common.{◌≡◌, List, OnOk, Option, Some, length, ◌+◌, ◌∷◌, ◌++◌, ◌&&◌, [], if◌then◌else◌, drop, map, sym, subst, ap, ◌∙◌, rules, arith}
+use Rattle.std.proofs.Common.{◌≡◌, ◌<◌, get_or, true, List, OnOk, Option, Some, length, ◌+◌, ◌∷◌, ◌++◌, ◌&&◌, [], if◌then◌else◌, drop, map, sym, subst, ap, ◌∙◌, rules, arith}
 use Rattle.std.proofs.lemmas.List.{length-map}
+use Rattle.spectra_trees.specs.declared.chain.Link.{Link}
 use Rattle.spectra_trees.specs.declared.tree.ExprTree.{ExprTree}
 use Rattle.spectra_trees.specs.declared.tree.Place.{Place}
-use Rattle.spectra_trees.specs.Data.{PredicateData, expressions}
+use Rattle.spectra_trees.specs.Data.{PredicateData, expression, expressions}
+use Rattle.spectra_trees.specs.Chains.{is_joined}
+use Rattle.spectra_trees.specs.ChainViews.{link_data}
 use Rattle.spectra_names.specs.declared.findings.Finding.{Finding}
 use Rattle.spectra_names.specs.Spaces.{predicate, parameters_of, predicate_in}
-use Rattle.spectra_trees.specs.Views.{name_data, expr_data}
+use Rattle.spectra_trees.specs.Views.{name_data, form_data, expr_data}
 use Rattle.spectra_names.specs.Findings.{found_in, fault_if, place_of}
 use Rattle.spectra_names.specs.Numbers.{number_of}
 use Rattle.spectra_names.specs.ScopeViews.{predicate_data, places_in}
-use Rattle.spectra_names.specs.Walks.{weight, weight_of_each}
+use Rattle.spectra_names.specs.Walks.{weight, form_weight, weight_of_each}
 use Rattle.spectra_kinds.specs.Kinds.{is_truth, is_whole, is_wide}
 use Rattle.spectra_kinds.specs.KindViews.{kind_data}
 use Rattle.spectra_contents.specs.Contents.{named_in, name_marks}
@@ -18,10 +21,12 @@ use Rattle.spectra_typing.specs.declared.manner.Manner.{Manner}
 use Rattle.spectra_typing.specs.Placed.{kinds_in, places_in_signature, own_body_faults, found_with, called_with, call_typing_faults}
 use Rattle.spectra_contents.specs.SettingViews.{setting_data}
 use Rattle.spectra_trees.proofs.Folded.{call_folded, binary_folded, and_folded, or_folded}
-use Rattle.spectra_contents.proofs.Leftover.{from_place}
+use Rattle.spectra_contents.proofs.Leftover.{from_place, heavier}
+use Rattle.spectra_kinds.proofs.Chains.{links_weight, chain_weight, lighter_link, lighter_chain}
+use Rattle.spectra_typing.proofs.Chained.{chain_kind, chain_kind_is, link_faults, chain_faults, chain_faults_is, links_left, found_behind}
 use Rattle.spectra_typing.proofs.Placing.{found_with_later}
-use Rattle.spectra_typing.proofs.Bodies.{same_places, put_into, put_in_is, called_is, call_placed, both_placed, kinds_pushed, operand_faults_left, argument_faults_left}
-use Rattle.spectra_typing.proofs.Measures.{room, heavier, lighter_body, smaller, less_deep}
+use Rattle.spectra_typing.proofs.Bodies.{same_places, put_into, put_in_is, called_is, call_placed, kinds_pushed, operand_faults_left, argument_faults_left}
+use Rattle.spectra_typing.proofs.Measures.{room, lighter_body, smaller, smaller_part, less_deep}
 use Rattle.spectra_typing.proofs.putting.+typing.Goals as goal
 
 pub put_body-typed-requires : goal.put_body-typed-requires
@@ -82,28 +87,6 @@ typed-returns-in-Or-clause-found t c =
     (subst (λ (p : List ExprTree × List Place). OnOk c.typed_operands-in-Or.result (found_in c.typed_operands-in-Or.new.findings
     ≡ found_with (found_in c.args.findings.now) m.moved (operands s place (expressions (map expr_data p.0)) p.1 ++ typing_faults_of_each (faults_with m.deep s) m.there s (expressions (map expr_data p.0)))))
     (λ i. (c.deref-in-Or.ensures.value i, c.deref-in-Or-2.ensures.value i)) c.typed_operands-in-Or.ensures.found)
-
-pub typed-returns-in_ok-second-in-Binary-clause-found : goal.typed-returns-in_ok-second-in-Binary-clause-found
-typed-returns-in_ok-second-in-Binary-clause-found t c =
-    let s = setting_data c.args.setting.now in
-    let m = c.args.manner in
-    let deeper = faults_with m.deep s in
-    let place = c.args.tree.now.at in
-    let word = c.in-Binary.word in
-    let a = expr_data c.in-Binary.a.value in
-    let b = expr_data c.in-Binary.b.value in
-    let old = found_in c.args.findings.now in
-    let first = c.in_ok-first-in-Binary in
-    let second = c.in_ok-second-in-Binary in
-    let first-kind = first.ensures.kind ∙ (λ i. kind_of s (expr_data (c.deref-in-Binary.ensures i))) in
-    let second-kind = second.ensures.kind ∙ (λ i. kind_of s (expr_data (c.deref-in-Binary-2.ensures i))) in
-    let first-found = first.ensures.found ∙ (λ i. found_with old m.moved (typing_faults deeper m.there s (expr_data (c.deref-in-Binary.ensures i)))) in
-    let second-found = second.ensures.found ∙ (λ i. found_with (first-found i) m.moved (typing_faults deeper m.there s (expr_data (c.deref-in-Binary-2.ensures i)))) in
-    rw (c.in-Binary.is, binary_folded word c.in-Binary.a c.in-Binary.b)
-    (c.report_binary.ensures
-    ∙ (λ i. found_with (second-found i) m.moved
-    (wrong (takes word (first-kind i) (second-kind i)) place ++ fault_if (is_wide (binary_kind word (first-kind i) (second-kind i))) 14 place))
-    ∙ both_placed old m.moved (wrong (takes word (kind_of s a) (kind_of s b)) place ++ fault_if (is_wide (binary_kind word (kind_of s a) (kind_of s b))) 14 place) (typing_faults deeper m.there s a) (typing_faults deeper m.there s b))
 
 pub typed_prefix-returns-clause-found : goal.typed_prefix-returns-clause-found
 typed_prefix-returns-clause-found t c =
@@ -193,3 +176,82 @@ typed_call-returns-clause-found t c =
     c.in_ok-put_in.ensures
     ∙ (λ i. found_with (called i) m.moved (if m.there then map (moved_to (at i)) (body i) else []))
     ∙ call_placed old m.moved (call_faults s named (place_of name) es) (put_in_faults deeper m.there s name es) (argument_typing_faults deeper m.there s (name_marks s named) es)
+
+pub typed-typed_operands-requires : goal.typed-typed_operands-requires
+typed-typed_operands-requires t c =
+    let s = setting_data c.args.setting.now in
+    let each = c.deref-in-And.result.now in
+    let whole = ap form_weight (ap form_data c.in-And.is ∙ and_folded c.in-And.es c.in-And.ops) ∙ ap (λ (es : List ExprTree). weight_of_each (expressions (map expr_data es))) (sym c.deref-in-And.ensures.value) in
+    let less = smaller_part 1 c.args.manner.deep (room s) (weight_of_each (from_place each 0)) (weight (expr_data c.args.tree.now)) (omega arith) (omega (arith, whole)) in
+    (search rules, c.requires.signed)
+
+pub typed-typed_operands-requires-in-Or : goal.typed-typed_operands-requires-in-Or
+typed-typed_operands-requires-in-Or t c =
+    let s = setting_data c.args.setting.now in
+    let each = c.deref-in-Or.result.now in
+    let whole = ap form_weight (ap form_data c.in-Or.is ∙ or_folded c.in-Or.es c.in-Or.ops) ∙ ap (λ (es : List ExprTree). weight_of_each (expressions (map expr_data es))) (sym c.deref-in-Or.ensures.value) in
+    let less = smaller_part 1 c.args.manner.deep (room s) (weight_of_each (from_place each 0)) (weight (expr_data c.args.tree.now)) (omega arith) (omega (arith, whole)) in
+    (search rules, c.requires.signed)
+
+pub typed-typed_chain-requires : goal.typed-typed_chain-requires
+typed-typed_chain-requires t c =
+    let s = setting_data c.args.setting.now in
+    let tree = c.args.tree.now in
+    let ok = c.in_ok-chain-in-Binary in
+    let joins : is_joined (expr_data tree) ≡ true =
+    ap (λ form. is_joined (expression tree.first tree.at form)) (ap form_data c.in-Binary.is ∙ binary_folded c.in-Binary.field-0 c.in-Binary.field-1 c.in-Binary.field-2) in
+    let lighter = lighter_chain (expr_data ok.chain.head.now) ok.chain.links.items ok.ensures.head (ap is_joined ok.ensures.whole ∙ joins) in
+    let same = ap weight ok.ensures.whole in
+    let less = smaller_part 1 c.args.manner.deep (room s) (chain_weight ok.chain) (weight (expr_data tree)) (omega arith) (omega (arith, lighter, same)) in
+    (search rules, c.requires.signed)
+
+pub typed_chain-typed-requires-in-loop-link : goal.typed_chain-typed-requires-in-loop-link
+typed_chain-typed-requires-in-loop-link t c =
+    let s = setting_data c.args.setting.now in
+    let links = c.deref-link-items.result.now in
+    let link = c.link-item.result in
+    let lighter = lighter_link links c.loop-link.link-index link link c.loop-link-test.true c.link-item.is in
+    let same = ap links_weight c.deref-link-items.ensures.value in
+    let less = smaller c.args.manner.deep (room s) (weight (expr_data link.second.now)) (chain_weight c.args.chain.now) (omega (arith, lighter, same)) in
+    (search rules, c.requires.signed)
+
+pub typed_chain-loop-link-init : goal.typed_chain-loop-link-init
+typed_chain-loop-link-init t c =
+    let s = setting_data c.args.setting.now in
+    let m = c.args.manner in
+    let deeper = faults_with m.deep s in
+    let head = expr_data c.args.chain.now.head.now in
+    let links = map link_data c.args.chain.now.links.items in
+    let first = c.in_ok-kind.ensures in
+    record {
+      kind = ap (λ k. chain_kind s k links) first.kind ∙ chain_kind_is s head links;
+      found = (λ i. found_with (first.found i) m.moved (chain_faults deeper m.there s (first.kind i) links))
+          ∙ chain_faults_is deeper m.there s (found_in c.args.findings.now) m.moved head links;
+    }
+
+pub typed_chain-loop-link-preserved : goal.typed_chain-loop-link-preserved
+typed_chain-loop-link-preserved t c =
+    let s = setting_data c.args.setting.now in
+    let m = c.args.manner in
+    let deeper = faults_with m.deep s in
+    let links = c.args.chain.now.links.items in
+    let link = c.link-item.result in
+    let word = link.word in
+    let k = c.loop-link.link-index in
+    let later = map link_data (drop (k + 1) links) in
+    let kind = kind_data c.loop-link.kind in
+    let found = found_in c.loop-link.findings in
+    let second = c.in_ok-second.ensures in
+    let there = c.deref-link-items.ensures.value in
+    let below : k < length links = subst (λ (xs : List Link). k < length xs) there c.loop-link-test.true in
+    let left = links_left links k link below (c.link-item.is ∙ ap (λ xs. get_or xs k link) there) in
+    let made = c.binary_kind-kind.ensures ∙ ap (binary_kind word kind) second.kind in
+    let reported = c.report_binary.ensures
+    ∙ (λ i. found_with (second.found i) m.moved (wrong (takes word kind (second.kind i)) link.at ++ fault_if (is_wide (binary_kind word kind (second.kind i))) 14 link.at)) in
+    record {
+      kind = ap (λ x. chain_kind s x later) made ∙ ap (chain_kind s kind) (sym left) ∙ c.loop-link.invariant.kind;
+      found = (λ i. found_with (reported i) m.moved (chain_faults deeper m.there s (made i) later))
+          ∙ found_behind found m.moved (typing_faults deeper m.there s (expr_data link.second.now)) (link_faults s kind (link_data link)) (chain_faults deeper m.there s (binary_kind word kind (kind_of s (expr_data link.second.now))) later)
+          ∙ ap (λ xs. found_with found m.moved (chain_faults deeper m.there s kind xs)) (sym left)
+          ∙ c.loop-link.invariant.found;
+    }
