@@ -21,7 +21,7 @@ pub fn nothing() -> Contents
 }
 
 /// What stands in one of two.
-pub fn both(a: Contents, b: Contents) -> Contents
+pub(crate) fn both(a: Contents, b: Contents) -> Contents
     ensures { result ≡ both_lem a b }
 {
     Contents {
@@ -33,7 +33,7 @@ pub fn both(a: Contents, b: Contents) -> Contents
 }
 
 /// The same under a `next`.
-pub fn under_next(contents: Contents) -> Contents
+pub(crate) fn under_next(contents: Contents) -> Contents
     ensures { result ≡ under_next_lem contents }
 {
     Contents {
@@ -59,7 +59,7 @@ pub fn mark_at(marks: &[Mark], place: usize) -> Mark
 }
 
 /// An argument where its parameter stands.
-pub fn carried(mark: Mark, contents: Contents) -> Contents
+pub(crate) fn carried(mark: Mark, contents: Contents) -> Contents
     ensures { result ≡ carried_lem mark contents }
 {
     Contents {
@@ -71,7 +71,7 @@ pub fn carried(mark: Mark, contents: Contents) -> Contents
 }
 
 /// What stands in the body of a numbered definition.
-pub fn body_contents(setting: &Setting<'_, '_>, number: usize) -> Contents
+pub(crate) fn body_contents(setting: &Setting<'_, '_>, number: usize) -> Contents
     ensures { result ≡ ((setting_data setting.now).note number).contents }
 {
     match setting.note(number) {
@@ -81,7 +81,7 @@ pub fn body_contents(setting: &Setting<'_, '_>, number: usize) -> Contents
 }
 
 /// What stands in what a name alone stands for.
-pub fn name_contents(setting: &Setting<'_, '_>, named: Named) -> Contents
+pub(crate) fn name_contents(setting: &Setting<'_, '_>, named: Named) -> Contents
     ensures { result ≡ name_contents_lem (setting_data setting.now) (named_data named) }
 {
     match named {

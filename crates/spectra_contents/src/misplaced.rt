@@ -34,13 +34,13 @@ pub struct Met {
     pub names_system: bool,
 }
 
-/// What stands in arguments where their parameters stand, what stands in those that come under a `next`, and whether they
-/// name a variable of the system.
+// What stands in arguments where their parameters stand, what stands in those that come under a `next`, and whether they
+// name a variable of the system.
 #[derive(Clone, Copy, Debug)]
-pub struct Carried {
-    pub contents: Contents,
-    pub shifted: Contents,
-    pub names_system: bool,
+struct Carried {
+    contents: Contents,
+    shifted: Contents,
+    names_system: bool,
 }
 
 // Whether a name is that of a variable of the system.

@@ -72,7 +72,7 @@ pub fn kind_at<'a>(kinds: &[Kind<'a>], place: usize) -> Kind<'a>
 }
 
 /// Whether a numbered variable is one of the system.
-pub fn is_system_variable(scope: &Scope<'_>, number: usize) -> bool
+pub(crate) fn is_system_variable(scope: &Scope<'_>, number: usize) -> bool
     ensures { result ≡ is_system_variable_lem (scope_data scope.now) number }
 {
     if number < scope.variables.len() {

@@ -1,12 +1,15 @@
-//! The kinds of expressions, what stands in them, and their faults: of kinds, spans and names, and of what is misplaced.
+//! The kinds of expressions and their faults: of kinds, spans and names, also in the bodies that they call, and of what is
+//! misplaced; and what each definition is for those that use it.
+//!
+//! Contract: `notes::look` tells an expression's kind and what stands in it, and reports exactly its faults.
 //!
 //! Path: text → tokens → trees → **specification** → game → regions → layers → strategy → verdict → lines.
 #![tactic(auto)]
 
-pub mod manner;
+mod manner;
 mod node_kinds;
 pub mod notes;
-pub mod putting;
+mod putting;
 mod reporting;
 pub mod signatures;
-pub mod typed;
+mod typed;

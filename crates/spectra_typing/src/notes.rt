@@ -111,8 +111,8 @@ fn define_kind<'a>(on_cycle: bool, faultless: bool, kind: Kind<'a>) -> Kind<'a>
 }
 
 #[tactic(auto, using(spectra_names::proofs::First::faultless))]
-/// What a define is for those that use it.
-pub fn define_note<'a>(
+// What a define is for those that use it.
+fn define_note<'a>(
     alloc: Global,
     setting: &Setting<'_, 'a>,
     on_cycle: bool,
@@ -197,8 +197,8 @@ fn is_sound(on_cycle: bool, faultless: bool) -> bool
 }
 
 #[tactic(auto, using(spectra_names::proofs::First::faultless, spectra_names::proofs::First::with_faults_append))]
-/// What a predicate with this signature is for those that use it.
-pub fn predicate_note<'a>(
+// What a predicate with this signature is for those that use it.
+fn predicate_note<'a>(
     alloc: Global,
     setting: &Setting<'_, 'a>,
     on_cycle: bool,
