@@ -12,4 +12,6 @@ pub mod notes;
 mod putting;
 mod reporting;
 pub mod signatures;
+#[cfg(test)]
+mod tests;
 mod typed;
