@@ -1,15 +1,15 @@
 //! Names that stand twice where each may stand once.
 
 ghost use Rattle.std.specs.Prelude.{◌≡◌, ◌∷◌, List, false, map, OnOk};
-ghost use Rattle.spectra_trees.specs.Data.{NameData};
-ghost use Rattle.spectra_trees.specs.Views.{name_data};
+ghost use Rattle.spectra_trees.specs.Data.{NameData, TypeData};
+ghost use Rattle.spectra_trees.specs.Views.{name_data, type_data};
 ghost use Rattle.spectra_names.specs.Findings.{found_in, with_faults};
 ghost use Rattle.spectra_names.specs.Declarations.{twice, twice_after};
 ghost use Rattle.spectra_names.specs.Seeing.{is_seen};
 
 use crate::findings::{Findings, place_of};
 use crate::table::Table;
-use spectra_trees::tree::Name;
+use spectra_trees::tree::{Name, TypeTree};
 use std::alloc::{AllocError, Global};
 
 /// The names that stand in a list so far.
@@ -51,6 +51,21 @@ pub fn report_twice(
     let mut seen = Seen::new(alloc);
     for name in names {
         seen.see(findings, name)?;
+    }
+    Ok(())
+}
+
+/// Reports each parameter whose name stands before it.
+pub fn report_parameters_twice(
+    alloc: Global,
+    findings: &mut Findings,
+    params: &[(TypeTree, Name)],
+) -> Result<(), AllocError>
+    ensures { OnOk result (found_in findings.new ≡ with_faults (found_in findings.old) (twice (map (λ (a : TypeData × NameData). a.1) (map (λ a. (type_data a.0, name_data a.1)) params.now)))) }
+{
+    let mut seen = Seen::new(alloc);
+    for param in params {
+        seen.see(findings, &param.1)?;
     }
     Ok(())
 }

@@ -12,7 +12,8 @@ ghost use Rattle.spectra_types.specs.FactsViews.{scope_in, setting_in, AreFacts}
 ghost use Rattle.spectra_types.specs.Meanings.{bound_faults, range_faults, type_faults, types_faults};
 
 use crate::facts::Facts;
-use crate::sizes::depth_of;
+use crate::sizes::depth_in;
+use spectra_contents::misplaced::Ban;
 use spectra_kinds::kinds::is_whole;
 use spectra_kinds::types::is_range;
 use spectra_kinds::worth::Worth;
@@ -20,7 +21,6 @@ use spectra_kinds::worths::worth_in;
 use spectra_names::findings::{Findings, place_of, report_if};
 use spectra_names::seen::report_twice;
 use spectra_trees::tree::{ExprTree, Name, Place, PredicateItem, TypeForm, TypeTree};
-use spectra_contents::misplaced::Ban;
 use spectra_typing::notes::look;
 use std::alloc::AllocError;
 
@@ -47,7 +47,7 @@ fn report_bound<'a>(
     ensures { OnOk result (found_in findings.new ≡ with_faults (found_in findings.old) (bound_faults (setting_in facts.now) (expr_data e.now))) }
 {
     let setting = &facts.setting;
-    let deep = depth_of(facts, setting.parameters, e);
+    let deep = depth_in(facts, setting.parameters, e);
     let looked = look(facts.alloc, findings, bound_ban(), deep, setting, e)?;
     report_if(findings, !is_whole(looked.kind), 9, e.first);
     Ok(())

@@ -6,27 +6,27 @@ ghost use Rattle.spectra_trees.specs.Views.{name_data, expr_data, type_data};
 ghost use Rattle.spectra_names.specs.Findings.{found_in, fault_if, place_of as place_of_lem, with_faults};
 ghost use Rattle.spectra_names.specs.Spaces.{Definition as DefinitionData, PredicateBody, parameters_of as parameters_of_lem};
 ghost use Rattle.spectra_names.specs.Declarations.{twice};
-ghost use Rattle.spectra_order.specs.Cycles.{is_on_cycle as is_on_cycle_lem};
 ghost use Rattle.spectra_names.specs.ScopeViews.{definition_data, predicate_data, places_in};
+ghost use Rattle.spectra_order.specs.Cycles.{is_on_cycle as is_on_cycle_lem};
 ghost use Rattle.spectra_kinds.specs.KindViews.{kind_data};
 ghost use Rattle.spectra_contents.specs.Misplaced.{no_ban as no_ban_lem};
+ghost use Rattle.spectra_contents.specs.SettingViews.{setting_data};
 ghost use Rattle.spectra_typing.specs.Notes.{define_faults, predicate_faults, setting_within as setting_within_lem, boolean_faults, depth_of as depth_of_lem};
 ghost use Rattle.spectra_typing.specs.Placed.{IsSigned};
-ghost use Rattle.spectra_contents.specs.SettingViews.{setting_data};
 ghost use Rattle.spectra_types.specs.FactsViews.{scope_in, setting_in, AreFacts};
 ghost use Rattle.spectra_types.specs.Meanings.{definition_faults, definitions_faults, name_of_definition};
 
 use crate::bounds::{report_parameter_types, report_type};
 use crate::facts::Facts;
-use crate::sizes::depth_of;
+use crate::sizes::depth_in;
+use spectra_contents::setting::Setting;
 use spectra_kinds::types::parameter_kinds;
 use spectra_names::building::parameters_of;
 use spectra_names::findings::{Findings, place_of, report_if};
 use spectra_names::scope::Definition;
-use spectra_names::seen::Seen;
+use spectra_names::seen::report_parameters_twice;
 use spectra_trees::tree::{ExprTree, Name, PredicateItem};
 use spectra_typing::notes::{look, look_boolean, no_ban};
-use spectra_contents::setting::Setting;
 use std::alloc::AllocError;
 
 // Reports what is wrong with the body of a define.
@@ -39,23 +39,8 @@ fn report_define<'a>(
     ensures { OnOk result (found_in findings.new ≡ with_faults (found_in findings.old) (define_faults (setting_in facts.now) (expr_data e.now))) }
 {
     let setting = &facts.setting;
-    let deep = depth_of(facts, setting.parameters, e);
+    let deep = depth_in(facts, setting.parameters, e);
     look(facts.alloc, findings, no_ban(), deep, setting, e)?;
-    Ok(())
-}
-
-// Reports parameters that stand twice.
-fn report_parameters_twice(
-    facts: &Facts<'_, '_>,
-    findings: &mut Findings,
-    predicate: &PredicateItem,
-) -> Result<(), AllocError>
-    ensures { OnOk result (found_in findings.new ≡ with_faults (found_in findings.old) (twice (map (λ (a : TypeData × NameData). a.1) (predicate_data predicate.now).params))) }
-{
-    let mut seen = Seen::new(facts.alloc);
-    for param in &predicate.params {
-        seen.see(findings, &param.1)?;
-    }
     Ok(())
 }
 
@@ -71,7 +56,7 @@ fn report_body<'a>(
     let scope = facts.setting.scope;
     let parameters = parameters_of(facts.alloc, predicate)?;
     let kinds = parameter_kinds(facts.alloc, scope, facts.worths, facts.aliases, predicate)?;
-    let deep = depth_of(facts, &parameters, &predicate.body);
+    let deep = depth_in(facts, &parameters, &predicate.body);
     let setting = Setting {
         parameters: &parameters,
         kinds: &kinds,
@@ -98,7 +83,7 @@ fn report_inside<'a>(
     requires { AreFacts facts.now }
     ensures { OnOk result (found_in findings.new ≡ with_faults (found_in findings.old) (predicate_faults (setting_in facts.now) (predicate_data predicate.now))) }
 {
-    report_parameters_twice(facts, findings, predicate)?;
+    report_parameters_twice(facts.alloc, findings, predicate.params.as_slice())?;
     report_body(facts, findings, predicate)
 }
 

@@ -1,9 +1,9 @@
 //! What the faults and the meaning of a text are found by.
 
+use spectra_contents::setting::Setting;
 use spectra_expansion::measure::Measure;
 use spectra_kinds::kinds::Kind;
 use spectra_kinds::worth::Worth;
-use spectra_contents::setting::Setting;
 use std::alloc::Global;
 
 /// What the faults and the meaning of a text are found by: the setting of its expressions, and of each definition whether

@@ -15,7 +15,6 @@ mod lines;
 mod meaning;
 mod notes;
 mod resolving;
-mod signing;
 mod sizes;
 mod statements;
 mod tables;

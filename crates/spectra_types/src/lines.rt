@@ -14,9 +14,9 @@ ghost use Rattle.spectra_types.specs.Meanings.{expression_of as expression_of_le
 use crate::facts::Facts;
 use crate::sizes::{is_too_large, line_depth, size_in};
 use spec_model::spec::Role;
+use spectra_contents::misplaced::Ban;
 use spectra_names::findings::{Findings, report_if};
 use spectra_trees::tree::{BodyTree, ExprTree, Item, LineItem, Place};
-use spectra_contents::misplaced::Ban;
 use spectra_typing::notes::look_boolean;
 use std::alloc::AllocError;
 

@@ -2,28 +2,28 @@
 
 ghost use Rattle.std.specs.Prelude.{◌≡◌, ◌<◌, [], Some, length, map, IfOk, OnOk};
 ghost use Rattle.spectra_trees.specs.Views.{expr_data};
+ghost use Rattle.spectra_names.specs.ScopeViews.{scope_data, places_in, definition_data};
 ghost use Rattle.spectra_order.specs.Cycles.{all_uses, AreOnCycle};
 ghost use Rattle.spectra_order.specs.Orders.{IsOrder};
-ghost use Rattle.spectra_names.specs.ScopeViews.{scope_data, places_in, definition_data};
 ghost use Rattle.spectra_kinds.specs.KindViews.{kind_data};
 ghost use Rattle.spectra_kinds.specs.Types.{variable_kinds};
 ghost use Rattle.spectra_expansion.specs.Telling.{AreMeasures};
-ghost use Rattle.spectra_typing.specs.Noted.{depth_of_body as depth_of_body_lem};
-ghost use Rattle.spectra_typing.specs.Notes.{depth_of as depth_of_lem, setting_of as setting_of_lem, notes_seen, notes_of};
 ghost use Rattle.spectra_contents.specs.SettingViews.{note_data, note_among, setting_data};
+ghost use Rattle.spectra_typing.specs.Noted.{depth_of_body as depth_of_body_lem};
+ghost use Rattle.spectra_typing.specs.Notes.{setting_of as setting_of_lem, notes_seen, notes_of};
 ghost use Rattle.spectra_typing.specs.Placed.{IsSigned};
 ghost use Rattle.spectra_types.specs.Noting.{AreTables, PutsNote, made_note as made_note_lem};
 ghost use Rattle.spectra_types.specs.Signatures.{AreSignatures};
 
+use crate::sizes::depth_of;
+use spectra_contents::setting::{Note, Setting, Signature};
 use spectra_expansion::measure::Measure;
-use spectra_expansion::sizes::size_of;
 use spectra_kinds::kinds::Kind;
 use spectra_names::building::parameters_of;
-use spectra_order::order::Order;
 use spectra_names::scope::{Definition, Parameters, Scope};
+use spectra_order::order::Order;
 use spectra_trees::tree::ExprTree;
 use spectra_typing::notes::{blank, note_of};
-use spectra_contents::setting::{Note, Setting, Signature};
 use std::alloc::{AllocError, Global};
 
 /// What notes are made from, but for the notes themselves. `none` are the parameters of a define.
@@ -35,25 +35,6 @@ pub struct Tables<'s, 'a> {
     pub variables: &'s [Kind<'a>],
     pub signatures: &'s [Signature<'a>],
     pub none: &'s Parameters<'a>,
-}
-
-// How deep bodies are put into an expression.
-fn depth_of(
-    alloc: Global,
-    scope: &Scope<'_>,
-    parameters: &Parameters<'_>,
-    measures: &[Measure],
-    e: &ExprTree,
-) -> usize
-    requires { AreMeasures (scope_data scope.now) measures.now }
-    ensures { result ≡ depth_of_lem (scope_data scope.now) (expr_data e.now) (places_in parameters.now) }
-{
-    let size = size_of(alloc, scope, parameters, measures, e);
-    if size.nodes <= 1_000_000 && size.levels <= 512 {
-        scope.definitions.len()
-    } else {
-        0
-    }
 }
 
 // How deep bodies are put into a definition's body.

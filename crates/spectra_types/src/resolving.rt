@@ -1,6 +1,6 @@
 //! From the trees of a text to the specification that they mean.
 
-ghost use Rattle.std.specs.Prelude.{◌≡◌, ◌∷◌, ◌++◌, [], true, map, length, IfOk, IfErr, OnOk, None, Some};
+ghost use Rattle.std.specs.Prelude.{◌≡◌, ◌≢◌, ◌∷◌, ◌++◌, [], true, map, length, IfOk, IfErr, OnOk, None, Some};
 ghost use Rattle.spec_model.specs.Views.{spec_data};
 ghost use Rattle.spectra_trees.specs.Data.{TreeData};
 ghost use Rattle.spectra_trees.specs.Views.{tree_data};
@@ -16,6 +16,7 @@ ghost use Rattle.spectra_types.specs.FactsViews.{scope_in, setting_in, AreFacts}
 ghost use Rattle.spectra_types.specs.TableViews.{AreTables};
 ghost use Rattle.spectra_types.specs.Meanings.{text_faults, faults_of, meaning_of as meaning_of_lem};
 ghost use Rattle.spectra_types.specs.Resolved.{Means, Explains};
+ghost use Rattle.spectra_types.specs.declared.fault.TypeFault.TheVariants.{Memory};
 
 use crate::bounds::report_variable_types;
 use crate::definitions::report_definitions;
@@ -25,11 +26,11 @@ use crate::lines::report_lines;
 use crate::meaning::meaning_of;
 use crate::tables::{Tables, tables_of};
 use spec_model::spec::Spec;
+use spectra_contents::setting::Setting;
 use spectra_names::building::scope_of;
 use spectra_names::findings::{Finding, Findings};
 use spectra_names::scope::{Parameters, Scope};
 use spectra_trees::tree::Tree;
-use spectra_contents::setting::Setting;
 use spectra_typing::signatures::signatures_are_signed;
 use std::alloc::{AllocError, Global};
 
@@ -50,7 +51,8 @@ fn report_text<'a>(
 
 // The refusal of a text for its first fault.
 fn refused(finding: Finding) -> TypeFault
-    ensures { (tree : TreeData) → first_of_faults (faults_of tree) ≡ Some finding → Explains tree result }
+    ensures fault { (tree : TreeData) → first_of_faults (faults_of tree) ≡ Some finding → Explains tree result }
+    ensures told { result ≢ Memory }
 {
     TypeFault::Refused {
         number: finding.number,

@@ -3,28 +3,24 @@
 ghost use Rattle.std.specs.Prelude.{◌≡◌};
 ghost use Rattle.spec_model.specs.Syntax.{Formula};
 ghost use Rattle.spectra_trees.specs.Views.{expr_data};
-ghost use Rattle.spectra_names.specs.ScopeViews.{places_in};
-ghost use Rattle.spectra_expansion.specs.Expansion.{formula_of, is_small as is_small_lem};
+ghost use Rattle.spectra_names.specs.ScopeViews.{places_in, scope_data};
+ghost use Rattle.spectra_expansion.specs.Expansion.{formula_of};
+ghost use Rattle.spectra_expansion.specs.Telling.{AreMeasures};
 ghost use Rattle.spectra_typing.specs.Notes.{depth_of as depth_of_lem};
 ghost use Rattle.spectra_types.specs.FactsViews.{scope_in, AreFacts, IsSize};
 ghost use Rattle.spectra_types.specs.Meanings.{is_too_large as is_too_large_lem, line_depth as line_depth_lem};
 
 use crate::facts::Facts;
-use spectra_expansion::sizes::{Size, size_of};
-use spectra_names::scope::Parameters;
+use spectra_expansion::measure::Measure;
+use spectra_expansion::sizes::{Size, is_small, size_of};
+use spectra_names::scope::{Parameters, Scope};
 use spectra_trees::tree::ExprTree;
+use std::alloc::Global;
 
 // The most nodes of the lines, and the most levels of a line.
 const MOST_NODES: u64 = 1_000_000;
 
 const MOST_LEVELS: u64 = 512;
-
-// Whether a formula is no larger than one line may be.
-fn is_small(size: Size) -> bool
-    ensures { (f : Formula) → IsSize size f → result ≡ is_small_lem f }
-{
-    size.nodes <= MOST_NODES && size.levels <= MOST_LEVELS
-}
 
 /// Whether a line passes a limit, where so many nodes stand in the lines before it.
 pub fn is_too_large(before: u64, size: Size) -> bool
@@ -60,13 +56,33 @@ pub fn size_in(facts: &Facts<'_, '_>, parameters: &Parameters<'_>, e: &ExprTree)
 }
 
 /// How deep bodies are put in to look for faults in an expression that stands in no line.
-pub fn depth_of(facts: &Facts<'_, '_>, parameters: &Parameters<'_>, e: &ExprTree) -> usize
-    requires { AreFacts facts.now }
-    ensures { result ≡ depth_of_lem (scope_in facts.now) (expr_data e.now) (places_in parameters.now) }
+pub fn depth_of(
+    alloc: Global,
+    scope: &Scope<'_>,
+    parameters: &Parameters<'_>,
+    measures: &[Measure],
+    e: &ExprTree,
+) -> usize
+    requires { AreMeasures (scope_data scope.now) measures.now }
+    ensures { result ≡ depth_of_lem (scope_data scope.now) (expr_data e.now) (places_in parameters.now) }
 {
-    if is_small(size_in(facts, parameters, e)) {
-        facts.setting.scope.definitions.len()
+    if is_small(size_of(alloc, scope, parameters, measures, e)) {
+        scope.definitions.len()
     } else {
         0
     }
+}
+
+/// The same, by what is known of a text.
+pub fn depth_in(facts: &Facts<'_, '_>, parameters: &Parameters<'_>, e: &ExprTree) -> usize
+    requires { AreFacts facts.now }
+    ensures { result ≡ depth_of_lem (scope_in facts.now) (expr_data e.now) (places_in parameters.now) }
+{
+    depth_of(
+        facts.alloc,
+        facts.setting.scope,
+        parameters,
+        facts.measures,
+        e,
+    )
 }

@@ -3,22 +3,22 @@
 ghost use Rattle.std.specs.Prelude.{length, IfOk};
 ghost use Rattle.spectra_names.specs.ScopeViews.{scope_data};
 ghost use Rattle.spectra_order.specs.Cycles.{all_uses, AreOnCycle};
-ghost use Rattle.spectra_expansion.specs.Needs.{MarksCycles};
 ghost use Rattle.spectra_order.specs.Orders.{IsOrder};
+ghost use Rattle.spectra_expansion.specs.Needs.{MarksCycles};
 ghost use Rattle.spectra_expansion.specs.Telling.{HasNoParameters};
 ghost use Rattle.spectra_types.specs.TableViews.{AreTables};
 
 use crate::notes::notes;
-use crate::signing::signatures;
+use spectra_contents::setting::{Note, Signature};
 use spectra_expansion::filling::measures;
 use spectra_expansion::measure::Measure;
 use spectra_kinds::kinds::Kind;
 use spectra_kinds::types::{alias_kinds, variable_kinds};
 use spectra_kinds::worth::Worth;
 use spectra_kinds::worths::define_worths;
-use spectra_order::order::Order;
 use spectra_names::scope::Scope;
-use spectra_contents::setting::{Note, Signature};
+use spectra_order::order::Order;
+use spectra_typing::signatures::signatures;
 use std::alloc::{AllocError, Global};
 
 /// What is found out of a text's definitions: their order, what each is worth, stands for as a type and is for those that

@@ -1,13 +1,10 @@
 //! The faults in the bodies of definitions, and what each definition is for those that use it.
 
-ghost use Rattle.std.specs.Prelude.{◌≡◌, ◌∷◌, List, Some, None, false, true, not, ◌&&◌, if◌then◌else◌, map, replicate, slice_get, IfOk, OnOk};
-ghost use Rattle.spectra_trees.specs.Data.{NameData, TypeData};
-ghost use Rattle.spectra_trees.specs.Views.{name_data, expr_data, type_data};
+ghost use Rattle.std.specs.Prelude.{◌≡◌, Some, None, false, true, not, ◌&&◌, if◌then◌else◌, map, replicate, slice_get, IfOk, OnOk};
+ghost use Rattle.spectra_trees.specs.Views.{expr_data};
 ghost use Rattle.spectra_names.specs.Findings.{found_in, with_faults};
-ghost use Rattle.spectra_names.specs.Declarations.{twice, twice_after};
 ghost use Rattle.spectra_names.specs.Spaces.{DefineBody, PredicateBody, no_parameters, parameters_of};
 ghost use Rattle.spectra_names.specs.ScopeViews.{predicate_data, places_in};
-ghost use Rattle.spectra_names.specs.Seeing.{is_seen};
 ghost use Rattle.spectra_kinds.specs.Kinds.{Anything};
 ghost use Rattle.spectra_kinds.specs.KindViews.{kind_data};
 ghost use Rattle.spectra_kinds.specs.Types.{parameter_kinds};
@@ -28,8 +25,8 @@ use spectra_contents::standing::mark_standing;
 use spectra_kinds::kinds::{Kind, is_truth};
 use spectra_names::findings::{Findings, report_if};
 use spectra_names::scope::Definition;
-use spectra_names::seen::Seen;
-use spectra_trees::tree::{ExprTree, Name, PredicateItem, TypeTree};
+use spectra_names::seen::report_parameters_twice;
+use spectra_trees::tree::{ExprTree, PredicateItem};
 use std::alloc::{AllocError, Global};
 
 /// An expression's kind, and what stands in it.
@@ -132,33 +129,6 @@ fn define_note<'a>(
         contents: looked.contents,
         marks: Vec::new(alloc),
     })
-}
-
-// Sees the name of a parameter.
-fn see_parameter<'a>(
-    seen: &mut Seen<'a>,
-    findings: &mut Findings,
-    param: &'a (TypeTree, Name),
-) -> Result<(), AllocError>
-    ensures { OnOk result ((rest : List NameData) → with_faults (found_in findings.old) (twice_after (is_seen seen.old) (name_data param.now.1 ∷ rest))
-        ≡ with_faults (found_in findings.new) (twice_after (is_seen seen.new) rest)) }
-{
-    seen.see(findings, &param.1)
-}
-
-// Reports each parameter whose name stands before it.
-fn report_parameters_twice(
-    alloc: Global,
-    findings: &mut Findings,
-    params: &[(TypeTree, Name)],
-) -> Result<(), AllocError>
-    ensures { OnOk result (found_in findings.new ≡ with_faults (found_in findings.old) (twice (map (λ (a : TypeData × NameData). a.1) (map (λ a. (type_data a.0, name_data a.1)) params.now)))) }
-{
-    let mut seen = Seen::new(alloc);
-    for param in params {
-        see_parameter(&mut seen, findings, param)?;
-    }
-    Ok(())
 }
 
 // Marks of parameters that aren't read.

@@ -4,7 +4,7 @@ use Rattle.spectra_trees.specs.Views.{name_data, type_data}
 use Rattle.spectra_names.specs.Findings.{found_in, with_faults}
 use Rattle.spectra_names.specs.Declarations.{twice, twice_after}
 use Rattle.spectra_names.specs.Seeing.{is_seen}
-use Rattle.spectra_typing.proofs.notes.report_parameters_twice.Given as goal
+use Rattle.spectra_names.proofs.seen.report_parameters_twice.Given as goal
 
 -- the faults so far, and those of what is left behind the names so far, are all
 abbrev pub invariant-loop-param : goal.invariant-loop-param

@@ -1,7 +1,7 @@
 use Rattle.std.proofs.Common.{◌≡◌, ◌++◌, drop, map}
 use Rattle.spectra_names.specs.ScopeViews.{definition_data, scope_data}
 use Rattle.spectra_typing.specs.Signatures.{signature_data, signature_of}
-use Rattle.spectra_types.proofs.signing.signatures.Given as goal
+use Rattle.spectra_typing.proofs.signatures.signatures.Given as goal
 
 -- the signatures so far, and those of what is left, are all
 abbrev pub invariant-loop-definition : goal.invariant-loop-definition
