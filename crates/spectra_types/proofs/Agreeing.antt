@@ -1,20 +1,20 @@
 -- Notes of some definitions decide what an expression is that names no others: its kind, what stands in it, and what is misplaced.
 use Rattle.std.proofs.Common.{◌≡◌, ℕ, suc, Bool, true, ◌&&◌, ◌||◌, if◌then◌else◌, List, [], ◌∷◌, ◌++◌, Option, Some, None, slice_get, refl, ap, ◌∙◌}
+use Rattle.std.specs.List.{filter_map}
+use Rattle.spec_model.proofs.AllStates.{Every}
 use Rattle.spectra_trees.specs.declared.tree.Place.{Place}
 use Rattle.spectra_trees.specs.Data.{NameData, Expression, expression, Form, Expressions}
 use Rattle.spectra_names.specs.Walks.{names_in, names_in_form, names_in_each}
 use Rattle.spectra_names.specs.Findings.{place_of}
 use Rattle.spectra_names.specs.Spaces.{Named, unknown, parameter, variable, enum_name, define, predicate, Scope, Places, named}
+use Rattle.spectra_order.specs.Cycles.{definition_named}
 use Rattle.spectra_kinds.specs.Kinds.{Kind}
 use Rattle.spectra_contents.specs.Contents.{Note, Setting, nothing, both, under_next, carried, name_contents, name_marks, first_mark, later_marks, contents_of, form_contents, contents_of_each, argument_contents, name_standing, standing, form_standing, standing_in_each, argument_standing}
-use Rattle.spectra_typing.specs.Typed.{read_kind, binary_kind, kind_of, form_kind, kinds_of}
 use Rattle.spectra_contents.specs.declared.setting.Mark.{Mark}
 use Rattle.spectra_contents.specs.declared.misplaced.Ban.{Ban}
 use Rattle.spectra_contents.specs.Misplaced.{next_faults, body_misplaced, name_misplaced, shifted_contents, call_misplaced, misplaced, form_misplaced, misplaced_in_each}
+use Rattle.spectra_typing.specs.Typed.{read_kind, binary_kind, kind_of, form_kind, kinds_of}
 use Rattle.spectra_types.proofs.Empty.{every_parts}
-use Rattle.spectra_order.specs.Cycles.{definition_named}
-use Rattle.spec_model.proofs.AllStates.{Every}
-use Rattle.std.specs.List.{filter_map}
 
 -- a setting of a text by its notes and its parameters
 abbrev pub set_in : Scope → List Kind → (ℕ → Note) → Places → List Kind → Setting
@@ -63,6 +63,15 @@ are_named scope P ps (n ∷ ns) each =
     behind : (o : Option ℕ) → definition_named (named scope ps n.text) ≡ o → (i j : ℕ) → slice_get (filter_map (λ (n : NameData). definition_named (named scope ps n.text)) ns) i ≡ Some j → P j
     behind (Some k) is i j at = each (suc i) j (rw is at)
     behind None is i j at = each i j (rw is at)
+
+-- a name that stands for one of these stands for one of more
+pub named_then : (P Q : ℕ → Type 0) → ((k : ℕ) → P k → Q k) → (x : Named) → IsNamed P x → IsNamed Q x
+named_then P Q gives unknown only = tt
+named_then P Q gives (parameter i) only = tt
+named_then P Q gives (variable k) only = tt
+named_then P Q gives enum_name only = tt
+named_then P Q gives (define k) only = gives k only
+named_then P Q gives (predicate k) only = gives k only
 
 module _ (scope : Scope) (vs : List Kind) (P : ℕ → Type 0) (note note' : ℕ → Note) (agree : Agree P note note') (ps : Places) where
   abbrev at_names : NameData → Type 0

@@ -8,14 +8,14 @@ use Rattle.spectra_names.specs.Walks.{names_in, names_in_form, names_in_each}
 use Rattle.spectra_names.specs.Findings.{fault, fault_if, place_of, is_faultless}
 use Rattle.spectra_names.specs.Spaces.{Named, unknown, parameter, variable, enum_name, define, predicate, Definition, TypeBody, DefineBody, PredicateBody, Scope, Places, no_parameters, parameters_of, named, predicate_in}
 use Rattle.spectra_names.specs.Declarations.{twice}
-use Rattle.spectra_order.specs.Cycles.{uses_of}
 use Rattle.spectra_names.specs.Numbers.{number_of}
+use Rattle.spectra_order.specs.Cycles.{uses_of}
 use Rattle.spectra_kinds.specs.Kinds.{Kind, Truth, Anything, is_truth, is_whole, can_equal, is_wide}
 use Rattle.spectra_kinds.specs.Types.{variable_kinds, parameter_kinds}
 use Rattle.spectra_contents.specs.declared.setting.Mark.{Mark}
 use Rattle.spectra_contents.specs.Contents.{Note, Setting, unused, name_marks, first_mark, later_marks, with_marks}
-use Rattle.spectra_typing.specs.Typed.{binary_kind, kind_of, kinds_of, takes, wrong, later_operands, operands, wrong_arguments, takes_kinds, call_faults, remainder_faults, node_faults, given_each, called_faults, moved_to, typing_faults, form_typing_faults, typing_faults_of_each, argument_typing_faults, body_faults, faults_with}
 use Rattle.spectra_contents.specs.Misplaced.{no_ban}
+use Rattle.spectra_typing.specs.Typed.{binary_kind, kind_of, kinds_of, takes, wrong, later_operands, operands, wrong_arguments, takes_kinds, call_faults, remainder_faults, node_faults, given_each, called_faults, moved_to, typing_faults, form_typing_faults, typing_faults_of_each, argument_typing_faults, body_faults, faults_with}
 use Rattle.spectra_typing.specs.Notes.{depth_of, setting_of, note_of}
 use Rattle.spectra_types.proofs.Empty.{every_parts}
 use Rattle.spectra_types.proofs.Agreeing.{set_in, IsNamed, AreNamed, NamesOnly, Agree, are_named, kind_same, kinds_same, marks_same, contents_same, standing_same, misplaced_same}
@@ -159,7 +159,7 @@ module _ (scope : Scope) (vs : List Kind) (P : ℕ → Type 0) (note note' : ℕ
 
 -- ---- definitions
 
-predicate_found : (scope : Scope) (k : ℕ) (p : PredicateData) → slice_get scope.definitions k ≡ Some (PredicateBody p) → predicate_in scope k ≡ Some p
+pub predicate_found : (scope : Scope) (k : ℕ) (p : PredicateData) → slice_get scope.definitions k ≡ Some (PredicateBody p) → predicate_in scope k ≡ Some p
 predicate_found scope k p at = rw at refl
 
 -- the bodies of sound predicates among these name none but these
@@ -187,13 +187,24 @@ module _ (scope : Scope) (vs : List Kind) (P : ℕ → Type 0) (note note' : ℕ
 
 -- ---- notes
 
--- a definition that uses these alone has one note with all notes that agree on them
+-- the body of a definition names none but these
+abbrev pub BodyNamesOnly : Scope → (ℕ → Type 0) → Definition → Type 0
+BodyNamesOnly scope P (TypeBody name t) = Unit {0}
+BodyNamesOnly scope P (DefineBody name e) = NamesOnly scope P no_parameters e
+BodyNamesOnly scope P (PredicateBody p) = NamesOnly scope P (parameters_of p) p.body
+
+-- a definition that uses these alone names them alone
+pub uses_only : (scope : Scope) (P : ℕ → Type 0) (d : Definition) → ((i j : ℕ) → slice_get (uses_of scope d) i ≡ Some j → P j) → BodyNamesOnly scope P d
+uses_only scope P (TypeBody name t) each = tt
+uses_only scope P (DefineBody name e) each = are_named scope P no_parameters (names_in e) each
+uses_only scope P (PredicateBody p) each = are_named scope P (parameters_of p) (names_in p.body) each
+
+-- a definition that names these alone has one note with all notes that agree on them
 pub note_of_same : (scope : Scope) (P : ℕ → Type 0) (note note' : ℕ → Note) → Agree P note note' → IsClosed scope P note' → (b : Bool) (d : Definition)
-    → ((i j : ℕ) → slice_get (uses_of scope d) i ≡ Some j → P j) → note_of (setting_of scope note) b d ≡ note_of (setting_of scope note') b d
-note_of_same scope P note note' agree closed b (TypeBody name t) each = refl
-note_of_same scope P note note' agree closed b (DefineBody name e) each =
+    → BodyNamesOnly scope P d → note_of (setting_of scope note) b d ≡ note_of (setting_of scope note') b d
+note_of_same scope P note note' agree closed b (TypeBody name t) only = refl
+note_of_same scope P note note' agree closed b (DefineBody name e) only =
     let vs = variable_kinds scope in
-    let only = are_named scope P no_parameters (names_in e) each in
     let deep = depth_of scope e no_parameters in
     let typed =
     typing_same scope vs P note note' agree no_parameters [] (faults_with deep (setting_of scope note)) (faults_with deep (setting_of scope note'))
@@ -202,11 +213,10 @@ note_of_same scope P note note' agree closed b (DefineBody name e) each =
     let kind = kind_same scope vs P note note' agree no_parameters [] e only in
     let contents = contents_same scope vs P note note' agree no_parameters [] [] e only in
     λ i. record { kind = if not b && is_faultless (typed i ++ placed i) then kind i else Anything; sound = true; contents = contents i; marks = [] }
-note_of_same scope P note note' agree closed b (PredicateBody p) each =
+note_of_same scope P note note' agree closed b (PredicateBody p) only =
     let vs = variable_kinds scope in
     let ps = parameters_of p in
     let ks = parameter_kinds scope p in
-    let only = are_named scope P ps (names_in p.body) each in
     let deep = depth_of scope p.body ps in
     let typed =
     typing_same scope vs P note note' agree ps ks (faults_with deep (set_in scope vs note ps ks)) (faults_with deep (set_in scope vs note' ps ks))

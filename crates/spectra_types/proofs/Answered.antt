@@ -1,5 +1,5 @@
 -- What follows for an answer from what its tree means.
-use Rattle.std.proofs.Common.{◌≡◌, true, [], sym, subst, ◌∙◌, ap}
+use Rattle.std.proofs.Common.{◌≡◌, true, sym, subst, ◌∙◌, ap}
 use Rattle.spec_model.specs.Syntax.{Specification}
 use Rattle.spectra_trees.specs.Data.{TreeData}
 use Rattle.spectra_types.specs.WellTyped.{WellTyped, all_hidden}

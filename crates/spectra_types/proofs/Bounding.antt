@@ -10,6 +10,7 @@ use Rattle.spec_model.specs.Sizes.{past_trees}
 use Rattle.spec_model.specs.Moves.{is_env}
 use Rattle.spec_model.specs.Steps.{is_output_variable}
 use Rattle.spec_model.proofs.AllStates.{Every}
+use Rattle.spec_model.proofs.Listed.{every_weaker}
 use Rattle.spectra_trees.specs.declared.tree.Place.{Place}
 use Rattle.spectra_trees.specs.declared.tree.PrefixWord.{PrefixWord}
 use Rattle.spectra_trees.specs.declared.tree.PrefixWord.TheVariants as prefixes
@@ -25,13 +26,13 @@ use Rattle.spectra_expansion.specs.Expansion.{no_meaning, read_formula, call_for
 use Rattle.spectra_contents.specs.declared.setting.Contents.{Contents}
 use Rattle.spectra_contents.specs.declared.setting.Mark.{Mark}
 use Rattle.spectra_contents.specs.Contents.{Note, Setting, named_in, unused, nothing, both, carried, name_contents, name_marks, first_mark, later_marks, contents_of, form_contents, contents_of_each, argument_contents, Standing, name_standing, standing, form_standing, standing_in_each, argument_standing, with_marks}
-use Rattle.spectra_typing.specs.Typed.{kind_of, typing_faults, faults_with}
 use Rattle.spectra_contents.specs.declared.misplaced.Ban.{Ban}
 use Rattle.spectra_contents.specs.Misplaced.{no_ban, next_faults, name_misplaced, shifted_contents, call_misplaced, misplaced, form_misplaced, misplaced_in_each}
+use Rattle.spectra_typing.specs.Typed.{kind_of, typing_faults, faults_with}
 use Rattle.spectra_typing.specs.Notes.{depth_of, expression_faults, notes_of}
 use Rattle.spectra_types.specs.Meanings.{variable_of}
 use Rattle.spectra_types.specs.Built.{is_built_prefix, is_built_binary, is_built, is_built_form, are_built}
-use Rattle.spectra_types.proofs.Empty.{empty_parts, no_fault, every_parts, every_then}
+use Rattle.spectra_types.proofs.Empty.{empty_parts, no_fault, every_parts}
 use Rattle.spectra_types.proofs.Names.{numbered}
 use Rattle.spectra_types.proofs.Past.{IsPresent, ArePresent, IsBuiltBody, each_listed, formula_present, formulas_present, expanded_present}
 use Rattle.spectra_types.proofs.Uses.{size, rank_of, all_low, Meant, meant, LowName, LowNames, IsLow, define_low, predicate_low}
@@ -190,7 +191,7 @@ module _ (scope : Scope) (sound : IsSound scope) (built : Every IsBuiltBody scop
         all_marked (replicate (length p.params) unused) stands
         (subst (λ m. Every (λ (q : Standing). q.place < m) stands) (sym (length-replicate (length p.params) unused)) (low_places scope sound.whole (text ps ks) refl p refl true false p.body)) in
         let entries : Every (Enter (λ j. bound_of b (mark_at ms j).shifted) b) stands =
-        every_then (HasMark (with_marks (replicate (length p.params) unused) stands)) (Enter (λ j. bound_of b (mark_at ms j).shifted) b)
+        every_weaker (HasMark (with_marks (replicate (length p.params) unused) stands)) (Enter (λ j. bound_of b (mark_at ms j).shifted) b)
         (λ q is. entered (mark_at ms q.place).shifted q.under (λ e. ap (λ ns. (mark_at ns q.place).shifted) marks ∙ is.shifted e)) stands marked in
         let body = empty_parts (expression_faults no_ban (depth_of scope p.body ps) (text ps ks) p.body) (fault_if (not (is_truth (kind_of (text ps ks) p.body))) 9 (first_of p.body)) (body_typed scope sound k p at) in
         let placed = empty_parts (typing_faults (faults_with (depth_of scope p.body ps) (text ps ks)) true (text ps ks) p.body) (misplaced no_ban (text ps ks) false p.body) body.0 in

@@ -1,7 +1,8 @@
 -- Where nothing is misplaced, nothing that is banned stands in the expression and in the bodies that its names stand for.
-use Rattle.std.proofs.Common.{◌≡◌, Bool, true, false, ◌&&◌, ◌||◌, if◌then◌else◌, List, [], ◌∷◌, ◌++◌, refl, sym, ap, subst, ◌∙◌}
+use Rattle.std.proofs.Common.{◌≡◌, Bool, true, false, ◌&&◌, ◌||◌, if◌then◌else◌, List, [], ◌++◌, refl, sym, subst, ◌∙◌}
 use Rattle.std.specs.List.{list_any}
 use Rattle.std.proofs.lemmas.Bool.{or_parts, or_from, false≢true}
+use Rattle.std.proofs.lemmas.List.Folds.{list_any-append}
 use Rattle.spectra_trees.specs.declared.tree.Place.{Place}
 use Rattle.spectra_trees.specs.Data.{NameData, Expression, expression, Form, Expressions}
 use Rattle.spectra_names.specs.Walks.{names_in, names_in_form, names_in_each}
@@ -17,14 +18,6 @@ use Rattle.spectra_types.proofs.Empty.{empty_parts, no_fault}
 pub not_second : (a b : Bool) → (a && b) ≡ false → a ≡ true → b ≡ false
 not_second true b e is = e
 not_second false b e is = absurd (false≢true is)
-
-pub any-append : {X : Type 0} (p : X → Bool) (xs ys : List X) → list_any p (xs ++ ys) ≡ (list_any p xs || list_any p ys)
-any-append p [] ys = refl
-any-append p (x ∷ xs) ys = ap (λ b. p x || b) (any-append p xs ys) ∙ or-assoc (p x) (list_any p xs) (list_any p ys)
-  where
-    or-assoc : (a b c : Bool) → (a || (b || c)) ≡ ((a || b) || c)
-    or-assoc true b c = refl
-    or-assoc false b c = refl
 
 -- nothing banned stands there, where the names as they are written have a variable of the system or don't
 pub record Clear (ban : Ban) (u written : Bool) (c : Contents) : Type 0 where
@@ -102,7 +95,7 @@ module _ (ban : Ban) (s : Setting) where
       both_false false y is = refl
 
   clear_names : (u : Bool) (ms ns : List NameData) (c : Contents) → Clear ban u (written ms || written ns) c → Clear ban u (written (ms ++ ns)) c
-  clear_names u ms ns c is = subst (λ w. Clear ban u w c) (sym (any-append (λ name. is_system s (named_in s name)) ms ns)) is
+  clear_names u ms ns c is = subst (λ w. Clear ban u w c) (sym (list_any-append (λ name. is_system s (named_in s name)) ms ns)) is
 
   clear_or : (u : Bool) (x : Named) (more : Bool) (c : Contents) → Clear ban u (is_system s x || false) (name_contents s x) → Clear ban u more c → Clear ban u (is_system s x || more) (both (name_contents s x) c)
   clear_or u x more c first second = subst (λ w. Clear ban u (w || more) (both (name_contents s x) c)) (or-false (is_system s x)) (clear_both ban u (is_system s x || false) more (name_contents s x) c first second)

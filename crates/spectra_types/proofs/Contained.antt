@@ -3,6 +3,7 @@ use Rattle.std.proofs.Common.{◌≡◌, ℕ, zero, suc, pos, ◌<◌, ◌≤◌
 use Rattle.std.proofs.lemmas.Bool.{false≢true, and_right}
 use Rattle.spec_model.specs.Syntax.{Formula, NextOf, Conjunction, Disjunction, Remainder, Formulas, listed}
 use Rattle.spec_model.proofs.AllStates.{Every}
+use Rattle.spec_model.proofs.Listed.{every_join, every_weaker}
 use Rattle.spectra_trees.specs.declared.tree.Place.{Place}
 use Rattle.spectra_trees.specs.declared.tree.PrefixWord.{PrefixWord}
 use Rattle.spectra_trees.specs.declared.tree.PrefixWord.TheVariants as prefixes
@@ -21,13 +22,13 @@ use Rattle.spectra_expansion.specs.Sizes.{nodes_in, nodes_in_each, levels_in, le
 use Rattle.spectra_expansion.specs.Expansion.{no_meaning, read_formula, call_formula, prefix_formula, binary_formula, formula_in, form_formula, formulas_in, put_in}
 use Rattle.spectra_contents.specs.declared.setting.Mark.{Mark}
 use Rattle.spectra_contents.specs.Contents.{Note, Setting, named_in, unused, name_marks, first_mark, later_marks, Standing, name_standing, standing, form_standing, standing_in_each, argument_standing}
-use Rattle.spectra_typing.specs.Typed.{kind_of, call_faults, node_faults, typing_faults, form_typing_faults, typing_faults_of_each, argument_typing_faults, put_in_faults, faults_with}
 use Rattle.spectra_contents.specs.Misplaced.{no_ban, misplaced}
+use Rattle.spectra_typing.specs.Typed.{kind_of, call_faults, node_faults, typing_faults, form_typing_faults, typing_faults_of_each, argument_typing_faults, put_in_faults, faults_with}
 use Rattle.spectra_typing.specs.Notes.{depth_of, expression_faults, boolean_faults, setting_within, notes_of}
-use Rattle.spectra_types.proofs.Empty.{not_empty, empty_parts, every_parts, every_joined, every_then}
+use Rattle.spectra_types.proofs.Empty.{not_empty, empty_parts, every_parts}
 use Rattle.spectra_types.proofs.Uses.{Meant, meant, LowName, LowNames, IsLow, rank_of, predicate_low}
 use Rattle.spectra_types.proofs.Putting.{put_predicate}
-use Rattle.spectra_types.proofs.Noting.{set_in}
+use Rattle.spectra_types.proofs.Agreeing.{set_in}
 use Rattle.spectra_types.proofs.Sound.{base, IsSound, predicate_faultless, predicate_noted}
 use Rattle.spectra_types.proofs.Marks.{mark_at, first-mark, later-marks, used_from, none_used, none_there}
 
@@ -67,17 +68,17 @@ abbrev pub HoldsEach : List Formula → Formulas → Standing → Type 0
 HoldsEach args fs q = q.there ≡ true → WithinEach (get_or args q.place no_meaning) fs
 
 wider : (args : List Formula) (f g : Formula) → Within f g → (qs : List Standing) → Every (Holds args f) qs → Every (Holds args g) qs
-wider args f g more qs all = every_then (Holds args f) (Holds args g) (λ q is there. let a = is there in let b = a.0 in let c = a.1 in let d = more.0 in let e = more.1 in (omega arith, omega arith)) qs all
+wider args f g more qs all = every_weaker (Holds args f) (Holds args g) (λ q is there. let a = is there in let b = a.0 in let c = a.1 in let d = more.0 in let e = more.1 in (omega arith, omega arith)) qs all
 
 -- from several formulas to one that has them all
 each_within : (args : List Formula) (fs : Formulas) (g : Formula) → nodes_in_each fs ≤ nodes_in g → levels_in_each fs ≤ levels_in g → (qs : List Standing) → Every (HoldsEach args fs) qs → Every (Holds args g) qs
-each_within args fs g n l qs all = every_then (HoldsEach args fs) (Holds args g) (λ q is there. let a = is there in let b = a.0 in let c = a.1 in (omega arith, omega arith)) qs all
+each_within args fs g n l qs all = every_weaker (HoldsEach args fs) (Holds args g) (λ q is there. let a = is there in let b = a.0 in let c = a.1 in (omega arith, omega arith)) qs all
 
 first_or_later : (args : List Formula) (f : Formula) (fs : Formulas) (qs qs' : List Standing) → Every (Holds args f) qs → Every (HoldsEach args fs) qs' → Every (HoldsEach args (Formulas.one_more f fs)) (qs ++ qs')
 first_or_later args f fs qs qs' first later =
-    every_joined (HoldsEach args (Formulas.one_more f fs)) qs qs'
-    (every_then (Holds args f) (HoldsEach args (Formulas.one_more f fs)) (λ q is there. let a = is there in let b = a.0 in let c = a.1 in (omega arith, omega arith)) qs first)
-    (every_then (HoldsEach args fs) (HoldsEach args (Formulas.one_more f fs)) (λ q is there. let a = is there in let b = a.0 in let c = a.1 in (omega arith, omega arith)) qs' later)
+    every_join (HoldsEach args (Formulas.one_more f fs)) qs qs'
+    (every_weaker (Holds args f) (HoldsEach args (Formulas.one_more f fs)) (λ q is there. let a = is there in let b = a.0 in let c = a.1 in (omega arith, omega arith)) qs first)
+    (every_weaker (HoldsEach args fs) (HoldsEach args (Formulas.one_more f fs)) (λ q is there. let a = is there in let b = a.0 in let c = a.1 in (omega arith, omega arith)) qs' later)
 
 module _ (scope : Scope) (sound : IsSound scope) where
   abbrev put : ℕ → List Formula → Formula
@@ -141,7 +142,7 @@ module _ (scope : Scope) (sound : IsSound scope) where
       used_or_not G f true t u e is more all = wider args f G (more refl) (standing s (t && true) u e) all
       used_or_not G f false t u e is more all =
           let none = subst (λ b. Every (λ (q : Standing). q.there ≡ false) (standing s b u e)) (sym (and_right t false refl)) (none_there s u e) in
-          every_then (λ q. q.there ≡ false) (Holds args G) (λ q none there. absurd (false≢true (sym none ∙ there))) (standing s (t && false) u e) none
+          every_weaker (λ q. q.there ≡ false) (Holds args G) (λ q none there. absurd (false≢true (sym none ∙ there))) (standing s (t && false) u e) none
 
       mutual
         holds : (t' : Bool) (e : Expression) → IsLow scope r ps e → typing_faults deeper t' s e ≡ [] → (t u : Bool) → Every (Holds args (formula_in put scope ps args e)) (standing s t u e)
@@ -164,7 +165,7 @@ module _ (scope : Scope) (sound : IsSound scope) where
             let f = formula_in put scope ps args a in
             let g = formula_in put scope ps args b in
             let more = within_binary word f g in
-            every_joined (Holds args (binary_formula word f g)) (standing s t u a) (standing s t u b)
+            every_join (Holds args (binary_formula word f g)) (standing s t u a) (standing s t u b)
             (wider args f (binary_formula word f g) more.0 (standing s t u a) (holds t' a ranks.0 parts.0 t u)) (wider args g (binary_formula word f g) more.1 (standing s t u b) (holds t' b ranks.1 parts.1 t u))
         form_holds t' at (Form.Mod e number digits) low node inner t u = wider args (formula_in put scope ps args e) (Remainder (formula_in put scope ps args e) (pos (number_of digits))) (omega arith, omega arith) (standing s t u e) (holds t' e low inner t u)
         form_holds t' at (Form.And es ops) low node inner t u = each_within args (formulas_in put scope ps args es) (Conjunction (formulas_in put scope ps args es)) (omega arith) (omega arith) (standing_in_each s t u es) (each_holds t' es low inner t u)
@@ -184,7 +185,7 @@ module _ (scope : Scope) (sound : IsSound scope) where
             let ranks = every_parts (λ (n : NameData). LowName scope r (named scope ps n.text)) (names_in e) (names_in_each es) low in
             let parts = empty_parts (typing_faults deeper (t' && (first_mark ms).used) s e) (argument_typing_faults deeper t' s (later_marks ms) es) none in
             let m = first_mark ms in
-            every_joined (Holds args G) (standing s (t && m.used) (u || m.shifted) e) (argument_standing s t u (later_marks ms) es)
+            every_join (Holds args G) (standing s (t && m.used) (u || m.shifted) e) (argument_standing s t u (later_marks ms) es)
             (used_or_not G (formula_in put scope ps args e) m.used t (u || m.shifted) e refl (λ is. more 0 (sym (ap (λ (m : Mark). m.used) (first-mark ms)) ∙ is)) (holds (t' && m.used) e ranks.0 parts.0 (t && m.used) (u || m.shifted)))
             (arguments_hold t' G (later_marks ms) es ranks.1 parts.1 (λ j is. more (suc j) (sym (ap (λ (m : Mark). m.used) (later-marks ms j)) ∙ is)) t u)
 

@@ -1,10 +1,10 @@
 -- Lists without elements: parts of a list of faults that is empty, and what holds of each element.
 use Rattle.std.proofs.Common.{◌≡◌, ℕ, Bool, true, false, List, [], ◌∷◌, ◌++◌, flat_map, map, refl}
 use Rattle.std.specs.List.{list_all}
-use Rattle.std.proofs.lemmas.Bool.{and_parts, and_from}
+use Rattle.std.proofs.lemmas.Bool.{and_parts}
+use Rattle.spec_model.proofs.AllStates.{Every}
 use Rattle.spectra_trees.specs.declared.tree.Place.{Place}
 use Rattle.spectra_names.specs.Findings.{fault_if}
-use Rattle.spec_model.proofs.AllStates.{Every}
 
 pub not_empty : {X : Type 0} (x : X) (xs : List X) → x ∷ xs ≡ [] → ⊥
 not_empty x xs e = cc
@@ -32,14 +32,6 @@ pub every_parts : {X : Type 0} (P : X → Type 0) (xs ys : List X) → Every P (
 every_parts P [] ys all = (tt, all)
 every_parts P (x ∷ xs) ys all = let parts = every_parts P xs ys all.1 in ((all.0, parts.0), parts.1)
 
-pub every_joined : {X : Type 0} (P : X → Type 0) (xs ys : List X) → Every P xs → Every P ys → Every P (xs ++ ys)
-every_joined P [] ys all more = more
-every_joined P (x ∷ xs) ys all more = (all.0, every_joined P xs ys all.1 more)
-
-pub every_then : {X : Type 0} (P Q : X → Type 0) → ((x : X) → P x → Q x) → (xs : List X) → Every P xs → Every Q xs
-every_then P Q gives [] all = tt
-every_then P Q gives (x ∷ xs) all = (gives x all.0, every_then P Q gives xs all.1)
-
 pub every_both : {X : Type 0} (P Q : X → Type 0) (xs : List X) → Every P xs → Every Q xs → Every (λ x. P x × Q x) xs
 every_both P Q [] all more = tt
 every_both P Q (x ∷ xs) all more = ((all.0, more.0), every_both P Q xs all.1 more.1)
@@ -47,14 +39,6 @@ every_both P Q (x ∷ xs) all more = ((all.0, more.0), every_both P Q xs all.1 m
 pub every_from : {X : Type 0} (p : X → Bool) (xs : List X) → list_all p xs ≡ true → Every (λ x. p x ≡ true) xs
 every_from p [] e = tt
 every_from p (x ∷ xs) e = let parts = and_parts (p x) (list_all p xs) e in (parts.0, every_from p xs parts.1)
-
-pub all_from : {X : Type 0} (p : X → Bool) (xs : List X) → Every (λ x. p x ≡ true) xs → list_all p xs ≡ true
-all_from p [] all = refl
-all_from p (x ∷ xs) all = and_from (p x) (list_all p xs) all.0 (all_from p xs all.1)
-
-pub every_mapped : {X Y : Type 0} (P : Y → Type 0) (f : X → Y) (xs : List X) → Every (λ x. P (f x)) xs → Every P (map f xs)
-every_mapped P f [] all = tt
-every_mapped P f (x ∷ xs) all = (all.0, every_mapped P f xs all.1)
 
 pub every_behind : {X Y : Type 0} (P : Y → Type 0) (f : X → Y) (xs : List X) → Every P (map f xs) → Every (λ x. P (f x)) xs
 every_behind P f [] all = tt

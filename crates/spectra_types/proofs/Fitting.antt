@@ -7,6 +7,7 @@ use Rattle.spec_model.specs.Typing as model
 use Rattle.spec_model.specs.Typing.{truth_if}
 use Rattle.spec_model.specs.Syntax.{Formula, VariableData, Formulas, listed}
 use Rattle.spec_model.proofs.AllStates.{Every}
+use Rattle.spec_model.proofs.Listed.{every_mapped, every_weaker}
 use Rattle.spectra_trees.specs.declared.tree.Place.{Place}
 use Rattle.spectra_trees.specs.declared.tree.BinaryWord.{BinaryWord}
 use Rattle.spectra_trees.specs.declared.tree.BinaryWord.TheVariants as binary
@@ -22,15 +23,15 @@ use Rattle.spectra_expansion.specs.Sizes.{nodes_in, nodes_in_each, levels_in, le
 use Rattle.spectra_expansion.specs.Expansion.{no_meaning, read_formula, call_formula, prefix_formula, binary_formula, formula_in, form_formula, formulas_in, put_in, formula_of, most_nodes, most_levels, is_small}
 use Rattle.spectra_contents.specs.declared.setting.Mark.{Mark}
 use Rattle.spectra_contents.specs.Contents.{Note, Setting, named_in, unused, name_marks, first_mark, later_marks, Standing, name_standing, standing, form_standing, standing_in_each, argument_standing, with_marks}
-use Rattle.spectra_typing.specs.Typed.{read_kind, call_kind, binary_kind, kind_of, form_kind, kinds_of, wrong, later_operands, operands, wrong_arguments, takes_kinds, read_faults, has_arity, call_faults, remainder_faults, node_faults, given_each, called_faults, moved_to, put_in_faults, typing_faults, form_typing_faults, typing_faults_of_each, argument_typing_faults, within, body_faults, faults_with}
 use Rattle.spectra_contents.specs.Misplaced.{no_ban, misplaced}
+use Rattle.spectra_typing.specs.Typed.{read_kind, call_kind, binary_kind, kind_of, form_kind, kinds_of, wrong, later_operands, operands, wrong_arguments, takes_kinds, read_faults, has_arity, call_faults, remainder_faults, node_faults, given_each, called_faults, moved_to, put_in_faults, typing_faults, form_typing_faults, typing_faults_of_each, argument_typing_faults, within, body_faults, faults_with}
 use Rattle.spectra_typing.specs.Notes.{depth_of, expression_faults, notes_of}
 use Rattle.spectra_types.specs.Meanings.{domain_of, variable_of, type_faults, types_faults}
-use Rattle.spectra_types.proofs.Empty.{not_empty, empty_parts, no_fault, not_map, every_parts, every_empty, every_behind, every_both, every_mapped, every_then}
-use Rattle.spectra_types.proofs.Uses.{size, rank_of, low_rank, all_low, Meant, meant, LowName, LowNames, IsLow, define_low, predicate_low}
+use Rattle.spectra_types.proofs.Empty.{not_empty, empty_parts, no_fault, not_map, every_parts, every_empty, every_behind, every_both}
+use Rattle.spectra_types.proofs.Uses.{size, rank_of, low_rank, all_low, Meant, meant, IsBelow, LowName, LowNames, IsLow, define_low, predicate_low}
 use Rattle.spectra_types.proofs.Putting.{put_define, put_predicate}
-use Rattle.spectra_types.proofs.Noting.{standing_same}
-use Rattle.spectra_types.proofs.NotingFaults.{predicate_found}
+use Rattle.spectra_types.proofs.Agreeing.{standing_same}
+use Rattle.spectra_types.proofs.AgreeingFaults.{predicate_found}
 use Rattle.spectra_types.proofs.Sound.{base, IsWritten, IsSound, define_noted, predicate_noted, every_at}
 use Rattle.spectra_types.proofs.Worths.{right}
 use Rattle.spectra_types.proofs.Types.{IsGood, good_type}
@@ -219,9 +220,9 @@ module _ (scope : Scope) (sound : IsSound scope) where
         let marks = ap (λ (m : Note). m.marks) (predicate_noted scope sound k p at) in
         let long = length-map p.params (λ (a : TypeData × NameData). type_kind scope a.0) in
         let each : Every (Give ks' fs) stands =
-        every_then (λ q. HasMark (with_marks (replicate (length p.params) unused) stands) q × (q.place < length p.params)) (Give ks' fs)
+        every_weaker (λ q. HasMark (with_marks (replicate (length p.params) unused) stands) q × (q.place < length p.params)) (Give ks' fs)
         (λ q is there. give q.place (ap (λ ms. (mark_at ms q.place).used) marks ∙ is.0.used there) (let small_place = is.1 in omega arith)) stands (every_both _ _ stands marked places) in
-        let agree = standing_same scope (variable_kinds scope) (rank_of scope k) (notes_of scope) (notes_of scope) (λ j low. refl) ps ds ks' true false p.body is_low in
+        let agree = standing_same scope (variable_kinds scope) (IsBelow scope (rank_of scope k)) (notes_of scope) (notes_of scope) (λ j low. refl) ps ds ks' true false p.body is_low in
         let fit = lower (rank_of scope k) low ps ks' fs n (omega arith) p.body is_low typed (subst IsSmall same small) false (subst (Every (Give ks' fs)) agree each) in
         let body = empty_parts (expression_faults no_ban (depth_of scope p.body ps) (text ps ds) p.body) (fault_if (not (is_truth (kind_of (text ps ds) p.body))) 9 (first_of p.body)) (body_typed scope sound k p at) in
         let truth = not-false (is_truth (kind_of (text ps ds) p.body)) (no_fault (not (is_truth (kind_of (text ps ds) p.body))) 9 (first_of p.body) body.1) in

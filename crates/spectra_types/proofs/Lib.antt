@@ -9,8 +9,6 @@ pub mod Ranks
 pub mod Named
 pub mod Uses
 pub mod Putting
-pub mod Noting
-pub mod NotingFaults
 pub mod Clear
 pub mod Sound
 pub mod Spans
@@ -34,3 +32,4 @@ pub mod Answered
 pub mod Agreeing
 pub mod AgreeingFaults
 pub mod NotingOrder
+pub mod NotingRanks

@@ -1,7 +1,7 @@
 -- The game of a well-typed specification that needs no hidden tables is well made.
-use Rattle.std.proofs.Common.{◌≡◌, ℕ, suc, ◌+◌, ◌≤◌, ◌<◌, nat_le, All, Bool, true, false, not, ◌&&◌, ◌||◌, List, [], ◌∷◌, ◌++◌, length, map, flat_map, count_by, cond, if◌then◌else◌, refl, sym, ap, ◌∙◌, arith}
+use Rattle.std.proofs.Common.{◌≡◌, ℕ, suc, ◌+◌, ◌≤◌, nat_le, All, Bool, true, false, not, ◌&&◌, ◌||◌, List, [], ◌∷◌, ◌++◌, length, flat_map, count_by, cond, if◌then◌else◌, refl, sym, ap, ◌∙◌, arith}
 use Rattle.std.specs.List.{list_all}
-use Rattle.std.proofs.lemmas.Bool.{and_parts, and_from, or_parts, false≢true}
+use Rattle.std.proofs.lemmas.Bool.{and_parts, and_from, false≢true}
 use Rattle.std.proofs.lemmas.List.Sums.{sum_by-cons}
 use Rattle.std.proofs.lemmas.List.Elements.{All-nil, All-cons}
 use Rattle.std.proofs.lemmas.Bool.{leb-true}
@@ -13,17 +13,18 @@ use Rattle.spec_model.specs.Typing.{kind_of, is_truth}
 use Rattle.spec_model.specs.Games.{GoalData}
 use Rattle.spec_model.specs.Moves.{is_assumption, has_next}
 use Rattle.spec_model.specs.Sizes.{past_trees, formulas_of, distinct, past_operators}
-use Rattle.spec_model.specs.Steps.{is_output_variable, reads_output, waits_for_output}
-use Rattle.spec_model.specs.WellMade.{WellMade, is_domain, is_stepwise, awaits_output, scope_of, is_step_formula, is_state_formula, is_initial_assumption, is_safety_assumption}
+use Rattle.spec_model.specs.Steps.{is_output_variable}
+use Rattle.spec_model.specs.WellMade.{WellMade, is_domain, scope_of, is_step_formula, is_state_formula, is_initial_assumption, is_safety_assumption}
+use Rattle.spec_model.specs.Laws.{NumbersRise}
 use Rattle.hidden_game.specs.declared.expanding.Player.{Player}
 use Rattle.hidden_game.specs.declared.expanding.Player.TheVariants.{Environment, System}
 use Rattle.hidden_game.specs.declared.expanding.Time.{Time}
 use Rattle.hidden_game.specs.declared.expanding.Time.TheVariants.{First, Always}
-use Rattle.spec_model.specs.Laws.{NumbersRise}
 use Rattle.hidden_game.specs.Agreement.{is_plain, HasPlainLines}
 use Rattle.hidden_game.specs.GameOf.{game_of, binds, said, numbered, lines_for, recurs, recurring, labelled, goals_for}
-use Rattle.spectra_types.specs.WellTyped.{WellTyped, scope_of_specification, is_nested_well, reads_some, shifts_some, is_typed, is_typed_state, is_typed_content, is_typed_line, is_domain_of, is_hidden, all_hidden, are_rising}
-use Rattle.spectra_types.proofs.Steps.{none_joined, stepwise, reads_none, awaits}
+use Rattle.spectra_types.specs.WellTyped.{WellTyped, scope_of_specification, reads_some, shifts_some, is_typed, is_typed_state, is_typed_content, is_typed_line, is_domain_of, is_hidden, all_hidden, are_rising}
+use Rattle.spectra_types.proofs.Empty.{empty_parts}
+use Rattle.spectra_types.proofs.Steps.{stepwise, reads_none, awaits}
 
 -- ---- what isn't there
 
@@ -47,7 +48,7 @@ all_open : (s : Specification) (ls : List Statement) → count_by (λ (l : State
     flat_map (λ (l : Statement). flat_map past_trees (formulas_of s l.content)) ls ≡ [] → AreOpen s ls
 all_open s [] none flat = tt
 all_open s (l ∷ ls) none flat =
-    let parts = none_joined (flat_map past_trees (formulas_of s l.content)) _ (sym (flat_map-cons (λ (m : Statement). flat_map past_trees (formulas_of s m.content)) l ls) ∙ flat) in
+    let parts = empty_parts (flat_map past_trees (formulas_of s l.content)) _ (sym (flat_map-cons (λ (m : Statement). flat_map past_trees (formulas_of s m.content)) l ls) ∙ flat) in
     let counts = no_more (is_hidden l.content) (count_by (λ (m : Statement). is_hidden m.content) ls) (sym (sum_by-cons (λ (m : Statement). cond (is_hidden m.content) 1 0) l ls) ∙ none) in
     ((counts.0, parts.0), all_open s ls counts.1 parts.1)
 
@@ -63,7 +64,7 @@ unless true c is e = not_true c e
 unless false c is e = absurd (false≢true is)
 
 only_tree : (e : Formula) → flat_map past_trees (e ∷ []) ≡ [] → past_trees e ≡ []
-only_tree e none = (none_joined (past_trees e) _ (sym (flat_map-cons past_trees e []) ∙ none)).0
+only_tree e none = (empty_parts (past_trees e) _ (sym (flat_map-cons past_trees e []) ∙ none)).0
 
 module _ (s : Specification) where
   abbrev names : ℕ

@@ -3,11 +3,11 @@ use Rattle.std.proofs.Common.{◌≡◌, ℕ, suc, ◌+◌, ◌<◌, ◌≤◌, 
 use Rattle.std.proofs.lemmas.Bool.{or_cases, or_left, or_right, false≢true, cases_eq, cases_lt}
 use Rattle.std.proofs.lemmas.List.{get_or-set_same, get_or-set_other, get_or_past, length-set, length-replicate, get_or-replicate, set_past}
 use Rattle.spec_model.proofs.AllStates.{Every}
+use Rattle.spec_model.proofs.Listed.{every_join}
 use Rattle.spectra_trees.specs.Data.{NameData, Expression, expression, Form, Expressions, TypeData, PredicateData}
 use Rattle.spectra_names.specs.Spaces.{Named, unknown, parameter, variable, enum_name, define, predicate, Scope, places_from, parameters_of, named}
 use Rattle.spectra_contents.specs.declared.setting.Mark.{Mark}
 use Rattle.spectra_contents.specs.Contents.{Setting, named_in, unused, name_marks, first_mark, later_marks, Standing, name_standing, standing, form_standing, standing_in_each, argument_standing, marked, with_mark, with_marks}
-use Rattle.spectra_types.proofs.Empty.{every_joined}
 use Rattle.spectra_types.proofs.Named.{found_holds, IsWhole}
 use Rattle.spectra_types.proofs.Uses.{means}
 
@@ -115,22 +115,22 @@ module _ (P : Standing → Type 0) (T : Bool → Type 0) (keeps : (t x : Bool) �
     every_form t u (Form.Number negative digits) is = tt
     every_form t u (Form.Read name) is = each t u name is
     every_form t u (Form.Call name es) is =
-        every_joined P (name_standing t u (named_in s name)) (argument_standing s t u (name_marks s (named_in s name)) es) (each t u name is) (every_argument t u (name_marks s (named_in s name)) es is)
+        every_join P (name_standing t u (named_in s name)) (argument_standing s t u (name_marks s (named_in s name)) es) (each t u name is) (every_argument t u (name_marks s (named_in s name)) es is)
     every_form t u (Form.Next e) is = every_standing t true e is
     every_form t u (Form.Prefix word e) is = every_standing t u e is
-    every_form t u (Form.Binary word a b) is = every_joined P (standing s t u a) (standing s t u b) (every_standing t u a is) (every_standing t u b is)
+    every_form t u (Form.Binary word a b) is = every_join P (standing s t u a) (standing s t u b) (every_standing t u a is) (every_standing t u b is)
     every_form t u (Form.Mod e at digits) is = every_standing t u e is
     every_form t u (Form.And es ops) is = every_in_each t u es is
     every_form t u (Form.Or es ops) is = every_in_each t u es is
 
     every_in_each : (t u : Bool) (es : Expressions) → T t → Every P (standing_in_each s t u es)
     every_in_each t u Expressions.none is = tt
-    every_in_each t u (Expressions.one_more e es) is = every_joined P (standing s t u e) (standing_in_each s t u es) (every_standing t u e is) (every_in_each t u es is)
+    every_in_each t u (Expressions.one_more e es) is = every_join P (standing s t u e) (standing_in_each s t u es) (every_standing t u e is) (every_in_each t u es is)
 
     every_argument : (t u : Bool) (ms : List Mark) (es : Expressions) → T t → Every P (argument_standing s t u ms es)
     every_argument t u ms Expressions.none is = tt
     every_argument t u ms (Expressions.one_more e es) is =
-        every_joined P (standing s (t && (first_mark ms).used) (u || (first_mark ms).shifted) e) (argument_standing s t u (later_marks ms) es)
+        every_join P (standing s (t && (first_mark ms).used) (u || (first_mark ms).shifted) e) (argument_standing s t u (later_marks ms) es)
         (every_standing (t && (first_mark ms).used) (u || (first_mark ms).shifted) e (keeps t (first_mark ms).used is)) (every_argument t u (later_marks ms) es is)
 
 -- where nothing is there, no parameter is

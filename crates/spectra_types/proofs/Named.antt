@@ -3,10 +3,11 @@ use Rattle.std.proofs.Common.{◌≡◌, ℕ, suc, ◌+◌, Bool, true, false, c
 use Rattle.std.specs.Str.{bytes_eq}
 use Rattle.std.specs.List.{list_any, find}
 use Rattle.spec_model.proofs.AllStates.{Every}
+use Rattle.spec_model.proofs.Listed.{every_join}
 use Rattle.spectra_trees.specs.Data.{NameData, Expression, TypeData, VarData, PredicateData, ItemData, TreeData}
 use Rattle.spectra_names.specs.Walks.{enum_names}
 use Rattle.spectra_names.specs.Spaces.{Named, unknown, parameter, variable, enum_name, define, predicate, Definition, TypeBody, DefineBody, PredicateBody, enums, defines_from, values_from, enum_names_of, variables_in, definitions_in, types_from, declared, Scope, scope_of}
-use Rattle.spectra_types.proofs.Empty.{every_parts, every_joined}
+use Rattle.spectra_types.proofs.Empty.{every_parts}
 use Rattle.spectra_types.proofs.Names.{eq-same, each_there}
 
 -- ---- what is declared
@@ -43,7 +44,7 @@ module _ (scope : Scope) where
   stand_types [] all = tt
   stand_types (a ∷ params) all =
       let parts = every_parts _ (enum_names a.0) (flat_map (λ a. enum_names a.0) params) all in
-      every_joined _ (enums a.0) (flat_map (λ a. enums a.0) params) (stand_enums (enum_names a.0) parts.0) (stand_types params parts.1)
+      every_join _ (enums a.0) (flat_map (λ a. enums a.0) params) (stand_enums (enum_names a.0) parts.0) (stand_types params parts.1)
 
   -- the list stands in the other one from a place on
   abbrev pub From : {X : Type 0} → ℕ → List X → List X → Type 0
@@ -68,19 +69,19 @@ module _ (scope : Scope) where
   stand_all v d [] at_v at_d there = tt
   stand_all v d (ItemData.Variable x ∷ items) at_v at_d there =
       let parts = every_parts _ (enum_names x.domain) (flat_map enum_names_of items) there in
-      every_joined _ (enums x.domain) ((x.name, variable v) ∷ values_from (suc v) d items) (stand_enums (enum_names x.domain) parts.0)
+      every_join _ (enums x.domain) ((x.name, variable v) ∷ values_from (suc v) d items) (stand_enums (enum_names x.domain) parts.0)
       ((x, from_here v x (variables_in items) scope.variables at_v), stand_all (suc v) d items (from_next v x (variables_in items) scope.variables at_v) at_d parts.1)
   stand_all v d (ItemData.Alias t ∷ items) at_v at_d there =
       let parts = every_parts _ (enum_names t.body) (flat_map enum_names_of items) there in
-      every_joined _ (enums t.body) (values_from v (suc d) items) (stand_enums (enum_names t.body) parts.0)
+      every_join _ (enums t.body) (values_from v (suc d) items) (stand_enums (enum_names t.body) parts.0)
       (stand_all v (suc d) items at_v (from_next d (TypeBody t.name t.body) (definitions_in items) scope.definitions at_d) parts.1)
   stand_all v d (ItemData.Define x ∷ items) at_v at_d there =
       let bodies = stand_defines d x.bodies (definitions_in items) at_d in
-      every_joined _ (defines_from d x.bodies) (values_from v (d + length x.bodies) items) bodies.0 (stand_all v (d + length x.bodies) items at_v bodies.1 there)
+      every_join _ (defines_from d x.bodies) (values_from v (d + length x.bodies) items) bodies.0 (stand_all v (d + length x.bodies) items at_v bodies.1 there)
   stand_all v d (ItemData.Predicate p ∷ items) at_v at_d there =
       let parts = every_parts _ (flat_map (λ a. enum_names a.0) p.params) (flat_map enum_names_of items) there in (
         (p, from_here d (PredicateBody p) (definitions_in items) scope.definitions at_d),
-        every_joined _ (flat_map (λ a. enums a.0) p.params) (values_from v (suc d) items) (stand_types p.params parts.0)
+        every_join _ (flat_map (λ a. enums a.0) p.params) (values_from v (suc d) items) (stand_types p.params parts.0)
             (stand_all v (suc d) items at_v (from_next d (PredicateBody p) (definitions_in items) scope.definitions at_d) parts.1),
       )
   stand_all v d (ItemData.Pattern x ∷ items) at_v at_d there = stand_all v d items at_v at_d there

@@ -2,6 +2,8 @@
 use Rattle.std.proofs.Common.{◌≡◌, ℕ, suc, ◌+◌, ◌<◌, ◌==◌, nat_lt, Bool, true, false, not, ◌&&◌, ◌||◌, if◌then◌else◌, cond, List, [], ◌∷◌, ◌++◌, Some, None, length, map, get_or, unwrap_or, refl, sym, ap, subst, ◌∙◌, arith}
 use Rattle.std.specs.Str.{bytes_eq}
 use Rattle.std.specs.List.{list_any, list_all, position_or_len, prefix_len}
+use Rattle.std.proofs.Math.Bool.{or-false}
+use Rattle.std.proofs.lemmas.List.Folds.{list_any-append}
 use Rattle.std.proofs.lemmas.List.Sums.{prefix_len_stops}
 use Rattle.std.proofs.lemmas.Bool.{and_parts, and_from, or_parts, or_from, or_left, or_right, lt-ltb, not-true, not_from_false, false≢true, false_from_ne_true, not-false}
 use Rattle.std.proofs.lemmas.Bool.Decides.{Decides-eqb}
@@ -38,16 +40,7 @@ differ-bytes (x ∷ xs) = ap (λ b. not b && all_differ same_names xs) (any-same
 -- ---- a list of different names
 
 any-push : {X : Type 0} (p : X → Bool) (xs : List X) (y : X) → list_any p (xs ++ y ∷ []) ≡ (list_any p xs || p y)
-any-push p [] y = or-false (p y)
-  where
-    or-false : (b : Bool) → (b || false) ≡ b
-    or-false true = refl
-    or-false false = refl
-any-push p (x ∷ xs) y = ap (λ b. p x || b) (any-push p xs y) ∙ or-or (p x) (list_any p xs) (p y)
-  where
-    or-or : (a b c : Bool) → (a || (b || c)) ≡ ((a || b) || c)
-    or-or true b c = refl
-    or-or false b c = refl
+any-push p xs y = list_any-append p xs (y ∷ []) ∙ ap (λ b. list_any p xs || b) (or-false (p y))
 
 pub eq-turned : (a b : List ℕ) → bytes_eq a b ≡ false → bytes_eq b a ≡ false
 eq-turned a b differ = false_from_ne_true (bytes_eq b a) (λ same. false≢true (sym differ ∙ ap (λ x. bytes_eq a x) (eq-same b a same) ∙ eq-self a))

@@ -13,12 +13,12 @@ use Rattle.spectra_kinds.specs.Depths.{told, HasValues}
 use Rattle.spectra_kinds.proofs.Depths.{stands, is_definition, one_more, nothing_past}
 use Rattle.spectra_contents.specs.declared.setting.Note as code_note
 use Rattle.spectra_contents.specs.Contents.{Note, blank}
+use Rattle.spectra_contents.specs.SettingViews.{note_data, note_or_blank, note_among}
 use Rattle.spectra_typing.specs.Noted.{note_of_some}
 use Rattle.spectra_typing.specs.Notes.{setting_of, notes_seen, note_of_body, note_with, notes_of}
-use Rattle.spectra_contents.specs.SettingViews.{note_data, note_or_blank, note_among}
 use Rattle.spectra_types.specs.Noting.{PutsNote}
 use Rattle.spectra_types.proofs.Agreeing.{Agree, are_named}
-use Rattle.spectra_types.proofs.AgreeingFaults.{IsClosed, note_of_same}
+use Rattle.spectra_types.proofs.AgreeingFaults.{IsClosed, uses_only, note_of_same}
 
 -- both are used in their own bodies
 abbrev Unseen : Scope → Bool → ℕ → Type 0
@@ -108,7 +108,7 @@ module _ (scope : Scope) (order : List ℕ) (ordered : IsOrder scope order) wher
       by None there = refl
       by (Some d) there =
           note_of_same scope (Seen i (is_on_cycle scope k)) (notes_seen scope f (is_on_cycle scope k)) (notes_seen scope (note_with n scope) (is_on_cycle scope k)) (agree (is_on_cycle scope k))
-          (closed n i (is_on_cycle scope k)) (is_on_cycle scope k) d (use_seen i k d here there)
+          (closed n i (is_on_cycle scope k)) (is_on_cycle scope k) d (uses_only scope (Seen i (is_on_cycle scope k)) d (use_seen i k d here there))
 
   -- behind its place in the order the depth no longer matters
   settled : (most i k : ℕ) → i < most → slice_get order i ≡ Some k → (n m : ℕ) → i < n → i < m → note_with n scope k ≡ note_with m scope k

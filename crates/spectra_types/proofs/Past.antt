@@ -5,6 +5,7 @@ use Rattle.std.proofs.lemmas.Bool.{and_parts, false≢true}
 use Rattle.spec_model.specs.Syntax.{Formula, Formulas, listed}
 use Rattle.spec_model.specs.Sizes.{past_trees, past_trees_of_all}
 use Rattle.spec_model.proofs.AllStates.{Every}
+use Rattle.spec_model.proofs.Listed.{every_join, every_mapped}
 use Rattle.spectra_trees.specs.declared.tree.PrefixWord.{PrefixWord}
 use Rattle.spectra_trees.specs.declared.tree.PrefixWord.TheVariants as prefixes
 use Rattle.spectra_trees.specs.declared.tree.BinaryWord.{BinaryWord}
@@ -14,7 +15,7 @@ use Rattle.spectra_names.specs.Spaces.{Named, unknown, parameter, variable, enum
 use Rattle.spectra_order.specs.Cycles.{is_on_cycle}
 use Rattle.spectra_expansion.specs.Expansion.{no_meaning, read_formula, call_formula, prefix_formula, binary_formula, formula_in, form_formula, formulas_in, body_formula, expanded}
 use Rattle.spectra_types.specs.Built.{is_built_prefix, is_built_binary, is_built, is_built_form, are_built, is_built_item}
-use Rattle.spectra_types.proofs.Empty.{empty_parts, every_from, every_joined, every_mapped}
+use Rattle.spectra_types.proofs.Empty.{empty_parts, every_from}
 
 -- no past operator in a formula, and none in each of several
 abbrev pub IsPresent : Formula → Type 0
@@ -118,7 +119,7 @@ pub all_built : (items : List ItemData) → list_all is_built_item items ≡ tru
 all_built [] built = tt
 all_built (i ∷ items) built =
     let parts = and_parts (is_built_item i) (list_all is_built_item items) built in
-    every_joined IsBuiltBody (definitions_of i) (definitions_in items) (built_definitions i parts.0) (all_built items parts.1)
+    every_join IsBuiltBody (definitions_of i) (definitions_in items) (built_definitions i parts.0) (all_built items parts.1)
 
 module _ (scope : Scope) (bodies : Every IsBuiltBody scope.definitions) where
   body_present : (put : ℕ → List Formula → Formula) (put_present : (k : ℕ) (fs : List Formula) → ArePresent fs → IsPresent (put k fs)) (ds : List Definition) (k : ℕ) (fs : List Formula)

@@ -5,8 +5,8 @@ use Rattle.spec_model.specs.Syntax.{Formula, Conjunction, Disjunction, NextOf, R
 use Rattle.spectra_trees.specs.Data.{NameData, Expression, expression, Form, Expressions, PredicateData}
 use Rattle.spectra_names.specs.Walks.{names_in, names_in_form, names_in_each}
 use Rattle.spectra_names.specs.Spaces.{Named, unknown, parameter, variable, enum_name, define, predicate, Definition, TypeBody, DefineBody, PredicateBody, Scope, Places, no_parameters, parameters_of, named}
-use Rattle.spectra_order.specs.Cycles.{is_on_cycle}
 use Rattle.spectra_names.specs.Numbers.{number_of}
+use Rattle.spectra_order.specs.Cycles.{is_on_cycle}
 use Rattle.spectra_expansion.specs.Expansion.{no_meaning, read_formula, call_formula, prefix_formula, binary_formula, formula_in, form_formula, formulas_in, body_formula, expanded, put_in}
 use Rattle.spectra_types.proofs.Empty.{every_parts}
 use Rattle.spectra_types.proofs.Named.{IsWhole}

@@ -1,12 +1,12 @@
 -- Where nothing is used in its own body, each use has a lower rank: the number of those that one reaches.
 use Rattle.std.proofs.Common.{◌≡◌, ℕ, zero, suc, ◌+◌, ◌≤◌, ◌<◌, ◌==◌, Bool, true, false, ◌||◌, cond, List, [], ◌∷◌, length, Some, None, slice_get, unwrap_or, refl, sym, ap, subst, ◌∙◌, inl, inr, ◌⊎◌, arith}
 use Rattle.std.specs.List.{list_any}
-use Rattle.std.proofs.lemmas.Bool.{or_cases, or_left, or_right, false≢true, cases_Bool, cases_lt}
+use Rattle.std.proofs.lemmas.Bool.{or_cases, or_right, false≢true, cases_Bool, cases_lt}
 use Rattle.std.proofs.lemmas.Bool.Decides.{Decides-eqb}
 use Rattle.std.proofs.lemmas.Option.{slice_get_past}
 use Rattle.spectra_order.specs.Cycles.{reaches}
 use Rattle.spectra_order.specs.Searching.{next_of}
-use Rattle.spectra_order.proofs.Reaching.{one_step, first_step, in_more_steps}
+use Rattle.spectra_order.proofs.Reaching.{any-at, one_step, first_step, in_more_steps}
 
 -- ---- counting
 
@@ -70,11 +70,6 @@ any-found p (x ∷ xs) holds = elim (or_cases (p x) (list_any p xs) holds) [
   | inl here ↦ (0, x, refl, here)
   | inr later ↦ (let more = any-found p xs later in (suc more.0, more.1, more.2, more.3))
 ]
-
-pub any-at : {X : Type 0} (p : X → Bool) (xs : List X) (i : ℕ) (x : X) → slice_get xs i ≡ Some x → p x ≡ true → list_any p xs ≡ true
-any-at p [] i x at holds = absurd (cc)
-any-at p (y ∷ xs) zero x at holds = let same : y ≡ x = cc in or_left (p y) (list_any p xs) (ap p same ∙ holds)
-any-at p (y ∷ xs) (suc i) x at holds = or_right (p y) (list_any p xs) (any-at p xs i x at holds)
 
 module _ (uses : List (List ℕ)) where
   prepend : (m from k v i : ℕ) → slice_get (next_of uses from) i ≡ Some k → reaches uses m k v ≡ true → reaches uses (suc m) from v ≡ true

@@ -1,12 +1,10 @@
 -- How many lines there is room for.
-use Rattle.std.proofs.Common.{◌≡◌, ℕ, suc, ◌+◌, ◌-◌, ◌≤◌, ◌==◌, Bool, true, false, if◌then◌else◌, List, [], ◌∷◌, ◌++◌, Option, Some, None, map, refl, sym, ap, subst, ◌∙◌, append_assoc, arith}
+use Rattle.std.proofs.Common.{◌≡◌, ℕ, ◌+◌, ◌-◌, ◌≤◌, ◌==◌, Bool, true, false, if◌then◌else◌, List, [], ◌∷◌, ◌++◌, refl, ap, subst, ◌∙◌, append_assoc, arith}
 use Rattle.std.proofs.lemmas.Bool.{eqb-false}
 use Rattle.spectra_trees.specs.Data.{ItemData}
 use Rattle.spectra_names.specs.Findings.{fault}
 use Rattle.spectra_names.specs.Declarations.{past, is_line, place_of_item}
-
-not_empty : {X : Type 0} (x : X) (xs : List X) → x ∷ xs ≡ [] → ⊥
-not_empty x xs e = cc
+use Rattle.spectra_types.proofs.Empty.{not_empty}
 
 -- a line that is within a limit
 record IsWithin (room : ℕ) (rest : List ItemData) : Type 0 where

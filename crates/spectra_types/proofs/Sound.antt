@@ -3,24 +3,25 @@ use Rattle.std.proofs.Common.{◌≡◌, ℕ, zero, suc, ◌+◌, ◌<◌, ◌�
 use Rattle.std.specs.List.{list_all}
 use Rattle.std.proofs.lemmas.Bool.{and_parts}
 use Rattle.spec_model.proofs.AllStates.{Every}
+use Rattle.spec_model.proofs.Listed.{every_mapped, every_join}
 use Rattle.spectra_trees.specs.Data.{NameData, Expression, TypeData, VarData, PredicateData, ItemData, TreeData}
 use Rattle.spectra_names.specs.Walks.{enum_names}
 use Rattle.spectra_names.specs.Spaces.{Definition, TypeBody, DefineBody, PredicateBody, Scope, scope_of, values_from, variables_in, definitions_of, definitions_in, no_names}
-use Rattle.spectra_order.specs.Cycles.{is_on_cycle}
 use Rattle.spectra_names.proofs.Declared.{after-no_names}
+use Rattle.spectra_names.specs.Findings.{is_faultless}
+use Rattle.spectra_order.specs.Cycles.{is_on_cycle}
 use Rattle.spectra_kinds.specs.Kinds.{Truth, Anything}
 use Rattle.spectra_contents.specs.Contents.{Note, Setting, unused, contents_of, standing, with_marks}
 use Rattle.spectra_typing.specs.Typed.{kind_of}
 use Rattle.spectra_typing.specs.Notes.{predicate_faults, setting_of, setting_within, notes_of}
-use Rattle.spectra_names.specs.Findings.{is_faultless}
 use Rattle.spectra_types.specs.Meanings.{type_faults, types_faults, definition_faults}
 use Rattle.spectra_types.specs.Shapes.{has_names, types_of, has_shape}
-use Rattle.spectra_types.proofs.Empty.{empty_parts, every_empty, every_from, every_mapped, every_behind, every_joined, every_both}
+use Rattle.spectra_types.proofs.Empty.{empty_parts, every_empty, every_from, every_behind, every_both}
 use Rattle.spectra_types.proofs.Declared.{IsEnumName, enums_stand, StandForEnums, ItemEnums, item_enums}
 use Rattle.spectra_types.proofs.Outer.{text_setting, NoFaults}
 use Rattle.spectra_types.proofs.Named.{IsWhole, text_whole}
 use Rattle.spectra_types.proofs.Uses.{size, Acyclic, each_faultless}
-use Rattle.spectra_types.proofs.NotingFaults.{note_is}
+use Rattle.spectra_types.proofs.NotingRanks.{note_is}
 
 -- the setting of a scope's own expressions
 abbrev pub base : Scope → Setting
@@ -76,7 +77,7 @@ module _ (scope : Scope) where
   all_written [] stand shape = tt
   all_written (i ∷ items) stand shape =
       let parts = and_parts (list_all (λ (t : TypeData). has_names t.form) (types_of i)) (list_all (λ i. list_all (λ (t : TypeData). has_names t.form) (types_of i)) items) shape in
-      every_joined (AreWritten scope) (definitions_of i) (definitions_in items) (written_definitions i stand.0 parts.0) (all_written items stand.1 parts.1)
+      every_join (AreWritten scope) (definitions_of i) (definitions_in items) (written_definitions i stand.0 parts.0) (all_written items stand.1 parts.1)
 
   written_variables : (items : List ItemData) → Every (ItemEnums scope.values) items → list_all (λ i. list_all (λ (t : TypeData). has_names t.form) (types_of i)) items ≡ true
       → Every (λ (v : VarData). IsWritten scope v.domain) (variables_in items)

@@ -1,18 +1,14 @@
 -- What formulas of specifications without hidden tables read, as their games see it.
-use Rattle.std.proofs.Common.{◌≡◌, ℕ, Bool, true, false, not, ◌&&◌, ◌||◌, List, [], ◌∷◌, ◌++◌, refl, sym, ap, ◌∙◌}
+use Rattle.std.proofs.Common.{◌≡◌, ℕ, Bool, true, false, not, ◌&&◌, ◌||◌, List, [], refl, ap, ◌∙◌}
 use Rattle.std.proofs.lemmas.Bool.{and_parts, and_from, or_parts, false≢true}
-use Rattle.spec_model.specs.declared.value.Value.TheVariants as value
 use Rattle.spec_model.specs.Syntax.{Formula, Constant, Variable, NextOf, Negation, Conjunction, Disjunction, Implication, Equivalence, Comparison, Sum, Difference, Product, Remainder, PastOf, Entry, Formulas, VariableData}
 use Rattle.spec_model.specs.Sizes.{past_trees, past_trees_of_all}
 use Rattle.spec_model.specs.Steps.{is_output_variable, reads_output, some_reads_output}
 use Rattle.spec_model.specs.WellMade.{is_stepwise, are_stepwise, awaits_output, some_awaits_output}
 use Rattle.spectra_types.specs.WellTyped.{is_nested_well, are_nested_well, reads_some, some_reads, shifts_some, some_shifts}
+use Rattle.spectra_types.proofs.Empty.{empty_parts}
 
--- ---- lists and tests
-
-pub none_joined : {X : Type 0} (xs ys : List X) → xs ++ ys ≡ [] → (xs ≡ []) × (ys ≡ [])
-none_joined [] ys e = (refl, e)
-none_joined (x ∷ xs) ys e = absurd (cc)
+-- ---- tests
 
 neither : (a b : Bool) → a ≡ false → b ≡ false → (a || b) ≡ false
 neither true b e f = e
@@ -45,21 +41,21 @@ mutual
   stepwise m u p (Negation e) well none = stepwise m u p e well none
   stepwise m u p (Conjunction es) well none = all_stepwise m u p es well none
   stepwise m u p (Disjunction es) well none = all_stepwise m u p es well none
-  stepwise m u p (Implication a b) well none = both _ _ _ _ well (λ w. stepwise m u p a w (none_joined (past_trees a) _ none).0) (λ w. stepwise m u p b w (none_joined (past_trees a) _ none).1)
-  stepwise m u p (Equivalence a b) well none = both _ _ _ _ well (λ w. stepwise m u p a w (none_joined (past_trees a) _ none).0) (λ w. stepwise m u p b w (none_joined (past_trees a) _ none).1)
-  stepwise m u p (Comparison c a b) well none = both _ _ _ _ well (λ w. stepwise m u p a w (none_joined (past_trees a) _ none).0) (λ w. stepwise m u p b w (none_joined (past_trees a) _ none).1)
-  stepwise m u p (Sum a b) well none = both _ _ _ _ well (λ w. stepwise m u p a w (none_joined (past_trees a) _ none).0) (λ w. stepwise m u p b w (none_joined (past_trees a) _ none).1)
-  stepwise m u p (Difference a b) well none = both _ _ _ _ well (λ w. stepwise m u p a w (none_joined (past_trees a) _ none).0) (λ w. stepwise m u p b w (none_joined (past_trees a) _ none).1)
-  stepwise m u p (Product a b) well none = both _ _ _ _ well (λ w. stepwise m u p a w (none_joined (past_trees a) _ none).0) (λ w. stepwise m u p b w (none_joined (past_trees a) _ none).1)
+  stepwise m u p (Implication a b) well none = both _ _ _ _ well (λ w. stepwise m u p a w (empty_parts (past_trees a) _ none).0) (λ w. stepwise m u p b w (empty_parts (past_trees a) _ none).1)
+  stepwise m u p (Equivalence a b) well none = both _ _ _ _ well (λ w. stepwise m u p a w (empty_parts (past_trees a) _ none).0) (λ w. stepwise m u p b w (empty_parts (past_trees a) _ none).1)
+  stepwise m u p (Comparison c a b) well none = both _ _ _ _ well (λ w. stepwise m u p a w (empty_parts (past_trees a) _ none).0) (λ w. stepwise m u p b w (empty_parts (past_trees a) _ none).1)
+  stepwise m u p (Sum a b) well none = both _ _ _ _ well (λ w. stepwise m u p a w (empty_parts (past_trees a) _ none).0) (λ w. stepwise m u p b w (empty_parts (past_trees a) _ none).1)
+  stepwise m u p (Difference a b) well none = both _ _ _ _ well (λ w. stepwise m u p a w (empty_parts (past_trees a) _ none).0) (λ w. stepwise m u p b w (empty_parts (past_trees a) _ none).1)
+  stepwise m u p (Product a b) well none = both _ _ _ _ well (λ w. stepwise m u p a w (empty_parts (past_trees a) _ none).0) (λ w. stepwise m u p b w (empty_parts (past_trees a) _ none).1)
   stepwise m u p (Remainder a n) well none = stepwise m u p a well none
-  stepwise m u p (PastOf op es) well none = let last = none_joined (past_trees_of_all es) _ none in absurd (cc)
+  stepwise m u p (PastOf op es) well none = let last = empty_parts (past_trees_of_all es) _ none in absurd (cc)
   stepwise m u p (Entry h n) well none = absurd (false≢true well)
 
   pub all_stepwise : (m : ℕ) (u p : Bool) (es : Formulas) → are_nested_well m u p es ≡ true → past_trees_of_all es ≡ [] → are_stepwise u es ≡ true
   all_stepwise m u p Formulas.none well none = refl
   all_stepwise m u p (Formulas.one_more e es) well none =
       let parts = and_parts (is_nested_well m u p e) _ well in
-      let nones = none_joined (past_trees e) _ none in
+      let nones = empty_parts (past_trees e) _ none in
       and_from (is_stepwise u e) _ (stepwise m u p e parts.0 nones.0) (all_stepwise m u p es parts.1 nones.1)
 
 -- ---- what is read

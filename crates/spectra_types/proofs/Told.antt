@@ -1,12 +1,12 @@
 -- A text of which no fault is told has none.
-use Rattle.std.proofs.Common.{◌≡◌, ◌≢◌, ℕ, ◌<◌, ◌≤◌, ◌^◌, if◌then◌else◌, List, [], ◌∷◌, ◌++◌, Option, Some, None, length, map, get_or, slice_get, refl, sym, ap, subst, ◌∙◌, arith}
+use Rattle.std.proofs.Common.{◌≡◌, ◌≢◌, if◌then◌else◌, List, [], ◌∷◌, ◌++◌, Some, None, length, map, get_or, refl, sym, ap, subst, ◌∙◌, arith}
 use Rattle.std.proofs.lemmas.Option.{slice_get_within}
 use Rattle.spectra_trees.specs.declared.tree.Tree.{Tree}
-use Rattle.spectra_trees.specs.Data.{TreeData, VarData}
+use Rattle.spectra_trees.specs.Data.{TreeData}
 use Rattle.spectra_trees.specs.Views.{tree_data}
 use Rattle.spectra_names.specs.declared.findings.Finding.{Finding}
-use Rattle.spectra_names.specs.Findings.{precedes, with_fault, with_faults, first_of_faults}
-use Rattle.spectra_names.specs.Spaces.{Scope, Named, parameter, variable, variables_in, scope_of}
+use Rattle.spectra_names.specs.Findings.{precedes, with_faults, first_of_faults}
+use Rattle.spectra_names.specs.Spaces.{Scope, parameter, variable, variables_in, scope_of}
 use Rattle.spectra_names.specs.Declarations.{past, is_variable, is_line, names_past, name_faults, limit_faults}
 use Rattle.spectra_expansion.specs.Needs.{HasRoom}
 use Rattle.spectra_expansion.specs.Telling.{HasNoParameters}

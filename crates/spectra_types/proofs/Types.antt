@@ -18,12 +18,13 @@ use Rattle.spectra_names.specs.Findings.{fault, fault_if, place_of}
 use Rattle.spectra_names.specs.Walks.{enum_names}
 use Rattle.spectra_names.specs.Spaces.{enum_name, TypeBody, Scope, no_parameters}
 use Rattle.spectra_names.specs.Declarations.{twice_after}
+use Rattle.spectra_names.proofs.Mapped.{list_any-map}
 use Rattle.spectra_order.specs.Cycles.{used_in_type}
 use Rattle.spectra_kinds.specs.Kinds.{Kind, Truth, Whole, SomeWhole, NameOf, OneName, Anything, is_whole, is_wide}
 use Rattle.spectra_kinds.specs.Types.{Worth, define_worth, bound_worth, is_range, range_kind, is_enum_name, is_sound_enum, shape_kind, body_kind, alias_kind, type_kind}
 use Rattle.spectra_contents.specs.Contents.{Setting}
-use Rattle.spectra_typing.specs.Typed.{kind_of, typing_faults, faults_with}
 use Rattle.spectra_contents.specs.Misplaced.{bound_ban, misplaced}
+use Rattle.spectra_typing.specs.Typed.{kind_of, typing_faults, faults_with}
 use Rattle.spectra_typing.specs.Notes.{depth_of, expression_faults}
 use Rattle.spectra_types.specs.WellTyped.{is_domain_of}
 use Rattle.spectra_types.specs.Meanings.{bound_faults, range_faults, type_faults, domain_of, variable_of, number_of_name}
@@ -72,13 +73,9 @@ all_first : (scope : Scope) (ns : List NameData) → StandForEnums scope.values 
 all_first scope [] stand = refl
 all_first scope (n ∷ ns) stand = and_from _ _ (enum_first scope n stand.0) (all_first scope ns stand.1)
 
-any-map : {X Y : Type 0} (p : Y → Bool) (f : X → Y) (xs : List X) → list_any (λ x. p (f x)) xs ≡ list_any p (map f xs)
-any-map p f [] = refl
-any-map p f (x ∷ xs) = ap (λ b. p (f x) || b) (any-map p f xs)
-
 differ-map : {X Y : Type 0} (same : Y → Y → Bool) (f : X → Y) (xs : List X) → all_differ (λ m n. same (f m) (f n)) xs ≡ all_differ same (map f xs)
 differ-map same f [] = refl
-differ-map same f (x ∷ xs) = let here = any-map (same (f x)) f xs in let rest = differ-map same f xs in λ i. not (here i) && rest i
+differ-map same f (x ∷ xs) = let here = sym (list_any-map (same (f x)) f xs) in let rest = differ-map same f xs in λ i. not (here i) && rest i
 
 module _ (scope : Scope) (sound : IsSound scope) where
   abbrev s : Setting

@@ -3,7 +3,7 @@ use Rattle.std.proofs.Common.{◌≡◌, ℕ, zero, suc, ◌+◌, ◌<◌, false
 use Rattle.std.specs.List.{filter_map}
 use Rattle.std.proofs.lemmas.Option.{slice_get-map, slice_get_within}
 use Rattle.std.proofs.lemmas.List.{length-map}
-use Rattle.spec_model.proofs.AllStates.{Every}
+use Rattle.spec_model.proofs.Listed.{every_weaker}
 use Rattle.spectra_trees.specs.Data.{NameData, Expression, PredicateData}
 use Rattle.spectra_names.specs.Findings.{fault_if, place_of}
 use Rattle.spectra_names.specs.Walks.{names_in}
@@ -14,6 +14,7 @@ use Rattle.spectra_types.specs.Meanings.{definition_faults, name_of_definition, 
 use Rattle.spectra_types.proofs.Empty.{empty_parts, no_fault}
 use Rattle.spectra_types.proofs.Ranks.{rank, NoCycle, rank_below, rank_falls}
 use Rattle.spectra_types.proofs.Named.{IsWhole, Stands}
+use Rattle.spectra_types.proofs.Agreeing.{IsNamed, AreNamed, NamesOnly, are_named}
 
 -- ---- definitions without faults
 
@@ -68,21 +69,19 @@ module _ (scope : Scope) where
       (ap (λ o. slice_get (unwrap_or o []) i) (slice_get-map (uses_of scope) scope.definitions k ∙ ap (option_map (uses_of scope)) at) ∙ use')
       (subst (λ n. j < n) (sym all_uses-length) low)
 
+  -- what has a rank below this
+  abbrev pub IsBelow : ℕ → ℕ → Type 0
+  IsBelow r k = rank_of k < r
+
   -- a name that stands for no definition, or for one of a rank below this
   abbrev pub LowName : ℕ → Named → Type 0
-  LowName r (define k) = rank_of k < r
-  LowName r (predicate k) = rank_of k < r
-  LowName r unknown = Unit {0}
-  LowName r (parameter i) = Unit {0}
-  LowName r (variable k) = Unit {0}
-  LowName r enum_name = Unit {0}
+  LowName r = IsNamed (IsBelow r)
 
-  -- each name in a list, where these parameters are
   abbrev pub LowNames : ℕ → Places → List NameData → Type 0
-  LowNames r ps ns = Every (λ (n : NameData). LowName r (named scope ps n.text)) ns
+  LowNames r = AreNamed scope (IsBelow r)
 
   abbrev pub IsLow : ℕ → Places → Expression → Type 0
-  IsLow r ps e = LowNames r ps (names_in e)
+  IsLow r = NamesOnly scope (IsBelow r)
 
   module _ (whole : IsWhole scope) where
     -- what a name stands for, with a parameter's place and no more of a name that stands for nothing
@@ -120,26 +119,19 @@ module _ (scope : Scope) where
     pub means : (ps : Places) (text : List ℕ) (x : Named) → named scope ps text ≡ x → Meant ps text x
     means ps text x is = subst (Meant ps text) is (meant ps text)
 
-    low_name : (r : ℕ) (ps : Places) (text : List ℕ) (x : Named) → Meant ps text x → ((j : ℕ) → definition_named x ≡ Some j → j < size → rank_of j < r) → LowName r x
+    low_name : (r : ℕ) (ps : Places) (text : List ℕ) (x : Named) → Meant ps text x → IsNamed (λ j. j < size → IsBelow r j) x → LowName r x
     low_name r ps text unknown is low = tt
     low_name r ps text (parameter i) is low = tt
     low_name r ps text (variable k) is low = tt
     low_name r ps text enum_name is low = tt
-    low_name r ps text (define k) is low = low k refl (slice_get_within scope.definitions k _ is.2)
-    low_name r ps text (predicate k) is low = low k refl (slice_get_within scope.definitions k _ is.1)
+    low_name r ps text (define k) is low = low (slice_get_within scope.definitions k _ is.2)
+    low_name r ps text (predicate k) is low = low (slice_get_within scope.definitions k _ is.1)
 
     low_names : (r : ℕ) (ps : Places) (ns : List NameData)
         → ((i j : ℕ) → slice_get (filter_map (λ (n : NameData). definition_named (named scope ps n.text)) ns) i ≡ Some j → j < size → rank_of j < r) → LowNames r ps ns
-    low_names r ps [] low = tt
-    low_names r ps (n ∷ ns) low =
-        (low_name r ps n.text (named scope ps n.text) (meant ps n.text) (λ j is. low 0 j (first is)), low_names r ps ns (behind (definition_named (named scope ps n.text)) refl))
-      where
-        first : {j : ℕ} → definition_named (named scope ps n.text) ≡ Some j → slice_get (filter_map (λ (n : NameData). definition_named (named scope ps n.text)) (n ∷ ns)) 0 ≡ Some j
-        first is = rw is refl
-
-        behind : (o : Option ℕ) → definition_named (named scope ps n.text) ≡ o → (i j : ℕ) → slice_get (filter_map (λ (n : NameData). definition_named (named scope ps n.text)) ns) i ≡ Some j → j < size → rank_of j < r
-        behind (Some k) is i j at = low (suc i) j (rw is at)
-        behind None is i j at = low i j (rw is at)
+    low_names r ps ns low =
+        every_weaker (λ (n : NameData). IsNamed (λ j. j < size → IsBelow r j) (named scope ps n.text)) (λ (n : NameData). LowName r (named scope ps n.text))
+        (λ n. low_name r ps n.text (named scope ps n.text) (meant ps n.text)) ns (are_named scope (λ j. j < size → IsBelow r j) ps ns low)
 
     -- in any expression of the text
     pub all_low : Acyclic → (ps : Places) (e : Expression) → IsLow size ps e

@@ -16,8 +16,8 @@ use Rattle.spectra_names.specs.Numbers.{number_of, signed}
 use Rattle.spectra_kinds.specs.Kinds.{Kind, Whole, SomeWhole, is_whole, is_wide, added, subtracted, multiplied, reduced}
 use Rattle.spectra_kinds.specs.Types.{Worth, worth_of, both_worth, joined_worth, remainder_worth, name_worth, worth_in, form_worth, body_worth, define_worth}
 use Rattle.spectra_contents.specs.Contents.{Note, Setting, name_contents, contents_of, form_contents}
-use Rattle.spectra_typing.specs.Typed.{read_kind, call_kind, binary_kind, kind_of, form_kind, takes, wrong, read_faults, call_faults, remainder_faults, node_faults, typing_faults, form_typing_faults, faults_with}
 use Rattle.spectra_contents.specs.Misplaced.{no_ban, misplaced}
+use Rattle.spectra_typing.specs.Typed.{read_kind, call_kind, binary_kind, kind_of, form_kind, takes, wrong, read_faults, call_faults, remainder_faults, node_faults, typing_faults, form_typing_faults, faults_with}
 use Rattle.spectra_typing.specs.Notes.{depth_of, notes_of}
 use Rattle.spectra_types.proofs.Empty.{not_empty, empty_parts, no_fault, every_parts}
 use Rattle.spectra_types.proofs.Uses.{Meant, meant, LowName, LowNames, IsLow, rank_of, define_low}

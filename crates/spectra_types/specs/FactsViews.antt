@@ -9,14 +9,14 @@ use Rattle.spectra_names.specs.ScopeViews.{scope_data, places_in}
 use Rattle.spectra_kinds.specs.KindTables.{AreAliases}
 use Rattle.spectra_kinds.specs.WorthViews.{AreWorths}
 use Rattle.spectra_expansion.specs.Needs.{MarksCycles}
-use Rattle.spectra_contents.specs.Contents.{Setting}
-use Rattle.spectra_typing.specs.Placed.{IsSigned}
-use Rattle.spectra_contents.specs.SettingViews.{setting_data}
-use Rattle.spectra_types.specs.declared.facts.Facts.{Facts}
 use Rattle.spectra_expansion.specs.declared.sizes.Size.{Size}
 use Rattle.spectra_expansion.specs.Measuring.{held}
 use Rattle.spectra_expansion.specs.Sizes.{nodes_in, levels_in}
 use Rattle.spectra_expansion.specs.Telling.{AreMeasures}
+use Rattle.spectra_contents.specs.Contents.{Setting}
+use Rattle.spectra_contents.specs.SettingViews.{setting_data}
+use Rattle.spectra_typing.specs.Placed.{IsSigned}
+use Rattle.spectra_types.specs.declared.facts.Facts.{Facts}
 use Rattle.spectra_types.specs.Meanings.{variable_of, lines_from}
 
 abbrev pub setting_in : Facts → Setting

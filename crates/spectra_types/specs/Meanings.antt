@@ -16,9 +16,9 @@ use Rattle.spectra_kinds.specs.Types.{Worth, bound_worth, is_range, type_kind}
 use Rattle.spectra_expansion.specs.Expansion.{formula_of, most_nodes, most_levels}
 use Rattle.spectra_expansion.specs.Sizes.{nodes_in, levels_in}
 use Rattle.spectra_contents.specs.Contents.{Setting}
-use Rattle.spectra_typing.specs.Typed.{kind_of}
 use Rattle.spectra_contents.specs.declared.misplaced.Ban.{Ban}
 use Rattle.spectra_contents.specs.Misplaced.{bound_ban}
+use Rattle.spectra_typing.specs.Typed.{kind_of}
 use Rattle.spectra_typing.specs.Notes.{depth_of, expression_faults, boolean_faults, setting_of, define_faults, predicate_faults, notes_of}
 
 -- ---- types

@@ -1,15 +1,15 @@
 -- What notes of definitions are made from, and what putting one among others does.
 use Rattle.std.specs.Prelude.{◌≡◌, ℕ, List, [], length, map, slice_get, set}
 use Rattle.spectra_names.specs.Spaces.{Scope, no_parameters}
-use Rattle.spectra_order.specs.Cycles.{all_uses, is_on_cycle, AreOnCycle}
 use Rattle.spectra_names.specs.ScopeViews.{scope_data, places_in}
+use Rattle.spectra_order.specs.Cycles.{all_uses, is_on_cycle, AreOnCycle}
 use Rattle.spectra_kinds.specs.KindViews.{kind_data}
 use Rattle.spectra_kinds.specs.Types.{variable_kinds}
 use Rattle.spectra_expansion.specs.Telling.{AreMeasures}
 use Rattle.spectra_contents.specs.declared.setting.Note as code_note
 use Rattle.spectra_contents.specs.Contents.{Note}
-use Rattle.spectra_typing.specs.Notes.{note_of_body}
 use Rattle.spectra_contents.specs.SettingViews.{note_data, note_among}
+use Rattle.spectra_typing.specs.Notes.{note_of_body}
 use Rattle.spectra_types.specs.declared.notes.Tables.{Tables}
 use Rattle.spectra_types.specs.Signatures.{AreSignatures}
 

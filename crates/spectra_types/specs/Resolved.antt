@@ -2,9 +2,9 @@
 use Rattle.std.specs.Prelude.{◌≡◌, [], Some}
 use Rattle.spec_model.specs.Syntax.{Specification}
 use Rattle.spectra_trees.specs.Data.{TreeData}
+use Rattle.spectra_names.specs.Findings.{fault, first_of_faults}
 use Rattle.spectra_types.specs.declared.fault.TypeFault.{TypeFault}
 use Rattle.spectra_types.specs.declared.fault.TypeFault.TheVariants as faults
-use Rattle.spectra_names.specs.Findings.{fault, first_of_faults}
 use Rattle.spectra_types.specs.Meanings.{faults_of, meaning_of}
 
 -- the text has no fault, and means this

@@ -5,12 +5,12 @@ use Rattle.spectra_kinds.specs.KindTables.{AreAliases}
 use Rattle.spectra_kinds.specs.KindViews.{kind_data}
 use Rattle.spectra_kinds.specs.Types.{variable_kinds}
 use Rattle.spectra_kinds.specs.WorthViews.{AreWorths}
-use Rattle.spectra_typing.specs.Signatures.{signature_data, signature_of}
-use Rattle.spectra_typing.specs.Notes.{notes_of}
-use Rattle.spectra_contents.specs.SettingViews.{note_data, note_among}
-use Rattle.spectra_types.specs.declared.tables.Tables.{Tables}
 use Rattle.spectra_expansion.specs.Needs.{MarksCycles}
 use Rattle.spectra_expansion.specs.Telling.{AreMeasures}
+use Rattle.spectra_contents.specs.SettingViews.{note_data, note_among}
+use Rattle.spectra_typing.specs.Signatures.{signature_data, signature_of}
+use Rattle.spectra_typing.specs.Notes.{notes_of}
+use Rattle.spectra_types.specs.declared.tables.Tables.{Tables}
 
 -- the tables are those of a scope's definitions and variables
 pub record AreTables (scope : Scope) (t : Tables) : Type 0 where

@@ -1,5 +1,5 @@
 -- Which specifications are well typed: each formula has its kind and stands where it may, and no limit is passed.
-use Rattle.std.specs.Prelude.{ℕ, suc, ◌+◌, ◌*◌, ◌≤◌, length, max, Bool, true, false, not, ◌&&◌, ◌||◌, ◌==◌, nat_lt, nat_le, List, [], ◌∷◌, ◌++◌, Some, None, map, replicate, count_by, option_map, unwrap_or, slice_get, sum_by, IsTrue}
+use Rattle.std.specs.Prelude.{ℕ, suc, ◌+◌, ◌*◌, ◌≤◌, length, Bool, true, false, not, ◌&&◌, ◌||◌, ◌==◌, nat_lt, nat_le, List, [], ◌∷◌, ◌++◌, Some, None, map, replicate, count_by, option_map, unwrap_or, slice_get, sum_by, IsTrue}
 use Rattle.std.specs.List.{list_all}
 use Rattle.spec_model.specs.declared.value.Value.TheVariants as value
 use Rattle.spec_model.specs.Values.{Assignment, DomainData, TruthValues, WholeNumbers, Enumeration, assignments_of}

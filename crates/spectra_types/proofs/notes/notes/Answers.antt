@@ -5,8 +5,8 @@ use Rattle.spectra_names.specs.ScopeViews.{scope_data, definition_data}
 use Rattle.spectra_kinds.specs.Depths.{HasValues}
 use Rattle.spectra_kinds.proofs.Depths.{no_values}
 use Rattle.spectra_contents.specs.Contents.{blank}
-use Rattle.spectra_typing.specs.Notes.{notes_of}
 use Rattle.spectra_contents.specs.SettingViews.{note_data}
+use Rattle.spectra_typing.specs.Notes.{notes_of}
 use Rattle.spectra_types.specs.Noting.{PutsNote}
 use Rattle.spectra_types.proofs.NotingOrder.{put_note, all_found}
 use Rattle.spectra_types.proofs.notes.notes.Goals as goal

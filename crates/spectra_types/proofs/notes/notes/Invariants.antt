@@ -2,8 +2,8 @@ use Rattle.std.proofs.Common.{length}
 use Rattle.spectra_names.specs.ScopeViews.{scope_data}
 use Rattle.spectra_kinds.specs.Depths.{HasValues}
 use Rattle.spectra_contents.specs.Contents.{blank}
-use Rattle.spectra_typing.specs.Notes.{notes_of}
 use Rattle.spectra_contents.specs.SettingViews.{note_data}
+use Rattle.spectra_typing.specs.Notes.{notes_of}
 use Rattle.spectra_types.proofs.notes.notes.Given as goal
 
 -- what stood in the order so far has its note

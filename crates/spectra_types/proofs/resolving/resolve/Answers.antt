@@ -1,11 +1,10 @@
 use Rattle.std.proofs.Common.{subst}
 use Rattle.std.proofs.lemmas.Result.{IfOk-weaker}
 use Rattle.spec_model.specs.Views.{spec_data}
+use Rattle.spectra_trees.specs.Views.{tree_data}
 use Rattle.spectra_types.specs.Resolved.{Means}
-use Rattle.spectra_types.specs.WellTyped.{WellTyped, all_hidden}
 use Rattle.spectra_types.proofs.Told.{only_tree, the_one}
 use Rattle.spectra_types.proofs.Answered.{means_typed, means_open}
-use Rattle.spectra_trees.specs.Views.{tree_data}
 use Rattle.spectra_types.proofs.resolving.resolve.Goals as goal
 
 -- the list's one tree is the one that was resolved
