@@ -3,6 +3,7 @@
 use super::*;
 use spectra_lexer::lex;
 use std::alloc::{AllocError, Global};
+use std::process::Abort;
 use std::test::Fail;
 
 mod levels;
@@ -25,10 +26,18 @@ fn fault(alloc: Global, text: &str) -> Result<Option<SyntaxFault>, Fail> {
     }
 }
 
-// (text, what it shows)
+/// Each text has a tree.
+fn have_trees(rt: &impl Abort, alloc: Global, cases: &[(&str, &str)]) -> Result<(), Fail> {
+    for &(text, shows) in cases {
+        assert_eq!(rt; fault(alloc, text)?, None, "{shows}");
+    }
+    Ok(())
+}
+
 #[test]
-fn texts_of_the_grammar_have_trees(rt: HostRuntime) -> Result<(), Fail> {
-    let cases: [(&str, &str); 22] = [
+fn texts_of_declarations_have_trees(rt: HostRuntime) -> Result<(), Fail> {
+    // (text, what it shows)
+    let cases: [(&str, &str); 9] = [
         ("spec X", "a text may have no items"),
         ("module X", "either word begins a text"),
         ("spec X env boolean a ;", "a Boolean variable"),
@@ -41,6 +50,14 @@ fn texts_of_the_grammar_have_trees(rt: HostRuntime) -> Result<(), Fail> {
         ),
         ("spec X sys { A , B } x ;", "names as values"),
         ("spec X type U = Int ( 0 .. 1 ) ;", "a name for a type"),
+    ];
+    have_trees(&rt, rt.alloc(), &cases)
+}
+
+#[test]
+fn texts_of_defines_and_predicates_have_trees(rt: HostRuntime) -> Result<(), Fail> {
+    // (text, what it shows)
+    let cases: [(&str, &str); 3] = [
         (
             "spec X define a := b ; c := d ;",
             "one word defines several names",
@@ -53,6 +70,14 @@ fn texts_of_the_grammar_have_trees(rt: HostRuntime) -> Result<(), Fail> {
             "spec X predicate p ( boolean a , Int ( 0 .. 1 ) b ) : a & b = 1 ;",
             "a predicate with parameters",
         ),
+    ];
+    have_trees(&rt, rt.alloc(), &cases)
+}
+
+#[test]
+fn lines_have_trees(rt: HostRuntime) -> Result<(), Fail> {
+    // (text, what it shows)
+    let cases: [(&str, &str); 3] = [
         ("spec X gar n : alw a ;", "a line with a name"),
         (
             "spec X assumption initially a ; guarantee trans b ;",
@@ -62,6 +87,14 @@ fn texts_of_the_grammar_have_trees(rt: HostRuntime) -> Result<(), Fail> {
             "spec X asm alwEv a ; gar n : GF b ; gar alwaysEventually ! c ;",
             "recurring lines",
         ),
+    ];
+    have_trees(&rt, rt.alloc(), &cases)
+}
+
+#[test]
+fn formulas_have_trees(rt: HostRuntime) -> Result<(), Fail> {
+    // (text, what it shows)
+    let cases: [(&str, &str); 7] = [
         (
             "spec X gar alw a = ! b & c ;",
             "a prefix may follow a comparison",
@@ -79,8 +112,5 @@ fn texts_of_the_grammar_have_trees(rt: HostRuntime) -> Result<(), Fail> {
         ),
         ("spec X gar alw a * ( b + c ) * 2 >= d ;", "products"),
     ];
-    for (text, shows) in cases {
-        assert_eq!(rt; fault(rt.alloc(), text)?, None, "{shows}");
-    }
-    Ok(())
+    have_trees(&rt, rt.alloc(), &cases)
 }

@@ -18,10 +18,28 @@ fn repeated(
     Ok(text)
 }
 
+/// A text with a piece so often, and its fault: before it, the piece, how often, behind it, the fault, what it shows.
+type Case<'a> = (
+    &'a str,
+    &'a str,
+    usize,
+    &'a str,
+    Option<SyntaxFault>,
+    &'a str,
+);
+
+/// Each text has its fault.
+fn have_faults(rt: &impl Abort, alloc: Global, cases: &[Case<'_>]) -> Result<(), Fail> {
+    for &(before, piece, count, behind, expected, shows) in cases {
+        let text = repeated(alloc, before, piece, count, behind)?;
+        assert_eq!(rt; fault(alloc, text.as_str())?, expected, "{shows}");
+    }
+    Ok(())
+}
+
 #[test]
-fn level_129_is_refused_at_the_token_that_opens_it(rt: HostRuntime) -> Result<(), Fail> {
-    // (before, piece, how often, behind, the fault, what it shows)
-    let cases: [(&str, &str, usize, &str, Option<SyntaxFault>, &str); 9] = [
+fn a_formula_opens_at_most_128_levels(rt: HostRuntime) -> Result<(), Fail> {
+    let cases: [Case<'_>; 4] = [
         ("spec X gar alw ", "! ", 128, "a ;", None, "128 prefixes"),
         (
             "spec X gar alw ",
@@ -47,6 +65,13 @@ fn level_129_is_refused_at_the_token_that_opens_it(rt: HostRuntime) -> Result<()
             Some(SyntaxFault::Unexpected(132)),
             "a wrong token at level 128",
         ),
+    ];
+    have_faults(&rt, rt.alloc(), &cases)
+}
+
+#[test]
+fn a_call_and_next_open_a_level(rt: HostRuntime) -> Result<(), Fail> {
+    let cases: [Case<'_>; 2] = [
         (
             "spec X gar alw ",
             "! ",
@@ -63,6 +88,13 @@ fn level_129_is_refused_at_the_token_that_opens_it(rt: HostRuntime) -> Result<()
             Some(SyntaxFault::TooDeep(261)),
             "next's parenthesis",
         ),
+    ];
+    have_faults(&rt, rt.alloc(), &cases)
+}
+
+#[test]
+fn levels_are_counted_in_triggers_and_in_bounds(rt: HostRuntime) -> Result<(), Fail> {
+    let cases: [Case<'_>; 3] = [
         (
             "spec X gar trig ",
             "( ",
@@ -88,9 +120,5 @@ fn level_129_is_refused_at_the_token_that_opens_it(rt: HostRuntime) -> Result<()
             "the parenthesis of Int is no level",
         ),
     ];
-    for (before, piece, count, behind, expected, shows) in cases {
-        let text = repeated(rt.alloc(), before, piece, count, behind)?;
-        assert_eq!(rt; fault(rt.alloc(), text.as_str())?, expected, "{shows}");
-    }
-    Ok(())
+    have_faults(&rt, rt.alloc(), &cases)
 }

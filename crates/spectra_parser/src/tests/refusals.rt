@@ -2,10 +2,32 @@
 
 use super::*;
 
+/// Each text is refused at the token of that number, which goes on no text.
+fn unexpected(rt: &impl Abort, alloc: Global, cases: &[(&str, u32, &str)]) -> Result<(), Fail> {
+    for &(text, number, shows) in cases {
+        let expected = Some(SyntaxFault::Unexpected(number));
+        assert_eq!(rt; fault(alloc, text)?, expected, "{shows}");
+    }
+    Ok(())
+}
+
+/// Each text is refused at the operator of that number, behind a whole expression.
+fn want_parentheses(
+    rt: &impl Abort,
+    alloc: Global,
+    cases: &[(&str, u32, &str)],
+) -> Result<(), Fail> {
+    for &(text, number, shows) in cases {
+        let expected = Some(SyntaxFault::Parentheses(number));
+        assert_eq!(rt; fault(alloc, text)?, expected, "{shows}");
+    }
+    Ok(())
+}
+
 #[test]
-fn an_unexpected_token_is_named(rt: HostRuntime) -> Result<(), Fail> {
+fn a_text_without_its_next_part_is_refused(rt: HostRuntime) -> Result<(), Fail> {
     // (text, the number of the token, what it shows)
-    let cases: [(&str, u32, &str); 37] = [
+    let cases: [(&str, u32, &str); 6] = [
         ("", 0, "a text has a first word"),
         ("spec", 1, "a text has a name"),
         ("spec env", 1, "a reserved word is no name"),
@@ -15,6 +37,15 @@ fn an_unexpected_token_is_named(rt: HostRuntime) -> Result<(), Fail> {
             5,
             "the end of the text counts as a token",
         ),
+        ("spec X import \"a\"", 2, "imports come first"),
+    ];
+    unexpected(&rt, rt.alloc(), &cases)
+}
+
+#[test]
+fn a_token_that_goes_on_no_declaration_is_named(rt: HostRuntime) -> Result<(), Fail> {
+    // (text, the number of the token, what it shows)
+    let cases: [(&str, u32, &str); 5] = [
         ("spec X env a ;", 4, "a variable has a type and a name"),
         (
             "spec X sys Int ( ! a .. 3 ) x ;",
@@ -28,6 +59,14 @@ fn an_unexpected_token_is_named(rt: HostRuntime) -> Result<(), Fail> {
             4,
             "a type is equal to its name",
         ),
+    ];
+    unexpected(&rt, rt.alloc(), &cases)
+}
+
+#[test]
+fn a_token_that_goes_on_no_define_or_predicate_is_named(rt: HostRuntime) -> Result<(), Fail> {
+    // (text, the number of the token, what it shows)
+    let cases: [(&str, u32, &str); 4] = [
         ("spec X define ;", 3, "a define has a name"),
         (
             "spec X define a := b & ;",
@@ -40,6 +79,32 @@ fn an_unexpected_token_is_named(rt: HostRuntime) -> Result<(), Fail> {
             "no comma ends the parameters",
         ),
         ("spec X predicate p : a ;", 4, "a predicate has parentheses"),
+    ];
+    unexpected(&rt, rt.alloc(), &cases)
+}
+
+#[test]
+fn a_token_that_goes_on_no_pattern_or_monitor_is_named(rt: HostRuntime) -> Result<(), Fail> {
+    // (text, the number of the token, what it shows)
+    let cases: [(&str, u32, &str); 2] = [
+        (
+            "spec X pattern p ( a ) { trig }",
+            8,
+            "a pattern has no triggers",
+        ),
+        (
+            "spec X monitor boolean m { alwEv m ; }",
+            6,
+            "a monitor has no recurring lines",
+        ),
+    ];
+    unexpected(&rt, rt.alloc(), &cases)
+}
+
+#[test]
+fn a_token_that_goes_on_no_line_is_named(rt: HostRuntime) -> Result<(), Fail> {
+    // (text, the number of the token, what it shows)
+    let cases: [(&str, u32, &str); 3] = [
         (
             "spec X gar a -> b ;",
             4,
@@ -50,7 +115,15 @@ fn an_unexpected_token_is_named(rt: HostRuntime) -> Result<(), Fail> {
             7,
             "a pattern's use is no expression",
         ),
-        ("spec X gar alw a mod b ;", 6, "a remainder is by a number"),
+        ("spec X gar alw ;", 4, "a line has an expression"),
+    ];
+    unexpected(&rt, rt.alloc(), &cases)
+}
+
+#[test]
+fn a_sign_that_is_no_operator_is_named(rt: HostRuntime) -> Result<(), Fail> {
+    // (text, the number of the token, what it shows)
+    let cases: [(&str, u32, &str); 5] = [
         ("spec X gar alw a b ;", 5, "two operands have an operator"),
         (
             "spec X gar alw a ! b ;",
@@ -72,6 +145,15 @@ fn an_unexpected_token_is_named(rt: HostRuntime) -> Result<(), Fail> {
             5,
             "the sign of ranges is no operator",
         ),
+    ];
+    unexpected(&rt, rt.alloc(), &cases)
+}
+
+#[test]
+fn a_token_that_goes_on_no_operand_is_named(rt: HostRuntime) -> Result<(), Fail> {
+    // (text, the number of the token, what it shows)
+    let cases: [(&str, u32, &str); 7] = [
+        ("spec X gar alw a mod b ;", 6, "a remainder is by a number"),
         ("spec X gar alw ( a & b ;", 8, "a parenthesis is closed"),
         ("spec X gar alw a ) ;", 5, "a parenthesis is opened"),
         ("spec X gar alw next a ;", 5, "next has parentheses"),
@@ -86,7 +168,14 @@ fn an_unexpected_token_is_named(rt: HostRuntime) -> Result<(), Fail> {
             "minus stands before a number alone",
         ),
         ("spec X gar alw -> a ;", 4, "an arrow has a first operand"),
-        ("spec X gar alw ;", 4, "a line has an expression"),
+    ];
+    unexpected(&rt, rt.alloc(), &cases)
+}
+
+#[test]
+fn a_token_that_goes_on_no_trigger_is_named(rt: HostRuntime) -> Result<(), Fail> {
+    // (text, the number of the token, what it shows)
+    let cases: [(&str, u32, &str); 3] = [
         (
             "spec X gar trig [ a ] & [ b ] |=> [ c ] ;",
             7,
@@ -102,21 +191,18 @@ fn an_unexpected_token_is_named(rt: HostRuntime) -> Result<(), Fail> {
             10,
             "a repeat has its second number",
         ),
+    ];
+    unexpected(&rt, rt.alloc(), &cases)
+}
+
+#[test]
+fn a_syntax_fault_comes_before_an_unbuilt_form(rt: HostRuntime) -> Result<(), Fail> {
+    // (text, the number of the token, what it shows)
+    let cases: [(&str, u32, &str); 2] = [
         (
             "import \"a\" ; import \"b\" spec X env",
             8,
             "a syntax fault comes before an unbuilt form",
-        ),
-        ("spec X import \"a\"", 2, "imports come first"),
-        (
-            "spec X pattern p ( a ) { trig }",
-            8,
-            "a pattern has no triggers",
-        ),
-        (
-            "spec X monitor boolean m { alwEv m ; }",
-            6,
-            "a monitor has no recurring lines",
         ),
         (
             "spec X gar alwEv a ; gar alw Y b ; import",
@@ -124,20 +210,13 @@ fn an_unexpected_token_is_named(rt: HostRuntime) -> Result<(), Fail> {
             "the fault comes first though it stands last",
         ),
     ];
-    for (text, number, shows) in cases {
-        assert_eq!(rt;
-            fault(rt.alloc(), text)?,
-            Some(SyntaxFault::Unexpected(number)),
-            "{shows}"
-        );
-    }
-    Ok(())
+    unexpected(&rt, rt.alloc(), &cases)
 }
 
 #[test]
-fn an_operator_behind_a_whole_expression_wants_parentheses(rt: HostRuntime) -> Result<(), Fail> {
+fn an_arrow_or_a_comparison_does_not_associate(rt: HostRuntime) -> Result<(), Fail> {
     // (text, the number of the operator, what it shows)
-    let cases: [(&str, u32, &str); 14] = [
+    let cases: [(&str, u32, &str); 3] = [
         ("spec X gar alw a -> b -> c ;", 7, "-> doesn't associate"),
         (
             "spec X gar alw a <-> b implies c ;",
@@ -145,6 +224,14 @@ fn an_operator_behind_a_whole_expression_wants_parentheses(rt: HostRuntime) -> R
             "nor do two arrows of two kinds",
         ),
         ("spec X gar alw a = b = c ;", 7, "nor do comparisons"),
+    ];
+    want_parentheses(&rt, rt.alloc(), &cases)
+}
+
+#[test]
+fn a_prefix_or_a_remainder_is_no_operand(rt: HostRuntime) -> Result<(), Fail> {
+    // (text, the number of the operator, what it shows)
+    let cases: [(&str, u32, &str); 4] = [
         (
             "spec X gar alw ! a = b ;",
             6,
@@ -161,6 +248,14 @@ fn an_operator_behind_a_whole_expression_wants_parentheses(rt: HostRuntime) -> R
             7,
             "only a single operand has a remainder",
         ),
+    ];
+    want_parentheses(&rt, rt.alloc(), &cases)
+}
+
+#[test]
+fn nothing_stands_beside_a_past(rt: HostRuntime) -> Result<(), Fail> {
+    // (text, the number of the operator, what it shows)
+    let cases: [(&str, u32, &str); 3] = [
         (
             "spec X gar alw a & b SINCE c ;",
             7,
@@ -172,6 +267,14 @@ fn an_operator_behind_a_whole_expression_wants_parentheses(rt: HostRuntime) -> R
             "nothing goes on behind a past",
         ),
         ("spec X gar alw a S b T c ;", 7, "not even a past"),
+    ];
+    want_parentheses(&rt, rt.alloc(), &cases)
+}
+
+#[test]
+fn an_operator_inside_brackets_wants_parentheses(rt: HostRuntime) -> Result<(), Fail> {
+    // (text, the number of the operator, what it shows)
+    let cases: [(&str, u32, &str); 4] = [
         (
             "spec X gar alw next ( a -> b -> c ) ;",
             9,
@@ -185,12 +288,5 @@ fn an_operator_behind_a_whole_expression_wants_parentheses(rt: HostRuntime) -> R
             "and in the brackets of a trigger",
         ),
     ];
-    for (text, number, shows) in cases {
-        assert_eq!(rt;
-            fault(rt.alloc(), text)?,
-            Some(SyntaxFault::Parentheses(number)),
-            "{shows}"
-        );
-    }
-    Ok(())
+    want_parentheses(&rt, rt.alloc(), &cases)
 }

@@ -19,6 +19,19 @@ fn show_all(trees: &[ExprTree], out: &mut String) -> Result<(), AllocError> {
     Ok(())
 }
 
+/// Writes a conjunction or a disjunction: the columns of its operators, and its operands.
+#[cycle(show)]
+fn show_chain(
+    word: &str,
+    all: &[ExprTree],
+    operators: &[Place],
+    out: &mut String,
+) -> Result<(), AllocError> {
+    out.push_str(word)?;
+    show_places(operators, out)?;
+    show_all(all, out)
+}
+
 /// Writes a tree: the columns of its first token and of its own place, what it is, and its operands.
 #[cycle(show)]
 fn show(tree: &ExprTree, out: &mut String) -> Result<(), AllocError> {
@@ -56,16 +69,8 @@ fn show(tree: &ExprTree, out: &mut String) -> Result<(), AllocError> {
             out.push_str(digits.as_str())?;
             show(a, out)?;
         }
-        ExprForm::And(all, operators) => {
-            out.push_str("And ")?;
-            show_places(operators, out)?;
-            show_all(all, out)?;
-        }
-        ExprForm::Or(all, operators) => {
-            out.push_str("Or ")?;
-            show_places(operators, out)?;
-            show_all(all, out)?;
-        }
+        ExprForm::And(all, operators) => show_chain("And ", all, operators, out)?,
+        ExprForm::Or(all, operators) => show_chain("Or ", all, operators, out)?,
     }
     out.push_str(")")
 }
@@ -84,10 +89,20 @@ fn shown(alloc: Global, text: &str) -> Result<String, Fail> {
     Ok(out)
 }
 
-// Each expression begins at column 16, and the columns are counted by hand from there.
+/// Each text has one line, with that tree. Each expression begins at column 16, and the columns are counted by hand
+/// from there.
+fn are_shown(rt: &impl Abort, alloc: Global, cases: &[(&str, &str)]) -> Result<(), Fail> {
+    for &(text, expected) in cases {
+        let found = shown(alloc, text)?;
+        assert_eq!(rt; found.as_str(), expected, "{text:?}");
+    }
+    Ok(())
+}
+
 #[test]
-fn a_line_has_its_tree(rt: HostRuntime) -> Result<(), Fail> {
-    let cases: [(&str, &str); 12] = [
+fn conjunctions_and_disjunctions_have_their_trees(rt: HostRuntime) -> Result<(), Fail> {
+    // (text, its tree)
+    let cases: [(&str, &str); 4] = [
         (
             "spec X gar alw ! a | ( b ) & true ;",
             "(16@20 Or 20 (16@16 Not (18@18 a))(22@28 And 28 (22@24 b)(30@30 true)))",
@@ -100,6 +115,18 @@ fn a_line_has_its_tree(rt: HostRuntime) -> Result<(), Fail> {
             "spec X gar alw a -> b or c ;",
             "(16@18 Implies (16@16 a)(21@23 Or 23 (21@21 b)(26@26 c)))",
         ),
+        (
+            "spec X gar alw a | b & c | d ;",
+            "(16@18 Or 18 26 (16@16 a)(20@22 And 22 (20@20 b)(24@24 c))(28@28 d))",
+        ),
+    ];
+    are_shown(&rt, rt.alloc(), &cases)
+}
+
+#[test]
+fn sums_and_comparisons_have_their_trees(rt: HostRuntime) -> Result<(), Fail> {
+    // (text, its tree)
+    let cases: [(&str, &str); 6] = [
         (
             "spec X gar alw a + b - c * d * e ;",
             "(16@22 Sub (16@18 Add (16@16 a)(20@20 b))(24@30 Mul (24@26 Mul (24@24 c)(28@28 d))(32@32 e)))",
@@ -121,6 +148,18 @@ fn a_line_has_its_tree(rt: HostRuntime) -> Result<(), Fail> {
             "(16@18 Ne (16@16 a)(21@21 Not (23@23 b)))",
         ),
         (
+            "spec X gar alw ( ( a ) ) = 1 ;",
+            "(16@26 Eq (16@20 a)(28@28 1))",
+        ),
+    ];
+    are_shown(&rt, rt.alloc(), &cases)
+}
+
+#[test]
+fn calls_have_their_trees(rt: HostRuntime) -> Result<(), Fail> {
+    // (text, its tree)
+    let cases: [(&str, &str); 2] = [
+        (
             "spec X gar alw p ( a , ! b ) ;",
             "(16@16 p() (20@20 a)(24@24 Not (26@26 b)))",
         ),
@@ -128,18 +167,6 @@ fn a_line_has_its_tree(rt: HostRuntime) -> Result<(), Fail> {
             "spec X gar alw next ( a iff b ) ;",
             "(16@16 next (23@25 Iff (23@23 a)(29@29 b)))",
         ),
-        (
-            "spec X gar alw ( ( a ) ) = 1 ;",
-            "(16@26 Eq (16@20 a)(28@28 1))",
-        ),
-        (
-            "spec X gar alw a | b & c | d ;",
-            "(16@18 Or 18 26 (16@16 a)(20@22 And 22 (20@20 b)(24@24 c))(28@28 d))",
-        ),
     ];
-    for (text, expected) in cases {
-        let found = shown(rt.alloc(), text)?;
-        assert_eq!(rt; found.as_str(), expected, "{text:?}");
-    }
-    Ok(())
+    are_shown(&rt, rt.alloc(), &cases)
 }

@@ -2,10 +2,19 @@
 
 use super::*;
 
+/// Each text is of the grammar, and its least form that isn't built begins at the token of that number.
+fn unbuilt(rt: &impl Abort, alloc: Global, cases: &[(&str, u32, &str)]) -> Result<(), Fail> {
+    for &(text, number, shows) in cases {
+        let expected = Some(SyntaxFault::Unsupported(number));
+        assert_eq!(rt; fault(alloc, text)?, expected, "{shows}");
+    }
+    Ok(())
+}
+
 #[test]
-fn the_least_unbuilt_form_is_named(rt: HostRuntime) -> Result<(), Fail> {
+fn an_import_a_monitor_and_a_pattern_are_named(rt: HostRuntime) -> Result<(), Fail> {
     // (text, the number of its first token, what it shows)
-    let cases: [(&str, u32, &str); 13] = [
+    let cases: [(&str, u32, &str); 3] = [
         ("import \"a\" spec X", 0, "an import"),
         ("spec X monitor boolean m { ini ! m ; }", 2, "a monitor"),
         (
@@ -13,11 +22,14 @@ fn the_least_unbuilt_form_is_named(rt: HostRuntime) -> Result<(), Fail> {
             2,
             "a pattern",
         ),
-        (
-            "spec X asm n : GF a ; gar alwEv a SINCE b ;",
-            11,
-            "a past operator in a recurring line",
-        ),
+    ];
+    unbuilt(&rt, rt.alloc(), &cases)
+}
+
+#[test]
+fn a_trigger_is_named(rt: HostRuntime) -> Result<(), Fail> {
+    // (text, the number of its first token, what it shows)
+    let cases: [(&str, u32, &str); 2] = [
         (
             "spec X gar trig [ a ] |=> ( [ b ] | [ c ] ) * ;",
             3,
@@ -28,11 +40,37 @@ fn the_least_unbuilt_form_is_named(rt: HostRuntime) -> Result<(), Fail> {
             3,
             "a trigger with repeats",
         ),
+    ];
+    unbuilt(&rt, rt.alloc(), &cases)
+}
+
+#[test]
+fn a_use_of_a_pattern_is_named(rt: HostRuntime) -> Result<(), Fail> {
+    // (text, the number of its first token, what it shows)
+    let cases: [(&str, u32, &str); 3] = [
         ("spec X gar p ( a ) ;", 3, "a pattern's use"),
         (
             "spec X gar n : p ( a ) ;",
             5,
             "a pattern's use in a line with a name",
+        ),
+        (
+            "spec X define d := p ( a ) ; gar p ( O a ) ;",
+            11,
+            "a call in a define is none",
+        ),
+    ];
+    unbuilt(&rt, rt.alloc(), &cases)
+}
+
+#[test]
+fn a_past_operator_is_named(rt: HostRuntime) -> Result<(), Fail> {
+    // (text, the number of its first token, what it shows)
+    let cases: [(&str, u32, &str); 4] = [
+        (
+            "spec X asm n : GF a ; gar alwEv a SINCE b ;",
+            11,
+            "a past operator in a recurring line",
         ),
         (
             "spec X gar alw PREV a ;",
@@ -49,23 +87,17 @@ fn the_least_unbuilt_form_is_named(rt: HostRuntime) -> Result<(), Fail> {
             6,
             "the same inside parentheses",
         ),
-        (
-            "spec X predicate p ( boolean a ) : q ( a ) ; asm alw H a ; gar p ( a ) ;",
-            16,
-            "the least of two",
-        ),
-        (
-            "spec X define d := p ( a ) ; gar p ( O a ) ;",
-            11,
-            "a call in a define is none",
-        ),
     ];
-    for (text, number, shows) in cases {
-        assert_eq!(rt;
-            fault(rt.alloc(), text)?,
-            Some(SyntaxFault::Unsupported(number)),
-            "{shows}"
-        );
-    }
-    Ok(())
+    unbuilt(&rt, rt.alloc(), &cases)
+}
+
+#[test]
+fn the_least_of_two_unbuilt_forms_is_named(rt: HostRuntime) -> Result<(), Fail> {
+    // (text, the number of its first token, what it shows)
+    let cases: [(&str, u32, &str); 1] = [(
+        "spec X predicate p ( boolean a ) : q ( a ) ; asm alw H a ; gar p ( a ) ;",
+        16,
+        "the least of two",
+    )];
+    unbuilt(&rt, rt.alloc(), &cases)
 }
