@@ -84,13 +84,16 @@ fn sums_of(alloc: Global, count: usize) -> Result<String, Fail> {
 fn a_line_may_have_512_levels(rt: HostRuntime) -> Result<(), Fail> {
     let alloc = rt.alloc();
     synth_writes(&rt, alloc, &sums_of(alloc, 510)?, "realizable K=2\n", 0)?;
-    synth_writes(
-        &rt,
-        alloc,
-        &sums_of(alloc, 511)?,
-        "t.spectra:2:1: fault 19 TooLarge\n",
-        3,
-    )
+    for count in [511usize, 100_000] {
+        synth_writes(
+            &rt,
+            alloc,
+            &sums_of(alloc, count)?,
+            "t.spectra:2:1: fault 19 TooLarge\n",
+            3,
+        )?;
+    }
+    Ok(())
 }
 
 // Defines each of which reads the one before it twice: the last one's formula has 2^(count + 2) - 1 nodes.
