@@ -2,14 +2,11 @@
 //!
 //! Each function answers the tree and the tokens behind it, or the fault at the first token that goes on no text.
 
-ghost use Rattle.std.specs.Prelude.{◌≡◌, ◌<◌, ◌≤◌, ◌++◌, ◌∷◌, [], false, true, length, map, IfOk, IfErr};
-ghost use Rattle.spectra_trees.specs.Data.{Form, expression};
-ghost use Rattle.spectra_trees.specs.Views.{expr_data, form_data};
+ghost use Rattle.std.specs.Prelude.{◌<◌, ◌≤◌, [], length, map, IfOk};
+ghost use Rattle.spectra_trees.specs.Views.{expr_data};
 ghost use Rattle.spectra_trees.specs.Lexemes.{lexeme_of, lexemes_of};
 ghost use Rattle.spectra_exprs.specs.Read.{Gives, starts as starts_lem, all_of};
-ghost use Rattle.spectra_exprs.specs.Operators.{starts_sum as starts_sum_lem, starts_or as starts_or_lem};
-ghost use Rattle.spectra_exprs.specs.ExprViews.{term_data, chain_data};
-ghost use Rattle.spectra_exprs.specs.Expressions.{leaf as leaf_lem, between as between_lem, opened as opened_lem, negative as negative_lem, number_of, literal as literal_lem, modulo as modulo_lem, read_of, inside, next_of, parentheses_of, call_of, named_of, prim_of, prefixed_of, operand_of, times_of, prod_of, plus_of, sum_of, side_of, compared_of, comparison_of, cmp_of, conjunct_of, conjunction_of, conj_of, disjunct_of, disjunction_of, disj_of, arrow_of, past_of, alone_of, expr_of, whole_of, bound_of, argument_of, some_arguments_of, arguments_of};
+ghost use Rattle.spectra_exprs.specs.Expressions.{read_of, inside, next_of, parentheses_of, call_of, named_of, prim_of, prefixed_of, operand_of, argument_of, some_arguments_of, arguments_of};
 
 use crate::fault::SyntaxFault;
 use crate::formulas::whole;

@@ -1,10 +1,10 @@
 //! Regular expressions: one function for each production. `left` says how many levels may still be opened.
 
-ghost use Rattle.std.specs.Prelude.{◌≡◌, ◌<◌, ◌≤◌, ◌++◌, ◌∷◌, [], length, map, string_bytes, IfOk, IfErr};
-ghost use Rattle.spectra_trees.specs.Views.{expr_data, regex_data, repeat_data};
+ghost use Rattle.std.specs.Prelude.{◌≡◌, ◌<◌, ◌≤◌, ◌++◌, ◌∷◌, [], length, map, IfOk, IfErr};
+ghost use Rattle.spectra_trees.specs.Views.{expr_data, regex_data};
 ghost use Rattle.spectra_trees.specs.Lexemes.{lexeme_of, lexemes_of};
 ghost use Rattle.spectra_exprs.specs.Read.{Gives, starts as starts_lem, all_of};
-ghost use Rattle.spectra_regexes.specs.Regexes.{between_of, exactly_of, counted as counted_lem, repeat as repeat_lem, starts_repeat as starts_repeat_lem, repeated as repeated_lem, atom_of, group_of, ratom_of, post_of, starts_ratom as starts_ratom_lem, follower_of, followed_of, cat_of, branch_of, branched_of, regex_of, inside_regex};
+ghost use Rattle.spectra_regexes.specs.Regexes.{atom_of, group_of, ratom_of, post_of, starts_ratom as starts_ratom_lem, follower_of, followed_of, cat_of, branch_of, branched_of, regex_of, inside_regex};
 
 use crate::repeats::repeats;
 use spectra_exprs::fault::SyntaxFault;

@@ -67,30 +67,34 @@ fn the_two_positional_words_are_the_command_and_the_file(rt: HostRuntime) -> Res
 
 #[test]
 fn a_budget_is_digits_from_2_to_134217728(rt: HostRuntime) -> Result<(), Fail> {
-    let alloc = rt.alloc();
+    let most = 134_217_728;
     assert_commands(
         &rt,
-        alloc,
+        rt.alloc(),
         &[
             ("spectra synth a --nodes 2", Command::Synth, "a", 2),
             (
                 "spectra synth a --nodes 134217728",
                 Command::Synth,
                 "a",
-                134_217_728,
+                most,
             ),
             ("spectra synth a --nodes 00005", Command::Synth, "a", 5),
             (
-                "spectra synth a --nodes=000000000000134217728",
+                "spectra synth a --nodes=000134217728",
                 Command::Synth,
                 "a",
-                134_217_728,
+                most,
             ),
         ],
-    )?;
+    )
+}
+
+#[test]
+fn no_other_word_is_a_budget(rt: HostRuntime) -> Result<(), Fail> {
     assert_none(
         &rt,
-        alloc,
+        rt.alloc(),
         &[
             "spectra synth a --nodes 0",
             "spectra synth a --nodes 1",
