@@ -17,6 +17,8 @@ pub mod Types
 pub mod Marks
 pub mod Contained
 pub mod KindsFit
+pub mod LeastFormulas
+pub mod AsDeclared
 pub mod Fitting
 pub mod ContentBounds
 pub mod Bounding

@@ -13,7 +13,7 @@ use Rattle.spectra_contents.specs.Contents.{Setting}
 use Rattle.spectra_typing.specs.Typed.{kind_of, binary_kind, wrong, takes, typing_faults}
 use Rattle.spectra_typing.specs.Placed.{found_with}
 use Rattle.spectra_typing.proofs.Placing.{found_with_append}
-use Rattle.spectra_typing.proofs.Bodies.{both_placed}
+use Rattle.spectra_typing.proofs.Parts.{both_placed}
 
 -- the kind of what operators make of a first operand of this kind
 abbrev pub chain_kind : Setting → Kind → List LinkData → Kind

@@ -2,5 +2,9 @@ pub mod Placing
 pub mod Operands
 pub mod Chained
 pub mod Measures
-pub mod Bodies
+pub mod Parts
 pub mod Signing
+pub mod Found
+pub mod Alike
+pub mod Each
+mod Leaves

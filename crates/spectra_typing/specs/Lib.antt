@@ -3,3 +3,4 @@ pub mod Placed
 pub mod Notes
 pub mod Noted
 pub mod Signatures
+pub mod Walked

@@ -11,7 +11,7 @@ use Rattle.spectra_names.specs.ScopeViews.{scope_data, places_in}
 use Rattle.spectra_contents.specs.declared.setting.Signature as code_signature
 use Rattle.spectra_contents.specs.declared.setting.Setting as code_setting
 use Rattle.spectra_contents.specs.Contents.{Setting, named_in}
-use Rattle.spectra_typing.specs.Typed.{call_faults, typing_faults, form_typing_faults, given_each, kinds_of, wrong_arguments, moved_to, wrong, takes_kinds}
+use Rattle.spectra_typing.specs.Typed.{call_faults, form_typing_faults, given_each, given_faults, kinds_of, wrong_arguments, moved_to, wrong, takes_kinds}
 
 -- a fault where it stands, or moved to a place
 abbrev pub placed : Option Place → Finding → Finding
@@ -43,20 +43,10 @@ unfit (k ∷ ks) given at = wrong (can_equal k given) at
 abbrev pub taken_faults : Setting → List Kind → Place → Expressions → List Finding
 taken_faults s ks at es = if length (kinds_of s es) == length ks then wrong_arguments s ks es else fault 16 at ∷ []
 
--- the place at which a fault of a body is reported
-abbrev pub moved_place : Option Place → Place → Place
-moved_place (Some p) at = p
-moved_place None at = at
-
 -- the faults of a called body with arguments of these kinds
 abbrev pub called_with : (ℕ → List Kind → List Finding) → Setting → Named → List Kind → List Finding
-called_with deeper s (predicate k) ks = if length ks == length (takes_kinds s.scope k) && (s.note k).sound then deeper k (given_each (takes_kinds s.scope k) ks) else []
+called_with deeper s (predicate k) ks = if length ks == length (takes_kinds s.scope k) && (s.note k).sound then given_faults deeper k (takes_kinds s.scope k) (given_each (takes_kinds s.scope k) ks) else []
 called_with deeper s _ ks = []
-
--- the faults of a predicate's body in the setting that it stands in
-abbrev pub own_body_faults : (ℕ → List Kind → List Finding) → (there : Bool) → Setting → Option PredicateData → List Finding
-own_body_faults deeper t s (Some p) = typing_faults deeper t s p.body
-own_body_faults deeper t s None = []
 
 -- the faults of a call
 abbrev pub call_typing_faults : (ℕ → List Kind → List Finding) → (there : Bool) → Setting → NameData → Expressions → List Finding

@@ -6,12 +6,16 @@
 //! Path: text → tokens → trees → **specification** → game → regions → layers → strategy → verdict → lines.
 #![tactic(auto)]
 
+mod bodies;
+mod calls;
+mod levels;
 mod manner;
 mod node_kinds;
 pub mod notes;
-mod putting;
 mod reporting;
+mod same;
 pub mod signatures;
 #[cfg(test)]
 mod tests;
 mod typed;
+mod walking;

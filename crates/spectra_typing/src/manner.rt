@@ -1,10 +1,10 @@
 //! How faults are looked for in the parts of an expression: in operands, arguments and called bodies.
 
-ghost use Rattle.std.specs.Prelude.{◌≡◌, ◌<◌, ◌&&◌, ◌∷◌, Some, true, suc, length, get_or, map, IfOk};
+ghost use Rattle.std.specs.Prelude.{◌≡◌, ◌&&◌, ◌∷◌, length, get_or, map, IfOk};
 ghost use Rattle.spectra_names.specs.ScopeViews.{places_in};
 ghost use Rattle.spectra_kinds.specs.KindViews.{kind_data};
 ghost use Rattle.spectra_typing.specs.Typed.{given_each as given_each_lem};
-ghost use Rattle.spectra_typing.specs.Placed.{moved_place, IsSigned};
+ghost use Rattle.spectra_typing.specs.Placed.{IsSigned};
 ghost use Rattle.spectra_contents.specs.SettingViews.{setting_data};
 
 use spectra_contents::setting::{Mark, Setting};
@@ -13,37 +13,21 @@ use spectra_names::scope::Parameters;
 use spectra_trees::tree::Place;
 use std::alloc::{AllocError, Global};
 
-/// How faults are looked for: with bodies put in so deep, in an expression that is there when all bodies are put in or isn't,
-/// and reported where they stand or at a place that they are moved to.
+/// How faults are looked for: in an expression that is there when all bodies are put in or isn't, and reported where they stand
+/// or at a place that they are moved to.
 #[derive(Clone, Copy, Debug)]
 pub struct Manner {
-    pub deep: usize,
     pub there: bool,
     pub moved: Option<Place>,
 }
 
 /// How faults are looked for in an argument, where the called body has this mark for it.
 pub fn in_argument(manner: Manner, mark: Mark) -> Manner
-    ensures { result ≡ record { deep = manner.deep; there = manner.there && mark.used; moved = manner.moved } }
+    ensures { result ≡ record { there = manner.there && mark.used; moved = manner.moved } }
 {
     Manner {
-        deep: manner.deep,
         there: manner.there && mark.used,
         moved: manner.moved,
-    }
-}
-
-/// How faults are looked for in a body that a name at this place calls.
-pub fn in_body(manner: Manner, at: Place) -> Manner
-    requires { 0 < manner.deep }
-    ensures deep { suc result.deep ≡ manner.deep }
-    ensures there { result.there ≡ true }
-    ensures moved { result.moved ≡ Some (moved_place manner.moved at) }
-{
-    Manner {
-        deep: manner.deep - 1,
-        there: true,
-        moved: Some(manner.moved.unwrap_or(at)),
     }
 }
 

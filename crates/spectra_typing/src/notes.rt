@@ -16,8 +16,8 @@ ghost use Rattle.spectra_typing.specs.Noted.{nameless, depth_of_body, note_of_so
 ghost use Rattle.spectra_typing.specs.Placed.{IsSigned};
 ghost use Rattle.spectra_contents.specs.SettingViews.{note_data, setting_data};
 
-use crate::manner::{Manner, within};
-use crate::putting::typed;
+use crate::bodies::typed;
+use crate::manner::within;
 use spectra_contents::contents::nothing;
 use spectra_contents::misplaced::{Ban, misplaced};
 use spectra_contents::setting::{Contents, Mark, Note, Setting, Signature};
@@ -48,7 +48,7 @@ pub fn no_ban() -> Ban
     }
 }
 
-#[tactic(auto, using(spectra_names::proofs::First::with_faults_append, crate::proofs::Placing::unmoved))]
+#[tactic(auto, using(spectra_names::proofs::First::with_faults_append))]
 /// Reports the faults of an expression, with bodies put in so deep.
 pub fn look<'a>(
     alloc: Global,
@@ -63,12 +63,7 @@ pub fn look<'a>(
     ensures contents { IfOk result (λ l. l.contents ≡ contents_of (setting_data setting.now) (expr_data e.now)) }
     ensures found { OnOk result (found_in findings.new ≡ with_faults (found_in findings.old) (expression_faults ban deep (setting_data setting.now) (expr_data e.now))) }
 {
-    let manner = Manner {
-        deep,
-        there: true,
-        moved: None,
-    };
-    let kind = typed(alloc, findings, manner, setting, e)?;
+    let kind = typed(alloc, findings, deep, setting, e)?;
     let met = misplaced(findings, ban, setting, false, e);
     Ok(Looked {
         kind,

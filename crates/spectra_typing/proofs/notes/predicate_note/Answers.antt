@@ -13,7 +13,7 @@ use Rattle.spectra_contents.specs.Misplaced.{no_ban}
 use Rattle.spectra_typing.specs.Notes.{depth_of, boolean_faults, setting_within, predicate_faults}
 use Rattle.spectra_contents.specs.SettingViews.{setting_data}
 use Rattle.spectra_names.proofs.First.{turned, faultless, with_faults_append}
-use Rattle.spectra_typing.proofs.Bodies.{put_into}
+use Rattle.spectra_typing.proofs.Parts.{put_into}
 use Rattle.spectra_typing.proofs.notes.predicate_note.Goals as goal
 
 pub returns : goal.returns

@@ -1,17 +1,16 @@
--- Bodies that are put in.
-use Rattle.std.proofs.Common.{◌≡◌, ℕ, zero, suc, ◌+◌, ◌<◌, ◌==◌, Bool, true, ◌&&◌, if◌then◌else◌, List, [], ◌∷◌, ◌++◌, length, map, drop, get_or, Option, Some, None, refl, sym, ap, ◌∙◌, eq-eqb}
+-- The faults of the parts of an expression, one after another.
+use Rattle.std.proofs.Common.{◌≡◌, ℕ, ◌+◌, ◌<◌, Bool, ◌&&◌, List, [], ◌∷◌, ◌++◌, length, map, drop, get_or, Option, Some, refl, sym, ap, ◌∙◌}
 use Rattle.spectra_trees.specs.declared.tree.ExprTree.{ExprTree}
 use Rattle.spectra_trees.specs.declared.tree.Place.{Place}
-use Rattle.spectra_trees.specs.Data.{Expressions, PredicateData}
+use Rattle.spectra_trees.specs.Data.{Expressions}
 use Rattle.spectra_trees.specs.Views.{expr_data}
 use Rattle.spectra_names.specs.declared.findings.Finding.{Finding}
-use Rattle.spectra_names.specs.Findings.{with_faults}
-use Rattle.spectra_names.specs.Spaces.{Named, unknown, parameter, variable, enum_name, define, predicate, Places, parameters_of, predicate_in}
+use Rattle.spectra_names.specs.Spaces.{Named, unknown, parameter, variable, enum_name, define, predicate, Places}
 use Rattle.spectra_kinds.specs.Kinds.{Kind, is_truth}
 use Rattle.spectra_contents.specs.declared.setting.Mark.{Mark}
 use Rattle.spectra_contents.specs.Contents.{Setting, unused}
-use Rattle.spectra_typing.specs.Typed.{kind_of, kinds_of, wrong, later_operands, takes_kinds, moved_to, given_each, called_faults, typing_faults, typing_faults_of_each, argument_typing_faults, within, body_faults, faults_with}
-use Rattle.spectra_typing.specs.Placed.{placed, found_with, moved_place, called_with, own_body_faults}
+use Rattle.spectra_typing.specs.Typed.{kind_of, kinds_of, wrong, later_operands, called_faults, typing_faults, typing_faults_of_each, argument_typing_faults}
+use Rattle.spectra_typing.specs.Placed.{found_with, called_with}
 use Rattle.spectra_contents.proofs.Leftover.{from_place, left, first_dropped, later_dropped}
 use Rattle.spectra_typing.proofs.Placing.{found_with_append, found_with_turned, found_with_later, interleaved}
 use Rattle.spectra_typing.proofs.Operands.{operand_left}
@@ -19,47 +18,9 @@ use Rattle.std.proofs.lemmas.List.{map-append, append_assoc}
 use Rattle.spectra_kinds.specs.KindViews.{kind_data}
 use Rattle.spectra_kinds.specs.declared.kinds.Kind as code
 
-placed-twice : (moved : Option Place) (at : Place) (fs : List Finding) → map (placed (Some (moved_place moved at))) fs ≡ map (placed moved) (map (moved_to at) fs)
-placed-twice moved at [] = refl
-placed-twice (Some p) at (f ∷ fs) = ap (λ gs. moved_to p f ∷ gs) (placed-twice (Some p) at fs)
-placed-twice None at (f ∷ fs) = ap (λ gs. moved_to at f ∷ gs) (placed-twice None at fs)
-
 -- a setting with other parameters
 abbrev pub put_into : Setting → Places → List Kind → Setting
 put_into s q ks = record s { parameters = q; kinds = ks }
-
-same-body : (s : Setting) (q : Places) (ks : List Kind) (d e : ℕ → List Kind → List Finding) → d ≡ e → (p : Option PredicateData) (kinds : List Kind)
-    → body_faults d (put_into s q ks) p kinds ≡ body_faults e s p kinds
-same-body s q ks d e same None kinds = refl
-same-body s q ks d e same (Some p) kinds = ap (λ x. typing_faults x true (within s p kinds) p.body) same
-
-same-at : (n : ℕ) (s : Setting) (q : Places) (ks : List Kind) (k : ℕ) (kinds : List Kind) → faults_with n (put_into s q ks) k kinds ≡ faults_with n s k kinds
-same-at zero s q ks k kinds = refl
-same-at (suc n) s q ks k kinds = same-body s q ks (faults_with n (put_into s q ks)) (faults_with n s) (λ i j js. same-at n s q ks j js i) (predicate_in s.scope k) kinds
-
-own-body : (s : Setting) (q : Places) (ks : List Kind) (n : ℕ) (p : Option PredicateData) → ((x : PredicateData) → p ≡ Some x → q ≡ parameters_of x)
-    → own_body_faults (faults_with n (put_into s q ks)) true (put_into s q ks) p ≡ body_faults (faults_with n s) s p ks
-own-body s q ks n None places = refl
-own-body s q ks n (Some p) places =
-    (λ i. typing_faults (λ j js. same-at n s q ks j js i) true (put_into s q ks) p.body)
-    ∙ (λ i. typing_faults (faults_with n s) true (put_into s (places p refl i) ks) p.body)
-
-called-body : (s : Setting) (number n : ℕ) (ks wanted : List Kind) → wanted ≡ takes_kinds s.scope number → length ks ≡ length wanted → (s.note number).sound ≡ true
-    → called_with (faults_with (suc n) s) s (predicate number) ks ≡ body_faults (faults_with n s) s (predicate_in s.scope number) (given_each wanted ks)
-called-body s number n ks wanted taken same sound =
-    (λ i. if length ks == length (sym taken i) && sound i then faults_with (suc n) s number (given_each (sym taken i) ks) else [])
-    ∙ ap (λ b. if b && true then faults_with (suc n) s number (given_each wanted ks) else []) (eq-eqb (length ks) (length wanted) same)
-
--- a body that is walked in its own setting is the one that a call puts in
-pub put_in_is : (s : Setting) (number n : ℕ) (ks wanted : List Kind) (q : Places) (moved : Option Place) (at : Place) (found : Option Finding)
-    → wanted ≡ takes_kinds s.scope number → ((x : PredicateData) → predicate_in s.scope number ≡ Some x → q ≡ parameters_of x)
-    → length ks ≡ length wanted → (s.note number).sound ≡ true
-    → found_with found (Some (moved_place moved at)) (own_body_faults (faults_with n (put_into s q (given_each wanted ks))) true (put_into s q (given_each wanted ks)) (predicate_in s.scope number))
-    ≡ found_with found moved (map (moved_to at) (called_with (faults_with (suc n) s) s (predicate number) ks))
-put_in_is s number n ks wanted q moved at found taken places same sound =
-    ap (found_with found (Some (moved_place moved at)))
-    (own-body s q (given_each wanted ks) n (predicate_in s.scope number) places ∙ sym (called-body s number n ks wanted taken same sound))
-    ∙ ap (with_faults found) (placed-twice moved at (called_with (faults_with (suc n) s) s (predicate number) ks))
 
 pub called_is : (deeper : ℕ → List Kind → List Finding) (s : Setting) (named : Named) (es : Expressions) → called_with deeper s named (kinds_of s es) ≡ called_faults deeper s named es
 called_is deeper s unknown es = refl
