@@ -33,3 +33,4 @@ pub mod Agreeing
 pub mod AgreeingFaults
 pub mod NotingOrder
 pub mod NotingRanks
+pub mod ReadArguments
