@@ -1,5 +1,5 @@
 -- Formulas as lists, and definitions put in.
-use Rattle.std.proofs.Common.{◌≡◌, ℕ, suc, Bool, true, false, if◌then◌else◌, List, [], ◌∷◌, length, map, Option, None, option_map, slice_get, unwrap_or, refl, ap, sym, ◌∙◌, arith, inl, inr}
+use Rattle.std.proofs.Common.{◌≡◌, ℕ, suc, Bool, true, false, if◌then◌else◌, List, length, map, Option, None, option_map, slice_get, unwrap_or, refl, ap, sym, ◌∙◌, arith, inl, inr}
 use Rattle.std.proofs.lemmas.Option.{slice_get_past, slice_get-map}
 use Rattle.std.proofs.lemmas.Bool.{cases_lt}
 use Rattle.std.proofs.lemmas.List.{length-map}
@@ -14,10 +14,6 @@ use Rattle.spectra_expansion.specs.Needs.{MarksCycles}
 pub formulas_listed : (fs : Formulas) → formulas (listed fs) ≡ fs
 formulas_listed Formulas.none = refl
 formulas_listed (Formulas.one_more f fs) = ap (λ gs. Formulas.one_more f gs) (formulas_listed fs)
-
-pub listed_formulas : (fs : List Formula) → listed (formulas fs) ≡ fs
-listed_formulas [] = refl
-listed_formulas (f ∷ fs) = ap (λ gs. f ∷ gs) (listed_formulas fs)
 
 either-body : (put : ℕ → List Formula → Formula) (scope : Scope) (arguments : List Formula) (d : Option code_definition.Definition) (on_cycle : Bool)
     → body_formula put scope arguments (option_map definition_data (if on_cycle then None else d)) ≡ (if on_cycle then no_meaning else body_formula put scope arguments (option_map definition_data d))

@@ -7,4 +7,5 @@ pub mod Telling
 pub mod Bodies
 pub mod Filled
 pub mod Scopes
+mod Read
 mod Small

@@ -1,5 +1,5 @@
 -- What the program makes formulas by.
-use Rattle.std.specs.Prelude.{ℕ, List, map}
+use Rattle.std.specs.Prelude.{ℕ, Bool, List, map}
 use Rattle.spec_model.specs.Syntax.{Formula, Formulas}
 use Rattle.spec_model.specs.Views.{formula}
 use Rattle.spectra_trees.specs.Data.{Expression, Expressions}
@@ -9,7 +9,7 @@ use Rattle.spectra_expansion.specs.declared.expanding.Within.{Within}
 use Rattle.spectra_expansion.specs.declared.expanding.Meaning.{Meaning}
 use Rattle.spectra_expansion.specs.declared.expanding.Meaning.TheVariants as meanings
 use Rattle.spectra_expansion.specs.Expansion.{formula_in, formulas_in, expanded}
-use Rattle.spectra_expansion.specs.Needs.{HasRoom, MarksCycles}
+use Rattle.spectra_expansion.specs.Needs.{HasRoom, MarksCycles, MarksReads}
 
 abbrev pub scope_within : Within → Scope
 scope_within w = scope_data w.scope.now
@@ -23,6 +23,10 @@ arguments_within w = map formula w.arguments.now
 
 abbrev pub named_within : Within → List ℕ → Named
 named_within w = named (scope_within w) (places_in w.parameters.now)
+
+-- for each definition which of its parameters are read
+abbrev pub reads_within : Within → List (List Bool)
+reads_within w = map (λ marks. marks.items) w.read.now
 
 -- the formula of an expression there
 abbrev pub formula_within : Within → Expression → Formula
@@ -40,3 +44,4 @@ meant put (meanings.Put k es) = put k (map formula es.items)
 pub record IsReady (w : Within) : Type 0 where
   pub room : HasRoom (scope_within w)
   pub marks : MarksCycles (scope_within w) w.on_cycle.now
+  pub reads : MarksReads (scope_within w) (reads_within w)

@@ -1,6 +1,6 @@
 //! The formula that an expression means, with defines and predicates put in.
 
-ghost use Rattle.std.specs.Prelude.{◌≡◌, suc, if◌then◌else◌, map, unwrap_or, slice_get, false, None, Some, IfOk};
+ghost use Rattle.std.specs.Prelude.{◌≡◌, suc, true, if◌then◌else◌, [], map, get_or, unwrap_or, slice_get, false, None, Some, IfOk};
 ghost use Rattle.spec_model.specs.Syntax.{listed, formulas};
 ghost use Rattle.spec_model.specs.Views.{formula};
 ghost use Rattle.spectra_trees.specs.Data.{expressions};
@@ -8,7 +8,7 @@ ghost use Rattle.spectra_trees.specs.Views.{name_data, expr_data};
 ghost use Rattle.spectra_order.specs.Cycles.{is_on_cycle};
 ghost use Rattle.spectra_names.specs.ScopeViews.{definition_data, places_in, scope_data};
 ghost use Rattle.spectra_expansion.specs.Expansion.{read_formula, call_formula, body_formula, expanded, formula_of as formula_of_lem};
-ghost use Rattle.spectra_expansion.specs.Needs.{HasRoom, MarksCycles};
+ghost use Rattle.spectra_expansion.specs.Needs.{is_read as is_read_lem, HasRoom, AgreeWhereRead, MarksCycles, MarksReads};
 ghost use Rattle.spectra_expansion.specs.Within.{meant, scope_within, put_within, arguments_within, named_within, formula_within, formulas_within, IsReady};
 
 use crate::parts::{argument, binary, conjunction, disjunction, enum_name, no_meaning, prefix};
@@ -20,13 +20,14 @@ use spectra_names::scope::{Definition, Named, Parameters, Scope};
 use spectra_trees::tree::{ExprForm, ExprTree, Name};
 use std::alloc::{AllocError, Global};
 
-// What an expression is made a formula by: the scope, a mark for each definition on a cycle, and how deep definitions are
-// put in.
+// What an expression is made a formula by: the scope, a mark for each definition on a cycle and for each parameter that is
+// read, and how deep definitions are put in.
 #[derive(Clone, Copy)]
 struct Within<'a> {
     alloc: Global,
     scope: &'a Scope<'a>,
     on_cycle: &'a [bool],
+    read: &'a [Vec<bool>],
     deep: usize,
     parameters: &'a Parameters<'a>,
     arguments: &'a [Expr],
@@ -83,6 +84,63 @@ fn formulas_in(within: &Within<'_>, es: &[ExprTree]) -> Result<Vec<Expr>, AllocE
     Ok(made)
 }
 
+// Whether the parameter at a place is read, by a predicate's marks.
+fn is_read(marks: &[bool], place: usize) -> bool
+    ensures { result ≡ is_read_lem marks.now place }
+{
+    match marks.get(place) {
+        Some(mark) => *mark,
+        None => true,
+    }
+}
+
+// The marks of a numbered definition's parameters.
+fn marks_of<'a>(read: &'a [Vec<bool>], number: usize) -> &'a [bool]
+    ensures { result.now ≡ get_or (map (λ marks. marks.items) read.now) number [] }
+{
+    match read.get(number) {
+        Some(marks) => marks,
+        None => &[],
+    }
+}
+
+// The formula of the argument at a place, if the parameter there is read. A leaf stands for one that isn't, since nothing
+// bounds how large that is.
+#[cycle(expanding)]
+fn argument_in(
+    within: &Within<'_>,
+    marks: &[bool],
+    place: usize,
+    e: &ExprTree,
+) -> Result<Expr, AllocError>
+    requires { IsReady within.now }
+    ensures { IfOk result (λ made. is_read_lem marks.now place ≡ true → formula made ≡ formula_within within.now (expr_data e.now)) }
+{
+    if is_read(marks, place) {
+        formula_in(within, e)
+    } else {
+        Ok(no_meaning())
+    }
+}
+
+// The formulas of a predicate's arguments, as far as they are read.
+#[cycle(expanding)]
+fn arguments_in(
+    within: &Within<'_>,
+    marks: &[bool],
+    es: &[ExprTree],
+) -> Result<Vec<Expr>, AllocError>
+    requires { IsReady within.now }
+    ensures { IfOk result (λ made. AgreeWhereRead marks.now (map formula made.items) (listed (formulas_within within.now (expressions (map expr_data es.now))))) }
+{
+    let mut made = Vec::new(within.alloc);
+    for e in es {
+        let place = made.len();
+        made.push(argument_in(within, marks, place, e)?)?;
+    }
+    Ok(made)
+}
+
 // What a name read alone is.
 fn read(within: &Within<'_>, name: &Name) -> Result<Meaning, AllocError>
     requires { IsReady within.now }
@@ -108,7 +166,10 @@ fn call(within: &Within<'_>, name: &Name, es: &[ExprTree]) -> Result<Meaning, Al
     ensures { IfOk result (λ m. meant (put_within within.now) m ≡ call_formula (put_within within.now) (named_within within.now (name_data name.now).text) (listed (formulas_within within.now (expressions (map expr_data es.now))))) }
 {
     match within.scope.named(within.parameters, name.text.as_str()) {
-        Named::Predicate(number) => Ok(Meaning::Put(number, formulas_in(within, es)?)),
+        Named::Predicate(number) => {
+            let marks = marks_of(within.read, number);
+            Ok(Meaning::Put(number, arguments_in(within, marks, es)?))
+        }
         Named::Unknown => Ok(Meaning::Formula(no_meaning())),
         Named::Parameter(_) => Ok(Meaning::Formula(no_meaning())),
         Named::Variable(_) => Ok(Meaning::Formula(no_meaning())),
@@ -229,22 +290,26 @@ fn put(within: &Within<'_>, first: Meaning) -> Result<Expr, AllocError>
     }
 }
 
-/// The formula that an expression means. A parameter has no meaning there.
+/// The formula that an expression means. A parameter has no meaning there. `read` has for each definition, for each of its
+/// parameters, whether it is read when all bodies are put in; no formula is made of an argument that isn't.
 pub fn formula_of<'a>(
     alloc: Global,
     scope: &'a Scope<'a>,
     on_cycle: &'a [bool],
+    read: &'a [Vec<bool>],
     parameters: &'a Parameters<'a>,
     e: &ExprTree,
 ) -> Result<Expr, AllocError>
     requires room { HasRoom (scope_data scope.now) }
     requires marks { MarksCycles (scope_data scope.now) on_cycle.now }
+    requires reads { MarksReads (scope_data scope.now) (map (λ marks. marks.items) read.now) }
     ensures { IfOk result (λ made. formula made ≡ formula_of_lem (scope_data scope.now) (places_in parameters.now) (expr_data e.now)) }
 {
     let within = Within {
         alloc,
         scope,
         on_cycle,
+        read,
         deep: scope.definitions.len(),
         parameters,
         arguments: &[],

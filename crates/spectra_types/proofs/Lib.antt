@@ -35,3 +35,4 @@ pub mod Agreeing
 pub mod AgreeingFaults
 pub mod NotingOrder
 pub mod NotingRanks
+pub mod ReadArguments

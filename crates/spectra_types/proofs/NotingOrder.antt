@@ -118,6 +118,17 @@ module _ (scope : Scope) (order : List ℕ) (ordered : IsOrder scope order) wher
   settled (suc most) i k h here (suc n) (suc m) p q =
       body-agreed (note_with n scope) m i k here (λ j u lt there. settled most j u (omega arith) there n m (omega arith) (omega arith)) (λ u past. note-past n u past)
 
+  -- the notes of all definitions are made from one another
+  pub note_made : (k : ℕ) → notes_of scope k ≡ note_of_body scope (notes_of scope) (is_on_cycle scope k) (slice_get scope.definitions k)
+  note_made k = elim (cases_lt k size) [
+    | inl low ↦ (
+        let long = ordered.size in
+        let stands = ordered.whole k low in
+        let before = stands.before in
+        settled (suc stands.at) stands.at k (omega arith) stands.there size (suc size) (omega arith) (omega arith))
+    | inr past ↦ note-past size k past ∙ sym (note-past (suc size) k past)
+  ]
+
   -- from notes of what stands before a place, the body makes the note at that place
   body-next : (f : ℕ → Note) (i k : ℕ) → i < length order → slice_get order i ≡ Some k → ((j u : ℕ) → j < i → slice_get order j ≡ Some u → f u ≡ notes_of scope u) → ((u : ℕ) → size ≤ u → f u ≡ blank)
       → note_of_body scope f (is_on_cycle scope k) (slice_get scope.definitions k) ≡ notes_of scope k

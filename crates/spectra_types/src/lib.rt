@@ -14,6 +14,7 @@ mod laws;
 mod lines;
 mod meaning;
 mod notes;
+mod reads;
 mod resolving;
 mod sizes;
 mod statements;

@@ -133,6 +133,7 @@ fn resolve_with<'a>(
         alloc,
         setting,
         on_cycle: &tables.order.on_cycle,
+        read: &tables.read,
         worths: &tables.worths,
         aliases: &tables.aliases,
         measures: &tables.measures,

@@ -29,6 +29,7 @@ fn line_formula(facts: &Facts<'_, '_>, e: &ExprTree) -> Result<Expr, AllocError>
         facts.alloc,
         setting.scope,
         facts.on_cycle,
+        facts.read,
         setting.parameters,
         e,
     )

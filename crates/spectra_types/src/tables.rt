@@ -9,6 +9,7 @@ ghost use Rattle.spectra_expansion.specs.Telling.{HasNoParameters};
 ghost use Rattle.spectra_types.specs.TableViews.{AreTables};
 
 use crate::notes::notes;
+use crate::reads::reads_of;
 use spectra_contents::setting::{Note, Signature};
 use spectra_expansion::filling::measures;
 use spectra_expansion::measure::Measure;
@@ -22,7 +23,7 @@ use spectra_typing::signatures::signatures;
 use std::alloc::{AllocError, Global};
 
 /// What is found out of a text's definitions: their order, what each is worth, stands for as a type and is for those that
-/// use it, how large its formula is, and what its parameters are; and the kinds of the variables.
+/// use it, how large its formula is, what its parameters are, and which of them are read; and the kinds of the variables.
 #[derive(Drop)]
 pub struct Tables<'a> {
     pub order: Order,
@@ -32,6 +33,7 @@ pub struct Tables<'a> {
     pub measures: Vec<Measure>,
     pub signatures: Vec<Signature<'a>>,
     pub notes: Vec<Note<'a>>,
+    pub read: Vec<Vec<bool>>,
 }
 
 // The order of the definitions, with a mark for each that is used in its own body.
@@ -55,6 +57,7 @@ pub fn tables_of<'a>(alloc: Global, scope: &Scope<'a>) -> Result<Tables<'a>, All
     let measures = measures(alloc, scope, &order.numbers, &order.on_cycle)?;
     let signatures = signatures(alloc, scope, &worths, &aliases)?;
     let notes = notes(alloc, scope, &order, &measures, &variables, &signatures)?;
+    let read = reads_of(alloc, &notes)?;
     Ok(Tables {
         order,
         worths,
@@ -63,5 +66,6 @@ pub fn tables_of<'a>(alloc: Global, scope: &Scope<'a>) -> Result<Tables<'a>, All
         measures,
         signatures,
         notes,
+        read,
     })
 }

@@ -96,21 +96,22 @@ fn a_line_may_have_512_levels(rt: HostRuntime) -> Result<(), Fail> {
     Ok(())
 }
 
-// Defines each of which reads the one before it twice: the last one's formula has 2^(count + 2) - 1 nodes.
-fn doubled(alloc: Global, count: usize) -> Result<String, Fail> {
+// Defines each of which reads the one before it twice: the last one's formula has 2^(count + 2) - 1 nodes. What follows
+// stands behind them.
+fn doubled(alloc: Global, count: usize, line: &str) -> Result<String, Fail> {
     let mut text = String::from_str(alloc, "spec X\nsys boolean g;\ndefine d0 := g & g;\n")?;
     for k in 1..=count {
         let last = k - 1;
         text.push_str(&format!(in alloc; "d{k} := d{last} & d{last};\n")?)?;
     }
-    text.push_str(&format!(in alloc; "gar alw d{count};\n")?)?;
+    text.push_str(line)?;
     Ok(text)
 }
 
 // 2^20 - 1 is more than 1,000,000. The line stands behind `spec X`, the variable and 19 defines.
 #[test]
 fn a_text_may_have_a_million_nodes(rt: HostRuntime) -> Result<(), Fail> {
-    let text = doubled(rt.alloc(), 18)?;
+    let text = doubled(rt.alloc(), 18, "gar alw d18;\n")?;
     synth_writes(
         &rt,
         rt.alloc(),
@@ -118,4 +119,38 @@ fn a_text_may_have_a_million_nodes(rt: HostRuntime) -> Result<(), Fail> {
         "t.spectra:22:1: fault 19 TooLarge\n",
         3,
     )
+}
+
+// A text whose guarantee calls a predicate with a sum of so many operands, which the predicate doesn't read.
+fn unread_sum_of(alloc: Global, count: usize) -> Result<String, Fail> {
+    let mut text = String::from_str(
+        alloc,
+        "spec X\npredicate q(Int(0..3) n): true;\ngar alw q(0",
+    )?;
+    for _ in 1..count {
+        text.push_str(" + 0")?;
+    }
+    text.push_str(");\n")?;
+    Ok(text)
+}
+
+// The guarantee says no more than `true`: one state, of rank 1.
+#[test]
+fn a_sum_that_is_not_read_may_have_200_000_operands(rt: HostRuntime) -> Result<(), Fail> {
+    let alloc = rt.alloc();
+    synth_writes(
+        &rt,
+        alloc,
+        &unread_sum_of(alloc, 200_000)?,
+        "realizable K=2\n",
+        0,
+    )
+}
+
+// The define's formula would have more than 2^40 nodes. The guarantee says no more than `true`.
+#[test]
+fn a_define_that_is_not_read_is_not_put_in(rt: HostRuntime) -> Result<(), Fail> {
+    let line = "predicate q(boolean a): true;\ngar alw q(d40);\n";
+    let text = doubled(rt.alloc(), 40, line)?;
+    synth_writes(&rt, rt.alloc(), &text, "realizable K=2\n", 0)
 }

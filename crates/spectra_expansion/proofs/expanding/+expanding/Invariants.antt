@@ -6,6 +6,7 @@ use Rattle.spectra_trees.specs.declared.tree.ExprTree.{size-ExprTree}
 use Rattle.spectra_trees.specs.Data.{expressions}
 use Rattle.spectra_trees.specs.Views.{expr_data}
 use Rattle.spectra_expansion.specs.Expansion.{expanded}
+use Rattle.spectra_expansion.specs.Needs.{AgreeWhereRead}
 use Rattle.spectra_expansion.specs.Within.{meant, scope_within, put_within, formulas_within}
 use Rattle.spectra_expansion.proofs.Depths.{depth_of_body, depth_below}
 use Rattle.spectra_expansion.proofs.expanding.+expanding.Given as goal
@@ -16,8 +17,14 @@ decreases-formula_in l = 8 * (depth_below l.within.now l.within.now.deep + size-
 abbrev pub decreases-formulas_in : goal.decreases-formulas_in
 decreases-formulas_in l = 8 * (depth_below l.within.now l.within.now.deep + most (λ e. size-ExprTree e) l.es.now) + 1
 
+abbrev pub decreases-argument_in : goal.decreases-argument_in
+decreases-argument_in l = 8 * (depth_below l.within.now l.within.now.deep + size-ExprTree l.e.now) + 1
+
+abbrev pub decreases-arguments_in : goal.decreases-arguments_in
+decreases-arguments_in l = 8 * (depth_below l.within.now l.within.now.deep + most (λ e. size-ExprTree e) l.es.now) + 2
+
 abbrev pub decreases-call : goal.decreases-call
-decreases-call l = 8 * (depth_below l.within.now l.within.now.deep + most (λ e. size-ExprTree e) l.es.now) + 2
+decreases-call l = 8 * (depth_below l.within.now l.within.now.deep + most (λ e. size-ExprTree e) l.es.now) + 3
 
 abbrev pub decreases-meaning_of : goal.decreases-meaning_of
 decreases-meaning_of l = 8 * (depth_below l.within.now l.within.now.deep + size-ExprTree l.e.now) + 1
@@ -45,3 +52,8 @@ decreases-put-follow l = l.deep
 abbrev pub invariant-formulas_in-loop-e : goal.invariant-formulas_in-loop-e
 invariant-formulas_in-loop-e l =
     map formula l.made.items ++ listed (formulas_within l.within (expressions (map expr_data (drop l.e-index l.es)))) ≡ listed (formulas_within l.within (expressions (map expr_data l.es)))
+
+-- those so far and those of what is left are all, as far as they are read
+abbrev pub invariant-arguments_in-loop-e : goal.invariant-arguments_in-loop-e
+invariant-arguments_in-loop-e l =
+    AgreeWhereRead l.marks (map formula l.made.items ++ listed (formulas_within l.within (expressions (map expr_data (drop l.e-index l.es))))) (listed (formulas_within l.within (expressions (map expr_data l.es))))
