@@ -11,6 +11,7 @@ use std::alloc::Global;
 use std::process::Abort;
 use std::test::Fail;
 
+mod chains;
 mod kinds;
 mod limits;
 mod names;
