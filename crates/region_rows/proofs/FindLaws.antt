@@ -1,5 +1,6 @@
 -- What is found first among listed moves.
 use Rattle.std.proofs.Common.{◌≡◌, ℕ, zero, suc, ◌<◌, ◌≤◌, Bool, true, false, ◌&&◌, if◌then◌else◌, List, [], ◌∷◌, length, map, Option, Some, None, slice_get, get_or, find, refl, sym, ◌∙◌, ap, arith}
+use Rattle.std.proofs.Math.Bool.{and-false}
 use Rattle.std.proofs.lemmas.Bool.{false≢true}
 use Rattle.spec_model.specs.declared.value.Value.{Value}
 use Rattle.spec_model.specs.Values.{Assignment}
@@ -80,10 +81,6 @@ module _ (g : GameData) (b : Before) (t : Row) (leads_there : LeadsToStates g b)
 
   pub illegal_none : (x : Assignment) → legal_input g b x ≡ false → find (output_test g (marked g t) b x) (outputs_of g) ≡ None
   illegal_none x illegal = find-none (output_test g (marked g t) b x) (outputs_of g) (λ y. ap (λ c. is_input g x && (c && (is_output g y && output_into g (marked g t) b x y))) illegal ∙ and-false (is_input g x))
-    where
-      and-false : (c : Bool) → (c && false) ≡ false
-      and-false true = refl
-      and-false false = refl
 
   pub no_input_none : (x : Assignment) → is_input g x ≡ false → find (output_test g (marked g t) b x) (outputs_of g) ≡ None
   no_input_none x none = find-none (output_test g (marked g t) b x) (outputs_of g) (λ y. ap (λ c. c && (legal_input g b x && (is_output g y && output_into g (marked g t) b x y))) none)

@@ -1,5 +1,6 @@
 -- What the calls make of rows, as regions and moves.
 use Rattle.std.proofs.Common.{◌≡◌, ℕ, zero, suc, ◌<◌, Bool, true, false, not, ◌&&◌, ◌||◌, List, [], ◌∷◌, length, map, Some, slice_get, refl, sym, ◌∙◌, ap, subst, arith}
+use Rattle.std.proofs.Math.Bool.{and-true, and-false}
 use Rattle.std.specs.List.{list_all, list_any}
 use Rattle.spec_model.specs.Games.{GameData, State}
 use Rattle.spec_model.specs.Steps.{is_state, below, states_of, IsClosed}
@@ -100,17 +101,9 @@ module _ (g : GameData) where
   module _ (row : Row) (n : ℕ) (count : n ≡ length (states_of g)) where
     pub all_is : Shows row (map (λ k. true) (below n)) → marked g row ≡ all_states g
     all_is e = λ i s. (marked-below g row (λ k. true) n count e s ∙ and-true (is_state g s)) i
-      where
-        and-true : (b : Bool) → (b && true) ≡ b
-        and-true true = refl
-        and-true false = refl
 
     pub none_is : Shows row (map (λ k. false) (below n)) → marked g row ≡ no_states
     none_is e = λ i s. (marked-below g row (λ k. false) n count e s ∙ and-false (is_state g s)) i
-      where
-        and-false : (b : Bool) → (b && false) ≡ false
-        and-false true = refl
-        and-false false = refl
 
     pub copy_is : (a : Row) → Shows row (map (λ k. bit_of a k) (below n)) → marked g row ≡ marked g a
     copy_is a e = λ i s. marked-below g row (bit_of a) n count e s i

@@ -1,5 +1,6 @@
 -- The names of an enum, one after another.
 use Rattle.std.proofs.Common.{◌≡◌, ℕ, Bool, true, false, not, ◌&&◌, ◌||◌, if◌then◌else◌, List, [], ◌∷◌, Option, Some, None, is_some, refl, sym, ap, ◌∙◌}
+use Rattle.std.proofs.Math.Bool.{and-true}
 use Rattle.std.specs.Str.{bytes_eq}
 use Rattle.std.specs.Option.{option_or}
 use Rattle.std.specs.List.{list_any, list_all}
@@ -18,10 +19,6 @@ module _ (scope : Scope) {X : Type 0} (look : List ℕ → Option X) where
   list_all-enum none [] = refl
   list_all-enum none (n ∷ ns) = λ i. one n i && list_all-enum none ns i
     where
-      and-true : (b : Bool) → (b && true) ≡ b
-      and-true true = refl
-      and-true false = refl
-
       one : (n : NameData) → is_fresh scope look n ≡ is_enum_name scope n
       one n = ap (λ o. is_enum_name scope n && not (is_some o)) (none n.text) ∙ and-true (is_enum_name scope n)
 

@@ -3,15 +3,12 @@ use Rattle.std.proofs.Common.{◌≡◌, ◌≢◌, ℕ, suc, Bool, false, ◌&&
 use Rattle.std.specs.Str.{bytes_eq}
 use Rattle.std.proofs.lemmas.List.{length-map}
 use Rattle.std.proofs.lemmas.Bool.{true≢false}
+use Rattle.std.proofs.Math.Bool.{and-false}
 use Rattle.spectra_trees.specs.declared.tree.Name.{Name}
 use Rattle.spectra_trees.specs.Data.{NameData}
 use Rattle.spectra_trees.specs.Views.{name_data}
 use Rattle.spectra_kinds.specs.Kinds.{same_texts, NameOf, Anything}
 use Rattle.spectra_kinds.specs.KindViews.{texts_of}
-
-and-false : (a : Bool) → (a && false) ≡ false
-and-false true = refl
-and-false false = refl
 
 same-length : (ms ns : List (List ℕ)) → length ms ≢ length ns → same_texts ms ns ≡ false
 same-length [] [] differ = absurd (differ refl)

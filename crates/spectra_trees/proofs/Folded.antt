@@ -1,17 +1,23 @@
 -- What the variants of an expression's form stand for.
-use Rattle.std.proofs.Common.{◌≡◌, map, sym, ap, ◌∙◌}
+use Rattle.std.proofs.Common.{◌≡◌, map, string_bytes, sym, ap, ◌∙◌}
 use Rattle.spectra_trees.specs.declared.tree.Name.{Name}
 use Rattle.spectra_trees.specs.declared.tree.BinaryWord.{BinaryWord}
 use Rattle.spectra_trees.specs.declared.tree.ExprForm.{ExprForm-F, fold-roll-ExprForm}
 use Rattle.spectra_trees.specs.declared.tree.ExprForm.TheFolds.{fold-ExprTree, fold_out-ExprTree}
 use Rattle.spectra_trees.specs.declared.tree.ExprTree.{ExprTree}
 use Rattle.spectra_trees.specs.declared.tree.ExprForm.TheVariants as variants
-use Rattle.spectra_trees.specs.declared.tree.ExprForm.TheVariants.{rolls-Call, rolls-Binary, rolls-And, rolls-Or}
+use Rattle.spectra_trees.specs.declared.tree.ExprForm.TheVariants.{rolls-Number, rolls-Read, rolls-Call, rolls-Binary, rolls-And, rolls-Or}
 use Rattle.spectra_trees.specs.Data.{Form, Expression, expressions}
 use Rattle.spectra_trees.specs.Views.{name_data, form_data, expr_data, form_step, expr_step}
 
 tree-folded : (e : ExprTree) → fold-ExprTree Form Expression form_step expr_step e ≡ expr_data e
 tree-folded e = fold_out-ExprTree Form Expression form_step expr_step e
+
+pub number_folded : (negative digits : _) → form_data (variants.Number negative digits) ≡ Form.Number negative (string_bytes digits)
+number_folded negative digits = ap form_data (sym (rolls-Number negative digits)) ∙ fold-roll-ExprForm Form Expression form_step expr_step (ExprForm-F.Number negative digits)
+
+pub read_folded : (name : Name) → form_data (variants.Read name) ≡ Form.Read (name_data name)
+read_folded name = ap form_data (sym (rolls-Read name)) ∙ fold-roll-ExprForm Form Expression form_step expr_step (ExprForm-F.Read name)
 
 pub call_folded : (name : Name) (es : _) → form_data (variants.Call name es) ≡ Form.Call (name_data name) (expressions (map expr_data es.items))
 call_folded name es =

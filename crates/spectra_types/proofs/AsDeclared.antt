@@ -12,15 +12,12 @@ use Rattle.spectra_contents.specs.Contents.{Setting}
 use Rattle.spectra_contents.specs.Misplaced.{no_ban, misplaced}
 use Rattle.spectra_typing.specs.Typed.{kind_of, typing_faults, within, body_faults, faults_with}
 use Rattle.spectra_typing.specs.Notes.{depth_of, expression_faults}
+use Rattle.spectra_typing.proofs.Parts.{put_into}
 use Rattle.spectra_types.proofs.Empty.{empty_parts}
 use Rattle.spectra_types.proofs.Uses.{size}
 use Rattle.spectra_types.proofs.Sound.{base, IsSound}
 use Rattle.spectra_types.proofs.Contained.{within_text, body_typed}
 use Rattle.spectra_types.proofs.LeastFormulas.{IsSmall, small-true, small_alone}
-
--- a setting with other parameters
-abbrev put_into : Setting → Places → List Kind → Setting
-put_into s q ks = record s { parameters = q; kinds = ks }
 
 same-body : (s : Setting) (q : Places) (ks : List Kind) (d e : ℕ → List Kind → List Finding) → d ≡ e → (p : Option PredicateData) (kinds : List Kind)
     → body_faults d (put_into s q ks) p kinds ≡ body_faults e s p kinds

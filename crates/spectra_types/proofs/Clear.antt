@@ -1,5 +1,6 @@
 -- Where nothing is misplaced, nothing that is banned stands in the expression and in the bodies that its names stand for.
 use Rattle.std.proofs.Common.{◌≡◌, Bool, true, false, ◌&&◌, ◌||◌, if◌then◌else◌, List, [], ◌++◌, refl, sym, subst, ◌∙◌}
+use Rattle.std.proofs.Math.Bool.{or-false}
 use Rattle.std.specs.List.{list_any}
 use Rattle.std.proofs.lemmas.Bool.{or_parts, or_from, false≢true}
 use Rattle.std.proofs.lemmas.List.Folds.{list_any-append}
@@ -99,10 +100,6 @@ module _ (ban : Ban) (s : Setting) where
 
   clear_or : (u : Bool) (x : Named) (more : Bool) (c : Contents) → Clear ban u (is_system s x || false) (name_contents s x) → Clear ban u more c → Clear ban u (is_system s x || more) (both (name_contents s x) c)
   clear_or u x more c first second = subst (λ w. Clear ban u (w || more) (both (name_contents s x) c)) (or-false (is_system s x)) (clear_both ban u (is_system s x || false) more (name_contents s x) c first second)
-    where
-      or-false : (b : Bool) → (b || false) ≡ b
-      or-false true = refl
-      or-false false = refl
 
   mutual
     pub clear : (u : Bool) (e : Expression) → misplaced ban s u e ≡ [] → Clear ban u (names_system s e) (contents_of s e)

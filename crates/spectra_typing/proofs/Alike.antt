@@ -1,6 +1,7 @@
 -- Kinds that are the same.
 use Rattle.std.proofs.Common.{◌≡◌, ◌≢◌, ℕ, suc, ◌+◌, ◌<◌, Bool, true, false, ◌&&◌, List, [], ◌∷◌, length, map, drop, get_or, Some, option_map, refl, sym, ap, ◌∙◌, add-one}
 use Rattle.std.specs.Str.{bytes_eq}
+use Rattle.std.proofs.Math.Bool.{and-false}
 use Rattle.std.proofs.Math.Seq.{drop-cons}
 use Rattle.std.proofs.lemmas.Bool.{and_parts, false≢true}
 use Rattle.std.proofs.lemmas.Slice.Eq.{bytes_eq-Decides}
@@ -77,10 +78,6 @@ same_kinds (k ∷ ks) (j ∷ js) is =
 
 pub are_same_lists : (ks js : List Kind) (b : Bool) → b ≡ are_same ks js → b ≡ true → ks ≡ js
 are_same_lists ks js b is sure = same_kinds ks js (sym is ∙ sure)
-
-and-false : (a : Bool) → (a && false) ≡ false
-and-false true = refl
-and-false false = refl
 
 differ : (ks js : List Kind) → length ks ≢ length js → are_same ks js ≡ false
 differ [] [] other = absurd (other refl)

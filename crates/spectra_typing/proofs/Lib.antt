@@ -7,4 +7,3 @@ pub mod Signing
 pub mod Found
 pub mod Alike
 pub mod Each
-mod Leaves

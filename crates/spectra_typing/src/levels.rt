@@ -34,8 +34,8 @@ fn kind_digest(kind: Kind<'_>) -> u64 {
             .wrapping_mul(31)
             .wrapping_add(high.cast_unsigned()),
         Kind::SomeWhole => 2,
-        Kind::NameOf(names) => 3,
-        Kind::OneName(name) => 4,
+        Kind::NameOf(_) => 3,
+        Kind::OneName(_) => 4,
         Kind::Anything => 5,
     }
 }

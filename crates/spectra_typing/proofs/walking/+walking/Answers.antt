@@ -18,14 +18,13 @@ use Rattle.spectra_typing.specs.declared.manner.Manner.{Manner}
 use Rattle.spectra_typing.specs.declared.calls.Walked.{Walked}
 use Rattle.spectra_typing.specs.Placed.{found_with, called_with, call_typing_faults}
 use Rattle.spectra_typing.specs.Walked.{all_found, Finds}
-use Rattle.spectra_trees.proofs.Folded.{call_folded, binary_folded, and_folded, or_folded}
+use Rattle.spectra_trees.proofs.Folded.{number_folded, read_folded, call_folded, binary_folded, and_folded, or_folded}
 use Rattle.spectra_contents.proofs.Leftover.{from_place, heavier}
 use Rattle.spectra_kinds.proofs.Chains.{links_weight, chain_weight, lighter_link, lighter_chain}
 use Rattle.spectra_typing.proofs.Chained.{chain_kind, chain_kind_is, link_faults, chain_faults, chain_faults_is, links_left, found_behind}
 use Rattle.spectra_typing.proofs.Found.{reported, reported_alone, kept}
 use Rattle.spectra_typing.proofs.Placing.{found_with_later}
 use Rattle.spectra_typing.proofs.Parts.{called_is, call_placed, kinds_pushed, operand_faults_left, argument_faults_left}
-use Rattle.spectra_typing.proofs.Leaves.{number_folded, read_folded}
 use Rattle.spectra_typing.proofs.Measures.{smaller, smaller_part}
 use Rattle.spectra_typing.proofs.walking.+walking.Goals as goal
 
