@@ -24,7 +24,7 @@ found-there false o x is = sym is
 -- a body that is put in is less deep
 pub lower : (w : Within) (deep k : ℕ) (d : code_definition.Definition) (b : Bool)
     → Some d ≡ (if b then None else slice_get w.scope.now.definitions.items k)
-    → 8 * (depth_below w deep + depth_of_body d) + 2 < 8 * depth_below w (suc deep) + 1
+    → 8 * (depth_below w deep + depth_of_body d) + 3 < 8 * depth_below w (suc deep) + 1
 lower w deep k d b is =
     let bodies = w.scope.now.definitions.items in
     let there : slice_get bodies k ≡ Some d = found-there b _ d is in

@@ -16,15 +16,15 @@ use Rattle.spectra_expansion.specs.Filling.{IsLeaf, AreLeaves, PutsBody, Puts, I
 
 -- ---- lists
 
-some-same : {X : Type 0} (x y : X) → Some x ≡ Some y → x ≡ y
+pub some-same : {X : Type 0} (x y : X) → Some x ≡ Some y → x ≡ y
 some-same x y is = ap (λ o. unwrap_or o x) is
 
-at-set : {X : Type 0} (xs : List X) (i : ℕ) (x : X) → i < length xs → slice_get (set xs i x) i ≡ Some x
+pub at-set : {X : Type 0} (xs : List X) (i : ℕ) (x : X) → i < length xs → slice_get (set xs i x) i ≡ Some x
 at-set [] i x within = absurd (omega (arith, within))
 at-set (y ∷ xs) zero x within = refl
 at-set (y ∷ xs) (suc i) x within = at-set xs i x (omega (arith, within))
 
-beside-set : {X : Type 0} (xs : List X) (i j : ℕ) (x : X) → (j ≡ i → ⊥) → slice_get (set xs i x) j ≡ slice_get xs j
+pub beside-set : {X : Type 0} (xs : List X) (i j : ℕ) (x : X) → (j ≡ i → ⊥) → slice_get (set xs i x) j ≡ slice_get xs j
 beside-set [] i j x other = refl
 beside-set (y ∷ xs) zero zero x other = absurd (other refl)
 beside-set (y ∷ xs) zero (suc j) x other = refl
@@ -91,7 +91,7 @@ tells-same old new put k same tells =
       levels = λ fs. tells.levels fs ∙ ap (λ o. held (levels_of o (map levels_in fs))) (sym same);
     }
 
-body-there : (scope : Scope) (deep k : ℕ) (d : Definition) (fs : List Formula) → is_on_cycle scope k ≡ false → slice_get scope.definitions k ≡ Some d
+pub body-there : (scope : Scope) (deep k : ℕ) (d : Definition) (fs : List Formula) → is_on_cycle scope k ≡ false → slice_get scope.definitions k ≡ Some d
     → expanded (suc deep) scope k fs ≡ body_formula (expanded deep scope) scope fs (Some d)
 body-there scope deep k d fs off there =
     ap (λ b. if b then no_meaning else body_formula (expanded deep scope) scope fs (slice_get scope.definitions k)) off

@@ -7,5 +7,6 @@ pub mod Telling
 pub mod Bodies
 pub mod Filled
 pub mod Scopes
+mod Handed
 mod Read
 mod Small

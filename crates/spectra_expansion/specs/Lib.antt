@@ -1,5 +1,6 @@
 pub mod Sizes
 pub mod Expansion
+pub mod Handing
 pub mod Needs
 pub mod Within
 pub mod Measuring

@@ -9,6 +9,7 @@ use Rattle.spectra_expansion.specs.declared.expanding.Within.{Within}
 use Rattle.spectra_expansion.specs.declared.expanding.Meaning.{Meaning}
 use Rattle.spectra_expansion.specs.declared.expanding.Meaning.TheVariants as meanings
 use Rattle.spectra_expansion.specs.Expansion.{formula_in, formulas_in, expanded}
+use Rattle.spectra_expansion.specs.Handing.{AreHanded}
 use Rattle.spectra_expansion.specs.Needs.{HasRoom, MarksCycles, MarksReads}
 
 abbrev pub scope_within : Within → Scope
@@ -45,3 +46,4 @@ pub record IsReady (w : Within) : Type 0 where
   pub room : HasRoom (scope_within w)
   pub marks : MarksCycles (scope_within w) w.on_cycle.now
   pub reads : MarksReads (scope_within w) (reads_within w)
+  pub handed : AreHanded (scope_within w) w.handed.now

@@ -1,16 +1,19 @@
 //! The formula that an expression means, with defines and predicates put in.
 
-ghost use Rattle.std.specs.Prelude.{◌≡◌, suc, true, if◌then◌else◌, [], map, get_or, unwrap_or, slice_get, false, None, Some, IfOk};
+ghost use Rattle.std.specs.Prelude.{◌≡◌, suc, true, if◌then◌else◌, [], map, get_or, unwrap_or, slice_get, false, None, Some, IfOk, IfSome, ◌<◌, ◌≤◌};
 ghost use Rattle.spec_model.specs.Syntax.{listed, formulas};
 ghost use Rattle.spec_model.specs.Views.{formula};
+ghost use Rattle.spectra_trees.specs.declared.tree.ExprTree.{size-ExprTree};
 ghost use Rattle.spectra_trees.specs.Data.{expressions};
 ghost use Rattle.spectra_trees.specs.Views.{name_data, expr_data};
 ghost use Rattle.spectra_order.specs.Cycles.{is_on_cycle};
 ghost use Rattle.spectra_names.specs.ScopeViews.{definition_data, places_in, scope_data};
 ghost use Rattle.spectra_expansion.specs.Expansion.{read_formula, call_formula, body_formula, expanded, formula_of as formula_of_lem};
+ghost use Rattle.spectra_expansion.specs.Handing.{AreHanded};
 ghost use Rattle.spectra_expansion.specs.Needs.{is_read as is_read_lem, HasRoom, AgreeWhereRead, MarksCycles, MarksReads};
 ghost use Rattle.spectra_expansion.specs.Within.{meant, scope_within, put_within, arguments_within, named_within, formula_within, formulas_within, IsReady};
 
+use crate::handing::{Handed, handed_by, predicate_named};
 use crate::parts::{argument, binary, conjunction, disjunction, enum_name, no_meaning, prefix};
 use spec_model::expr::Expr;
 use spec_model::value::Value;
@@ -21,13 +24,14 @@ use spectra_trees::tree::{ExprForm, ExprTree, Name};
 use std::alloc::{AllocError, Global};
 
 // What an expression is made a formula by: the scope, a mark for each definition on a cycle and for each parameter that is
-// read, and how deep definitions are put in.
+// read, what each definition hands on, and how deep definitions are put in.
 #[derive(Clone, Copy)]
 struct Within<'a> {
     alloc: Global,
     scope: &'a Scope<'a>,
     on_cycle: &'a [bool],
     read: &'a [Vec<bool>],
+    handed: &'a [Option<Handed>],
     deep: usize,
     parameters: &'a Parameters<'a>,
     arguments: &'a [Expr],
@@ -40,9 +44,51 @@ enum Meaning {
     Put(usize, Vec<Expr>),
 }
 
+// The argument that an expression is no more than, where it is a use of a predicate that hands that on.
+fn handed_argument<'e>(within: &Within<'_>, e: &'e ExprTree) -> Option<&'e ExprTree>
+    requires { AreHanded (scope_within within.now) within.now.handed.now }
+    ensures same { IfSome result (λ own. formula_within within.now (expr_data own.now) ≡ formula_within within.now (expr_data e.now)) }
+    ensures smaller { IfSome result (λ own. size-ExprTree own.now < size-ExprTree e.now) }
+{
+    match &e.form {
+        ExprForm::Call(name, es) => {
+            let number = predicate_named(within.scope, within.parameters, name)?;
+            let handed = handed_by(within.handed, number)?;
+            if handed.depth > within.deep {
+                return None;
+            }
+            Some(es.get(handed.place)?)
+        }
+        _ => None,
+    }
+}
+
+// The expression that is left of one where uses of predicates give way to the arguments that they hand on. They are
+// followed in a loop, since a text has room for more of them than the machine's stack has for calls.
+fn followed<'e>(within: &Within<'_>, e: &'e ExprTree) -> &'e ExprTree
+    requires { AreHanded (scope_within within.now) within.now.handed.now }
+    ensures same { formula_within within.now (expr_data result.now) ≡ formula_within within.now (expr_data e.now) }
+    ensures no_larger { size-ExprTree result.now ≤ size-ExprTree e.now }
+{
+    let mut own = e;
+    'follow: while let Some(argument) = handed_argument(within, own) {
+        own = argument;
+    }
+    own
+}
+
 // The formula of an expression, where parameters stand for arguments.
 #[cycle(expanding)]
 fn formula_in(within: &Within<'_>, e: &ExprTree) -> Result<Expr, AllocError>
+    requires { IsReady within.now }
+    ensures { IfOk result (λ made. formula made ≡ formula_within within.now (expr_data e.now)) }
+{
+    own_formula(within, followed(within, e))
+}
+
+// The formula of an expression that hands on no argument.
+#[cycle(expanding)]
+fn own_formula(within: &Within<'_>, e: &ExprTree) -> Result<Expr, AllocError>
     requires { IsReady within.now }
     ensures { IfOk result (λ made. formula made ≡ formula_within within.now (expr_data e.now)) }
 {
@@ -184,10 +230,19 @@ fn meaning_of(within: &Within<'_>, e: &ExprTree) -> Result<Meaning, AllocError>
     requires { IsReady within.now }
     ensures { IfOk result (λ m. meant (put_within within.now) m ≡ formula_within within.now (expr_data e.now)) }
 {
+    own_meaning(within, followed(within, e))
+}
+
+// What an expression is that hands on no argument.
+#[cycle(expanding)]
+fn own_meaning(within: &Within<'_>, e: &ExprTree) -> Result<Meaning, AllocError>
+    requires { IsReady within.now }
+    ensures { IfOk result (λ m. meant (put_within within.now) m ≡ formula_within within.now (expr_data e.now)) }
+{
     match &e.form {
         ExprForm::Read(name) => read(within, name),
         ExprForm::Call(name, es) => call(within, name, es),
-        _ => Ok(Meaning::Formula(formula_in(within, e)?)),
+        _ => Ok(Meaning::Formula(own_formula(within, e)?)),
     }
 }
 
@@ -291,18 +346,21 @@ fn put(within: &Within<'_>, first: Meaning) -> Result<Expr, AllocError>
 }
 
 /// The formula that an expression means. A parameter has no meaning there. `read` has for each definition, for each of its
-/// parameters, whether it is read when all bodies are put in; no formula is made of an argument that isn't.
+/// parameters, whether it is read when all bodies are put in; no formula is made of an argument that isn't. `handed` has
+/// for each definition the argument that it hands on, if its formula is no more than that; none is made of a use of it.
 pub fn formula_of<'a>(
     alloc: Global,
     scope: &'a Scope<'a>,
     on_cycle: &'a [bool],
     read: &'a [Vec<bool>],
+    handed: &'a [Option<Handed>],
     parameters: &'a Parameters<'a>,
     e: &ExprTree,
 ) -> Result<Expr, AllocError>
     requires room { HasRoom (scope_data scope.now) }
     requires marks { MarksCycles (scope_data scope.now) on_cycle.now }
     requires reads { MarksReads (scope_data scope.now) (map (λ marks. marks.items) read.now) }
+    requires handed { AreHanded (scope_data scope.now) handed.now }
     ensures { IfOk result (λ made. formula made ≡ formula_of_lem (scope_data scope.now) (places_in parameters.now) (expr_data e.now)) }
 {
     let within = Within {
@@ -310,6 +368,7 @@ pub fn formula_of<'a>(
         scope,
         on_cycle,
         read,
+        handed,
         deep: scope.definitions.len(),
         parameters,
         arguments: &[],

@@ -8,6 +8,7 @@ use Rattle.spectra_names.specs.Spaces.{Scope, no_parameters}
 use Rattle.spectra_names.specs.ScopeViews.{scope_data, places_in}
 use Rattle.spectra_kinds.specs.KindTables.{AreAliases}
 use Rattle.spectra_kinds.specs.WorthViews.{AreWorths}
+use Rattle.spectra_expansion.specs.Handing.{AreHanded}
 use Rattle.spectra_expansion.specs.Needs.{MarksCycles, MarksReads}
 use Rattle.spectra_expansion.specs.declared.sizes.Size.{Size}
 use Rattle.spectra_expansion.specs.Measuring.{held}
@@ -29,6 +30,7 @@ scope_in f = scope_data f.setting.scope.now
 pub record AreFacts (f : Facts) : Type 0 where
   pub cycles : MarksCycles (scope_in f) f.on_cycle.now
   pub reads : MarksReads (scope_in f) (map (λ marks. marks.items) f.read.now)
+  pub handed : AreHanded (scope_in f) f.handed.now
   pub worths : AreWorths (scope_in f) f.worths.now
   pub aliases : AreAliases (scope_in f) f.aliases.now
   pub measured : AreMeasures (scope_in f) f.measures.now

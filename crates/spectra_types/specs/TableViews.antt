@@ -5,6 +5,7 @@ use Rattle.spectra_kinds.specs.KindTables.{AreAliases}
 use Rattle.spectra_kinds.specs.KindViews.{kind_data}
 use Rattle.spectra_kinds.specs.Types.{variable_kinds}
 use Rattle.spectra_kinds.specs.WorthViews.{AreWorths}
+use Rattle.spectra_expansion.specs.Handing.{AreHanded}
 use Rattle.spectra_expansion.specs.Needs.{MarksCycles, MarksReads}
 use Rattle.spectra_expansion.specs.Telling.{AreMeasures}
 use Rattle.spectra_contents.specs.SettingViews.{note_data, note_among}
@@ -21,4 +22,5 @@ pub record AreTables (scope : Scope) (t : Tables) : Type 0 where
   pub measured : AreMeasures scope t.measures.items
   pub signed : map signature_data t.signatures.items ≡ map (signature_of scope) scope.definitions
   pub reads : MarksReads scope (map (λ marks. marks.items) t.read.items)
+  pub handed : AreHanded scope t.handed.items
   pub noted : note_among (map note_data t.notes.items) [] ≡ notes_of scope

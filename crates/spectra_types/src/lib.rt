@@ -3,6 +3,8 @@
 //! Every name is looked up in its name space, every expression has a kind and a whole-number expression a span, and
 //! defines, predicates and named types are put in. Where faults stand in a text, the one with the least place is told.
 //!
+//! Contract: `resolve` gives the specification that a text means, or its first fault with its number and place.
+//!
 //! Path: text → tokens → trees → **specification** → game → regions → layers → strategy → verdict → lines.
 #![tactic(auto)]
 

@@ -134,6 +134,7 @@ fn resolve_with<'a>(
         setting,
         on_cycle: &tables.order.on_cycle,
         read: &tables.read,
+        handed: &tables.handed,
         worths: &tables.worths,
         aliases: &tables.aliases,
         measures: &tables.measures,

@@ -30,6 +30,7 @@ fn line_formula(facts: &Facts<'_, '_>, e: &ExprTree) -> Result<Expr, AllocError>
         setting.scope,
         facts.on_cycle,
         facts.read,
+        facts.handed,
         setting.parameters,
         e,
     )

@@ -12,6 +12,7 @@ use crate::notes::notes;
 use crate::reads::reads_of;
 use spectra_contents::setting::{Note, Signature};
 use spectra_expansion::filling::measures;
+use spectra_expansion::handing::{Handed, all_handed};
 use spectra_expansion::measure::Measure;
 use spectra_kinds::kinds::Kind;
 use spectra_kinds::types::{alias_kinds, variable_kinds};
@@ -23,7 +24,8 @@ use spectra_typing::signatures::signatures;
 use std::alloc::{AllocError, Global};
 
 /// What is found out of a text's definitions: their order, what each is worth, stands for as a type and is for those that
-/// use it, how large its formula is, what its parameters are, and which of them are read; and the kinds of the variables.
+/// use it, how large its formula is, what its parameters are, which of them are read, and which argument it hands on; and
+/// the kinds of the variables.
 #[derive(Drop)]
 pub struct Tables<'a> {
     pub order: Order,
@@ -34,6 +36,7 @@ pub struct Tables<'a> {
     pub signatures: Vec<Signature<'a>>,
     pub notes: Vec<Note<'a>>,
     pub read: Vec<Vec<bool>>,
+    pub handed: Vec<Option<Handed>>,
 }
 
 // The order of the definitions, with a mark for each that is used in its own body.
@@ -58,6 +61,7 @@ pub fn tables_of<'a>(alloc: Global, scope: &Scope<'a>) -> Result<Tables<'a>, All
     let signatures = signatures(alloc, scope, &worths, &aliases)?;
     let notes = notes(alloc, scope, &order, &measures, &variables, &signatures)?;
     let read = reads_of(alloc, &notes)?;
+    let handed = all_handed(alloc, scope, &order.numbers, &order.on_cycle)?;
     Ok(Tables {
         order,
         worths,
@@ -67,5 +71,6 @@ pub fn tables_of<'a>(alloc: Global, scope: &Scope<'a>) -> Result<Tables<'a>, All
         signatures,
         notes,
         read,
+        handed,
     })
 }

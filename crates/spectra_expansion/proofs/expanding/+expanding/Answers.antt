@@ -16,24 +16,24 @@ use Rattle.spectra_expansion.proofs.Trees.{call_data, and_data, or_data}
 use Rattle.spectra_expansion.proofs.Depths.{lower}
 use Rattle.spectra_expansion.proofs.expanding.+expanding.Goals as goal
 
-pub formula_in-returns-in_ok-formulas_in-in-And : goal.formula_in-returns-in_ok-formulas_in-in-And
-formula_in-returns-in_ok-formulas_in-in-And t c =
+pub own_formula-returns-in_ok-formulas_in-in-And : goal.own_formula-returns-in_ok-formulas_in-in-And
+own_formula-returns-in_ok-formulas_in-in-And t c =
     let w = c.args.within.now in
     c.conjunction.ensures
     ∙ ap (λ fs. Conjunction fs) c.in_ok-formulas_in-in-And.ensures
     ∙ ap (λ es. Conjunction (formulas_within w (expressions (map expr_data es)))) c.deref-in-And.ensures.value
     ∙ sym (ap (λ f. form_formula (put_within w) (scope_within w) (places_in w.parameters.now) (arguments_within w) f) (ap form_data c.in-And.is ∙ and_data c.in-And.es c.in-And.field-1))
 
-pub formula_in-returns-in_ok-formulas_in-in-Or : goal.formula_in-returns-in_ok-formulas_in-in-Or
-formula_in-returns-in_ok-formulas_in-in-Or t c =
+pub own_formula-returns-in_ok-formulas_in-in-Or : goal.own_formula-returns-in_ok-formulas_in-in-Or
+own_formula-returns-in_ok-formulas_in-in-Or t c =
     let w = c.args.within.now in
     c.disjunction.ensures
     ∙ ap (λ fs. Disjunction fs) c.in_ok-formulas_in-in-Or.ensures
     ∙ ap (λ es. Disjunction (formulas_within w (expressions (map expr_data es)))) c.deref-in-Or.ensures.value
     ∙ sym (ap (λ f. form_formula (put_within w) (scope_within w) (places_in w.parameters.now) (arguments_within w) f) (ap form_data c.in-Or.is ∙ or_data c.in-Or.es c.in-Or.field-1))
 
-pub formula_in-returns-in_ok-call-in-Call : goal.formula_in-returns-in_ok-call-in-Call
-formula_in-returns-in_ok-call-in-Call t c =
+pub own_formula-returns-in_ok-call-in-Call : goal.own_formula-returns-in_ok-call-in-Call
+own_formula-returns-in_ok-call-in-Call t c =
     let w = c.args.within.now in
     let name = c.in-Call.name in
     subst (λ f. IfOk c.put-in-Call.result (λ made. formula made ≡ f))
@@ -42,8 +42,8 @@ formula_in-returns-in_ok-call-in-Call t c =
     ∙ sym (ap (λ f. form_formula (put_within w) (scope_within w) (places_in w.parameters.now) (arguments_within w) f) (ap form_data c.in-Call.is ∙ call_data name c.in-Call.es)))
     c.put-in-Call.ensures
 
-pub meaning_of-returns-in-Call : goal.meaning_of-returns-in-Call
-meaning_of-returns-in-Call t c =
+pub own_meaning-returns-in-Call : goal.own_meaning-returns-in-Call
+own_meaning-returns-in-Call t c =
     let w = c.args.within.now in
     let name = c.in-Call.name in
     subst (λ f. IfOk c.call.result (λ m. meant (put_within w) m ≡ f))

@@ -11,26 +11,32 @@ use Rattle.spectra_expansion.specs.Within.{meant, scope_within, put_within, form
 use Rattle.spectra_expansion.proofs.Depths.{depth_of_body, depth_below}
 use Rattle.spectra_expansion.proofs.expanding.+expanding.Given as goal
 
+abbrev pub decreases-own_formula : goal.decreases-own_formula
+decreases-own_formula l = 8 * (depth_below l.within.now l.within.now.deep + size-ExprTree l.e.now)
+
 abbrev pub decreases-formula_in : goal.decreases-formula_in
-decreases-formula_in l = 8 * (depth_below l.within.now l.within.now.deep + size-ExprTree l.e.now)
+decreases-formula_in l = 8 * (depth_below l.within.now l.within.now.deep + size-ExprTree l.e.now) + 1
 
 abbrev pub decreases-formulas_in : goal.decreases-formulas_in
-decreases-formulas_in l = 8 * (depth_below l.within.now l.within.now.deep + most (λ e. size-ExprTree e) l.es.now) + 1
+decreases-formulas_in l = 8 * (depth_below l.within.now l.within.now.deep + most (λ e. size-ExprTree e) l.es.now) + 2
 
 abbrev pub decreases-argument_in : goal.decreases-argument_in
-decreases-argument_in l = 8 * (depth_below l.within.now l.within.now.deep + size-ExprTree l.e.now) + 1
+decreases-argument_in l = 8 * (depth_below l.within.now l.within.now.deep + size-ExprTree l.e.now) + 2
 
 abbrev pub decreases-arguments_in : goal.decreases-arguments_in
-decreases-arguments_in l = 8 * (depth_below l.within.now l.within.now.deep + most (λ e. size-ExprTree e) l.es.now) + 2
+decreases-arguments_in l = 8 * (depth_below l.within.now l.within.now.deep + most (λ e. size-ExprTree e) l.es.now) + 3
 
 abbrev pub decreases-call : goal.decreases-call
-decreases-call l = 8 * (depth_below l.within.now l.within.now.deep + most (λ e. size-ExprTree e) l.es.now) + 3
+decreases-call l = 8 * (depth_below l.within.now l.within.now.deep + most (λ e. size-ExprTree e) l.es.now) + 4
+
+abbrev pub decreases-own_meaning : goal.decreases-own_meaning
+decreases-own_meaning l = 8 * (depth_below l.within.now l.within.now.deep + size-ExprTree l.e.now) + 1
 
 abbrev pub decreases-meaning_of : goal.decreases-meaning_of
-decreases-meaning_of l = 8 * (depth_below l.within.now l.within.now.deep + size-ExprTree l.e.now) + 1
+decreases-meaning_of l = 8 * (depth_below l.within.now l.within.now.deep + size-ExprTree l.e.now) + 2
 
 abbrev pub decreases-body : goal.decreases-body
-decreases-body l = 8 * (depth_below l.within.now l.deep + depth_of_body l.definition.now) + 2
+decreases-body l = 8 * (depth_below l.within.now l.deep + depth_of_body l.definition.now) + 3
 
 abbrev pub decreases-put_one : goal.decreases-put_one
 decreases-put_one l = 8 * depth_below l.within.now (suc l.deep) + 1
