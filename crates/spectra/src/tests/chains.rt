@@ -78,3 +78,32 @@ fn what_doubles_is_told_to_be_too_large(rt: HostRuntime) -> Result<(), Fail> {
     )?;
     synth_writes(&rt, alloc, &text, "t.spectra:45:1: fault 19 TooLarge\n", 3)
 }
+
+// Each predicate is `same` of the one before it, and `same` is its argument: so that the guarantee is `g | e`. It holds
+// where `g` does: one state, of rank 1.
+#[test]
+fn arguments_may_be_handed_on_eight_thousand_times(rt: HostRuntime) -> Result<(), Fail> {
+    let alloc = rt.alloc();
+    let text = chain(
+        alloc,
+        "spec X\nenv boolean e;\nsys boolean g;\npredicate same(boolean x): x;\npredicate p0(boolean x): x;\n",
+        &["(boolean x): same(p", "(x));\n"],
+        8_000,
+        "gar alw g | p8000(e);\n",
+    )?;
+    synth_writes(&rt, alloc, &text, "realizable K=2\n", 0)
+}
+
+// The last predicate would put the first one in 2^60 times, but each is no more than its argument. The guarantee is `g | e`.
+#[test]
+fn arguments_that_are_handed_on_double_nothing(rt: HostRuntime) -> Result<(), Fail> {
+    let alloc = rt.alloc();
+    let text = chain(
+        alloc,
+        "spec X\nenv boolean e;\nsys boolean g;\npredicate p0(boolean x): x;\n",
+        &["(boolean x): p", "(p", "(x));\n"],
+        60,
+        "gar alw g | p60(e);\n",
+    )?;
+    synth_writes(&rt, alloc, &text, "realizable K=2\n", 0)
+}
