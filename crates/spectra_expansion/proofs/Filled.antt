@@ -19,12 +19,12 @@ use Rattle.spectra_expansion.specs.Filling.{IsLeaf, AreLeaves, PutsBody, Puts, I
 pub some-same : {X : Type 0} (x y : X) → Some x ≡ Some y → x ≡ y
 some-same x y is = ap (λ o. unwrap_or o x) is
 
-pub at-set : {X : Type 0} (xs : List X) (i : ℕ) (x : X) → i < length xs → slice_get (set xs i x) i ≡ Some x
+at-set : {X : Type 0} (xs : List X) (i : ℕ) (x : X) → i < length xs → slice_get (set xs i x) i ≡ Some x
 at-set [] i x within = absurd (omega (arith, within))
 at-set (y ∷ xs) zero x within = refl
 at-set (y ∷ xs) (suc i) x within = at-set xs i x (omega (arith, within))
 
-pub beside-set : {X : Type 0} (xs : List X) (i j : ℕ) (x : X) → (j ≡ i → ⊥) → slice_get (set xs i x) j ≡ slice_get xs j
+beside-set : {X : Type 0} (xs : List X) (i j : ℕ) (x : X) → (j ≡ i → ⊥) → slice_get (set xs i x) j ≡ slice_get xs j
 beside-set [] i j x other = refl
 beside-set (y ∷ xs) zero zero x other = absurd (other refl)
 beside-set (y ∷ xs) zero (suc j) x other = refl
@@ -39,7 +39,7 @@ leaves_more (x ∷ table) m leaf are (suc k) n there = leaves_more table m leaf 
 
 -- ---- what has no meaning
 
-cycle-none : (scope : Scope) (deep k : ℕ) (fs : List Formula) → is_on_cycle scope k ≡ true → expanded deep scope k fs ≡ no_meaning
+pub cycle-none : (scope : Scope) (deep k : ℕ) (fs : List Formula) → is_on_cycle scope k ≡ true → expanded deep scope k fs ≡ no_meaning
 cycle-none scope zero k fs on = refl
 cycle-none scope (suc deep) k fs on = ap (λ b. if b then no_meaning else body_formula (expanded deep scope) scope fs (slice_get scope.definitions k)) on
 
@@ -47,7 +47,7 @@ both-none : (b : Bool) → (if b then no_meaning else no_meaning) ≡ no_meaning
 both-none true = refl
 both-none false = refl
 
-past-none : (scope : Scope) (deep k : ℕ) (fs : List Formula) → length scope.definitions ≤ k → expanded deep scope k fs ≡ no_meaning
+pub past-none : (scope : Scope) (deep k : ℕ) (fs : List Formula) → length scope.definitions ≤ k → expanded deep scope k fs ≡ no_meaning
 past-none scope zero k fs past = refl
 past-none scope (suc deep) k fs past =
     ap (λ d. if is_on_cycle scope k then no_meaning else body_formula (expanded deep scope) scope fs d) (slice_get_past scope.definitions k past) ∙ both-none (is_on_cycle scope k)
@@ -97,14 +97,14 @@ body-there scope deep k d fs off there =
     ap (λ b. if b then no_meaning else body_formula (expanded deep scope) scope fs (slice_get scope.definitions k)) off
     ∙ ap (λ o. body_formula (expanded deep scope) scope fs o) there
 
-use-of : (scope : Scope) (k : ℕ) (d : Definition) (at j : ℕ) → slice_get scope.definitions k ≡ Some d → slice_get (uses_of scope d) at ≡ Some j → IsUse (all_uses scope) k j
+pub use-of : (scope : Scope) (k : ℕ) (d : Definition) (at j : ℕ) → slice_get scope.definitions k ≡ Some d → slice_get (uses_of scope d) at ≡ Some j → IsUse (all_uses scope) k j
 use-of scope k d at j there uses =
     record {
       at = at;
       there = ap (λ o. slice_get (unwrap_or o []) at) (slice_get-map (uses_of scope) scope.definitions k ∙ ap (λ o. option_map (uses_of scope) o) there) ∙ uses;
     }
 
-settled-use : (scope : Scope) (order : List ℕ) (i k j : ℕ) → IsOrder scope order → slice_get order i ≡ Some k → is_on_cycle scope k ≡ false → IsUse (all_uses scope) k j → IsSettled scope order i j
+pub settled-use : (scope : Scope) (order : List ℕ) (i k j : ℕ) → IsOrder scope order → slice_get order i ≡ Some k → is_on_cycle scope k ≡ false → IsUse (all_uses scope) k j → IsSettled scope order i j
 settled-use scope order i k j is here off used =
     elim (cases_lt j (length scope.definitions)) [
       | inl within ↦ elim (is.behind i k j here used within) [
@@ -128,7 +128,7 @@ put-tells scope order i k (suc deep) old new is here filled off puts low =
     }
 
 -- what is settled after one more is that one, or was settled
-settled-more : (scope : Scope) (order : List ℕ) (i k j : ℕ) → slice_get order i ≡ Some k → IsSettled scope order (i + 1) j → (j ≡ k) ⊎ IsSettled scope order i j
+pub settled-more : (scope : Scope) (order : List ℕ) (i k j : ℕ) → slice_get order i ≡ Some k → IsSettled scope order (i + 1) j → (j ≡ k) ⊎ IsSettled scope order i j
 settled-more scope order i k j here (inr rest) = inr (inr rest)
 settled-more scope order i k j here (inl stands) =
     elim (cases_lt stands.at i) [

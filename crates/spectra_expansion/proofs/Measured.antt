@@ -121,10 +121,10 @@ get-mapped f [] i d e same = same
 get-mapped f (x ∷ xs) zero d e same = refl
 get-mapped f (x ∷ xs) (suc i) d e same = get-mapped f xs i d e same
 
-first-there : {X : Type 0} (x : X) (xs : List X) → Contains (x ∷ xs) x
+pub first-there : {X : Type 0} (x : X) (xs : List X) → Contains (x ∷ xs) x
 first-there x xs = (0, omega arith, refl)
 
-later-there : {X : Type 0} (x y : X) (xs : List X) → Contains xs y → Contains (x ∷ xs) y
+pub later-there : {X : Type 0} (x y : X) (xs : List X) → Contains xs y → Contains (x ∷ xs) y
 later-there x y xs within = Contains-append_right (x ∷ []) xs y within
 
 -- measures that are the same where they are held

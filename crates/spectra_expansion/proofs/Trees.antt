@@ -1,5 +1,6 @@
 -- What the forms of trees stand for.
 use Rattle.std.proofs.Common.{Bool, Box, String, string_bytes, ◌≡◌, ◌<◌, arith, map, rules, Vec, Global}
+use denote.Param.Weighed.{most}
 use Rattle.spectra_trees.specs.declared.tree.Name.{Name}
 use Rattle.spectra_trees.specs.declared.tree.Place.{Place}
 use Rattle.spectra_trees.specs.declared.tree.PrefixWord.{PrefixWord}
@@ -46,3 +47,7 @@ mod_data a at digits = search (rules, the_lemmas)
 -- the first operand is less deep
 pub first_smaller : (e : ExprTree) (word : BinaryWord) (a b : Box ExprTree Global) → e.form ≡ code_form.Binary word a b → size-ExprTree a.value < size-ExprTree e
 first_smaller e word a b is = grind (arith, the_lemmas)
+
+-- the arguments of a use are less deep
+pub arguments_smaller : (e : ExprTree) (n : Name) (es : Vec ExprTree Global) → e.form ≡ code_form.Call n es → most (λ x. size-ExprTree x) es.items < size-ExprTree e
+arguments_smaller e n es is = grind (arith, the_lemmas)

@@ -1,6 +1,5 @@
 pub mod Sizes
 pub mod Expansion
-pub mod Handing
 pub mod Needs
 pub mod Within
 pub mod Measuring
@@ -8,3 +7,4 @@ pub mod Counting
 pub mod Walking
 pub mod Telling
 pub mod Filling
+pub mod Handing
