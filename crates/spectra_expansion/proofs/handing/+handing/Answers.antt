@@ -103,9 +103,10 @@ handed_in-handed_call-requires t c =
     let k = c.in-Some.number in
     let told : TellsNames scope ps table (names_in_form (Form.Call name (expressions (map expr_data es.items)))) = subst (λ f. TellsNames scope ps table (names_in_form f)) (ap form_data c.in-Call.is ∙ call_data c.in-Call.name es) c.requires in
     let weight : most (λ e. size-ExprTree e) c.deref.result.now < size-ExprTree c.args.e.now = subst (λ xs. most (λ e. size-ExprTree e) xs < size-ExprTree c.args.e.now) (sym c.deref.ensures.value) (arguments_smaller c.args.e.now c.in-Call.name es c.in-Call.is) in
-    let here = c.decreases in
-    (
+    let here = c.decreases in (
       omega (arith, weight, here),
-      (told name k (first-there name _) (ap definition_named (is_predicate (named scope ps name.text) k (sym c.in-Some.ensures))),
-      subst (λ xs. TellsNames scope ps table (names_in_each (expressions (map expr_data xs)))) (sym c.deref.ensures.value) (λ n j within is. told n j (later-there name n _ within) is))
+      (
+        told name k (first-there name _) (ap definition_named (is_predicate (named scope ps name.text) k (sym c.in-Some.ensures))),
+        subst (λ xs. TellsNames scope ps table (names_in_each (expressions (map expr_data xs)))) (sym c.deref.ensures.value) (λ n j within is. told n j (later-there name n _ within) is),
+      ),
     )
