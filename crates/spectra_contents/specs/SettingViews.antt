@@ -18,6 +18,15 @@ note_or_blank None = blank
 abbrev pub note_among : List Note → (hidden : List Bool) → ℕ → Note
 note_among notes hidden k = if get_or hidden k false then blank else note_or_blank (slice_get notes k)
 
+-- whether a definition is settled, where it has a note
+abbrev pub is_noted_settled : Option code_note.Note → Bool
+is_noted_settled (Some n) = n.settled
+is_noted_settled None = false
+
+-- whether a numbered definition is settled by its note among these
+abbrev pub is_settled : List code_note.Note → ℕ → Bool
+is_settled notes k = is_noted_settled (slice_get notes k)
+
 abbrev pub setting_data : code_setting.Setting → Setting
 setting_data s =
     record {

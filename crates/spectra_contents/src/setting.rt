@@ -7,7 +7,7 @@ ghost use Rattle.spectra_names.specs.ScopeViews.{named_data, predicate_data, def
 ghost use Rattle.spectra_kinds.specs.Kinds.{Anything};
 ghost use Rattle.spectra_kinds.specs.KindViews.{kind_data};
 ghost use Rattle.spectra_contents.specs.Contents.{named_in};
-ghost use Rattle.spectra_contents.specs.SettingViews.{note_data, note_or_blank, setting_data};
+ghost use Rattle.spectra_contents.specs.SettingViews.{note_data, note_or_blank, is_settled as is_settled_lem, setting_data};
 
 use spectra_kinds::kinds::Kind;
 use spectra_names::scope::{Definition, Named, Parameters, Scope};
@@ -30,12 +30,14 @@ pub struct Mark {
     pub shifted: bool,
 }
 
-/// What a definition is for those that use it. A define has a kind; a predicate without a fault in its body is sound. The
-/// marks are those of its parameters.
+/// What a definition is for those that use it. A define has a kind; a predicate without a fault in its body is sound, and
+/// settled if it was looked through with bodies put in as deep as there are definitions. The marks are those of its
+/// parameters.
 #[derive(Drop)]
 pub struct Note<'a> {
     pub kind: Kind<'a>,
     pub sound: bool,
+    pub settled: bool,
     pub contents: Contents,
     pub marks: Vec<Mark>,
 }
@@ -146,6 +148,16 @@ impl<'s, 'a> Setting<'s, 'a> {
     {
         match self.note(number) {
             Some(note) => note.sound,
+            None => false,
+        }
+    }
+
+    /// Whether a numbered definition is settled.
+    pub fn is_settled(&self, number: usize) -> bool
+        ensures { result ≡ is_settled_lem self.now.notes.now number }
+    {
+        match self.notes.get(number) {
+            Some(note) => note.settled,
             None => false,
         }
     }

@@ -15,7 +15,7 @@ use Rattle.spectra_kinds.specs.Types.{variable_kinds, parameter_kinds}
 use Rattle.spectra_contents.specs.declared.setting.Mark.{Mark}
 use Rattle.spectra_contents.specs.Contents.{Note, Setting, unused, name_marks, first_mark, later_marks, with_marks}
 use Rattle.spectra_contents.specs.Misplaced.{no_ban}
-use Rattle.spectra_typing.specs.Typed.{binary_kind, kind_of, kinds_of, takes, wrong, later_operands, operands, wrong_arguments, takes_kinds, call_faults, remainder_faults, node_faults, given_each, are_same, called_faults, moved_to, typing_faults, form_typing_faults, typing_faults_of_each, argument_typing_faults, body_faults, faults_with}
+use Rattle.spectra_typing.specs.Typed.{binary_kind, kind_of, kinds_of, takes, wrong, later_operands, operands, wrong_arguments, takes_kinds, call_faults, remainder_faults, node_faults, given_each, called_faults, moved_to, typing_faults, form_typing_faults, typing_faults_of_each, argument_typing_faults, body_faults, faults_with}
 use Rattle.spectra_typing.specs.Notes.{depth_of, setting_of, note_of}
 use Rattle.spectra_types.proofs.Empty.{every_parts}
 use Rattle.spectra_types.proofs.Agreeing.{set_in, IsNamed, AreNamed, NamesOnly, Agree, are_named, kind_same, kinds_same, marks_same, contents_same, standing_same, misplaced_same}
@@ -112,7 +112,7 @@ module _ (scope : Scope) (vs : List Kind) (P : ℕ → Type 0) (note note' : ℕ
             let kinds = kinds_are es only in
             let noted = agree k here in
             let put = ap (λ ks. deeper k (given_each (takes_kinds scope k) ks)) kinds ∙ deep k (given_each (takes_kinds scope k) (kinds_of new es)) here sound in
-            λ i. if (length (kinds i) == length (takes_kinds scope k)) && (noted i).sound then (if are_same (given_each (takes_kinds scope k) (kinds i)) (takes_kinds scope k) then [] else put i) else []
+            λ i. if (length (kinds i) == length (takes_kinds scope k)) && (noted i).sound then put i else []
         by false sound =
             let noted : (note k).sound ≡ false = ap (λ (n : Note). n.sound) (agree k here) ∙ sound in
             skipped (length (kinds_of old es) == length (takes_kinds scope k)) (note k).sound _ noted ∙ sym (skipped (length (kinds_of new es) == length (takes_kinds scope k)) (note' k).sound _ sound)
@@ -178,7 +178,7 @@ module _ (scope : Scope) (vs : List Kind) (P : ℕ → Type 0) (note note' : ℕ
       let same = typing_same scope vs P note note' agree (parameters_of p) kinds deeper deeper' deep true p.body (closed k p at here sound) in
       ap (λ q. body_faults deeper (set_in scope vs note ps ks) q kinds) found ∙ same ∙ sym (ap (λ q. body_faults deeper' (set_in scope vs note' ps' ks') q kinds) found)
 
-  faults_with_same : (n : ℕ) (ps ps' : Places) (ks ks' : List Kind) (k : ℕ) (kinds : List Kind) → P k → (note' k).sound ≡ true
+  pub faults_with_same : (n : ℕ) (ps ps' : Places) (ks ks' : List Kind) (k : ℕ) (kinds : List Kind) → P k → (note' k).sound ≡ true
       → faults_with n (set_in scope vs note ps ks) k kinds ≡ faults_with n (set_in scope vs note' ps' ks') k kinds
   faults_with_same zero ps ps' ks ks' k kinds here sound = refl
   faults_with_same (suc n) ps ps' ks ks' k kinds here sound =

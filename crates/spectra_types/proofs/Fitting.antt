@@ -1,6 +1,6 @@
 -- In a text without faults the formula of an expression has the expression's kind.
 use Rattle.std.proofs.Common.{◌≡◌, ℕ, zero, suc, ◌<◌, ◌≤◌, Bool, true, false, not, ◌&&◌, ◌||◌, if◌then◌else◌, List, [], ◌∷◌, Some, length, map, option_map, replicate, get_or, slice_get, refl, sym, ap, subst, ◌∙◌, arith}
-use Rattle.std.proofs.lemmas.Bool.{false≢true, and_from, eqb-true, not-false}
+use Rattle.std.proofs.lemmas.Bool.{false≢true, and_from, le-leb, eqb-true, not-false}
 use Rattle.std.proofs.lemmas.Option.{slice_get_within, slice_get-map, get_or_from_slice_get}
 use Rattle.std.proofs.lemmas.List.{length-map, length-replicate}
 use Rattle.spec_model.specs.Typing as model
@@ -19,12 +19,12 @@ use Rattle.spectra_names.specs.Spaces.{Named, unknown, parameter, variable, enum
 use Rattle.spectra_names.specs.Numbers.{number_of, signed}
 use Rattle.spectra_kinds.specs.Kinds.{Kind, Truth, Whole, SomeWhole, NameOf, OneName, Anything, is_truth, is_whole, can_equal, given, is_wide, added, subtracted, multiplied}
 use Rattle.spectra_kinds.specs.Types.{type_kind, variable_kinds, parameter_kinds}
-use Rattle.spectra_expansion.specs.Sizes.{nodes_in_each, levels_in_each}
-use Rattle.spectra_expansion.specs.Expansion.{no_meaning, read_formula, call_formula, prefix_formula, binary_formula, formula_in, form_formula, formulas_in, put_in, formula_of, most_nodes, most_levels}
+use Rattle.spectra_expansion.specs.Sizes.{nodes_in, nodes_in_each, levels_in, levels_in_each}
+use Rattle.spectra_expansion.specs.Expansion.{no_meaning, read_formula, call_formula, prefix_formula, binary_formula, formula_in, form_formula, formulas_in, put_in, formula_of, most_nodes, most_levels, is_small}
 use Rattle.spectra_contents.specs.declared.setting.Mark.{Mark}
 use Rattle.spectra_contents.specs.Contents.{Note, Setting, named_in, unused, name_marks, first_mark, later_marks, Standing, name_standing, standing, form_standing, standing_in_each, argument_standing, with_marks}
 use Rattle.spectra_contents.specs.Misplaced.{no_ban, misplaced}
-use Rattle.spectra_typing.specs.Typed.{read_kind, call_kind, binary_kind, kind_of, form_kind, kinds_of, wrong, later_operands, operands, wrong_arguments, takes_kinds, read_faults, has_arity, call_faults, remainder_faults, node_faults, given_each, are_same, given_faults, called_faults, moved_to, put_in_faults, typing_faults, form_typing_faults, typing_faults_of_each, argument_typing_faults, within, body_faults, faults_with}
+use Rattle.spectra_typing.specs.Typed.{read_kind, call_kind, binary_kind, kind_of, form_kind, kinds_of, wrong, later_operands, operands, wrong_arguments, takes_kinds, read_faults, has_arity, call_faults, remainder_faults, node_faults, given_each, called_faults, moved_to, put_in_faults, typing_faults, form_typing_faults, typing_faults_of_each, argument_typing_faults, within, body_faults, faults_with}
 use Rattle.spectra_typing.specs.Notes.{depth_of, expression_faults, notes_of}
 use Rattle.spectra_types.specs.Meanings.{domain_of, variable_of, type_faults, types_faults}
 use Rattle.spectra_types.proofs.Empty.{not_empty, empty_parts, no_fault, not_map, every_parts, every_empty, every_behind, every_both}
@@ -38,13 +38,17 @@ use Rattle.spectra_types.proofs.Types.{IsGood, good_type}
 use Rattle.spectra_types.proofs.Spans.{narrow, whole-narrow}
 use Rattle.spectra_types.proofs.Marks.{mark_at, first-mark, later-marks, HasMark, all_marked, low_places, no_standing}
 use Rattle.spectra_types.proofs.Contained.{Within, within_prefix, within_binary, within_text, body_typed, body_contains}
-use Rattle.spectra_typing.proofs.Alike.{same_kinds}
-use Rattle.spectra_types.proofs.LeastFormulas.{IsSmall, small-true}
-use Rattle.spectra_types.proofs.AsDeclared.{typed_as_declared}
 use Rattle.spectra_types.proofs.KindsFit.{Fits, truth_fits, whole_fits, given_fits, domain_fits, prefix_fits, remainder_fits, binary_fits}
+
+-- a formula no larger than a line may be
+abbrev pub IsSmall : Formula → Type 0
+IsSmall f = (nodes_in f ≤ most_nodes) × (levels_in f ≤ most_levels)
 
 smaller : (f g : Formula) → Within f g → IsSmall g → IsSmall f
 smaller f g within small = let a = within.0 in let b = within.1 in let c = small.0 in let d = small.1 in (omega arith, omega arith)
+
+small-true : (f : Formula) → IsSmall f → is_small f ≡ true
+small-true f small = and_from _ _ (le-leb (nodes_in f) most_nodes small.0) (le-leb (levels_in f) most_levels small.1)
 
 each_first : (f : Formula) (fs : Formulas) → nodes_in_each (Formulas.one_more f fs) ≤ most_nodes → levels_in_each (Formulas.one_more f fs) ≤ most_levels → IsSmall f
 each_first f fs n l = (omega arith, omega arith)
@@ -196,15 +200,17 @@ module _ (scope : Scope) (sound : IsSound scope) where
         subst (λ j. Fits scope j (model.kind_of sc (put k []))) (sym (ap (λ (n : Note). n.kind) (define_noted scope sound k name e at)))
         (subst (λ f. Fits scope (kind_of (base scope) e) (model.kind_of sc f)) (sym same) fit)
 
-    body_fits : (k : ℕ) → rank_of scope k < r → (p : PredicateData) → slice_get scope.definitions k ≡ Some (PredicateBody p) → (n : ℕ) → rank_of scope k ≤ n → (fs : List Formula) (ks : List Kind)
-        → typing_faults (faults_with n (base scope)) true (text (parameters_of p) (given_each (parameter_kinds scope p) ks)) p.body ≡ [] → IsSmall (put k fs)
+    body_fits : (k : ℕ) → rank_of scope k < r → (p : PredicateData) → slice_get scope.definitions k ≡ Some (PredicateBody p) → (n : ℕ) → r ≤ n → (fs : List Formula) (ks : List Kind)
+        → faults_with n (base scope) k (given_each (parameter_kinds scope p) ks) ≡ [] → IsSmall (put k fs)
         → ((j : ℕ) → (mark_at (notes_of scope k).marks j).used ≡ true → j < length (parameter_kinds scope p) → Fits scope (get_or (given_each (parameter_kinds scope p) ks) j Anything) (model.kind_of sc (get_or fs j no_meaning)))
         → model.kind_of sc (put k fs) ≡ Some model.Truth
-    body_fits k low p at n up fs ks typed small give =
+    body_fits k low p at zero up fs ks none small give = absurd (omega arith)
+    body_fits k low p at (suc n) up fs ks none small give =
         let ps = parameters_of p in
         let ds = parameter_kinds scope p in
         let ks' = given_each ds ks in
         let same = put_predicate scope sound.whole sound.acyclic k fs p at in
+        let typed : typing_faults (faults_with n (base scope)) true (text ps ks') p.body ≡ [] = sym (ap (λ o. body_faults (faults_with n (base scope)) (base scope) o ks') (predicate_found scope k p at)) ∙ none in
         let is_low = predicate_low scope sound.whole sound.acyclic k p at in
         let stands = standing (text ps ds) true false p.body in
         let places = low_places scope sound.whole (text ps ds) refl p refl true false p.body in
@@ -217,7 +223,7 @@ module _ (scope : Scope) (sound : IsSound scope) where
         every_weaker (λ q. HasMark (with_marks (replicate (length p.params) unused) stands) q × (q.place < length p.params)) (Give ks' fs)
         (λ q is there. give q.place (ap (λ ms. (mark_at ms q.place).used) marks ∙ is.0.used there) (let small_place = is.1 in omega arith)) stands (every_both _ _ stands marked places) in
         let agree = standing_same scope (variable_kinds scope) (IsBelow scope (rank_of scope k)) (notes_of scope) (notes_of scope) (λ j low. refl) ps ds ks' true false p.body is_low in
-        let fit = lower (rank_of scope k) low ps ks' fs n up p.body is_low typed (subst IsSmall same small) false (subst (Every (Give ks' fs)) agree each) in
+        let fit = lower (rank_of scope k) low ps ks' fs n (omega arith) p.body is_low typed (subst IsSmall same small) false (subst (Every (Give ks' fs)) agree each) in
         let body = empty_parts (expression_faults no_ban (depth_of scope p.body ps) (text ps ds) p.body) (fault_if (not (is_truth (kind_of (text ps ds) p.body))) 9 (first_of p.body)) (body_typed scope sound k p at) in
         let truth = not-false (is_truth (kind_of (text ps ds) p.body)) (no_fault (not (is_truth (kind_of (text ps ds) p.body))) 9 (first_of p.body) body.1) in
         ap (model.kind_of sc) same ∙ truth_fits scope (kind_of (text ps ks') p.body) _ (truth_kept ps ds ks' (each_given_truth ds ks) p.body truth) fit
@@ -270,29 +276,18 @@ module _ (scope : Scope) (sound : IsSound scope) where
           sounds : (notes_of scope k).sound ≡ true
           sounds = ap (λ (m : Note). m.sound) (predicate_noted scope sound k p here)
 
-          -- a body is put in where its parameters have other kinds than they were declared with
-          typed : (m : ℕ) → r ≤ m → (ks' : List Kind) (b : Bool) → are_same ks' (parameter_kinds scope p) ≡ b → (if b then [] else faults_with m (base scope) k ks') ≡ [] → IsSmall (put k (listed (formulas_in put scope ps args es)))
-              → (n' : ℕ) × (rank_of scope k ≤ n') × (typing_faults (faults_with n' (base scope)) true (text (parameters_of p) ks') p.body ≡ [])
-          typed m up' ks' true is none small =
-              let below = low_rank scope sound.acyclic k (slice_get_within scope.definitions k (PredicateBody p) here) in
-              (size scope, omega arith, subst (λ js. typing_faults (faults_with (size scope) (base scope)) true (text (parameters_of p) js) p.body ≡ []) (sym (same_kinds ks' (parameter_kinds scope p) is)) (typed_as_declared scope sound k p here _ small))
-          typed zero up' ks' false is none small = absurd (omega arith)
-          typed (suc m) up' ks' false is none small = (m, omega arith, sym (ap (λ o. body_faults (faults_with m (base scope)) (base scope) o ks') (predicate_found scope k p here)) ∙ none)
-
           by : (b : Bool) → has_arity s k es ≡ b → (if b then wrong_arguments s (takes_kinds scope k) es else fault 16 at ∷ []) ≡ []
-              → (if b && (notes_of scope k).sound then given_faults deeper k (takes_kinds scope k) (given_each (takes_kinds scope k) (kinds_of s es)) else []) ≡ []
+              → (if b && (notes_of scope k).sound then deeper k (given_each (takes_kinds scope k) (kinds_of s es)) else []) ≡ []
               → model.kind_of sc (put k (listed (formulas_in put scope ps args es))) ≡ Some model.Truth
           by false is node called = absurd (not_empty _ _ node)
           by true is node called =
               let fs = listed (formulas_in put scope ps args es) in
-              let ds = parameter_kinds scope p in
               let wrong' = subst (λ ds. wrong_arguments s ds es ≡ []) takes node in
-              let same : length (kinds_of s es) ≡ length ds = eqb-true (length (kinds_of s es)) (length (takes_kinds scope k)) is ∙ ap length takes in
-              let none : given_faults deeper k ds (given_each ds (kinds_of s es)) ≡ [] =
-              ap (λ ds. given_faults deeper k ds (given_each ds (kinds_of s es))) (sym takes) ∙ sym (ap (λ b. if b then given_faults deeper k (takes_kinds scope k) (given_each (takes_kinds scope k) (kinds_of s es)) else []) sounds) ∙ called in
-              let body = typed n up (given_each ds (kinds_of s es)) (are_same (given_each ds (kinds_of s es)) ds) refl none small in
-              body_fits k low p here body.0 body.1 fs (kinds_of s es) body.2 small
-              (each (notes_of scope k).marks ds u (good_parameters k p here) wrong' same inner
+              let same : length (kinds_of s es) ≡ length (parameter_kinds scope p) = eqb-true (length (kinds_of s es)) (length (takes_kinds scope k)) is ∙ ap length takes in
+              let none : deeper k (given_each (parameter_kinds scope p) (kinds_of s es)) ≡ [] =
+              ap (λ ds. deeper k (given_each ds (kinds_of s es))) (sym takes) ∙ sym (ap (λ b. if b then deeper k (given_each (takes_kinds scope k) (kinds_of s es)) else []) sounds) ∙ called in
+              body_fits k low p here n up fs (kinds_of s es) none small
+              (each (notes_of scope k).marks (parameter_kinds scope p) u (good_parameters k p here) wrong' same inner
               (λ j used. smaller (get_or fs j no_meaning) (put k fs) (body_contains scope sound k p here fs j used) small) give)
 
       call_fits : (u : Bool) (name : NameData) (t : List ℕ) (x : Named) → Meant scope sound.whole ps t x → LowName scope r x → (es : Expressions) → ArgumentsFit es → call_faults s x (place_of name) es ≡ []

@@ -17,8 +17,6 @@ pub mod Types
 pub mod Marks
 pub mod Contained
 pub mod KindsFit
-pub mod LeastFormulas
-pub mod AsDeclared
 pub mod Fitting
 pub mod ContentBounds
 pub mod Bounding
@@ -35,4 +33,5 @@ pub mod Agreeing
 pub mod AgreeingFaults
 pub mod NotingOrder
 pub mod NotingRanks
+pub mod Settled
 pub mod ReadArguments

@@ -32,7 +32,7 @@ or_blank (Some n) = refl
 or_blank None = refl
 
 -- where nothing is hidden, a table of notes is read as any other
-among : (table : List code_note.Note) → note_among (map note_data table) [] ≡ told note_data blank table
+pub among : (table : List code_note.Note) → note_among (map note_data table) [] ≡ told note_data blank table
 among table = λ i k. (or_blank (slice_get (map note_data table) k) ∙ ap (λ o. unwrap_or o blank) (slice_get-map note_data table k)) i
 
 module _ (scope : Scope) (order : List ℕ) (ordered : IsOrder scope order) where
@@ -40,7 +40,7 @@ module _ (scope : Scope) (order : List ℕ) (ordered : IsOrder scope order) wher
   size = length scope.definitions
 
   -- what a definition at a place can see notes of: what stands before it, and what is no definition; nothing of a cycle that it is on
-  abbrev Seen : ℕ → Bool → ℕ → Type 0
+  abbrev pub Seen : ℕ → Bool → ℕ → Type 0
   Seen i on_cycle j = StandsBefore order i j ⊎ ((size ≤ j) ⊎ Unseen scope on_cycle j)
 
   use_there : (k : ℕ) (d : Definition) → slice_get scope.definitions k ≡ Some d → (i u : ℕ) → slice_get (uses_of scope d) i ≡ Some u → IsUse (all_uses scope) k u
@@ -57,7 +57,7 @@ module _ (scope : Scope) (order : List ℕ) (ordered : IsOrder scope order) wher
     | inr past ↦ inr (inl past)
   ]
 
-  note-past : (n k : ℕ) → size ≤ k → note_with n scope k ≡ blank
+  pub note-past : (n k : ℕ) → size ≤ k → note_with n scope k ≡ blank
   note-past zero k past = refl
   note-past (suc n) k past = ap (note_of_body scope (note_with n scope) (is_on_cycle scope k)) (slice_get_past scope.definitions k past)
 
@@ -76,7 +76,7 @@ module _ (scope : Scope) (order : List ℕ) (ordered : IsOrder scope order) wher
   unseen_blank note b j both = λ i. if both.0 i && both.1 i then blank else note j
 
   -- what stands in a sound predicate's body that is seen, is seen
-  closed : (n i : ℕ) (b : Bool) → IsClosed scope (Seen i b) (notes_seen scope (note_with n scope) b)
+  pub closed : (n i : ℕ) (b : Bool) → IsClosed scope (Seen i b) (notes_seen scope (note_with n scope) b)
   closed n i b k p there (inr (inl past)) sound = absurd (never (sym there ∙ slice_get_past scope.definitions k past))
     where
       never : Some (PredicateBody p) ≡ None → ⊥

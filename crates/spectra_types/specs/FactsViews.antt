@@ -1,5 +1,5 @@
 -- What holds of the facts that the faults and the meaning of a text are found by.
-use Rattle.std.specs.Prelude.{◌≡◌, List, [], map, option_map}
+use Rattle.std.specs.Prelude.{◌≡◌, List, [], length, map, option_map}
 use Rattle.spec_model.specs.Syntax.{Formula, Specification}
 use Rattle.spectra_trees.specs.declared.tree.LineItem.{LineItem}
 use Rattle.spectra_trees.specs.Data.{LineData, ItemData}
@@ -17,6 +17,7 @@ use Rattle.spectra_expansion.specs.Telling.{AreMeasures}
 use Rattle.spectra_contents.specs.Contents.{Setting}
 use Rattle.spectra_contents.specs.SettingViews.{setting_data}
 use Rattle.spectra_typing.specs.Placed.{IsSigned}
+use Rattle.spectra_typing.specs.Walked.{AreClear}
 use Rattle.spectra_types.specs.declared.facts.Facts.{Facts}
 use Rattle.spectra_types.specs.Meanings.{variable_of, lines_from}
 
@@ -35,6 +36,7 @@ pub record AreFacts (f : Facts) : Type 0 where
   pub aliases : AreAliases (scope_in f) f.aliases.now
   pub measured : AreMeasures (scope_in f) f.measures.now
   pub signed : IsSigned f.setting
+  pub clear : AreClear (length (scope_in f).definitions) f.setting
   pub outside : places_in f.setting.parameters.now ≡ no_parameters
 
 -- the nodes and levels of a formula, held at the greatest number of 64 bits

@@ -12,6 +12,7 @@ use Rattle.spectra_contents.specs.SettingViews.{note_data, note_among}
 use Rattle.spectra_typing.specs.Signatures.{signature_data, signature_of}
 use Rattle.spectra_typing.specs.Notes.{notes_of}
 use Rattle.spectra_types.specs.declared.tables.Tables.{Tables}
+use Rattle.spectra_types.specs.Noting.{NotesAreClear}
 
 -- the tables are those of a scope's definitions and variables
 pub record AreTables (scope : Scope) (t : Tables) : Type 0 where
@@ -23,4 +24,5 @@ pub record AreTables (scope : Scope) (t : Tables) : Type 0 where
   pub signed : map signature_data t.signatures.items ≡ map (signature_of scope) scope.definitions
   pub reads : MarksReads scope (map (λ marks. marks.items) t.read.items)
   pub handed : AreHanded scope t.handed.items
+  pub clear : NotesAreClear scope t.notes.items
   pub noted : note_among (map note_data t.notes.items) [] ≡ notes_of scope

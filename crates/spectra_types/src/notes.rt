@@ -1,6 +1,6 @@
 //! What each definition of a text is for those that use it.
 
-ghost use Rattle.std.specs.Prelude.{◌≡◌, ◌<◌, [], Some, length, map, IfOk, OnOk};
+ghost use Rattle.std.specs.Prelude.{◌≡◌, ◌<◌, true, false, [], Some, length, map, slice_get, IfOk, OnOk};
 ghost use Rattle.spectra_trees.specs.Views.{expr_data};
 ghost use Rattle.spectra_names.specs.ScopeViews.{scope_data, places_in, definition_data};
 ghost use Rattle.spectra_order.specs.Cycles.{all_uses, AreOnCycle};
@@ -12,7 +12,7 @@ ghost use Rattle.spectra_contents.specs.SettingViews.{note_data, note_among, set
 ghost use Rattle.spectra_typing.specs.Noted.{depth_of_body as depth_of_body_lem};
 ghost use Rattle.spectra_typing.specs.Notes.{setting_of as setting_of_lem, notes_seen, notes_of};
 ghost use Rattle.spectra_typing.specs.Placed.{IsSigned};
-ghost use Rattle.spectra_types.specs.Noting.{AreTables, PutsNote, made_note as made_note_lem};
+ghost use Rattle.spectra_types.specs.Noting.{AreTables, NotesAreClear, AreUnsettled, IsSettledNote, PutsNote, made_note as made_note_lem};
 ghost use Rattle.spectra_types.specs.Signatures.{AreSignatures};
 
 use crate::sizes::depth_of;
@@ -60,6 +60,25 @@ fn depth_of_body(
     }
 }
 
+// How deep bodies are put into a numbered definition's body, none into that of one on a cycle.
+fn depth_there(
+    alloc: Global,
+    tables: &Tables<'_, '_>,
+    on_cycle: bool,
+    number: usize,
+) -> Result<usize, AllocError>
+    requires tables { AreTables tables.now }
+    requires within { number < length (scope_data tables.now.scope.now).definitions }
+    ensures on { IfOk result (λ deep. on_cycle ≡ true → deep ≡ 0) }
+    ensures off { IfOk result (λ deep. on_cycle ≡ false → deep ≡ depth_of_body_lem (scope_data tables.now.scope.now) (slice_get (scope_data tables.now.scope.now).definitions number)) }
+{
+    if on_cycle {
+        return Ok(0);
+    }
+    let definition = &tables.scope.definitions[number];
+    depth_of_body(alloc, tables.scope, tables.measures, definition)
+}
+
 // The setting of a define's body, by these notes. One that is used in its own body sees nothing of others that are.
 fn setting_of<'b, 'a>(
     tables: &Tables<'b, 'a>,
@@ -70,6 +89,7 @@ fn setting_of<'b, 'a>(
     requires size { length notes.now ≡ length (scope_data tables.now.scope.now).definitions }
     ensures setting { setting_data result ≡ setting_of_lem (scope_data tables.now.scope.now) (notes_seen (scope_data tables.now.scope.now) (note_among (map note_data notes.now) []) on_cycle) }
     ensures signed { IsSigned result }
+    ensures notes { result.notes.now ≡ notes.now }
 {
     Setting {
         scope: tables.scope,
@@ -92,18 +112,20 @@ fn made_note<'a>(
     requires tables { AreTables tables.now }
     requires size { length notes.now ≡ length (scope_data tables.now.scope.now).definitions }
     requires within { number < length (scope_data tables.now.scope.now).definitions }
-    ensures { IfOk result (λ n. note_data n ≡ made_note_lem (scope_data tables.now.scope.now) notes.now number) }
+    requires clear { NotesAreClear (scope_data tables.now.scope.now) notes.now }
+    ensures note { IfOk result (λ n. note_data n ≡ made_note_lem (scope_data tables.now.scope.now) notes.now number) }
+    ensures settled { IfOk result (λ n. IsSettledNote (scope_data tables.now.scope.now) number n) }
 {
     let on_cycle = tables.on_cycle[number];
     let setting = setting_of(&*tables, notes, on_cycle);
-    let definition = &tables.scope.definitions[number];
-    let deep = depth_of_body(alloc, tables.scope, tables.measures, definition)?;
+    let deep = depth_there(alloc, tables, on_cycle, number)?;
     note_of(alloc, &setting, on_cycle, deep, number)
 }
 
 // So many notes of definitions of which nothing is known.
 fn blanks<'a>(alloc: Global, count: usize) -> Result<Vec<Note<'a>>, AllocError>
-    ensures { IfOk result (λ notes. length notes.items ≡ count) }
+    ensures size { IfOk result (λ notes. length notes.items ≡ count) }
+    ensures unsettled { IfOk result (λ notes. AreUnsettled notes.items) }
 {
     let mut notes = Vec::with_capacity(alloc, count)?;
     for _place in 0..count {
@@ -122,6 +144,7 @@ fn put_note<'a>(
     requires tables { AreTables tables.now }
     requires size { length notes.old.items ≡ length (scope_data tables.now.scope.now).definitions }
     requires within { number < length (scope_data tables.now.scope.now).definitions }
+    requires clear { NotesAreClear (scope_data tables.now.scope.now) notes.old.items }
     ensures { OnOk result (PutsNote (scope_data tables.now.scope.now) notes.old.items notes.new.items number) }
 {
     let note = made_note(alloc, tables, notes, number)?;
@@ -143,7 +166,8 @@ pub fn notes<'a>(
     requires measured { AreMeasures (scope_data scope.now) measures.now }
     requires variables { map kind_data variables.now ≡ variable_kinds (scope_data scope.now) }
     requires signed { AreSignatures (scope_data scope.now) signatures.now }
-    ensures { IfOk result (λ notes. note_among (map note_data notes.items) [] ≡ notes_of (scope_data scope.now)) }
+    ensures noted { IfOk result (λ notes. note_among (map note_data notes.items) [] ≡ notes_of (scope_data scope.now)) }
+    ensures clear { IfOk result (λ notes. NotesAreClear (scope_data scope.now) notes.items) }
 {
     let none = Parameters::none(alloc);
     let tables = Tables {

@@ -10,7 +10,7 @@ use Rattle.std.proofs.lemmas.Bool.Decides.{Decides-int_eq}
 use Rattle.std.proofs.lemmas.List.{length-map}
 use Rattle.spectra_kinds.specs.declared.kinds.Kind as code_kind
 use Rattle.spectra_kinds.specs.Kinds.{Kind, Truth, Whole, SomeWhole, NameOf, OneName, Anything, same_texts}
-use Rattle.spectra_typing.specs.Typed.{is_same, are_same}
+use Rattle.spectra_typing.specs.Walked.{is_same, are_same}
 use Rattle.spectra_kinds.specs.KindViews.{kind_data}
 use Rattle.spectra_typing.specs.declared.calls.Body.{Body}
 use Rattle.spectra_typing.specs.Walked.{body_data, IsOneOf}

@@ -6,16 +6,16 @@ use Rattle.std.proofs.lemmas.List.{append_assoc, append-nil}
 use Rattle.spectra_trees.specs.declared.tree.Place.{Place}
 use Rattle.spectra_names.specs.declared.findings.Finding.{Finding}
 use Rattle.spectra_names.specs.Findings.{precedes, with_fault, with_faults}
-use Rattle.spectra_names.specs.Spaces.{predicate_in}
 use Rattle.spectra_names.proofs.First.{with_faults_append, with_faults_turned}
 use Rattle.spectra_kinds.specs.Kinds.{Kind}
 use Rattle.spectra_kinds.specs.KindViews.{kind_data}
-use Rattle.spectra_contents.specs.Contents.{Setting}
+use Rattle.spectra_contents.specs.declared.setting.Setting as code_setting
+use Rattle.spectra_contents.specs.SettingViews.{setting_data}
 use Rattle.spectra_typing.specs.declared.calls.Body as code_body
 use Rattle.spectra_typing.specs.declared.calls.Called as code_called
-use Rattle.spectra_typing.specs.Typed.{moved_to, body_faults, faults_with}
+use Rattle.spectra_typing.specs.Typed.{moved_to}
 use Rattle.spectra_typing.specs.Placed.{placed, found_with}
-use Rattle.spectra_typing.specs.Walked.{BodyData, body_data, faults_of, faults_left, one_deeper, AddsBody}
+use Rattle.spectra_typing.specs.Walked.{BodyData, body_data, lean_in, lean_with, faults_of, faults_left, one_deeper, AddsBody}
 use Rattle.spectra_typing.proofs.Placing.{found_with_append, found_with_turned}
 use Rattle.spectra_typing.proofs.Found.{one_kept}
 
@@ -96,13 +96,13 @@ module _ (deeper : ℕ → List Kind → List Finding) where
 
 -- ---- depths
 
-pub none_deeper : (s : Setting) (bs : List BodyData) → faults_of (faults_with 0 s) bs ≡ []
+pub none_deeper : (s : code_setting.Setting) (bs : List BodyData) → faults_of (lean_with 0 s) bs ≡ []
 none_deeper s [] = refl
 none_deeper s (b ∷ bs) = none_deeper s bs
 
-pub next_deeper : (n : ℕ) (s : Setting) (bs : List BodyData) → faults_of (one_deeper (faults_with n s) s) bs ≡ faults_of (faults_with (suc n) s) bs
+pub next_deeper : (n : ℕ) (s : code_setting.Setting) (bs : List BodyData) → faults_of (one_deeper (lean_in s (lean_with n s)) (setting_data s)) bs ≡ faults_of (lean_with (suc n) s) bs
 next_deeper n s [] = refl
-next_deeper n s (b ∷ bs) = ap (λ fs. body_faults (faults_with n s) s (predicate_in s.scope b.number) b.kinds ++ fs) (next_deeper n s bs)
+next_deeper n s (b ∷ bs) = ap (λ fs. lean_with (suc n) s b.number b.kinds ++ fs) (next_deeper n s bs)
 
 -- ---- loops over bodies and calls
 

@@ -7,3 +7,4 @@ pub mod Signing
 pub mod Found
 pub mod Alike
 pub mod Each
+pub mod Lean

@@ -11,7 +11,7 @@ use Rattle.spectra_names.specs.ScopeViews.{scope_data, places_in}
 use Rattle.spectra_contents.specs.declared.setting.Signature as code_signature
 use Rattle.spectra_contents.specs.declared.setting.Setting as code_setting
 use Rattle.spectra_contents.specs.Contents.{Setting, named_in}
-use Rattle.spectra_typing.specs.Typed.{call_faults, form_typing_faults, given_each, given_faults, kinds_of, wrong_arguments, moved_to, wrong, takes_kinds}
+use Rattle.spectra_typing.specs.Typed.{call_faults, form_typing_faults, given_each, kinds_of, wrong_arguments, moved_to, wrong, takes_kinds}
 
 -- a fault where it stands, or moved to a place
 abbrev pub placed : Option Place → Finding → Finding
@@ -45,7 +45,7 @@ taken_faults s ks at es = if length (kinds_of s es) == length ks then wrong_argu
 
 -- the faults of a called body with arguments of these kinds
 abbrev pub called_with : (ℕ → List Kind → List Finding) → Setting → Named → List Kind → List Finding
-called_with deeper s (predicate k) ks = if length ks == length (takes_kinds s.scope k) && (s.note k).sound then given_faults deeper k (takes_kinds s.scope k) (given_each (takes_kinds s.scope k) ks) else []
+called_with deeper s (predicate k) ks = if length ks == length (takes_kinds s.scope k) && (s.note k).sound then deeper k (given_each (takes_kinds s.scope k) ks) else []
 called_with deeper s _ ks = []
 
 -- the faults of a call

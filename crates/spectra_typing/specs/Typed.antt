@@ -1,7 +1,6 @@
 -- The kind of an expression, and the faults of kinds and spans: unknown names, wrong kinds, wide spans, arguments too many
 -- or too few.
-use Rattle.std.specs.Prelude.{true, false, bytes_eq, ℕ, zero, suc, ◌==◌, Bool, not, ◌&&◌, if◌then◌else◌, List, [], ◌∷◌, ◌++◌, Option, Some, None, length, map, get_or}
-use Rattle.std.specs.Ordering.{int_eq}
+use Rattle.std.specs.Prelude.{true, ℕ, zero, suc, ◌==◌, Bool, not, ◌&&◌, if◌then◌else◌, List, [], ◌∷◌, ◌++◌, Option, Some, None, length, map, get_or}
 use Rattle.spectra_trees.specs.declared.tree.Place.{Place}
 use Rattle.spectra_trees.specs.declared.tree.BinaryWord.{BinaryWord}
 use Rattle.spectra_trees.specs.declared.tree.BinaryWord.TheVariants as binary
@@ -9,7 +8,7 @@ use Rattle.spectra_trees.specs.Data.{NameData, Expression, expression, Form, Exp
 use Rattle.spectra_names.specs.declared.findings.Finding.{Finding}
 use Rattle.spectra_names.specs.Findings.{fault, fault_if, place_of}
 use Rattle.spectra_names.specs.Spaces.{Named, unknown, parameter, variable, enum_name, define, predicate, Scope, parameters_of, predicate_in}
-use Rattle.spectra_kinds.specs.Kinds.{Kind, Truth, Whole, SomeWhole, NameOf, OneName, Anything, same_texts, is_truth, is_whole, can_equal, given, is_wide, added, subtracted, multiplied, reduced}
+use Rattle.spectra_kinds.specs.Kinds.{Kind, Truth, Whole, OneName, Anything, is_truth, is_whole, can_equal, given, is_wide, added, subtracted, multiplied, reduced}
 use Rattle.spectra_names.specs.Numbers.{number_of, signed}
 use Rattle.spectra_kinds.specs.Types.{parameter_kinds}
 use Rattle.spectra_contents.specs.declared.setting.Mark.{Mark}
@@ -139,30 +138,10 @@ given_each [] ks = []
 given_each (d ∷ ds) [] = d ∷ given_each ds []
 given_each (d ∷ ds) (k ∷ ks) = given d k ∷ given_each ds ks
 
-abbrev pub is_same : Kind → Kind → Bool
-is_same Truth Truth = true
-is_same (Whole a b) (Whole c d) = int_eq a c && int_eq b d
-is_same SomeWhole SomeWhole = true
-is_same (NameOf names) (NameOf others) = same_texts names others
-is_same (OneName name) (OneName other) = bytes_eq name other
-is_same Anything Anything = true
-is_same _ _ = false
-
--- whether the kinds of two lists are the same, one by one
-abbrev pub are_same : List Kind → List Kind → Bool
-are_same [] [] = true
-are_same (k ∷ ks) (j ∷ js) = is_same k j && are_same ks js
-are_same _ _ = false
-
--- The faults of a body whose parameters were declared with these kinds and have those. Where they are the same, its faults
--- are those that are found where it stands.
-abbrev pub given_faults : (ℕ → List Kind → List Finding) → ℕ → (declared given : List Kind) → List Finding
-given_faults deeper k ds ks = if are_same ks ds then [] else deeper k ks
-
 -- the faults of a called predicate's body with the arguments' kinds, where the predicate is sound and their number right
 abbrev pub called_faults : (ℕ → List Kind → List Finding) → Setting → Named → Expressions → List Finding
 called_faults deeper s (predicate k) es =
-    if has_arity s k es && (s.note k).sound then given_faults deeper k (takes_kinds s.scope k) (given_each (takes_kinds s.scope k) (kinds_of s es)) else []
+    if has_arity s k es && (s.note k).sound then deeper k (given_each (takes_kinds s.scope k) (kinds_of s es)) else []
 called_faults deeper s _ es = []
 
 -- a fault in a body that is put in stands at the name that is used

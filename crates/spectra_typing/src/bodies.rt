@@ -10,7 +10,7 @@ ghost use Rattle.spectra_kinds.specs.KindViews.{kind_data};
 ghost use Rattle.spectra_contents.specs.SettingViews.{setting_data};
 ghost use Rattle.spectra_typing.specs.Typed.{kind_of as kind_of_lem, typing_faults, faults_with};
 ghost use Rattle.spectra_typing.specs.Placed.{found_with, IsSigned};
-ghost use Rattle.spectra_typing.specs.Walked.{body_data, faults_of, faults_left, own_faults, one_deeper, Finds, GoesDeeper};
+ghost use Rattle.spectra_typing.specs.Walked.{body_data, faults_of, faults_left, own_faults, one_deeper, lean_in, lean_with, AreClear, Finds, GoesDeeper};
 
 use crate::calls::{Body, Called, Walked};
 use crate::levels::Level;
@@ -31,7 +31,7 @@ fn walk_predicate<'a>(
     number: usize,
 ) -> Result<(), AllocError>
     requires signed { IsSigned setting.now }
-    ensures { OnOk result (Finds (Some at) walked.old walked.new (λ deeper. own_faults deeper (setting_data setting.now) (predicate_in (setting_data setting.now).scope number))) }
+    ensures { OnOk result (Finds (Some at) walked.old walked.new (λ deeper. own_faults (lean_in setting.now deeper) (setting_data setting.now) (predicate_in (setting_data setting.now).scope number))) }
 {
     let manner = Manner {
         there: true,
@@ -55,7 +55,7 @@ fn walk_body<'a>(
     body: &Body<'a>,
 ) -> Result<(), AllocError>
     requires signed { IsSigned setting.now }
-    ensures { OnOk result (Finds (Some at) walked.old walked.new (λ deeper. one_deeper deeper (setting_data setting.now) body.now.number (map kind_data body.now.kinds.items))) }
+    ensures { OnOk result (Finds (Some at) walked.old walked.new (λ deeper. one_deeper (lean_in setting.now deeper) (setting_data setting.now) body.now.number (map kind_data body.now.kinds.items))) }
 {
     match setting.signature(body.number) {
         Some(signature) => {
@@ -75,7 +75,7 @@ fn walk_bodies<'a>(
     bodies: &[Body<'a>],
 ) -> Result<(), AllocError>
     requires signed { IsSigned setting.now }
-    ensures { OnOk result (Finds (Some at) walked.old walked.new (λ deeper. faults_of (one_deeper deeper (setting_data setting.now)) (map body_data bodies.now))) }
+    ensures { OnOk result (Finds (Some at) walked.old walked.new (λ deeper. faults_of (one_deeper (lean_in setting.now deeper) (setting_data setting.now)) (map body_data bodies.now))) }
 {
     for body in bodies {
         walk_body(alloc, walked, setting, at, body)?;
@@ -92,7 +92,7 @@ fn put_level<'a>(
     level: &Level<'a>,
 ) -> Result<Level<'a>, AllocError>
     requires signed { IsSigned setting.now }
-    ensures { IfOk result (λ next. GoesDeeper (setting_data setting.now) at (found_in findings.old) (found_in findings.new) level.now.bodies.items next.bodies.items) }
+    ensures { IfOk result (λ next. GoesDeeper setting.now at (found_in findings.old) (found_in findings.new) level.now.bodies.items next.bodies.items) }
 {
     let mut walked = Walked {
         findings: *findings,
@@ -112,7 +112,7 @@ fn put_call<'a>(
     call: Called<'a>,
 ) -> Result<(), AllocError>
     requires signed { IsSigned setting.now }
-    ensures { OnOk result (found_in findings.new ≡ found_with (found_in findings.old) (Some call.entry.at) (faults_with deep (setting_data setting.now) call.entry.body.number (map kind_data call.entry.body.kinds.items))) }
+    ensures { OnOk result (found_in findings.new ≡ found_with (found_in findings.old) (Some call.entry.at) (lean_with deep setting.now call.entry.body.number (map kind_data call.entry.body.kinds.items))) }
 {
     let at = call.at;
     let mut level = Level::of(alloc, call.body)?;
@@ -134,7 +134,7 @@ fn put_calls<'a>(
     calls: Vec<Called<'a>>,
 ) -> Result<(), AllocError>
     requires signed { IsSigned setting.now }
-    ensures { OnOk result (found_in findings.new ≡ with_faults (found_in findings.old) (faults_left (faults_with deep (setting_data setting.now)) calls.entry.items)) }
+    ensures { OnOk result (found_in findings.new ≡ with_faults (found_in findings.old) (faults_left (lean_with deep setting.now) calls.entry.items)) }
 {
     for call in calls {
         put_call(alloc, findings, deep, setting, call)?;
@@ -151,6 +151,7 @@ pub fn typed<'a>(
     e: &'a ExprTree,
 ) -> Result<Kind<'a>, AllocError>
     requires signed { IsSigned setting.now }
+    requires clear { AreClear deep setting.now }
     ensures kind { IfOk result (λ k. kind_data k ≡ kind_of_lem (setting_data setting.now) (expr_data e.now)) }
     ensures found { OnOk result (found_in findings.new ≡ with_faults (found_in findings.old) (typing_faults (faults_with deep (setting_data setting.now)) true (setting_data setting.now) (expr_data e.now))) }
 {

@@ -1,12 +1,12 @@
 //! Calls that a walk meets, whose bodies are put in later.
 
-ghost use Rattle.std.specs.Prelude.{◌≡◌, ◌==◌, [], length, map, if◌then◌else◌, OnOk};
+ghost use Rattle.std.specs.Prelude.{◌≡◌, ◌==◌, [], length, map, if◌then◌else◌, ◌&&◌, OnOk};
 ghost use Rattle.spectra_names.specs.ScopeViews.{named_data};
 ghost use Rattle.spectra_kinds.specs.KindViews.{kind_data};
 ghost use Rattle.spectra_contents.specs.SettingViews.{setting_data};
-ghost use Rattle.spectra_typing.specs.Typed.{given_each as given_each_lem, given_faults, moved_to};
+ghost use Rattle.spectra_typing.specs.Typed.{given_each as given_each_lem, moved_to};
 ghost use Rattle.spectra_typing.specs.Placed.{called_with, IsSigned};
-ghost use Rattle.spectra_typing.specs.Walked.{Keeps};
+ghost use Rattle.spectra_typing.specs.Walked.{are_same as are_same_lem, lean_in, Keeps};
 
 use crate::manner::given_each;
 use crate::same::are_same;
@@ -38,9 +38,17 @@ pub struct Walked<'a> {
     pub calls: Vec<Called<'a>>,
 }
 
+// Whether a body is left out: that of a settled predicate whose parameters have the very kinds that it takes.
+fn is_left_out(settled: bool, given: &[Kind<'_>], wanted: &[Kind<'_>]) -> bool
+    ensures { result ≡ (settled && are_same_lem (map kind_data given.now) (map kind_data wanted.now)) }
+{
+    settled && are_same(given, wanted)
+}
+
 impl<'a> Walked<'a> {
     /// Keeps the call of a name with arguments of these kinds, where a body is to be put in: that of a sound predicate which
-    /// takes as many and others than these, in an expression that is there when all bodies are put in.
+    /// takes as many, in an expression that is there when all bodies are put in. One that is settled is left out where it
+    /// takes the very kinds.
     pub fn keep(
         &mut self,
         alloc: Global,
@@ -52,7 +60,7 @@ impl<'a> Walked<'a> {
     ) -> Result<(), AllocError>
         requires signed { IsSigned setting.now }
         ensures { OnOk result (Keeps self.old self.new (λ deeper.
-            if there then map (moved_to at) (called_with deeper (setting_data setting.now) (named_data named) (map kind_data kinds.now)) else [])) }
+            if there then map (moved_to at) (called_with (lean_in setting.now deeper) (setting_data setting.now) (named_data named) (map kind_data kinds.now)) else [])) }
     {
         if !there {
             return Ok(());
@@ -78,34 +86,36 @@ impl<'a> Walked<'a> {
     ) -> Result<(), AllocError>
         requires signed { IsSigned setting.now }
         ensures { OnOk result (Keeps self.old self.new (λ deeper.
-            map (moved_to at) (called_with deeper (setting_data setting.now) (named_data (Named.Predicate number)) (map kind_data kinds.now)))) }
+            map (moved_to at) (called_with (lean_in setting.now deeper) (setting_data setting.now) (named_data (Named.Predicate number)) (map kind_data kinds.now)))) }
     {
         if !setting.is_sound(number) {
             return Ok(());
         }
+        let settled = setting.is_settled(number);
         match setting.signature(number) {
-            Some(signature) => self.keep_taken(alloc, number, &signature.kinds, at, kinds),
-            None => self.keep_taken(alloc, number, &[], at, kinds),
+            Some(signature) => self.keep_taken(alloc, number, settled, &signature.kinds, at, kinds),
+            None => self.keep_taken(alloc, number, settled, &[], at, kinds),
         }
     }
 
-    // Keeps the call of a numbered predicate that takes these kinds, where the arguments give it others.
+    // Keeps the call of a numbered predicate that takes these kinds, unless it is settled and the arguments give it these.
     fn keep_taken(
         &mut self,
         alloc: Global,
         number: usize,
+        settled: bool,
         wanted: &[Kind<'a>],
         at: Place,
         kinds: &[Kind<'a>],
     ) -> Result<(), AllocError>
         ensures { OnOk result (Keeps self.old self.new (λ deeper.
-            if length kinds.now == length wanted.now then map (moved_to at) (given_faults deeper number (map kind_data wanted.now) (given_each_lem (map kind_data wanted.now) (map kind_data kinds.now))) else [])) }
+            if length kinds.now == length wanted.now then map (moved_to at) (if settled && are_same_lem (given_each_lem (map kind_data wanted.now) (map kind_data kinds.now)) (map kind_data wanted.now) then [] else deeper number (given_each_lem (map kind_data wanted.now) (map kind_data kinds.now))) else [])) }
     {
         if kinds.len() != wanted.len() {
             return Ok(());
         }
         let given = given_each(alloc, wanted, kinds)?;
-        if are_same(&given, wanted) {
+        if is_left_out(settled, &given, wanted) {
             return Ok(());
         }
         let body = Body {

@@ -67,6 +67,7 @@ pub fn within<'b, 'a>(
     requires signed { IsSigned setting.now }
     ensures setting { setting_data result ≡ record (setting_data setting.now) { parameters = places_in parameters.now; kinds = map kind_data kinds.now } }
     ensures signed { IsSigned result }
+    ensures notes { result.notes.now ≡ setting.now.notes.now }
 {
     Setting {
         scope: setting.scope,

@@ -1,6 +1,6 @@
 //! The faults in the bodies of definitions, and what each definition is for those that use it.
 
-ghost use Rattle.std.specs.Prelude.{◌≡◌, Some, None, false, true, not, ◌&&◌, if◌then◌else◌, map, replicate, slice_get, IfOk, OnOk};
+ghost use Rattle.std.specs.Prelude.{◌≡◌, Some, None, false, true, not, ◌&&◌, if◌then◌else◌, length, map, replicate, slice_get, IfOk, OnOk};
 ghost use Rattle.spectra_trees.specs.Views.{expr_data};
 ghost use Rattle.spectra_names.specs.Findings.{found_in, with_faults};
 ghost use Rattle.spectra_names.specs.Spaces.{DefineBody, PredicateBody, no_parameters, parameters_of};
@@ -12,8 +12,9 @@ ghost use Rattle.spectra_contents.specs.Contents.{blank as blank_lem, contents_o
 ghost use Rattle.spectra_contents.specs.Misplaced.{no_ban as no_ban_lem};
 ghost use Rattle.spectra_typing.specs.Typed.{kind_of};
 ghost use Rattle.spectra_typing.specs.Notes.{depth_of, expression_faults, boolean_faults, note_of as note_of_lem};
-ghost use Rattle.spectra_typing.specs.Noted.{nameless, depth_of_body, note_of_some};
+ghost use Rattle.spectra_typing.specs.Noted.{nameless, depth_of_body, note_of_some, SettledAt};
 ghost use Rattle.spectra_typing.specs.Placed.{IsSigned};
+ghost use Rattle.spectra_typing.specs.Walked.{AreClear};
 ghost use Rattle.spectra_contents.specs.SettingViews.{note_data, setting_data};
 
 use crate::bodies::typed;
@@ -59,6 +60,7 @@ pub fn look<'a>(
     e: &'a ExprTree,
 ) -> Result<Looked<'a>, AllocError>
     requires signed { IsSigned setting.now }
+    requires clear { AreClear deep setting.now }
     ensures kind { IfOk result (λ l. kind_data l.kind ≡ kind_of (setting_data setting.now) (expr_data e.now)) }
     ensures contents { IfOk result (λ l. l.contents ≡ contents_of (setting_data setting.now) (expr_data e.now)) }
     ensures found { OnOk result (found_in findings.new ≡ with_faults (found_in findings.old) (expression_faults ban deep (setting_data setting.now) (expr_data e.now))) }
@@ -82,6 +84,7 @@ pub fn look_boolean<'a>(
     e: &'a ExprTree,
 ) -> Result<Looked<'a>, AllocError>
     requires signed { IsSigned setting.now }
+    requires clear { AreClear deep setting.now }
     ensures kind { IfOk result (λ l. kind_data l.kind ≡ kind_of (setting_data setting.now) (expr_data e.now)) }
     ensures contents { IfOk result (λ l. l.contents ≡ contents_of (setting_data setting.now) (expr_data e.now)) }
     ensures found { OnOk result (found_in findings.new ≡ with_faults (found_in findings.old) (boolean_faults ban deep (setting_data setting.now) (expr_data e.now))) }
@@ -112,8 +115,10 @@ fn define_note<'a>(
     body: &'a ExprTree,
 ) -> Result<Note<'a>, AllocError>
     requires signed { IsSigned setting.now }
-    requires deep { deep ≡ depth_of (setting_data setting.now).scope (expr_data body.now) no_parameters }
-    ensures { IfOk result (λ n. note_data n ≡ note_of_lem (setting_data setting.now) on_cycle (DefineBody nameless (expr_data body.now))) }
+    requires clear { AreClear deep setting.now }
+    requires deep { on_cycle ≡ false → deep ≡ depth_of (setting_data setting.now).scope (expr_data body.now) no_parameters }
+    ensures unsettled { IfOk result (λ n. n.settled ≡ false) }
+    ensures note { IfOk result (λ n. note_data n ≡ note_of_lem (setting_data setting.now) on_cycle (DefineBody nameless (expr_data body.now))) }
 {
     let mut findings = Findings::new();
     let looked = look(alloc, &mut findings, no_ban(), deep, setting, body)?;
@@ -121,6 +126,7 @@ fn define_note<'a>(
     Ok(Note {
         kind: define_kind(on_cycle, faultless, looked.kind),
         sound: true,
+        settled: false,
         contents: looked.contents,
         marks: Vec::new(alloc),
     })
@@ -161,6 +167,13 @@ fn is_sound(on_cycle: bool, faultless: bool) -> bool
     !on_cycle && faultless
 }
 
+// Whether a sound predicate was looked through with bodies put in as deep as there are definitions.
+fn is_settled(setting: &Setting<'_, '_>, sound: bool, deep: usize) -> bool
+    ensures { result ≡ true → (sound ≡ true) × (deep ≡ length (setting_data setting.now).scope.definitions) }
+{
+    sound && deep == setting.scope.definitions.len()
+}
+
 #[tactic(auto, using(spectra_names::proofs::First::faultless, spectra_names::proofs::First::with_faults_append))]
 // What a predicate with this signature is for those that use it.
 fn predicate_note<'a>(
@@ -174,8 +187,10 @@ fn predicate_note<'a>(
     requires signed { IsSigned setting.now }
     requires places { places_in signature.now.parameters ≡ parameters_of (predicate_data predicate.now) }
     requires kinds { map kind_data signature.now.kinds.items ≡ parameter_kinds (setting_data setting.now).scope (predicate_data predicate.now) }
-    requires deep { deep ≡ depth_of (setting_data setting.now).scope (expr_data predicate.now.body) (parameters_of (predicate_data predicate.now)) }
-    ensures { IfOk result (λ n. note_data n ≡ note_of_lem (setting_data setting.now) on_cycle (PredicateBody (predicate_data predicate.now))) }
+    requires clear { AreClear deep setting.now }
+    requires deep { on_cycle ≡ false → deep ≡ depth_of (setting_data setting.now).scope (expr_data predicate.now.body) (parameters_of (predicate_data predicate.now)) }
+    ensures settled { IfOk result (λ n. SettledAt deep (setting_data setting.now).scope n) }
+    ensures note { IfOk result (λ n. note_data n ≡ note_of_lem (setting_data setting.now) on_cycle (PredicateBody (predicate_data predicate.now))) }
 {
     let inner = within(&*setting, &signature.parameters, signature.kinds.as_slice());
     let params = predicate.params.as_slice();
@@ -190,10 +205,12 @@ fn predicate_note<'a>(
         &predicate.body,
     )?;
     let faultless = findings.first().is_none();
+    let sound = is_sound(on_cycle, faultless);
     let marks = body_marks(alloc, &inner, params.len(), &predicate.body)?;
     Ok(Note {
         kind: Kind::Truth,
-        sound: is_sound(on_cycle, faultless),
+        sound,
+        settled: is_settled(setting, sound, deep),
         contents: looked.contents,
         marks,
     })
@@ -201,11 +218,13 @@ fn predicate_note<'a>(
 
 /// A definition of which nothing is known.
 pub fn blank<'a>(alloc: Global) -> Note<'a>
-    ensures { note_data result ≡ blank_lem }
+    ensures note { note_data result ≡ blank_lem }
+    ensures unsettled { result.settled ≡ false }
 {
     Note {
         kind: Kind::Anything,
         sound: false,
+        settled: false,
         contents: nothing(),
         marks: Vec::new(alloc),
     }
@@ -222,8 +241,10 @@ fn numbered_predicate_note<'a>(
 ) -> Result<Note<'a>, AllocError>
     requires signed { IsSigned setting.now }
     requires predicate { slice_get (setting_data setting.now).scope.definitions number ≡ Some (PredicateBody (predicate_data predicate.now)) }
-    requires deep { deep ≡ depth_of (setting_data setting.now).scope (expr_data predicate.now.body) (parameters_of (predicate_data predicate.now)) }
-    ensures { IfOk result (λ n. note_data n ≡ note_of_lem (setting_data setting.now) on_cycle (PredicateBody (predicate_data predicate.now))) }
+    requires clear { AreClear deep setting.now }
+    requires deep { on_cycle ≡ false → deep ≡ depth_of (setting_data setting.now).scope (expr_data predicate.now.body) (parameters_of (predicate_data predicate.now)) }
+    ensures settled { IfOk result (λ n. SettledAt deep (setting_data setting.now).scope n) }
+    ensures note { IfOk result (λ n. note_data n ≡ note_of_lem (setting_data setting.now) on_cycle (PredicateBody (predicate_data predicate.now))) }
 {
     match setting.signature(number) {
         Some(signature) => predicate_note(alloc, setting, on_cycle, deep, signature, predicate),
@@ -231,7 +252,7 @@ fn numbered_predicate_note<'a>(
     }
 }
 
-/// What a numbered definition is for those that use it. Bodies are put in so deep.
+/// What a numbered definition is for those that use it. Bodies are put in so deep; for one on a cycle the depth doesn't matter.
 pub fn note_of<'a>(
     alloc: Global,
     setting: &Setting<'_, 'a>,
@@ -240,8 +261,10 @@ pub fn note_of<'a>(
     number: usize,
 ) -> Result<Note<'a>, AllocError>
     requires signed { IsSigned setting.now }
-    requires deep { deep ≡ depth_of_body (setting_data setting.now).scope (slice_get (setting_data setting.now).scope.definitions number) }
-    ensures { IfOk result (λ n. note_data n ≡ note_of_some (setting_data setting.now) on_cycle (slice_get (setting_data setting.now).scope.definitions number)) }
+    requires clear { AreClear deep setting.now }
+    requires deep { on_cycle ≡ false → deep ≡ depth_of_body (setting_data setting.now).scope (slice_get (setting_data setting.now).scope.definitions number) }
+    ensures settled { IfOk result (λ n. SettledAt deep (setting_data setting.now).scope n) }
+    ensures note { IfOk result (λ n. note_data n ≡ note_of_some (setting_data setting.now) on_cycle (slice_get (setting_data setting.now).scope.definitions number)) }
 {
     match setting.definition(number) {
         Some(Definition::Define(_, body)) => define_note(alloc, setting, on_cycle, deep, body),

@@ -2,7 +2,7 @@
 
 ghost use Rattle.std.specs.Prelude.{◌≡◌, map};
 ghost use Rattle.spectra_kinds.specs.KindViews.{kind_data};
-ghost use Rattle.spectra_typing.specs.Typed.{is_same as is_same_lem, are_same as are_same_lem};
+ghost use Rattle.spectra_typing.specs.Walked.{is_same as is_same_lem, are_same as are_same_lem};
 
 use spectra_kinds::kinds::{Kind, can_equal};
 

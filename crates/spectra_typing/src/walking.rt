@@ -11,7 +11,7 @@ ghost use Rattle.spectra_kinds.specs.KindViews.{kind_data};
 ghost use Rattle.spectra_contents.specs.Contents.{named_in};
 ghost use Rattle.spectra_typing.specs.Typed.{kind_of as kind_of_lem, form_kind, kinds_of, wrong, read_faults, remainder_faults, operands, typing_faults, typing_faults_of_each, argument_typing_faults};
 ghost use Rattle.spectra_typing.specs.Placed.{found_with, call_typing_faults, IsSigned};
-ghost use Rattle.spectra_typing.specs.Walked.{Finds};
+ghost use Rattle.spectra_typing.specs.Walked.{lean_in, Finds};
 ghost use Rattle.spectra_contents.specs.SettingViews.{setting_data};
 
 use crate::calls::Walked;
@@ -55,7 +55,7 @@ pub fn walk<'a>(
     requires signed { IsSigned setting.now }
     ensures kind { IfOk result (λ k. kind_data k ≡ kind_of_lem (setting_data setting.now) (expr_data tree.now)) }
     ensures found { OnOk result (Finds manner.moved walked.old walked.new (λ deeper.
-        typing_faults deeper manner.there (setting_data setting.now) (expr_data tree.now))) }
+        typing_faults (lean_in setting.now deeper) manner.there (setting_data setting.now) (expr_data tree.now))) }
 {
     match &tree.form {
         ExprForm::True => Ok(Kind::Truth),
@@ -108,7 +108,7 @@ fn walk_chain<'a>(
     requires signed { IsSigned setting.now }
     ensures kind { IfOk result (λ k. kind_data k ≡ kind_of_lem (setting_data setting.now) (chain_data chain.now)) }
     ensures found { OnOk result (Finds manner.moved walked.old walked.new (λ deeper.
-        typing_faults deeper manner.there (setting_data setting.now) (chain_data chain.now))) }
+        typing_faults (lean_in setting.now deeper) manner.there (setting_data setting.now) (chain_data chain.now))) }
 {
     let mut kind = walk(alloc, walked, manner, setting, chain.head)?;
     for link in &chain.links {
@@ -140,7 +140,7 @@ fn walk_prefix<'a>(
     ensures kind { IfOk result (λ k. kind_data k ≡ Truth) }
     ensures found { OnOk result (Finds manner.moved walked.old walked.new (λ deeper.
         wrong (is_truth_lem (kind_of_lem (setting_data setting.now) (expr_data e.now))) at
-        ++ typing_faults deeper manner.there (setting_data setting.now) (expr_data e.now))) }
+        ++ typing_faults (lean_in setting.now deeper) manner.there (setting_data setting.now) (expr_data e.now))) }
 {
     let kind = walk(alloc, walked, manner, setting, e)?;
     report_wrong(&mut walked.findings, manner.moved, is_truth(kind), at);
@@ -163,7 +163,7 @@ fn walk_remainder<'a>(
     ensures kind { IfOk result (λ k. kind_data k ≡ reduced_lem (number_of_lem digits.now)) }
     ensures found { OnOk result (Finds manner.moved walked.old walked.new (λ deeper.
         (wrong (is_whole (kind_of_lem (setting_data setting.now) (expr_data e.now))) at ++ remainder_faults (number_of_lem digits.now) at number)
-        ++ typing_faults deeper manner.there (setting_data setting.now) (expr_data e.now))) }
+        ++ typing_faults (lean_in setting.now deeper) manner.there (setting_data setting.now) (expr_data e.now))) }
 {
     let kind = walk(alloc, walked, manner, setting, e)?;
     let n = number_of(digits);
@@ -186,7 +186,7 @@ fn walk_operands<'a>(
     ensures kind { IfOk result (λ k. kind_data k ≡ Truth) }
     ensures found { OnOk result (Finds manner.moved walked.old walked.new (λ deeper.
         operands (setting_data setting.now) at (expressions (map expr_data es.now)) operators.now
-        ++ typing_faults_of_each deeper manner.there (setting_data setting.now) (expressions (map expr_data es.now)))) }
+        ++ typing_faults_of_each (lean_in setting.now deeper) manner.there (setting_data setting.now) (expressions (map expr_data es.now)))) }
 {
     for (place, e) in es.iter().enumerate() {
         let kind = walk(alloc, walked, manner, setting, e)?;
@@ -213,7 +213,7 @@ fn walk_call<'a>(
     requires signed { IsSigned setting.now }
     ensures kind { IfOk result (λ k. kind_data k ≡ form_kind (setting_data setting.now) (Form.Call (name_data name.now) (expressions (map expr_data es.now)))) }
     ensures found { OnOk result (Finds manner.moved walked.old walked.new (λ deeper.
-        call_typing_faults deeper manner.there (setting_data setting.now) (name_data name.now) (expressions (map expr_data es.now)))) }
+        call_typing_faults (lean_in setting.now deeper) manner.there (setting_data setting.now) (name_data name.now) (expressions (map expr_data es.now)))) }
 {
     let named = setting.named(name);
     let at = place_of(name);
@@ -245,7 +245,7 @@ fn walk_arguments<'a>(
     requires signed { IsSigned setting.now }
     ensures kinds { IfOk result (λ v. map kind_data v.items ≡ kinds_of (setting_data setting.now) (expressions (map expr_data es.now))) }
     ensures found { OnOk result (Finds manner.moved walked.old walked.new (λ deeper.
-        argument_typing_faults deeper manner.there (setting_data setting.now) marks.now (expressions (map expr_data es.now)))) }
+        argument_typing_faults (lean_in setting.now deeper) manner.there (setting_data setting.now) marks.now (expressions (map expr_data es.now)))) }
 {
     let mut kinds = Vec::with_capacity(alloc, es.len())?;
     for (place, e) in es.iter().enumerate() {

@@ -7,6 +7,7 @@ pub returns : goal.returns
 returns c =
     record {
       note = c.in_ok-note.note;
-      is = c.in_ok-note.ensures ∙ ap (λ ns. made_note (scope_data c.args.tables.now.scope.now) ns c.args.number) c.deref.ensures.value;
+      is = c.in_ok-note.ensures.note ∙ ap (λ ns. made_note (scope_data c.args.tables.now.scope.now) ns c.args.number) c.deref.ensures.value;
+      settled = c.in_ok-note.ensures.settled;
       put = refl;
     }

@@ -21,8 +21,9 @@ returns c =
       measured = search rules;
       signed = search rules;
       reads =
-          marks_reads (scope_data c.args.scope.now) c.in_ok-order.order.numbers.items c.in_ok-order.ensures.order c.requires c.in_ok-notes.notes.items (map (λ marks. marks.items) c.in_ok-read.read.items) c.in_ok-notes.ensures
+          marks_reads (scope_data c.args.scope.now) c.in_ok-order.order.numbers.items c.in_ok-order.ensures.order c.requires c.in_ok-notes.notes.items (map (λ marks. marks.items) c.in_ok-read.read.items) c.in_ok-notes.ensures.noted
           (c.in_ok-read.ensures ∙ ap (λ notes. map (λ n. map (λ m. m.used) n.marks.items) notes) c.deref-15.ensures.value);
       handed = search rules;
+      clear = search rules;
       noted = search rules;
     }

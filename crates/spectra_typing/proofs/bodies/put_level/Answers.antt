@@ -4,12 +4,12 @@ use Rattle.spectra_names.specs.Findings.{found_in}
 use Rattle.spectra_contents.specs.SettingViews.{setting_data}
 use Rattle.spectra_typing.specs.declared.levels.Level.{Level}
 use Rattle.spectra_typing.specs.Placed.{found_with}
-use Rattle.spectra_typing.specs.Walked.{body_data, faults_of, faults_left, one_deeper, HaveFaults, GoesDeeper}
+use Rattle.spectra_typing.specs.Walked.{body_data, faults_of, faults_left, one_deeper, lean_in, HaveFaults, GoesDeeper}
 use Rattle.spectra_typing.proofs.bodies.put_level.Goals as goal
 
 pub returns : goal.returns
 returns c =
-    let s = setting_data c.args.setting.now in
+    let s = c.args.setting.now in
     let at = c.args.at in
     let old = found_in c.args.findings.now in
     let walked = c.walk_bodies.new.walked in
@@ -19,5 +19,5 @@ returns c =
     (λ next have deeper.
     have deeper (found_in walked.findings) at
     ∙ c.in_ok-walk_bodies.ensures deeper
-    ∙ (λ i. found_with (found_with old (Some at) (faults_left deeper (c.new.ensures.items i))) (Some at) (faults_of (one_deeper deeper s) (map body_data (c.deref.ensures.value i)))))
+    ∙ (λ i. found_with (found_with old (Some at) (faults_left deeper (c.new.ensures.items i))) (Some at) (faults_of (one_deeper (lean_in s deeper) (setting_data s)) (map body_data (c.deref.ensures.value i)))))
     c.of_calls.ensures

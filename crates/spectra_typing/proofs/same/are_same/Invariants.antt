@@ -1,6 +1,6 @@
 use Rattle.std.proofs.Common.{◌≡◌, map, drop}
 use Rattle.spectra_kinds.specs.KindViews.{kind_data}
-use Rattle.spectra_typing.specs.Typed.{are_same}
+use Rattle.spectra_typing.specs.Walked.{are_same}
 use Rattle.spectra_typing.proofs.same.are_same.Given as goal
 
 -- what is left decides

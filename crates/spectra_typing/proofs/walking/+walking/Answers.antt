@@ -17,7 +17,7 @@ use Rattle.spectra_typing.specs.Typed.{kind_of, binary_kind, wrong, takes, call_
 use Rattle.spectra_typing.specs.declared.manner.Manner.{Manner}
 use Rattle.spectra_typing.specs.declared.calls.Walked.{Walked}
 use Rattle.spectra_typing.specs.Placed.{found_with, called_with, call_typing_faults}
-use Rattle.spectra_typing.specs.Walked.{all_found, Finds}
+use Rattle.spectra_typing.specs.Walked.{lean_in, all_found, Finds}
 use Rattle.spectra_trees.proofs.Folded.{number_folded, read_folded, call_folded, binary_folded, and_folded, or_folded}
 use Rattle.spectra_contents.proofs.Leftover.{from_place, heavier}
 use Rattle.spectra_kinds.proofs.Chains.{links_weight, chain_weight, lighter_link, lighter_chain}
@@ -37,7 +37,7 @@ walk-returns-in-Number-clause-found t c deeper =
     let own = λ (ds : List ℕ). node_faults s at (Form.Number c.in-Number.negative ds) in
     reported_alone old (record { findings = c.typed_number.new.findings; calls = old.calls }) m.moved (own (string_bytes c.in-Number.digits)) refl
     (c.typed_number.ensures.found ∙ ap (λ ds. found_with (found_in old.findings) m.moved (own ds)) c.as_str.ensures.value) deeper
-    ∙ ap (λ form. found_with (all_found deeper m.moved old) m.moved (node_faults s at form ++ form_typing_faults deeper m.there s form)) (sym (ap form_data c.in-Number.is ∙ number_folded c.in-Number.negative c.in-Number.digits))
+    ∙ ap (λ form. found_with (all_found deeper m.moved old) m.moved (node_faults s at form ++ form_typing_faults (lean_in c.args.setting.now deeper) m.there s form)) (sym (ap form_data c.in-Number.is ∙ number_folded c.in-Number.negative c.in-Number.digits))
 
 pub walk-returns-in-Read-clause-found : goal.walk-returns-in-Read-clause-found
 walk-returns-in-Read-clause-found t c deeper =
@@ -47,14 +47,14 @@ walk-returns-in-Read-clause-found t c deeper =
     let at = c.args.tree.now.at in
     let name = name_data c.in-Read.name in
     reported_alone old (record { findings = c.typed_read.new.findings; calls = old.calls }) m.moved (read_faults (named_in s name) (place_of name)) refl c.typed_read.ensures.found deeper
-    ∙ ap (λ form. found_with (all_found deeper m.moved old) m.moved (node_faults s at form ++ form_typing_faults deeper m.there s form)) (sym (ap form_data c.in-Read.is ∙ read_folded c.in-Read.name))
+    ∙ ap (λ form. found_with (all_found deeper m.moved old) m.moved (node_faults s at form ++ form_typing_faults (lean_in c.args.setting.now deeper) m.there s form)) (sym (ap form_data c.in-Read.is ∙ read_folded c.in-Read.name))
 
 pub walk-returns-in-Call-clause-found : goal.walk-returns-in-Call-clause-found
 walk-returns-in-Call-clause-found t c =
     let s = setting_data c.args.setting.now in
     let m = c.args.manner in
     rw (c.in-Call.is, call_folded c.in-Call.name c.in-Call.es)
-    (subst (λ (es : List ExprTree). OnOk c.walk_call.result (Finds m.moved c.args.walked.now c.walk_call.new.walked (λ deeper. call_typing_faults deeper m.there s (name_data c.in-Call.name) (expressions (map expr_data es)))))
+    (subst (λ (es : List ExprTree). OnOk c.walk_call.result (Finds m.moved c.args.walked.now c.walk_call.new.walked (λ deeper. call_typing_faults (lean_in c.args.setting.now deeper) m.there s (name_data c.in-Call.name) (expressions (map expr_data es)))))
     c.deref.ensures.value c.walk_call.ensures.found)
 
 pub walk-returns-in-And-clause-found : goal.walk-returns-in-And-clause-found
@@ -64,7 +64,7 @@ walk-returns-in-And-clause-found t c =
     let place = c.args.tree.now.at in
     rw (c.in-And.is, and_folded c.in-And.es c.in-And.ops)
     (subst (λ (p : List ExprTree × List Place). OnOk c.walk_operands.result (Finds m.moved c.args.walked.now c.walk_operands.new.walked
-    (λ deeper. operands s place (expressions (map expr_data p.0)) p.1 ++ typing_faults_of_each deeper m.there s (expressions (map expr_data p.0)))))
+    (λ deeper. operands s place (expressions (map expr_data p.0)) p.1 ++ typing_faults_of_each (lean_in c.args.setting.now deeper) m.there s (expressions (map expr_data p.0)))))
     (λ i. (c.deref-in-And.ensures.value i, c.deref-in-And-2.ensures.value i)) c.walk_operands.ensures.found)
 
 pub walk-returns-in-Or-clause-found : goal.walk-returns-in-Or-clause-found
@@ -74,7 +74,7 @@ walk-returns-in-Or-clause-found t c =
     let place = c.args.tree.now.at in
     rw (c.in-Or.is, or_folded c.in-Or.es c.in-Or.ops)
     (subst (λ (p : List ExprTree × List Place). OnOk c.walk_operands-in-Or.result (Finds m.moved c.args.walked.now c.walk_operands-in-Or.new.walked
-    (λ deeper. operands s place (expressions (map expr_data p.0)) p.1 ++ typing_faults_of_each deeper m.there s (expressions (map expr_data p.0)))))
+    (λ deeper. operands s place (expressions (map expr_data p.0)) p.1 ++ typing_faults_of_each (lean_in c.args.setting.now deeper) m.there s (expressions (map expr_data p.0)))))
     (λ i. (c.deref-in-Or.ensures.value i, c.deref-in-Or-2.ensures.value i)) c.walk_operands-in-Or.ensures.found)
 
 pub walk_prefix-returns-clause-found : goal.walk_prefix-returns-clause-found
@@ -87,7 +87,7 @@ walk_prefix-returns-clause-found t c deeper =
     let own = wrong (is_truth (kind_of s e)) c.args.at in
     reported inner _ m.moved own refl (c.report_wrong.ensures ∙ (λ i. found_with (found_in inner.findings) m.moved (wrong (truth i) c.args.at))) deeper
     ∙ ap (λ f. found_with f m.moved own) (c.in_ok-kind.ensures.found deeper)
-    ∙ sym (found_with_later (all_found deeper m.moved c.args.walked.now) m.moved own (typing_faults deeper m.there s e))
+    ∙ sym (found_with_later (all_found deeper m.moved c.args.walked.now) m.moved own (typing_faults (lean_in c.args.setting.now deeper) m.there s e))
 
 pub walk_remainder-returns-clause-found : goal.walk_remainder-returns-clause-found
 walk_remainder-returns-clause-found t c deeper =
@@ -101,7 +101,7 @@ walk_remainder-returns-clause-found t c deeper =
     (c.report_remainder.ensures
     ∙ (λ i. found_with (found_in inner.findings) m.moved (wrong (is_whole (c.in_ok-kind.ensures.kind i)) c.args.at ++ remainder_faults (n i) c.args.at c.args.number))) deeper
     ∙ ap (λ f. found_with f m.moved own) (c.in_ok-kind.ensures.found deeper)
-    ∙ sym (found_with_later (all_found deeper m.moved c.args.walked.now) m.moved own (typing_faults deeper m.there s e))
+    ∙ sym (found_with_later (all_found deeper m.moved c.args.walked.now) m.moved own (typing_faults (lean_in c.args.setting.now deeper) m.there s e))
 
 pub walk_operands-walk-requires : goal.walk_operands-walk-requires
 walk_operands-walk-requires t c =
@@ -128,10 +128,10 @@ walk_operands-loop-place-preserved t c deeper =
     let inner = c.walk.new.walked in
     let truth = c.is_truth.ensures ∙ ap is_truth c.in_ok-kind.ensures.kind in
     let own = wrong (is_truth (kind_of s (expr_data e))) (get_or ps k c.args.at) in
-    ap (λ f. found_with f m.moved (later_operands s c.args.at (from_place es (k + 1)) (drop (k + 1) ps) ++ typing_faults_of_each deeper m.there s (from_place es (k + 1))))
+    ap (λ f. found_with f m.moved (later_operands s c.args.at (from_place es (k + 1)) (drop (k + 1) ps) ++ typing_faults_of_each (lean_in c.args.setting.now deeper) m.there s (from_place es (k + 1))))
     (reported inner _ m.moved own refl (c.report_wrong.ensures ∙ (λ i. found_with (found_in inner.findings) m.moved (wrong (truth i) (c.operator_at.ensures i)))) deeper
     ∙ ap (λ f. found_with f m.moved own) (c.in_ok-kind.ensures.found deeper))
-    ∙ operand_faults_left deeper s es k e c.loop-place-test.true c.index-es-place.is m.there c.args.at ps (all_found deeper m.moved c.loop-place.walked) m.moved
+    ∙ operand_faults_left (lean_in c.args.setting.now deeper) s es k e c.loop-place-test.true c.index-es-place.is m.there c.args.at ps (all_found deeper m.moved c.loop-place.walked) m.moved
     ∙ c.loop-place.invariant deeper
 
 pub walk_arguments-loop-place-preserved : goal.walk_arguments-loop-place-preserved
@@ -148,9 +148,9 @@ walk_arguments-loop-place-preserved t c =
       kinds = kinds_pushed s es k e c.loop-place-test.true c.index-es-place.is c.loop-place.kinds.items c.push.new.self.items c.in_ok-kind.kind c.in_ok-push.ensures.items c.in_ok-kind.ensures.kind ∙ c.loop-place.invariant.kinds;
       found =
           λ deeper.
-          ap (λ f. found_with f m.moved (argument_typing_faults deeper m.there s (drop (k + 1) ms) (from_place es (k + 1))))
-          (subst (λ (n : Manner). all_found deeper n.moved c.walk.new.walked ≡ found_with (all_found deeper n.moved old) n.moved (typing_faults deeper n.there s (expr_data e))) inner (c.in_ok-kind.ensures.found deeper))
-          ∙ argument_faults_left deeper s es k e c.loop-place-test.true c.index-es-place.is m.there ms (all_found deeper m.moved old) m.moved ∙ c.loop-place.invariant.found deeper;
+          ap (λ f. found_with f m.moved (argument_typing_faults (lean_in c.args.setting.now deeper) m.there s (drop (k + 1) ms) (from_place es (k + 1))))
+          (subst (λ (n : Manner). all_found deeper n.moved c.walk.new.walked ≡ found_with (all_found deeper n.moved old) n.moved (typing_faults (lean_in c.args.setting.now deeper) n.there s (expr_data e))) inner (c.in_ok-kind.ensures.found deeper))
+          ∙ argument_faults_left (lean_in c.args.setting.now deeper) s es k e c.loop-place-test.true c.index-es-place.is m.there ms (all_found deeper m.moved old) m.moved ∙ c.loop-place.invariant.found deeper;
     }
 
 pub walk_call-returns-clause-found : goal.walk_call-returns-clause-found
@@ -168,13 +168,13 @@ walk_call-returns-clause-found t c deeper =
     let marks = c.name_marks-marks.ensures ∙ ap (name_marks s) names in
     let kinds = ap (map kind_data) c.deref-2.ensures.value ∙ c.in_ok-kinds.ensures.kinds in
     let own = call_faults s named (place_of name) es in
-    let body = (λ i. called_with deeper s (names i) (kinds i)) ∙ called_is deeper s named es in
+    let body = (λ i. called_with (lean_in c.args.setting.now deeper) s (names i) (kinds i)) ∙ called_is (lean_in c.args.setting.now deeper) s named es in
     kept told _ m.moved _ c.in_ok-keep.ensures deeper
     ∙ (λ i. found_with (all_found deeper m.moved told) m.moved (if m.there then map (moved_to (at i)) (body i) else []))
-    ∙ ap (λ f. found_with f m.moved (put_in_faults deeper m.there s name es))
+    ∙ ap (λ f. found_with f m.moved (put_in_faults (lean_in c.args.setting.now deeper) m.there s name es))
     (reported inner told m.moved own refl (c.report_call.ensures ∙ (λ i. found_with (found_in inner.findings) m.moved (call_faults s (names i) (at i) es))) deeper
-    ∙ ap (λ f. found_with f m.moved own) (c.in_ok-kinds.ensures.found deeper ∙ (λ i. found_with (all_found deeper m.moved old) m.moved (argument_typing_faults deeper m.there s (marks i) es))))
-    ∙ call_placed (all_found deeper m.moved old) m.moved own (put_in_faults deeper m.there s name es) (argument_typing_faults deeper m.there s (name_marks s named) es)
+    ∙ ap (λ f. found_with f m.moved own) (c.in_ok-kinds.ensures.found deeper ∙ (λ i. found_with (all_found deeper m.moved old) m.moved (argument_typing_faults (lean_in c.args.setting.now deeper) m.there s (marks i) es))))
+    ∙ call_placed (all_found deeper m.moved old) m.moved own (put_in_faults (lean_in c.args.setting.now deeper) m.there s name es) (argument_typing_faults (lean_in c.args.setting.now deeper) m.there s (name_marks s named) es)
 
 pub walk-walk_operands-requires : goal.walk-walk_operands-requires
 walk-walk_operands-requires t c =
@@ -221,8 +221,8 @@ walk_chain-loop-link-init t c =
       kind = ap (λ k. chain_kind s k links) first.kind ∙ chain_kind_is s head links;
       found =
           λ deeper.
-          (λ i. found_with (first.found deeper i) m.moved (chain_faults deeper m.there s (first.kind i) links))
-          ∙ chain_faults_is deeper m.there s (all_found deeper m.moved c.args.walked.now) m.moved head links;
+          (λ i. found_with (first.found deeper i) m.moved (chain_faults (lean_in c.args.setting.now deeper) m.there s (first.kind i) links))
+          ∙ chain_faults_is (lean_in c.args.setting.now deeper) m.there s (all_found deeper m.moved c.args.walked.now) m.moved head links;
     }
 
 pub walk_chain-loop-link-preserved : goal.walk_chain-loop-link-preserved
@@ -249,8 +249,8 @@ walk_chain-loop-link-preserved t c =
       kind = ap (λ x. chain_kind s x later) made ∙ ap (chain_kind s kind) (sym left) ∙ c.loop-link.invariant.kind;
       found =
           λ deeper.
-          (λ i. found_with ((reported inner _ m.moved own refl found deeper ∙ ap (λ f. found_with f m.moved own) (second.found deeper)) i) m.moved (chain_faults deeper m.there s (made i) later))
-          ∙ found_behind (all_found deeper m.moved old) m.moved (typing_faults deeper m.there s (expr_data link.second.now)) own (chain_faults deeper m.there s (binary_kind word kind (kind_of s (expr_data link.second.now))) later)
-          ∙ ap (λ xs. found_with (all_found deeper m.moved old) m.moved (chain_faults deeper m.there s kind xs)) (sym left)
+          (λ i. found_with ((reported inner _ m.moved own refl found deeper ∙ ap (λ f. found_with f m.moved own) (second.found deeper)) i) m.moved (chain_faults (lean_in c.args.setting.now deeper) m.there s (made i) later))
+          ∙ found_behind (all_found deeper m.moved old) m.moved (typing_faults (lean_in c.args.setting.now deeper) m.there s (expr_data link.second.now)) own (chain_faults (lean_in c.args.setting.now deeper) m.there s (binary_kind word kind (kind_of s (expr_data link.second.now))) later)
+          ∙ ap (λ xs. found_with (all_found deeper m.moved old) m.moved (chain_faults (lean_in c.args.setting.now deeper) m.there s kind xs)) (sym left)
           ∙ c.loop-link.invariant.found deeper;
     }

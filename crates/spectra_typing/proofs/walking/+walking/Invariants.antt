@@ -7,7 +7,7 @@ use Rattle.spectra_kinds.specs.Kinds.{Kind}
 use Rattle.spectra_kinds.specs.KindViews.{kind_data}
 use Rattle.spectra_typing.specs.Typed.{kind_of, kinds_of, later_operands, typing_faults, typing_faults_of_each, argument_typing_faults}
 use Rattle.spectra_typing.specs.Placed.{found_with}
-use Rattle.spectra_typing.specs.Walked.{all_found}
+use Rattle.spectra_typing.specs.Walked.{lean_in, all_found}
 use Rattle.spectra_kinds.proofs.Chains.{chain_weight}
 use Rattle.spectra_contents.specs.SettingViews.{setting_data}
 use Rattle.spectra_contents.proofs.Leftover.{from_place}
@@ -43,8 +43,8 @@ invariant-walk_chain-loop-link l =
     record {
       kind : chain_kind (setting_data l.setting) (kind_data l.kind) (map link_data (drop l.link-index l.chain.links.items)) ≡ kind_of (setting_data l.setting) (chain_data l.chain);
       found : (deeper : ℕ → List Kind → List Finding) → found_with (all_found deeper l.manner.moved l.walked) l.manner.moved
-          (chain_faults deeper l.manner.there (setting_data l.setting) (kind_data l.kind) (map link_data (drop l.link-index l.chain.links.items)))
-          ≡ found_with (all_found deeper l.manner.moved l.fn.walked) l.manner.moved (typing_faults deeper l.manner.there (setting_data l.setting) (chain_data l.chain));
+          (chain_faults (lean_in l.setting deeper) l.manner.there (setting_data l.setting) (kind_data l.kind) (map link_data (drop l.link-index l.chain.links.items)))
+          ≡ found_with (all_found deeper l.manner.moved l.fn.walked) l.manner.moved (typing_faults (lean_in l.setting deeper) l.manner.there (setting_data l.setting) (chain_data l.chain));
     }
 
 -- what is left is the answer
@@ -52,17 +52,17 @@ abbrev pub invariant-walk_operands-loop-place : goal.invariant-walk_operands-loo
 invariant-walk_operands-loop-place l =
     (deeper : ℕ → List Kind → List Finding) → found_with (all_found deeper l.manner.moved l.walked) l.manner.moved
     (later_operands (setting_data l.setting) l.at (from_place l.es l.place) (drop l.place (l.at ∷ l.operators))
-    ++ typing_faults_of_each deeper l.manner.there (setting_data l.setting) (from_place l.es l.place))
+    ++ typing_faults_of_each (lean_in l.setting deeper) l.manner.there (setting_data l.setting) (from_place l.es l.place))
     ≡ found_with (all_found deeper l.manner.moved l.fn.walked) l.manner.moved
     (later_operands (setting_data l.setting) l.at (from_place l.es 0) (l.at ∷ l.operators)
-    ++ typing_faults_of_each deeper l.manner.there (setting_data l.setting) (from_place l.es 0))
+    ++ typing_faults_of_each (lean_in l.setting deeper) l.manner.there (setting_data l.setting) (from_place l.es 0))
 
 abbrev pub invariant-walk_arguments-loop-place : goal.invariant-walk_arguments-loop-place
 invariant-walk_arguments-loop-place l =
     record {
       kinds : map kind_data l.kinds.items ++ kinds_of (setting_data l.setting) (from_place l.es l.place) ≡ kinds_of (setting_data l.setting) (from_place l.es 0);
       found : (deeper : ℕ → List Kind → List Finding) → found_with (all_found deeper l.manner.moved l.walked) l.manner.moved
-          (argument_typing_faults deeper l.manner.there (setting_data l.setting) (drop l.place l.marks) (from_place l.es l.place))
+          (argument_typing_faults (lean_in l.setting deeper) l.manner.there (setting_data l.setting) (drop l.place l.marks) (from_place l.es l.place))
           ≡ found_with (all_found deeper l.manner.moved l.fn.walked) l.manner.moved
-          (argument_typing_faults deeper l.manner.there (setting_data l.setting) l.marks (from_place l.es 0));
+          (argument_typing_faults (lean_in l.setting deeper) l.manner.there (setting_data l.setting) l.marks (from_place l.es 0));
     }

@@ -1,7 +1,7 @@
-use Rattle.std.proofs.Common.{◌≡◌, false, if◌then◌else◌, [], ◌++◌, length, map, refl, sym, ap, ◌∙◌, eq-eqb, arith}
+use Rattle.std.proofs.Common.{◌≡◌, false, if◌then◌else◌, ◌&&◌, [], ◌++◌, length, map, refl, sym, ap, ◌∙◌, eq-eqb, arith}
 use Rattle.spectra_kinds.specs.KindViews.{kind_data}
-use Rattle.spectra_typing.specs.Typed.{given_each, are_same, moved_to}
-use Rattle.spectra_typing.specs.Walked.{faults_left}
+use Rattle.spectra_typing.specs.Typed.{given_each, moved_to}
+use Rattle.spectra_typing.specs.Walked.{are_same, faults_left}
 use Rattle.spectra_typing.proofs.Found.{one_kept}
 use Rattle.spectra_typing.proofs.calls.Walked.keep_taken.Goals as goal
 
@@ -13,7 +13,7 @@ returns c =
     let given = given_each wanted (map kind_data c.args.kinds.now) in
     let as_many = eq-eqb (length c.args.kinds.now) (length c.args.wanted.now) (omega (arith, c.if-kinds-wanted.false)) in
     let made = ap (map kind_data) c.deref.ensures.value ∙ c.in_ok-given.ensures in
-    let other : are_same given wanted ≡ false = (λ i. are_same (sym made i) wanted) ∙ sym c.are_same.ensures ∙ c.if-are_same.false in
+    let other : (c.args.settled && are_same given wanted) ≡ false = (λ i. c.args.settled && are_same (sym made i) wanted) ∙ sym c.is_left_out.ensures ∙ c.if-is_left_out.false in
     record {
       findings = refl;
       calls =
