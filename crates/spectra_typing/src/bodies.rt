@@ -37,13 +37,10 @@ fn walk_predicate<'a>(
         there: true,
         moved: Some(at),
     };
-    match setting.predicate(number) {
-        Some(predicate) => {
-            walk(alloc, walked, manner, setting, &predicate.body)?;
-            Ok(())
-        }
-        None => Ok(()),
+    if let Some(predicate) = setting.predicate(number) {
+        walk(alloc, walked, manner, setting, &predicate.body)?;
     }
+    Ok(())
 }
 
 // Walks a body that a name at this place puts in.
@@ -57,13 +54,11 @@ fn walk_body<'a>(
     requires signed { IsSigned setting.now }
     ensures { OnOk result (Finds (Some at) walked.old walked.new (λ deeper. one_deeper (lean_in setting.now deeper) (setting_data setting.now) body.now.number (map kind_data body.now.kinds.items))) }
 {
-    match setting.signature(body.number) {
-        Some(signature) => {
-            let inner = within(&*setting, &signature.parameters, &body.kinds);
-            walk_predicate(alloc, walked, &inner, at, body.number)
-        }
-        None => Ok(()),
+    if let Some(signature) = setting.signature(body.number) {
+        let inner = within(&*setting, &signature.parameters, &body.kinds);
+        walk_predicate(alloc, walked, &inner, at, body.number)?;
     }
+    Ok(())
 }
 
 // Walks bodies that a name at this place puts in.

@@ -25,26 +25,28 @@ fn is_same(a: &Body<'_>, b: &Body<'_>) -> bool
     a.number == b.number && are_same(&a.kinds, &b.kinds)
 }
 
-// A number that is most often another one for another kind.
-fn kind_digest(kind: Kind<'_>) -> u64 {
+// A number that is most often another one for another kind behind the same ones.
+fn mixed(sum: u64, kind: Kind<'_>) -> u64 {
+    let mut mixed = sum.wrapping_mul(1_000_003);
     match kind {
-        Kind::Truth => 1,
-        Kind::Whole(low, high) => low
-            .cast_unsigned()
-            .wrapping_mul(31)
-            .wrapping_add(high.cast_unsigned()),
-        Kind::SomeWhole => 2,
-        Kind::NameOf(_) => 3,
-        Kind::OneName(_) => 4,
-        Kind::Anything => 5,
+        Kind::Whole(low, high) => {
+            mixed ^= low.cast_unsigned() ^ high.cast_unsigned().wrapping_mul(31);
+        }
+        Kind::OneName(name) => {
+            for byte in name.as_bytes() {
+                mixed = mixed.wrapping_mul(31) ^ u64::from(*byte);
+            }
+        }
+        _ => {}
     }
+    mixed
 }
 
 // A number that is most often another one for another body.
 fn digest(body: &Body<'_>) -> u64 {
     let mut sum = body.number as u64;
     for kind in &body.kinds {
-        sum = sum.wrapping_mul(1_000_003).wrapping_add(kind_digest(*kind));
+        sum = mixed(sum, *kind);
     }
     sum
 }

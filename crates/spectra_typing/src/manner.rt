@@ -70,12 +70,8 @@ pub fn within<'b, 'a>(
     ensures notes { result.notes.now ≡ setting.now.notes.now }
 {
     Setting {
-        scope: setting.scope,
-        variables: setting.variables,
-        notes: setting.notes,
-        hidden: setting.hidden,
-        signatures: setting.signatures,
         parameters,
         kinds,
+        ..*setting
     }
 }

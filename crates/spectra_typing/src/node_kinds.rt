@@ -52,11 +52,7 @@ pub fn call_kind<'a>(named: Named) -> Kind<'a>
 {
     match named {
         Named::Predicate(_) => Kind::Truth,
-        Named::Unknown => Kind::Anything,
-        Named::Parameter(_) => Kind::Anything,
-        Named::Variable(_) => Kind::Anything,
-        Named::EnumName => Kind::Anything,
-        Named::Define(_) => Kind::Anything,
+        _ => Kind::Anything,
     }
 }
 
@@ -68,15 +64,6 @@ pub fn binary_kind<'a>(word: BinaryWord, a: Kind<'a>, b: Kind<'a>) -> Kind<'a>
         BinaryWord::Add => sum_of(a, b),
         BinaryWord::Sub => difference_of(a, b),
         BinaryWord::Mul => product_of(a, b),
-        BinaryWord::Implies => Kind::Truth,
-        BinaryWord::Iff => Kind::Truth,
-        BinaryWord::Since => Kind::Truth,
-        BinaryWord::Triggered => Kind::Truth,
-        BinaryWord::Eq => Kind::Truth,
-        BinaryWord::Ne => Kind::Truth,
-        BinaryWord::Lt => Kind::Truth,
-        BinaryWord::Le => Kind::Truth,
-        BinaryWord::Gt => Kind::Truth,
-        BinaryWord::Ge => Kind::Truth,
+        _ => Kind::Truth,
     }
 }

@@ -107,3 +107,18 @@ fn arguments_that_are_handed_on_double_nothing(rt: HostRuntime) -> Result<(), Fa
     )?;
     synth_writes(&rt, alloc, &text, "realizable K=2\n", 0)
 }
+
+// Each predicate is its argument, and puts the one before it in with either name: two bodies at each of 60 depths. The
+// guarantee is `g | e`.
+#[test]
+fn either_name_is_put_in_once_at_each_depth(rt: HostRuntime) -> Result<(), Fail> {
+    let alloc = rt.alloc();
+    let text = chain(
+        alloc,
+        "spec X\nenv boolean e;\nsys boolean g;\npredicate p0(boolean x, {A, B} c): x;\n",
+        &["(boolean x, {A, B} c): p", "(p", "(x, A), B);\n"],
+        60,
+        "gar alw g | p60(e, A);\n",
+    )?;
+    synth_writes(&rt, alloc, &text, "realizable K=2\n", 0)
+}
