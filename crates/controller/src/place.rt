@@ -10,7 +10,7 @@ ghost use Rattle.controller.specs.Places.{IsAt, IsClosedAt, values_at};
 
 use hidden_game::{first_hidden, next_hidden};
 use spec_model::game::Game;
-use spec_model::plain::{count_inputs, count_outputs};
+use spec_model::variables::{count_inputs, count_outputs};
 use spec_model::value::Value;
 use std::alloc::{AllocError, Global};
 

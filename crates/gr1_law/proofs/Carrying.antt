@@ -16,7 +16,7 @@ use Rattle.hidden_game.proofs.Agreeing.{moves_agree}
 use Rattle.hidden_game.proofs.Recurrences.{goals_agree}
 use Rattle.gr1_law.specs.Layers.{LayerSets, round_count}
 use Rattle.gr1_law.specs.Choice.{Memory, IsChosen, ChosenPlay}
-use Rattle.gr1_law.specs.GameRules.{last_state}
+use Rattle.spec_model.specs.GameRules.{last_state}
 use Rattle.gr1_law.specs.Laws.{ChosenPlayKeeps}
 use Rattle.gr1_law.specs.Specifications.{RulesAgree, IsWonWith, SpecificationIsRealizable, ChosenPlaysKeepTheSpecification}
 use Rattle.gr1_law.proofs.Running.{last_state-after}

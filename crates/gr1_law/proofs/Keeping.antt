@@ -9,7 +9,7 @@ use Rattle.spec_model.specs.Sets.{StateSet, system_forces}
 use Rattle.spec_model.specs.WellMade.{WellMade}
 use Rattle.gr1_law.specs.Layers.{LayerSets, IsWinning, AreGreatestRanks, round_count}
 use Rattle.gr1_law.specs.Choice.{Memory, first_memory, ChosenPlay}
-use Rattle.gr1_law.specs.GameRules.{rules_of_game, last_state}
+use Rattle.spec_model.specs.GameRules.{rules_of_game, last_state}
 use Rattle.gr1_law.specs.Laws.{StandsIn, ChosenPlayKeeps, IsRemembered}
 use Rattle.gr1_law.proofs.Winning.{layer_in_z}
 use Rattle.gr1_law.proofs.Standing.{Ready}

@@ -10,7 +10,7 @@ use Rattle.spec_model.specs.Games.{GameData, State, game_reading}
 use Rattle.spec_model.specs.Sets.{StateSet, no_states, all_states, either, rest, IsPartOf, pre_sys, system_forces}
 use Rattle.spec_model.proofs.Duality.{parts_agree}
 use Rattle.gr1_law.specs.Layers.{LayerSets, AreLayers, IsWinning, AreGreatestRanks, HasRanks, IsLeastNumber, goal_set, assumption_set, assumption_sets, round_count}
-use Rattle.gr1_law.specs.GameRules.{rules_of_game}
+use Rattle.spec_model.specs.GameRules.{rules_of_game}
 use Rattle.gr1_law.specs.Worked.{light, light_text, permitted, dead_end, HasRounds}
 use Rattle.gr1_law.proofs.Parts.{InPart, in_part, to_part}
 use Rattle.gr1_law.proofs.Layering.{layers_of, layers_of-layers, y_in_next}

@@ -12,7 +12,7 @@ use Rattle.spec_model.specs.WellMade.{WellMade, is_state_formula, scope_of}
 use Rattle.gr1_law.specs.Layers.{LayerSets, IsWinning, AreGreatestRanks, or_all_states, goal_sets, goal_set, assumption_set, round_count}
 use Rattle.gr1_law.specs.Choice.{Memory, Standing}
 use Rattle.gr1_law.specs.Potential.{potential, ranks_ahead}
-use Rattle.gr1_law.specs.GameRules.{rules_of_game}
+use Rattle.spec_model.specs.GameRules.{rules_of_game}
 use Rattle.gr1_law.proofs.Winning.{in_last, layer_inside}
 use Rattle.gr1_law.proofs.Potential.{ahead_at_most, ahead_next}
 use Rattle.gr1_law.proofs.Standing.{rank_some}

@@ -5,7 +5,7 @@ use Rattle.spec_model.specs.Rules.{Run, Position, after}
 use Rattle.spec_model.specs.Moves.{nothing}
 use Rattle.spec_model.specs.Games.{GameData, State, hidden_at, state_at, next_hidden}
 use Rattle.spec_model.specs.Steps.{reached}
-use Rattle.gr1_law.specs.GameRules.{before_at, last_state}
+use Rattle.spec_model.specs.GameRules.{before_at, last_state}
 
 earlier : (h : Run) (p : Position) (t : ℕ) → t < length h → get_or (h ++ p ∷ []) t nothing ≡ get_or h t nothing
 earlier [] p t below = absurd (omega arith)

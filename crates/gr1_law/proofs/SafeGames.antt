@@ -7,7 +7,8 @@ use Rattle.spec_model.proofs.SetLaws.{pre_sys_grows, pre_sys-inside}
 use Rattle.spec_model.proofs.Duality.{parts_agree}
 use Rattle.safety.specs.Solution.{IsRoundCount}
 use Rattle.gr1_law.specs.Layers.{LayerSets, AreLayers, IsWinning, HasRanks, AreGreatestRanks, IsLeastNumber, or_all_states, goal_sets, goal_set, assumption_sets, assumption_set, round_count}
-use Rattle.gr1_law.specs.Specifications.{HasNoGoals, SafetyIsASpecialCase}
+use Rattle.gr1_law.specs.Specifications.{SafetyIsASpecialCase}
+use Rattle.spec_model.specs.Agreement.{HasNoGoals}
 use Rattle.gr1_law.proofs.Parts.{InPart, in_part, to_part}
 use Rattle.gr1_law.proofs.Layering.{asm_count, layers_of, layers_of-layers}
 use Rattle.gr1_law.proofs.Winning.{in_a_part, part_in_layer, part_solves, none_below}

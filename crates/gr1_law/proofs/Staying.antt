@@ -11,7 +11,8 @@ use Rattle.hidden_game.specs.GameOf.{game_of}
 use Rattle.hidden_game.specs.Agreement.{HasPlainLines}
 use Rattle.hidden_game.proofs.Recurrences.{goals_agree}
 use Rattle.gr1_law.specs.Layers.{round_count}
-use Rattle.gr1_law.specs.Specifications.{IsWonWith, HasNoGoals, NothingRecurs, StayingWins}
+use Rattle.gr1_law.specs.Specifications.{IsWonWith, StayingWins}
+use Rattle.spec_model.specs.Agreement.{HasNoGoals, NothingRecurs}
 use Rattle.gr1_law.proofs.Settling.{some_ranks}
 use Rattle.gr1_law.proofs.Solutions.{some_winning}
 use Rattle.gr1_law.proofs.StateCounts.{system_wins}

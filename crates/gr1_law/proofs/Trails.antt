@@ -11,7 +11,7 @@ use Rattle.spec_model.specs.Steps.{Before, is_input, legal_input, legal_output, 
 use Rattle.spec_model.specs.Sets.{StateSet, system_forces}
 use Rattle.gr1_law.specs.Layers.{LayerSets, IsWinning, AreGreatestRanks}
 use Rattle.gr1_law.specs.Choice.{Memory, Standing, first_memory, IsChosen, ChosenPlay}
-use Rattle.gr1_law.specs.GameRules.{last_state, before_at, rules_of_game}
+use Rattle.spec_model.specs.GameRules.{last_state, before_at, rules_of_game}
 use Rattle.gr1_law.proofs.Standing.{Ready}
 use Rattle.gr1_law.proofs.Choosing.{Lowers, lowers, standing_next, chosen_output, chosen_legal}
 use Rattle.gr1_law.proofs.Running.{length-after, state_at-earlier, state_at-last, last_state-after}

@@ -10,7 +10,7 @@ use Rattle.spec_model.specs.Sets.{StateSet, IsPartOf, system_forces}
 use Rattle.gr1_law.specs.Layers.{LayerSets, AreLayers, IsWinning, AreGreatestRanks, goal_sets, goal_set, round_count}
 use Rattle.gr1_law.specs.Choice.{Memory, Standing, IsChosen, ChosenPlay}
 use Rattle.gr1_law.specs.Potential.{potential}
-use Rattle.gr1_law.specs.GameRules.{last_state, rules_of_game}
+use Rattle.spec_model.specs.GameRules.{last_state, rules_of_game}
 
 -- the state is in the set, and what is remembered tells of it; before the first move there is none
 abbrev pub StandsIn : GameData → StateSet → LayerSets → Before → Memory → Type 0

@@ -1,7 +1,6 @@
 pub mod Layers
 pub mod Choice
 pub mod Potential
-pub mod GameRules
 pub mod Laws
 pub mod Worked
 pub mod Specifications

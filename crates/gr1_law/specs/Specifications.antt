@@ -15,7 +15,7 @@ use Rattle.hidden_game.specs.Agreement.{IsLast}
 use Rattle.safety.specs.Solution.{IsRoundCount}
 use Rattle.gr1_law.specs.Layers.{LayerSets, IsWinning, AreGreatestRanks, round_count}
 use Rattle.gr1_law.specs.Choice.{Memory, IsChosen, ChosenPlay}
-use Rattle.gr1_law.specs.GameRules.{rules_of_game}
+use Rattle.spec_model.specs.GameRules.{rules_of_game}
 
 -- the game of a specification has its legal moves and its recurring goals
 abbrev pub RulesAgree : Specification → Type 0

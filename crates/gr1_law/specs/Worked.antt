@@ -9,7 +9,7 @@ use Rattle.spec_model.specs.Realizable.{IsRealizable}
 use Rattle.spec_model.specs.Games.{GameData, GoalData}
 use Rattle.spec_model.specs.Sets.{StateSet}
 use Rattle.gr1_law.specs.Layers.{LayerSets, IsWinning, AreGreatestRanks, round_count}
-use Rattle.gr1_law.specs.GameRules.{rules_of_game}
+use Rattle.spec_model.specs.GameRules.{rules_of_game}
 
 -- `env boolean a; sys boolean g; gar alwEv g;` with assumptions that recur, and lines that are judged at each position
 abbrev pub lighting : (assume : List GoalData) → (safe_asm safe_gar : List (ℕ × Formula)) → GameData

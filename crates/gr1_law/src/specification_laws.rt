@@ -7,7 +7,8 @@ ghost use Rattle.spec_model.specs.Games.{GameData};
 ghost use Rattle.spec_model.specs.WellMade.{WellMade};
 ghost use Rattle.hidden_game.specs.GameOf.{game_of};
 ghost use Rattle.hidden_game.specs.Agreement.{HasPlainLines};
-ghost use Rattle.gr1_law.specs.Specifications.{RulesAgree, SpecificationIsRealizable, SystemWinsWithRanks, ChosenPlaysKeepTheSpecification, HasNoGoals, NothingRecurs, SafetyIsASpecialCase, StayingWins};
+ghost use Rattle.gr1_law.specs.Specifications.{RulesAgree, SpecificationIsRealizable, SystemWinsWithRanks, ChosenPlaysKeepTheSpecification, SafetyIsASpecialCase, StayingWins};
+ghost use Rattle.spec_model.specs.Agreement.{HasNoGoals, NothingRecurs};
 
 /// The players of a specification's game play the specification: after each run the same moves are legal, and the same goals
 /// recur.

@@ -2,7 +2,7 @@
 
 ghost use Rattle.spec_model.specs.Realizable.{IsRealizable};
 ghost use Rattle.spec_model.specs.Verdicts.{SystemWins};
-ghost use Rattle.gr1_law.specs.GameRules.{rules_of_game};
+ghost use Rattle.spec_model.specs.GameRules.{rules_of_game};
 ghost use Rattle.gr1_law.specs.Worked.{light, light_text, dark_text, never_text, permitted, dead_end, HasRounds};
 
 /// Where one output is to be true again and again, K is 3: the ranks are 1 where it is true, and 2 elsewhere.

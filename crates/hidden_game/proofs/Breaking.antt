@@ -13,7 +13,7 @@ use Rattle.spec_model.specs.Laws.{NumbersRise}
 use Rattle.hidden_game.specs.declared.expanding.Player.TheVariants.{Environment}
 use Rattle.hidden_game.specs.declared.expanding.Time.TheVariants.{First, Always}
 use Rattle.hidden_game.specs.GameOf.{game_of, binds, said, numbered, lines_for}
-use Rattle.hidden_game.specs.Judged.{numbers_where, breaks, broken_by, lesser, least, line_label}
+use Rattle.spec_model.specs.FirstBroken.{numbers_where, breaks, broken_by, lesser, least, line_label}
 use Rattle.hidden_game.specs.Breaking.{BreaksAgree}
 use Rattle.hidden_game.proofs.Agreeing.{asm_first, asm_always}
 use Rattle.hidden_game.proofs.Least.{lesser-assoc, least-append}

@@ -8,7 +8,8 @@ use Rattle.spec_model.specs.Moves.{is_env, has_next}
 use Rattle.spec_model.specs.Games.{GameData, State, outputs_of}
 use Rattle.spec_model.specs.Steps.{Before, reached, are_hidden_values, line_holds, waits_for_output, assumptions_hold, legal_input}
 use Rattle.spec_model.specs.WellMade.{WellMade, is_step_formula, is_state_formula, is_initial_assumption, is_safety_assumption, awaits_output, scope_of}
-use Rattle.hidden_game.specs.Judged.{numbers_where, breaks, broken_by, lesser, least, line_label, numbers_false}
+use Rattle.hidden_game.specs.Judged.{numbers_false}
+use Rattle.spec_model.specs.FirstBroken.{numbers_where, breaks, broken_by, lesser, least, line_label}
 use Rattle.hidden_game.proofs.Agreeing.{not_false}
 use Rattle.hidden_game.proofs.Choices.{some_choice, all_alike}
 use Rattle.hidden_game.proofs.Least.{least-append}

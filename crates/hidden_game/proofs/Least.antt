@@ -1,6 +1,6 @@
 -- The least of several numbers.
 use Rattle.std.proofs.Common.{◌≡◌, ℕ, List, [], ◌∷◌, ◌++◌, min, Option, Some, None, refl, ap, ◌∙◌, arith}
-use Rattle.hidden_game.specs.Judged.{lesser, least}
+use Rattle.spec_model.specs.FirstBroken.{lesser, least}
 
 min-assoc : (a b c : ℕ) → min a (min b c) ≡ min (min a b) c
 min-assoc a b c = grind arith

@@ -7,7 +7,7 @@ use Rattle.spec_model.specs.Moves.{broken_assumption}
 use Rattle.spec_model.specs.Steps.{Before}
 use Rattle.hidden_game.specs.GameOf.{game_of}
 use Rattle.hidden_game.specs.Agreement.{IsLast}
-use Rattle.hidden_game.specs.Judged.{first_broken}
+use Rattle.spec_model.specs.FirstBroken.{first_broken}
 
 -- after each run, by its last state
 abbrev pub BreaksAgree : Specification → Type 0

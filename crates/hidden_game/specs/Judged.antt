@@ -2,7 +2,6 @@
 use Rattle.std.specs.Prelude.{ℕ, ◌≡◌, ◌≤◌, Bool, true, false, not, ◌++◌, if◌then◌else◌, min, List, [], ◌∷◌, get_or, drop, map, Option, Some, None, is_some, option_map, IfSome, IsTrue, length}
 use Rattle.std.specs.List.{list_any, AllByRecursion}
 use Rattle.spec_model.specs.declared.expr.Expr.{Expr}
-use Rattle.spec_model.specs.declared.game.Label.{Label}
 use Rattle.spec_model.specs.Values.{Assignment}
 use Rattle.spec_model.specs.Syntax.{Formula}
 use Rattle.spec_model.specs.Views.{formula}
@@ -13,41 +12,6 @@ use Rattle.game_values.specs.Moments.{IsSafe}
 use Rattle.hidden_game.specs.declared.judging.Move.{Move}
 use Rattle.hidden_game.specs.declared.judging.InputJudge.{InputJudge}
 use Rattle.hidden_game.specs.Sights.{reading_in}
-
--- ---- the first broken line
-
--- the numbers of the lines that pass a test
-abbrev pub numbers_where : (Formula → Bool) → List (ℕ × Formula) → List ℕ
-numbers_where test [] = []
-numbers_where test (l ∷ ls) = if test l.1 then l.0 ∷ numbers_where test ls else numbers_where test ls
-
--- whether some output after the input makes a line false that is judged at the move
-abbrev pub breaks : GameData → (late : Bool) → Before → Assignment → Formula → Bool
-breaks g late b x e = list_any (λ y. not (line_holds g late b (reached g b x y) e)) (outputs_of g)
-
--- the numbers of the assumptions that the input breaks: an initial one at the first move alone
-abbrev pub broken_by : GameData → Before → Assignment → List ℕ
-broken_by g b x =
-    (if is_some b then [] else numbers_where (breaks g false b x) g.initial_asm)
-    ++ numbers_where (λ e. breaks g (waits_for_output g e) b x e) g.safe_asm
-
-abbrev pub lesser : Option ℕ → Option ℕ → Option ℕ
-lesser None n = n
-lesser (Some m) None = Some m
-lesser (Some m) (Some n) = Some (min m n)
-
--- the least of several numbers, if there are any
-abbrev pub least : List ℕ → Option ℕ
-least [] = None
-least (n ∷ ns) = lesser (Some n) (least ns)
-
--- the line with a number, as it has one part
-abbrev pub line_label : ℕ → Label
-line_label n = record { line = n; part = 0 }
-
--- the first assumption that the input breaks: numbers rise in text order
-abbrev pub first_broken : GameData → Before → Assignment → Option Label
-first_broken g b x = option_map line_label (least (broken_by g b x))
 
 -- ---- what the program looks at
 

@@ -9,7 +9,8 @@ ghost use Rattle.spec_model.specs.Moves.{is_env, domains_of};
 ghost use Rattle.spec_model.specs.Games.{State, listed, first_hidden, next_hidden};
 ghost use Rattle.spec_model.specs.Steps.{is_state, is_input, legal_input, waits_for_output};
 ghost use Rattle.spec_model.specs.WellMade.{WellMade, is_domain};
-ghost use Rattle.hidden_game.specs.Judged.{lesser, least as least_lem, line_label, first_broken, judged_in, numbers_false, IsSafeIn, AreSafeIn, IsJudgeOf};
+ghost use Rattle.hidden_game.specs.Judged.{judged_in, numbers_false, IsSafeIn, AreSafeIn, IsJudgeOf};
+ghost use Rattle.spec_model.specs.FirstBroken.{lesser, least as least_lem, line_label, first_broken};
 ghost use Rattle.hidden_game.specs.Sights.{as_values, entries_at, seen_reading, reading_in};
 
 use crate::reading::{parts, read_state};

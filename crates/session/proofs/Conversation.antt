@@ -10,7 +10,7 @@ use Rattle.spec_model.specs.Values.{Assignment, DomainData, is_assignment, value
 use Rattle.spec_model.specs.Syntax.{VariableData, Specification}
 use Rattle.spec_model.specs.Rules.{Run}
 use Rattle.spec_model.specs.Moves.{is_env, domains_of, input_domains, output_domains, broken_assumption, broken_guarantee, legal_input, legal_output}
-use Rattle.hidden_game.specs.Judged.{line_label}
+use Rattle.spec_model.specs.FirstBroken.{line_label}
 use Rattle.session.specs.Shown.{inputs_of, outputs_of, show}
 use Rattle.session.specs.Reading.{Reads, AreGiven}
 use Rattle.session.specs.Room.{domains}

@@ -13,7 +13,7 @@ use Rattle.regions.specs.Kept.{Kept}
 use Rattle.regions.specs.Rules.{output_count}
 use Rattle.hidden_game.specs.GameOf.{game_of}
 use Rattle.hidden_game.specs.Agreement.{IsLast}
-use Rattle.hidden_game.specs.Judged.{broken_by, least, line_label, first_broken}
+use Rattle.spec_model.specs.FirstBroken.{broken_by, least, line_label, first_broken}
 use Rattle.hidden_game.proofs.Agreeing.{moves_agree}
 use Rattle.hidden_game.proofs.Breaking.{breaks_agree}
 use Rattle.gr1_law.specs.Layers.{LayerSets}

@@ -8,7 +8,7 @@ use Rattle.spec_model.specs.Rules.{Run, after}
 use Rattle.spec_model.specs.Plays.{IsPlay}
 use Rattle.spec_model.specs.Realizable.{Kept}
 use Rattle.spec_model.specs.Moves.{broken_assumption, legal_input, legal_output, rules_of}
-use Rattle.hidden_game.specs.Judged.{line_label}
+use Rattle.spec_model.specs.FirstBroken.{line_label}
 use Rattle.session.specs.declared.talking.End.{End}
 use Rattle.session.specs.declared.talking.End.TheVariants as ends
 use Rattle.session.specs.Shown.{inputs_of, outputs_of, show}

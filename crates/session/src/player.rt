@@ -5,7 +5,7 @@ ghost use Rattle.spec_model.specs.Syntax.{Specification};
 ghost use Rattle.spec_model.specs.Rules.{Run, after};
 ghost use Rattle.spec_model.specs.Realizable.{Kept};
 ghost use Rattle.spec_model.specs.Moves.{broken_assumption, legal_input, legal_output, rules_of};
-ghost use Rattle.hidden_game.specs.Judged.{line_label};
+ghost use Rattle.spec_model.specs.FirstBroken.{line_label};
 ghost use Rattle.session.specs.Players.{IsAsked, MayReply};
 
 use spec_model::game::Label;

@@ -5,7 +5,7 @@ ghost use Rattle.sp_outside.specs.Causes.{Rose};
 ghost use Rattle.spec_model.specs.Syntax.{Specification};
 ghost use Rattle.spec_model.specs.Rules.{Run, after};
 ghost use Rattle.spec_model.specs.Moves.{broken_assumption, legal_input, legal_output};
-ghost use Rattle.hidden_game.specs.Judged.{line_label};
+ghost use Rattle.spec_model.specs.FirstBroken.{line_label};
 ghost use Rattle.session.specs.Views.{AreFor, KeepsTables, KeepsReader, pending_of, line_of, input_of, output_of};
 ghost use Rattle.session.specs.Players.{IsAsked, MayReply, Serves, Begins};
 ghost use Rattle.session.specs.Talks.{RunTalk, SoFar, IsAnswered, IsNotAnswered, IsLastEnd};

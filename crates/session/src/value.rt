@@ -8,7 +8,7 @@ ghost use Rattle.session.specs.Reading.{IsWritten};
 ghost use Rattle.session.specs.Room.{domains};
 
 use crate::number::number_in;
-use spec_model::judge::has_value;
+use spec_model::variables::has_value;
 use spec_model::value::{Domain, Value, Var};
 
 /// The text of an enum name; of one that isn't there, the empty text.

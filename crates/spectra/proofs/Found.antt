@@ -19,7 +19,7 @@ use Rattle.gr1_law.specs.Layers.{LayerSets, IsWinning, AreGreatestRanks, round_c
 use Rattle.gr1_sys.specs.declared.layers.SysLayer.{SysLayer}
 use Rattle.gr1_sys.specs.Held.{ranks_of}
 use Rattle.controller.specs.Made.{AreLayersOf}
-use Rattle.gr1_law.specs.Specifications.{HasNoGoals, NothingRecurs}
+use Rattle.spec_model.specs.Agreement.{HasNoGoals, NothingRecurs}
 use Rattle.gr1_law.proofs.Settling.{some_ranks}
 use Rattle.gr1_law.proofs.Solutions.{some_winning}
 use Rattle.gr1_law.proofs.SafeGames.{special_case}

@@ -7,7 +7,7 @@ use Rattle.spec_model.specs.Verdicts.{SystemWins, EnvironmentWins}
 use Rattle.hidden_game.specs.GameOf.{game_of}
 use Rattle.safety.specs.Solution.{IsShiftCount, IsRoundCount, IsDenialCount}
 use Rattle.gr1_law.specs.Layers.{LayerSets, IsWinning, AreGreatestRanks, round_count}
-use Rattle.gr1_law.specs.Specifications.{NothingRecurs}
+use Rattle.spec_model.specs.Agreement.{NothingRecurs}
 use Rattle.spectra.specs.First.{IsInitialOnly}
 
 -- ---- games

@@ -9,7 +9,7 @@ ghost use Rattle.hidden_game.specs.GameOf.{game_of};
 ghost use Rattle.hidden_game.specs.Agreement.{HasPlainLines};
 ghost use Rattle.gr1_law.specs.Layers.{LayerSets};
 ghost use Rattle.controller.specs.Made.{AreLayersOf};
-ghost use Rattle.spectra_types.specs.WellTyped.{WellTyped, all_hidden};
+ghost use Rattle.spec_model.specs.WellTyped.{WellTyped, all_hidden};
 ghost use Rattle.spectra.specs.Verdict.{Escapes, has_no_goals as has_no_goals_lem};
 ghost use Rattle.spectra.specs.Sessions.{moment};
 ghost use Rattle.spectra.specs.Top.{DecidesGame, ServesSpecification};

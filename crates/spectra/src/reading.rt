@@ -6,7 +6,7 @@ ghost use Rattle.spectra_lexer.specs.Tokens.{AreTokens};
 ghost use Rattle.spectra_trees.specs.Lexemes.{lexemes};
 ghost use Rattle.spectra_trees.specs.Views.{tree_data};
 ghost use Rattle.spectra_parser.specs.Texts.{IsBuilt};
-ghost use Rattle.spectra_types.specs.WellTyped.{WellTyped, all_hidden};
+ghost use Rattle.spec_model.specs.WellTyped.{WellTyped, all_hidden};
 ghost use Rattle.spectra.specs.declared.reading.ReadFault.TheVariants.{Syntax};
 ghost use Rattle.spectra.specs.Reading.{Reads, Explains};
 

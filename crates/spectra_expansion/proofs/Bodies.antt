@@ -6,7 +6,7 @@ use Rattle.spectra_trees.specs.Data.{NameData, Expression, TypeData, PredicateDa
 use Rattle.spectra_names.specs.Spaces.{Named, unknown, parameter, Scope, no_parameters, named, parameters_of, declared, places_from, TypeBody, DefineBody, PredicateBody}
 use Rattle.spectra_expansion.specs.declared.measure.Use.{Use}
 use Rattle.spectra_expansion.specs.declared.measure.Measure.{Measure}
-use Rattle.spectra_expansion.specs.Sizes.{nodes_in, levels_in}
+use Rattle.spec_model.specs.FormulaSizes.{nodes_in, levels_in}
 use Rattle.spectra_expansion.specs.Counting.{first_measure, later_measures, argument_nodes, argument_levels}
 use Rattle.spectra_expansion.specs.Telling.{AreUnused, IsMeasured, HasNoParameters, MeasuresBody}
 use Rattle.spectra_expansion.proofs.Telling.{nodes_told, levels_told, used_there, no_uses}

@@ -7,7 +7,7 @@ use Rattle.spectra_names.specs.Spaces.{Scope, Definition}
 use Rattle.spectra_order.specs.Cycles.{all_uses, uses_of, is_on_cycle}
 use Rattle.spectra_order.specs.Orders.{IsUse, IsOrder}
 use Rattle.spectra_expansion.specs.declared.measure.Measure.{Measure}
-use Rattle.spectra_expansion.specs.Sizes.{nodes_in, levels_in}
+use Rattle.spec_model.specs.FormulaSizes.{nodes_in, levels_in}
 use Rattle.spectra_expansion.specs.Expansion.{no_meaning, body_formula, expanded}
 use Rattle.spectra_expansion.specs.Measuring.{held}
 use Rattle.spectra_expansion.specs.Counting.{argument_nodes, argument_levels, nodes_of, levels_of}

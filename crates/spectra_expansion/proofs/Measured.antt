@@ -12,7 +12,7 @@ use Rattle.spectra_trees.specs.Data.{NameData, Expression, expression, Form, Exp
 use Rattle.spectra_names.specs.Walks.{names_in, names_in_form, names_in_each}
 use Rattle.spectra_names.specs.Spaces.{Named, unknown, parameter, variable, enum_name, define, predicate, Scope, Places, named}
 use Rattle.spectra_order.specs.Cycles.{definition_named}
-use Rattle.spectra_expansion.specs.Sizes.{nodes_in, nodes_in_each, levels_in, levels_in_each}
+use Rattle.spec_model.specs.FormulaSizes.{nodes_in, nodes_in_each, levels_in, levels_in_each}
 use Rattle.spectra_expansion.specs.Expansion.{no_meaning, read_formula, call_formula, prefix_formula, binary_formula, formula_in, form_formula, formulas_in}
 use Rattle.spectra_expansion.specs.Measuring.{held, read_measure, call_measure, joined, measure_in, form_measure, measures_in}
 

@@ -9,7 +9,7 @@ use Rattle.spectra_names.specs.Spaces.{Scope, Places, named}
 use Rattle.spectra_order.specs.Cycles.{definition_named, used_in}
 use Rattle.spectra_expansion.specs.declared.measure.Use.{Use}
 use Rattle.spectra_expansion.specs.declared.measure.Measure.{Measure}
-use Rattle.spectra_expansion.specs.Sizes.{nodes_in, nodes_in_each, levels_in, levels_in_each}
+use Rattle.spec_model.specs.FormulaSizes.{nodes_in, nodes_in_each, levels_in, levels_in_each}
 use Rattle.spectra_expansion.specs.Expansion.{formula_in}
 use Rattle.spectra_expansion.specs.Measuring.{held, measure_in}
 use Rattle.spectra_expansion.specs.Counting.{first_measure, later_measures, argument_nodes, argument_levels, nodes_of, levels_of, nodes_put, levels_put}

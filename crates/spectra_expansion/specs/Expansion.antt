@@ -4,7 +4,7 @@ use Rattle.spec_model.specs.declared.value.Value.TheVariants as value
 use Rattle.spec_model.specs.declared.expr.Compare.TheVariants as compares
 use Rattle.spec_model.specs.declared.expr.Past.TheVariants as pasts
 use Rattle.spec_model.specs.Syntax.{Formula, Constant, Variable, NextOf, Negation, Conjunction, Disjunction, Implication, Equivalence, Comparison, Sum, Difference, Product, Remainder, PastOf, Formulas, formulas, listed}
-use Rattle.spectra_expansion.specs.Sizes.{nodes_in, levels_in}
+use Rattle.spec_model.specs.FormulaSizes.{nodes_in, levels_in}
 use Rattle.spectra_trees.specs.declared.tree.PrefixWord.{PrefixWord}
 use Rattle.spectra_trees.specs.declared.tree.PrefixWord.TheVariants as prefixes
 use Rattle.spectra_trees.specs.declared.tree.BinaryWord.{BinaryWord}

@@ -1,4 +1,3 @@
-pub mod Sizes
 pub mod Expansion
 pub mod Needs
 pub mod Within

@@ -6,7 +6,7 @@ use Rattle.spectra_names.specs.Spaces.{Scope, Places, parameter, named, Definiti
 use Rattle.spectra_order.specs.Cycles.{uses_of}
 use Rattle.spectra_expansion.specs.declared.measure.Use.{Use}
 use Rattle.spectra_expansion.specs.declared.measure.Measure.{Measure}
-use Rattle.spectra_expansion.specs.Sizes.{nodes_in, levels_in}
+use Rattle.spec_model.specs.FormulaSizes.{nodes_in, levels_in}
 use Rattle.spectra_expansion.specs.Expansion.{body_formula, put_in}
 use Rattle.spectra_expansion.specs.Measuring.{held, measure_in}
 use Rattle.spectra_expansion.specs.Counting.{argument_nodes, argument_levels, nodes_with, levels_with, nodes_put, levels_put, Covers}

@@ -4,7 +4,7 @@ ghost use Rattle.std.specs.Prelude.{◌≡◌, [], length};
 ghost use Rattle.spec_model.specs.Syntax.{Formula};
 ghost use Rattle.spectra_trees.specs.Views.{expr_data};
 ghost use Rattle.spectra_names.specs.ScopeViews.{places_in, scope_data};
-ghost use Rattle.spectra_expansion.specs.Sizes.{nodes_in, levels_in};
+ghost use Rattle.spec_model.specs.FormulaSizes.{nodes_in, levels_in};
 ghost use Rattle.spectra_expansion.specs.Expansion.{formula_of, is_small as is_small_lem};
 ghost use Rattle.spectra_expansion.specs.Measuring.{held};
 ghost use Rattle.spectra_expansion.specs.Telling.{AreMeasures, AreUnused, IsMeasured};

@@ -2,7 +2,7 @@
 use Rattle.std.proofs.Common.{◌≡◌, true, sym, subst, ◌∙◌, ap}
 use Rattle.spec_model.specs.Syntax.{Specification}
 use Rattle.spectra_trees.specs.Data.{TreeData}
-use Rattle.spectra_types.specs.WellTyped.{WellTyped, all_hidden}
+use Rattle.spec_model.specs.WellTyped.{WellTyped, all_hidden}
 use Rattle.spectra_types.specs.Built.{is_built_tree}
 use Rattle.spectra_types.specs.Shapes.{has_shape}
 use Rattle.spectra_types.specs.Resolved.{Means}

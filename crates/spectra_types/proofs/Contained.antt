@@ -18,7 +18,7 @@ use Rattle.spectra_names.specs.Declarations.{twice}
 use Rattle.spectra_names.specs.Numbers.{number_of}
 use Rattle.spectra_kinds.specs.Kinds.{Kind, is_truth}
 use Rattle.spectra_kinds.specs.Types.{variable_kinds, parameter_kinds}
-use Rattle.spectra_expansion.specs.Sizes.{nodes_in, nodes_in_each, levels_in, levels_in_each}
+use Rattle.spec_model.specs.FormulaSizes.{nodes_in, nodes_in_each, levels_in, levels_in_each}
 use Rattle.spectra_expansion.specs.Expansion.{no_meaning, read_formula, call_formula, prefix_formula, binary_formula, formula_in, form_formula, formulas_in, put_in}
 use Rattle.spectra_contents.specs.declared.setting.Mark.{Mark}
 use Rattle.spectra_contents.specs.Contents.{Note, Setting, named_in, unused, name_marks, first_mark, later_marks, Standing, name_standing, standing, form_standing, standing_in_each, argument_standing}

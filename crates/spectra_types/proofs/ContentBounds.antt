@@ -6,7 +6,7 @@ use Rattle.spec_model.specs.Syntax.{Formula, Constant, Variable, NextOf, Negatio
 use Rattle.spec_model.specs.Sizes.{past_trees, past_trees_of_all}
 use Rattle.spec_model.specs.Moves.{has_next, some_has_next}
 use Rattle.spectra_contents.specs.declared.setting.Contents.{Contents}
-use Rattle.spectra_types.specs.WellTyped.{is_nested_well, are_nested_well, reads_some, some_reads, shifts_some, some_shifts}
+use Rattle.spec_model.specs.WellTyped.{is_nested_well, are_nested_well, reads_some, some_reads, shifts_some, some_shifts}
 use Rattle.spectra_types.proofs.Empty.{empty_parts}
 
 -- ---- a formula that reads no next value stands well under a `next`

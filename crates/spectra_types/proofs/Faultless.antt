@@ -5,7 +5,7 @@ use Rattle.std.specs.Prelude.{◌==◌}
 use Rattle.std.proofs.lemmas.Bool.{and_parts}
 use Rattle.spectra_trees.specs.Data.{TreeData}
 use Rattle.spectra_names.specs.Spaces.{scope_of}
-use Rattle.spectra_types.specs.WellTyped.{WellTyped}
+use Rattle.spec_model.specs.WellTyped.{WellTyped}
 use Rattle.spectra_types.specs.Meanings.{faults_of, meaning_of}
 use Rattle.spectra_types.specs.Built.{is_built_item, is_built_tree}
 use Rattle.spectra_types.specs.Shapes.{has_shape}

@@ -19,7 +19,7 @@ use Rattle.spectra_names.specs.Spaces.{Named, unknown, parameter, variable, enum
 use Rattle.spectra_names.specs.Numbers.{number_of, signed}
 use Rattle.spectra_kinds.specs.Kinds.{Kind, Truth, Whole, SomeWhole, NameOf, OneName, Anything, is_truth, is_whole, can_equal, given, is_wide, added, subtracted, multiplied}
 use Rattle.spectra_kinds.specs.Types.{type_kind, variable_kinds, parameter_kinds}
-use Rattle.spectra_expansion.specs.Sizes.{nodes_in, nodes_in_each, levels_in, levels_in_each}
+use Rattle.spec_model.specs.FormulaSizes.{nodes_in, nodes_in_each, levels_in, levels_in_each}
 use Rattle.spectra_expansion.specs.Expansion.{no_meaning, read_formula, call_formula, prefix_formula, binary_formula, formula_in, form_formula, formulas_in, put_in, formula_of, most_nodes, most_levels, is_small}
 use Rattle.spectra_contents.specs.declared.setting.Mark.{Mark}
 use Rattle.spectra_contents.specs.Contents.{Note, Setting, named_in, unused, name_marks, first_mark, later_marks, Standing, name_standing, standing, form_standing, standing_in_each, argument_standing, with_marks}

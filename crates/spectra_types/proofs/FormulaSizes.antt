@@ -9,7 +9,7 @@ use Rattle.spectra_trees.specs.declared.tree.Place.{Place}
 use Rattle.spectra_trees.specs.Data.{NameData, Expression, BodyData, LineData, ItemData}
 use Rattle.spectra_names.specs.Findings.{fault_if}
 use Rattle.spectra_names.specs.Spaces.{no_parameters}
-use Rattle.spectra_expansion.specs.Sizes.{nodes_in, levels_in}
+use Rattle.spec_model.specs.FormulaSizes.{nodes_in, levels_in}
 use Rattle.spectra_expansion.specs.Expansion.{formula_of, most_nodes, most_levels}
 use Rattle.spectra_contents.specs.Contents.{Setting}
 use Rattle.spectra_contents.specs.declared.misplaced.Ban.{Ban}

@@ -8,7 +8,7 @@ use Rattle.spectra_names.specs.Findings.{fault_if}
 use Rattle.spectra_names.specs.Spaces.{Scope, no_parameters}
 use Rattle.spectra_expansion.specs.Expansion.{formula_of, most_nodes, most_levels}
 use Rattle.spectra_expansion.specs.Measuring.{held}
-use Rattle.spectra_expansion.specs.Sizes.{nodes_in, levels_in}
+use Rattle.spec_model.specs.FormulaSizes.{nodes_in, levels_in}
 use Rattle.spectra_contents.specs.Contents.{Setting}
 use Rattle.spectra_typing.specs.Notes.{boolean_faults}
 use Rattle.spectra_types.specs.Meanings.{expression_of, ban_of, is_too_large, line_depth, faults_of_line, nodes_of_line, lines_faults}

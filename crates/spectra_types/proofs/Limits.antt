@@ -9,7 +9,7 @@ use Rattle.spectra_names.specs.Spaces.{Scope, variables_in, with_names, enum_nam
 use Rattle.spectra_names.specs.Declarations.{past, is_variable, is_line, place_of_item, most_names, names_past}
 use Rattle.spectra_names.proofs.Counting.{with_names-append}
 use Rattle.spectra_types.specs.Meanings.{content_of, line_of, lines_from}
-use Rattle.spectra_types.specs.WellTyped.{are_rising}
+use Rattle.spec_model.specs.WellTyped.{are_rising}
 use Rattle.spectra_types.proofs.Empty.{not_empty}
 
 -- what is past a limit has no room

@@ -13,10 +13,10 @@ use Rattle.spectra_trees.specs.Data.{NameData, Expression, BodyData, LineData, V
 use Rattle.spectra_names.specs.Spaces.{Scope, scope_of, values_from, variables_in, enum_names_of, definitions_in, types_from, no_names, no_parameters}
 use Rattle.spectra_names.specs.Declarations.{clashes_after, twice, line_name, name_faults, past, is_variable, is_line, names_past, limit_faults}
 use Rattle.spectra_expansion.specs.Expansion.{put_in, formula_of}
-use Rattle.spectra_expansion.specs.Sizes.{levels_in}
+use Rattle.spec_model.specs.FormulaSizes.{levels_in}
 use Rattle.spectra_contents.specs.Contents.{Setting}
 use Rattle.spectra_typing.specs.Notes.{setting_of, notes_of}
-use Rattle.spectra_types.specs.WellTyped.{are_rising, all_nodes, all_hidden, is_hidden}
+use Rattle.spec_model.specs.WellTyped.{are_rising, all_nodes, all_hidden, is_hidden}
 use Rattle.spectra_types.specs.Meanings.{types_faults, definitions_faults, lines_faults, text_faults, faults_of, variable_of, content_of, lines_from, meaning_of}
 use Rattle.spectra_types.specs.Built.{is_built, is_built_body, is_built_item, is_built_tree}
 use Rattle.spectra_types.proofs.Past.{IsBuiltBody, formula_present, expanded_present, all_built}

@@ -13,7 +13,7 @@ use Rattle.spectra_kinds.specs.Types.{variable_kinds, parameter_kinds}
 use Rattle.spectra_kinds.specs.Depths.{told, HasValues}
 use Rattle.spectra_kinds.proofs.Depths.{nothing_past}
 use Rattle.spec_model.specs.Syntax.{Formula}
-use Rattle.spectra_expansion.specs.Sizes.{nodes_in, levels_in}
+use Rattle.spec_model.specs.FormulaSizes.{nodes_in, levels_in}
 use Rattle.spectra_expansion.specs.Expansion.{formula_of, most_nodes, most_levels, is_small}
 use Rattle.spectra_contents.specs.declared.setting.Mark.{Mark}
 use Rattle.spectra_contents.specs.declared.setting.Note as code_note

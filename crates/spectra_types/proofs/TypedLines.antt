@@ -13,7 +13,7 @@ use Rattle.spectra_trees.specs.Data.{NameData, Expression, first_of, BodyData, L
 use Rattle.spectra_names.specs.Findings.{fault_if}
 use Rattle.spectra_names.specs.Spaces.{Scope, scope_of, no_parameters}
 use Rattle.spectra_kinds.specs.Kinds.{is_truth}
-use Rattle.spectra_expansion.specs.Sizes.{nodes_in, levels_in}
+use Rattle.spec_model.specs.FormulaSizes.{nodes_in, levels_in}
 use Rattle.spectra_expansion.specs.Expansion.{formula_of, most_nodes, most_levels}
 use Rattle.spectra_contents.specs.declared.setting.Contents.{Contents}
 use Rattle.spectra_contents.specs.Contents.{contents_of}
@@ -21,7 +21,7 @@ use Rattle.spectra_contents.specs.declared.misplaced.Ban.{Ban}
 use Rattle.spectra_contents.specs.Misplaced.{misplaced}
 use Rattle.spectra_typing.specs.Typed.{kind_of, typing_faults, faults_with}
 use Rattle.spectra_typing.specs.Notes.{expression_faults, boolean_faults}
-use Rattle.spectra_types.specs.WellTyped.{is_nested_well, reads_some, shifts_some, is_typed, is_typed_line}
+use Rattle.spec_model.specs.WellTyped.{is_nested_well, reads_some, shifts_some, is_typed, is_typed_line}
 use Rattle.spectra_types.specs.Meanings.{is_asm, ban_of, is_too_large, line_depth, line_faults, faults_of_line, nodes_of_line, expression_of, lines_faults, content_of, lines_from, meaning_of}
 use Rattle.spectra_types.specs.Built.{is_built, is_built_body, is_built_item}
 use Rattle.spectra_types.proofs.Empty.{empty_parts, no_fault}

@@ -26,7 +26,7 @@ use Rattle.spectra_contents.specs.Contents.{Setting}
 use Rattle.spectra_contents.specs.Misplaced.{bound_ban, misplaced}
 use Rattle.spectra_typing.specs.Typed.{kind_of, typing_faults, faults_with}
 use Rattle.spectra_typing.specs.Notes.{depth_of, expression_faults}
-use Rattle.spectra_types.specs.WellTyped.{is_domain_of}
+use Rattle.spec_model.specs.WellTyped.{is_domain_of}
 use Rattle.spectra_types.specs.Meanings.{bound_faults, range_faults, type_faults, domain_of, variable_of, number_of_name}
 use Rattle.spectra_types.specs.Shapes.{has_names}
 use Rattle.spectra_types.proofs.Empty.{not_empty, empty_parts, no_fault}

@@ -12,7 +12,7 @@ use Rattle.spectra_expansion.specs.Handing.{AreHanded}
 use Rattle.spectra_expansion.specs.Needs.{MarksCycles, MarksReads}
 use Rattle.spectra_expansion.specs.declared.sizes.Size.{Size}
 use Rattle.spectra_expansion.specs.Measuring.{held}
-use Rattle.spectra_expansion.specs.Sizes.{nodes_in, levels_in}
+use Rattle.spec_model.specs.FormulaSizes.{nodes_in, levels_in}
 use Rattle.spectra_expansion.specs.Telling.{AreMeasures}
 use Rattle.spectra_contents.specs.Contents.{Setting}
 use Rattle.spectra_contents.specs.SettingViews.{setting_data}

@@ -1,7 +1,7 @@
 -- What holds of every text.
 use Rattle.std.specs.Prelude.{◌≡◌, true, []}
 use Rattle.spectra_trees.specs.Data.{TreeData}
-use Rattle.spectra_types.specs.WellTyped.{WellTyped}
+use Rattle.spec_model.specs.WellTyped.{WellTyped}
 use Rattle.spectra_types.specs.Meanings.{faults_of, meaning_of}
 use Rattle.spectra_types.specs.Built.{is_built_tree}
 use Rattle.spectra_types.specs.Shapes.{has_shape}

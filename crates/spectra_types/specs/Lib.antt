@@ -1,4 +1,3 @@
-pub mod WellTyped
 pub mod Meanings
 pub mod Built
 pub mod Resolved

@@ -14,7 +14,7 @@ use Rattle.spectra_order.specs.Cycles.{is_on_cycle}
 use Rattle.spectra_kinds.specs.Kinds.{Kind, Truth, Whole, NameOf, is_whole}
 use Rattle.spectra_kinds.specs.Types.{Worth, bound_worth, is_range, type_kind}
 use Rattle.spectra_expansion.specs.Expansion.{formula_of, most_nodes, most_levels}
-use Rattle.spectra_expansion.specs.Sizes.{nodes_in, levels_in}
+use Rattle.spec_model.specs.FormulaSizes.{nodes_in, levels_in}
 use Rattle.spectra_contents.specs.Contents.{Setting}
 use Rattle.spectra_contents.specs.declared.misplaced.Ban.{Ban}
 use Rattle.spectra_contents.specs.Misplaced.{bound_ban}

@@ -7,7 +7,7 @@ ghost use Rattle.spec_model.specs.Laws.{NumbersRise};
 ghost use Rattle.hidden_game.specs.GameOf.{game_of};
 ghost use Rattle.hidden_game.specs.Agreement.{HasPlainLines};
 ghost use Rattle.spectra_trees.specs.Data.{TreeData};
-ghost use Rattle.spectra_types.specs.WellTyped.{WellTyped, all_hidden};
+ghost use Rattle.spec_model.specs.WellTyped.{WellTyped, all_hidden};
 ghost use Rattle.spectra_types.specs.Laws.{FaultlessIsWellTyped};
 
 /// A text without faults means a well-typed specification, where its forms are built.

@@ -7,7 +7,7 @@ ghost use Rattle.spectra_names.specs.Findings.{found_in, with_faults};
 ghost use Rattle.spectra_names.specs.Spaces.{no_parameters};
 ghost use Rattle.spectra_expansion.specs.Expansion.{formula_of};
 ghost use Rattle.spectra_expansion.specs.Measuring.{held};
-ghost use Rattle.spectra_expansion.specs.Sizes.{nodes_in};
+ghost use Rattle.spec_model.specs.FormulaSizes.{nodes_in};
 ghost use Rattle.spectra_types.specs.FactsViews.{scope_in, setting_in, line_item_data, AreFacts};
 ghost use Rattle.spectra_types.specs.Meanings.{expression_of as expression_of_lem, is_asm as is_asm_lem, ban_of as ban_of_lem, line_faults, faults_of_line, nodes_of_line, lines_faults};
 

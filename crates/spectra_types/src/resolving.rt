@@ -9,7 +9,7 @@ ghost use Rattle.spectra_names.specs.Findings.{found_in, with_faults, first_of_f
 ghost use Rattle.spectra_names.specs.Spaces.{scope_of as scope_of_lem};
 ghost use Rattle.spectra_names.specs.ScopeViews.{scope_data};
 ghost use Rattle.spectra_typing.specs.Notes.{setting_of, notes_of};
-ghost use Rattle.spectra_types.specs.WellTyped.{WellTyped, all_hidden};
+ghost use Rattle.spec_model.specs.WellTyped.{WellTyped, all_hidden};
 ghost use Rattle.spectra_types.specs.Built.{is_built_tree};
 ghost use Rattle.spectra_types.specs.Shapes.{has_shape};
 ghost use Rattle.spectra_types.specs.FactsViews.{scope_in, setting_in, AreFacts};

@@ -1,6 +1,7 @@
 use Rattle.std.proofs.Common.{◌≡◌, drop, map}
 use Rattle.spec_model.specs.Views.{formula}
-use Rattle.hidden_game.specs.Judged.{lesser, least as least_lem, judged_in, numbers_false, AreSafeIn}
+use Rattle.hidden_game.specs.Judged.{judged_in, numbers_false, AreSafeIn}
+use Rattle.spec_model.specs.FirstBroken.{lesser, least as least_lem}
 use Rattle.hidden_game.proofs.judging.least_false.Given as goal
 
 -- what was found and what is left give the answer

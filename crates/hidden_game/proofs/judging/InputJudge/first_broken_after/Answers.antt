@@ -12,7 +12,8 @@ use Rattle.spec_model.proofs.Closed.{closed}
 use Rattle.game_values.proofs.Safe.{IsTyped}
 use Rattle.hidden_game.specs.declared.judging.Move.{Move}
 use Rattle.hidden_game.specs.Sights.{IsSplit, entries_at}
-use Rattle.hidden_game.specs.Judged.{line_label, judged_in}
+use Rattle.hidden_game.specs.Judged.{judged_in}
+use Rattle.spec_model.specs.FirstBroken.{line_label}
 use Rattle.hidden_game.proofs.Sights.{seen_typed, input_fits, output_fits}
 use Rattle.hidden_game.proofs.SeenMoves.{lines_safe, safety_steps, seen_state, seen_step, position_is}
 use Rattle.hidden_game.proofs.FirstBroken.{first_after, none_is_legal}

@@ -11,7 +11,8 @@ use Rattle.spec_model.proofs.Closed.{closed}
 use Rattle.game_values.proofs.Safe.{IsTyped}
 use Rattle.hidden_game.specs.declared.judging.Move.{Move}
 use Rattle.hidden_game.specs.Sights.{IsSplit, entries_at}
-use Rattle.hidden_game.specs.Judged.{line_label, judged_in}
+use Rattle.hidden_game.specs.Judged.{judged_in}
+use Rattle.spec_model.specs.FirstBroken.{line_label}
 use Rattle.hidden_game.proofs.Sights.{seen_typed}
 use Rattle.hidden_game.proofs.SeenMoves.{lines_safe, initial_steps, safety_steps, seen_state}
 use Rattle.hidden_game.proofs.FirstBroken.{first_at_start, none_is_legal}

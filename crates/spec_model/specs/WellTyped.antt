@@ -4,13 +4,16 @@ use Rattle.std.specs.List.{list_all}
 use Rattle.spec_model.specs.declared.value.Value.TheVariants as value
 use Rattle.spec_model.specs.Values.{Assignment, DomainData, TruthValues, WholeNumbers, Enumeration, assignments_of}
 use Rattle.spec_model.specs.Syntax.{Formula, Constant, Variable, NextOf, Negation, Conjunction, Disjunction, Implication, Equivalence, Comparison, Sum, Difference, Product, Remainder, PastOf, Entry, Formulas, Regular, Atom, Sequence, Choice, Repetition, Regulars, Content, Initial, Safety, Recurring, PatternUse, TriggerUse, Statement, PatternData, TriggerData, Specification}
+use Rattle.spec_model.specs.declared.spec.Role.{Role}
+use Rattle.spec_model.specs.declared.spec.Role.TheVariants.{Monitor}
 use Rattle.spec_model.specs.Moves.{has_next, is_assumption}
 use Rattle.spec_model.specs.Patterns.{all_hold}
-use Rattle.spec_model.specs.Sizes.{atoms_of, distinct, past_trees, domain_size, formulas_of, past_operators, product}
+use Rattle.spec_model.specs.Sizes.{atoms_of, past_trees, domain_size, formulas_of, past_operators, product}
 use Rattle.spec_model.specs.Steps.{is_output_variable}
 use Rattle.spec_model.specs.Typing.{Scope, kind_of, is_truth, same_names}
 use Rattle.spec_model.specs.WellMade.{all_differ, is_domain}
-use Rattle.spectra_expansion.specs.Sizes.{nodes_in, levels_in}
+use Rattle.spec_model.specs.FormulaSizes.{nodes_in, levels_in}
+use Rattle.spec_model.specs.TriggerStates.{trigger_atoms, trigger_states}
 
 -- ---- what stands in a formula
 
@@ -119,6 +122,19 @@ is_typed_content s asm (TriggerUse t) = nat_lt t (length s.triggers)
 abbrev pub is_typed_line : Specification → Statement → Bool
 is_typed_line s l = is_typed_content s (is_assumption l.role) l.content
 
+-- a monitor's line is initial or holds at each position
+abbrev pub is_monitor_content : Content → Bool
+is_monitor_content (Initial e) = true
+is_monitor_content (Safety e) = true
+is_monitor_content _ = false
+
+abbrev pub fits_role : Statement → Bool
+fits_role l = of_role l.role
+  where
+    of_role : Role → Bool
+    of_role Monitor = is_monitor_content l.content
+    of_role _ = true
+
 -- line numbers rise from 1, up to one more than there may be lines
 abbrev pub are_rising : (least : ℕ) → List Statement → Bool
 are_rising least [] = true
@@ -199,7 +215,7 @@ abbrev pub is_typed_side : Specification → Regular → Bool
 is_typed_side s r = repeats_well r && (nat_le (positions_in r) 64 && list_all (is_typed_state (scope_of_specification s) (length s.names)) (atoms_of r))
 
 abbrev pub is_typed_trigger : Specification → TriggerData → Bool
-is_typed_trigger s t = is_typed_side s t.cause && (is_typed_side s t.effect && nat_le (length (distinct (atoms_of t.cause ++ atoms_of t.effect))) 8)
+is_typed_trigger s t = is_typed_side s t.cause && (is_typed_side s t.effect && (nat_le (length (trigger_atoms t)) 8 && nat_le (trigger_states t) 256))
 
 -- ---- limits
 
@@ -223,8 +239,7 @@ all_hidden s = length (past_operators s) + count_by (λ l. is_hidden l.content) 
 
 -- ---- specifications
 
--- One line and one node more than a text may have are room for a guarantee that is forced. How names are spelled, and how
--- many states a trigger has, is said where names are read and where triggers become tables.
+-- One line and one node more than a text may have are room for a guarantee that is forced.
 pub record WellTyped (s : Specification) : Type 0 where
   pub few_names : length s.names ≤ 65_535
   pub different_names : IsTrue (all_differ same_names s.names)
@@ -234,6 +249,7 @@ pub record WellTyped (s : Specification) : Type 0 where
   pub patterns : IsTrue (list_all (is_typed_pattern (length s.names)) s.patterns)
   pub triggers : IsTrue (list_all (is_typed_trigger s) s.triggers)
   pub lines : IsTrue (list_all (is_typed_line s) s.lines)
+  pub roles : IsTrue (list_all fits_role s.lines)
   pub few_lines : length s.lines ≤ 4097
   pub rising : IsTrue (are_rising 1 s.lines)
   pub few_nodes : all_nodes s ≤ 1_000_001

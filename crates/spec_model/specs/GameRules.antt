@@ -1,6 +1,5 @@
 -- A game as its players see it, over runs with their hidden values.
-use Rattle.std.specs.Prelude.{ℕ, zero, suc, ◌&&◌, Some, None, [], length, IsTrue}
-use Rattle.spec_model.specs.Values.{Assignment}
+use Rattle.std.specs.Prelude.{ℕ, zero, suc, ◌&&◌, Some, None, length}
 use Rattle.spec_model.specs.Rules.{Run, Rules}
 use Rattle.spec_model.specs.Games.{GameData, state_at, goals_in}
 use Rattle.spec_model.specs.Steps.{Before, is_input, is_output, legal_input, legal_output}

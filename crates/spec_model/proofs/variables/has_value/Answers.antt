@@ -1,6 +1,6 @@
 use Rattle.std.proofs.Common.{sym, ◌∙◌}
 use Rattle.spec_model.proofs.Domains.{none_in_range, none_named, named, no_number, no_name}
-use Rattle.spec_model.proofs.judge.has_value.Goals as goal
+use Rattle.spec_model.proofs.variables.has_value.Goals as goal
 
 pub returns-in-Bool-value : goal.returns-in-Bool-value
 returns-in-Bool-value c = rw c.in-Range.is (sym (none_in_range c.args.value (no_number c.args.value c.in-Bool-value.is) c.in-Range.lo c.in-Range.hi))
