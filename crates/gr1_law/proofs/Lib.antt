@@ -7,7 +7,6 @@ pub mod Potential
 pub mod Standing
 pub mod Choosing
 pub mod Present
-pub mod Running
 pub mod Trails
 pub mod Rounds
 pub mod Keeping
@@ -19,4 +18,3 @@ pub mod Carrying
 pub mod StateCounts
 pub mod SafeGames
 pub mod Staying
-pub mod Lamps

@@ -11,14 +11,13 @@ use Rattle.spec_model.specs.Sets.{StateSet, no_states, all_states, either, rest,
 use Rattle.spec_model.proofs.Duality.{parts_agree}
 use Rattle.gr1_law.specs.Layers.{LayerSets, AreLayers, IsWinning, AreGreatestRanks, HasRanks, IsLeastNumber, goal_set, assumption_set, assumption_sets, round_count}
 use Rattle.spec_model.specs.GameRules.{rules_of_game}
-use Rattle.gr1_law.specs.Worked.{light, light_text, permitted, dead_end, HasRounds}
+use Rattle.gr1_law.specs.Worked.{light, permitted, dead_end, HasRounds}
 use Rattle.gr1_law.proofs.Parts.{InPart, in_part, to_part}
 use Rattle.gr1_law.proofs.Layering.{layers_of, layers_of-layers, y_in_next}
 use Rattle.gr1_law.proofs.Winning.{in_a_part, part_in_layer, part_solves, layer_inside}
 use Rattle.gr1_law.proofs.Solutions.{least-one, some_winning}
 use Rattle.gr1_law.proofs.Settling.{some_ranks, one_rank}
 use Rattle.gr1_law.proofs.Keeping.{realizable}
-use Rattle.gr1_law.proofs.StateCounts.{system_wins}
 use Rattle.spec_model.specs.Verdicts.{SystemWins}
 use Rattle.spec_model.specs.WellMade.{WellMade}
 use Rattle.spec_model.specs.Values.{Assignment, truth_of}
@@ -131,13 +130,6 @@ light_made =
 
 pub light_rounds : HasRounds light 3
 light_rounds = won light 3 light_made light_start light_count
-
-pub light_text_won : SystemWins light_text 3
-light_text_won =
-    let z = some_winning light in
-    let ranks = some_ranks light z.0 z.1 z.2.layers in
-    subst (SystemWins light_text) (light_count z.0 z.1 ranks.0 z.2 ranks.1)
-    (system_wins light_text refl light_made z.0 z.1 ranks.0 (record { winning = z.2; greatest = ranks.1; forced = light_start z.0 z.1 z.2 }))
 
 -- ---- the light that is permitted now and then
 

@@ -14,7 +14,7 @@ use Rattle.gr1_law.specs.Choice.{Memory, Standing, first_memory, IsChosen, Chose
 use Rattle.spec_model.specs.GameRules.{last_state, before_at, rules_of_game}
 use Rattle.gr1_law.proofs.Standing.{Ready}
 use Rattle.gr1_law.proofs.Choosing.{Lowers, lowers, standing_next, chosen_output, chosen_legal}
-use Rattle.gr1_law.proofs.Running.{length-after, state_at-earlier, state_at-last, last_state-after}
+use Rattle.spec_model.proofs.Running.{length-after, state_at-earlier, state_at-last, last_state-after}
 
 -- what is remembered at each position, the last being the one at the end
 pub record Trail (g : GameData) (l : LayerSets) (h : Run) (m : Memory) : Type 0 where

@@ -1,4 +1,4 @@
--- Small games and specifications, whose K is worked out by hand.
+-- Small games, whose K is worked out by hand.
 use Rattle.std.specs.Prelude.{◌≡◌, ℕ, suc, List, [], ◌∷◌, None, codes}
 use Rattle.spec_model.specs.declared.value.Owner.TheVariants.{Env, Sys}
 use Rattle.spec_model.specs.declared.spec.Role.{Role}
@@ -31,29 +31,6 @@ lighting assume safe_asm safe_gar =
 -- no more lines: the rank is 1 where g holds, and 2 elsewhere
 abbrev pub light : GameData
 light = lighting [] [] []
-
--- `env boolean a; sys boolean g;` with lines that are numbered from 1
-abbrev pub lamp : List (Role × Content) → Specification
-lamp lines = record { names = []; variables = light.variables; patterns = []; triggers = []; lines = numbered 1 lines }
-  where
-    numbered : ℕ → List (Role × Content) → List Statement
-    numbered n [] = []
-    numbered n (l ∷ ls) = record { number = n; name = None; role = l.0; content = l.1 } ∷ numbered (suc n) ls
-
--- `gar alwEv g;`: its game is the light
-abbrev pub light_text : Specification
-light_text = lamp ((Guarantee, Recurring (Variable 1)) ∷ [])
-
--- `gar alw !g;`: nothing recurs, and the system can stay in each state
-abbrev pub dark_text : Specification
-dark_text = lamp ((Guarantee, Safety (Negation (Variable 1))) ∷ [])
-
--- `asm ini a & !a; gar alw g & !g;`: the system can stay in no state, but no first input is legal
-abbrev pub never_text : Specification
-never_text = lamp ((Assumption, Initial (and_not 0)) ∷ (Guarantee, Safety (and_not 1)) ∷ [])
-  where
-    and_not : ℕ → Formula
-    and_not k = Conjunction (formulas (Variable k ∷ Negation (Variable k) ∷ []))
 
 -- `asm alwEv a; gar alw g -> a;`: the rank is 1 where g holds or a doesn't, since g may wait for a, and 2 elsewhere
 abbrev pub permitted : GameData

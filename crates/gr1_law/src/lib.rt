@@ -5,8 +5,8 @@
 //! and the rule that keeps one violated assumption until the rank falls are this project's own.
 //!
 //! Contract: `laws::chosen_plays_keep`, a run of chosen outputs is a play that keeps each recurring guarantee within K
-//! rounds; `laws::winning_is_told`, there is one Z and one K; `specification_laws`, the same of the specification whose
-//! game it is, with K within its bound.
+//! rounds; `laws::winning_is_told`, there is one Z and one K; `specification_laws`, the same of a specification that the
+//! game agrees with, with K within its bound.
 //! Path: regions → **layers** → strategy → verdict.
 #![tactic(auto)]
 

@@ -1,35 +1,26 @@
-//! What the layers of its game say of a specification. These functions do nothing: their contracts are the laws.
-//!
-//! Each line is initial, holds at each position, or recurs, and the game that they make is well made.
+//! What the layers of a game say of a specification that it agrees with. These functions do nothing: their contracts are the
+//! laws. The game is well made.
 
 ghost use Rattle.spec_model.specs.Syntax.{Specification};
 ghost use Rattle.spec_model.specs.Games.{GameData};
 ghost use Rattle.spec_model.specs.WellMade.{WellMade};
-ghost use Rattle.hidden_game.specs.GameOf.{game_of};
-ghost use Rattle.hidden_game.specs.Agreement.{HasPlainLines};
-ghost use Rattle.gr1_law.specs.Specifications.{RulesAgree, SpecificationIsRealizable, SystemWinsWithRanks, ChosenPlaysKeepTheSpecification, SafetyIsASpecialCase, StayingWins};
-ghost use Rattle.spec_model.specs.Agreement.{HasNoGoals, NothingRecurs};
-
-/// The players of a specification's game play the specification: after each run the same moves are legal, and the same goals
-/// recur.
-pub fn rules_agree()
-    ensures { (s : Specification) → HasPlainLines s → WellMade (game_of s) → RulesAgree s }
-{}
+ghost use Rattle.spec_model.specs.Agreement.{Agrees, HasNoGoals, NothingRecurs};
+ghost use Rattle.gr1_law.specs.Specifications.{SpecificationIsRealizable, SystemWinsWithRanks, ChosenPlaysKeepTheSpecification, SafetyIsASpecialCase, StayingWins};
 
 /// Where the system can force the first state of the game into Z, the specification is realizable with K.
 pub fn specification_is_realizable()
-    ensures { (s : Specification) → HasPlainLines s → WellMade (game_of s) → SpecificationIsRealizable s }
+    ensures { (s : Specification) (g : GameData) → Agrees s g → WellMade g → SpecificationIsRealizable s g }
 {}
 
 /// K is within the bound that the specification's size gives.
 pub fn system_wins()
-    ensures { (s : Specification) → HasPlainLines s → WellMade (game_of s) → SystemWinsWithRanks s }
+    ensures { (s : Specification) (g : GameData) → Agrees s g → WellMade g → SystemWinsWithRanks s g }
 {}
 
 /// A run of chosen outputs is a play of the specification that keeps each recurring guarantee within K rounds, and after each
 /// legal input a legal output is chosen (Bloem et al. 2012, solving GR(1) games).
 pub fn chosen_plays_keep_the_specification()
-    ensures { (s : Specification) → HasPlainLines s → WellMade (game_of s) → ChosenPlaysKeepTheSpecification s }
+    ensures { (s : Specification) (g : GameData) → Agrees s g → WellMade g → ChosenPlaysKeepTheSpecification s g }
 {}
 
 /// In a game without goals Z is the greatest set in which the system can stay (Bloem et al. 2012, safety games), and K is 2
@@ -40,5 +31,5 @@ pub fn safety_is_a_special_case()
 
 /// So where nothing recurs and the system can force the first state into that set, it wins the specification with that K.
 pub fn staying_wins()
-    ensures { (s : Specification) → HasPlainLines s → WellMade (game_of s) → NothingRecurs s → StayingWins s }
+    ensures { (s : Specification) (g : GameData) → Agrees s g → WellMade g → NothingRecurs s → StayingWins s g }
 {}

@@ -1,14 +1,12 @@
-//! K of small games and specifications, by hand.
+//! K of small games, by hand.
 
 ghost use Rattle.spec_model.specs.Realizable.{IsRealizable};
-ghost use Rattle.spec_model.specs.Verdicts.{SystemWins};
 ghost use Rattle.spec_model.specs.GameRules.{rules_of_game};
-ghost use Rattle.gr1_law.specs.Worked.{light, light_text, dark_text, never_text, permitted, dead_end, HasRounds};
+ghost use Rattle.gr1_law.specs.Worked.{light, permitted, dead_end, HasRounds};
 
 /// Where one output is to be true again and again, K is 3: the ranks are 1 where it is true, and 2 elsewhere.
 pub fn a_recurring_output_has_three_rounds()
-    ensures rounds { HasRounds light 3 }
-    ensures specification { SystemWins light_text 3 }
+    ensures { HasRounds light 3 }
 {}
 
 /// Where the output is permitted only with an input that recurs, K is 3: the rank is 1 also where the input is false, since
@@ -22,14 +20,4 @@ pub fn a_permitted_output_has_three_rounds()
 pub fn the_sum_of_ranks_is_too_few()
     ensures rounds { HasRounds dead_end 2 }
     ensures too_few { IsRealizable (rules_of_game dead_end) 1 → ⊥ }
-{}
-
-/// Where nothing recurs, and the output is to be false at each position, K is 2.
-pub fn a_steady_output_has_two_rounds()
-    ensures { SystemWins dark_text 2 }
-{}
-
-/// Where no output is ever legal, but no first input either, there is no state in Z, and K is 1.
-pub fn a_play_that_never_begins_has_one_round()
-    ensures { SystemWins never_text 1 }
 {}

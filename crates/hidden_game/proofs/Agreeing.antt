@@ -14,7 +14,7 @@ use Rattle.spec_model.specs.Steps.{Before, is_output_variable, reads_output, som
 use Rattle.spec_model.specs.WellMade.{WellMade, is_stepwise, are_stepwise, awaits_output, is_step_formula, is_state_formula, is_initial_assumption, is_safety_assumption, scope_of}
 use Rattle.hidden_game.specs.GameOf.{game_of}
 use Rattle.hidden_game.specs.declared.expanding.Player.TheVariants.{Environment, System}
-use Rattle.hidden_game.specs.Agreement.{state_of, IsLast, MovesAgree}
+use Rattle.hidden_game.proofs.Plain.{state_of, IsLast, MovesAgree}
 use Rattle.hidden_game.proofs.Readings.{Share, Suits, value_now}
 use Rattle.hidden_game.proofs.Lines.{none_found, lines_hold}
 use Rattle.hidden_game.proofs.Choices.{some_choice, all_alike}

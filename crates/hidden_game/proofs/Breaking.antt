@@ -3,18 +3,18 @@ use Rattle.std.proofs.Common.{◌≡◌, ℕ, ◌<◌, Bool, true, false, not, �
 use Rattle.std.specs.List.{list_all}
 use Rattle.std.proofs.lemmas.Bool.{and_parts}
 use Rattle.std.proofs.lemmas.List.Elements.{All-head, All-tail}
-use Rattle.spec_model.specs.declared.game.Label.{Label}
 use Rattle.spec_model.specs.Syntax.{Formula, Content, Initial, Safety, Recurring, PatternUse, TriggerUse, Statement, Specification}
-use Rattle.spec_model.specs.Rules.{after_input}
-use Rattle.spec_model.specs.Moves.{broken_by_input}
+use Rattle.spec_model.specs.Values.{Assignment}
+use Rattle.spec_model.specs.Rules.{Run, after_input}
+use Rattle.spec_model.specs.Moves.{broken_assumption, broken_by_input}
 use Rattle.spec_model.specs.Steps.{Before, reached, are_hidden_values, line_holds, waits_for_output}
 use Rattle.spec_model.specs.WellMade.{WellMade, is_initial_assumption, is_safety_assumption}
 use Rattle.spec_model.specs.Laws.{NumbersRise}
 use Rattle.hidden_game.specs.declared.expanding.Player.TheVariants.{Environment}
 use Rattle.hidden_game.specs.declared.expanding.Time.TheVariants.{First, Always}
 use Rattle.hidden_game.specs.GameOf.{game_of, binds, said, numbered, lines_for}
-use Rattle.spec_model.specs.FirstBroken.{numbers_where, breaks, broken_by, lesser, least, line_label}
-use Rattle.hidden_game.specs.Breaking.{BreaksAgree}
+use Rattle.spec_model.specs.FirstBroken.{numbers_where, breaks, broken_by, lesser, least}
+use Rattle.hidden_game.proofs.Plain.{IsLast}
 use Rattle.hidden_game.proofs.Agreeing.{asm_first, asm_always}
 use Rattle.hidden_game.proofs.Least.{lesser-assoc, least-append}
 use Rattle.hidden_game.proofs.FirstBroken.{initial_breaks, safety_breaks}
@@ -107,18 +107,15 @@ module _ (broken : Content → Bool) (over : Bool)
 
 -- ---- the specification
 
-numbers_again : (a : Option ℕ) → option_map (λ (l : Label). l.line) (option_map line_label a) ≡ a
-numbers_again None = refl
-numbers_again (Some n) = refl
-
-pub breaks_agree : (s : Specification) → WellMade (game_of s) → NumbersRise s.lines → BreaksAgree s
+-- the least number of an assumption that the input breaks is that of the first line that it breaks
+pub breaks_agree : (s : Specification) → WellMade (game_of s) → NumbersRise s.lines → (h : Run) (b : Before) → IsLast h b → (x : Assignment) →
+    least (broken_by (game_of s) b x) ≡ broken_assumption s h x
 breaks_agree s made rise h b last x =
-    numbers_again (least (broken_by (game_of s) b x))
-    ∙ (least-append (if is_some b then [] else numbers_where (breaks (game_of s) false b x) (game_of s).initial_asm) (numbers_where (λ e. breaks (game_of s) (waits_for_output (game_of s) e) b x e) (game_of s).safe_asm)
+    least-append (if is_some b then [] else numbers_where (breaks (game_of s) false b x) (game_of s).initial_asm) (numbers_where (λ e. breaks (game_of s) (waits_for_output (game_of s) e) b x e) (game_of s).safe_asm)
     ∙ sym (found_is (broken_by_input s (after_input h x) (length h)) (is_some b)
     (is_initial_assumption (game_of s)) (is_safety_assumption (game_of s))
     (breaks (game_of s) false b x) (λ e. breaks (game_of s) (waits_for_output (game_of s) e) b x e)
-    initial safety (λ e. refl) (λ p es. refl) (λ t. refl) s.lines rise made.initial_asm made.safe_asm))
+    initial safety (λ e. refl) (λ p es. refl) (λ t. refl) s.lines rise made.initial_asm made.safe_asm)
   where
     hidden : (c : Before) → are_hidden_values [] (reached (game_of s) c x []).hidden ≡ true
     hidden None = refl

@@ -1,3 +1,5 @@
+pub mod Plain
+pub mod Parts
 pub mod Readings
 pub mod Lines
 pub mod Choices
@@ -9,3 +11,7 @@ pub mod AnyOutput
 pub mod FirstBroken
 pub mod SeenMoves
 pub mod Breaking
+pub mod Stepwise
+pub mod MadeGames
+pub mod StateCounts
+pub mod Agreed

@@ -10,7 +10,7 @@ use Rattle.spec_model.specs.Games.{GoalData, goals_in}
 use Rattle.hidden_game.specs.GameOf.{game_of, recurs, recurring, labelled, goals_for}
 use Rattle.hidden_game.specs.declared.expanding.Player.{Player}
 use Rattle.hidden_game.specs.declared.expanding.Player.TheVariants.{Environment, System}
-use Rattle.hidden_game.specs.Agreement.{is_plain, HasPlainLines, GoalsAgree}
+use Rattle.hidden_game.proofs.Plain.{is_plain, HasPlainLines, GoalsAgree}
 
 module _ (s : Specification) where
   abbrev goals : List GoalData → List RecurringGoal

@@ -1,13 +1,12 @@
 -- Which assumption an input breaks first in a game.
-use Rattle.std.specs.Prelude.{ℕ, ◌≡◌, ◌≤◌, Bool, true, false, not, ◌++◌, if◌then◌else◌, min, List, [], ◌∷◌, get_or, drop, map, Option, Some, None, is_some, option_map, IfSome, IsTrue, length}
-use Rattle.std.specs.List.{list_any, AllByRecursion}
+use Rattle.std.specs.Prelude.{ℕ, ◌≡◌, ◌≤◌, Bool, true, false, ◌++◌, if◌then◌else◌, List, [], ◌∷◌, get_or, drop, map, Option, Some, None, option_map, IfSome, IsTrue, length}
+use Rattle.std.specs.List.{AllByRecursion}
 use Rattle.spec_model.specs.declared.expr.Expr.{Expr}
-use Rattle.spec_model.specs.Values.{Assignment}
 use Rattle.spec_model.specs.Syntax.{Formula}
 use Rattle.spec_model.specs.Views.{formula}
 use Rattle.spec_model.specs.Meaning.{Reading, holds_at}
-use Rattle.spec_model.specs.Games.{GameData, outputs_of}
-use Rattle.spec_model.specs.Steps.{Before, reached, line_holds, waits_for_output, is_output}
+use Rattle.spec_model.specs.Games.{GameData}
+use Rattle.spec_model.specs.Steps.{waits_for_output, is_output}
 use Rattle.game_values.specs.Moments.{IsSafe}
 use Rattle.hidden_game.specs.declared.judging.Move.{Move}
 use Rattle.hidden_game.specs.declared.judging.InputJudge.{InputJudge}

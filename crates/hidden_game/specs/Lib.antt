@@ -1,5 +1,3 @@
 pub mod GameOf
-pub mod Agreement
 pub mod Sights
 pub mod Judged
-pub mod Breaking

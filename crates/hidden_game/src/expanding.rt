@@ -3,6 +3,9 @@
 ghost use Rattle.std.specs.Prelude.{◌≡◌, ◌++◌, map, option_map, IfOk, OnOk};
 ghost use Rattle.spec_model.specs.Views.{formula, content_data, line_data, spec_data};
 ghost use Rattle.spec_model.specs.GameViews.{game_data, goal_data};
+ghost use Rattle.spec_model.specs.Agreement.{Agrees};
+ghost use Rattle.spec_model.specs.WellMade.{WellMade};
+ghost use Rattle.spec_model.specs.WellTyped.{WellTyped, all_hidden};
 ghost use Rattle.hidden_game.specs.GameOf.{game_of, binds as binds_lem, recurs as recurs_lem, said as said_lem, recurring as recurring_lem, line_for, lines_for, goal_for, goals_for};
 
 use spec_model::copy::{copy_expr, copy_vars};
@@ -30,11 +33,20 @@ pub enum Time {
 }
 
 /// The game of a specification without past operators, patterns and triggers: its variables, and its lines in text
-/// order, by the player that they bind and the time at which they are judged.
-///
-/// `OutOfMemory`: none was given.
+/// order, by the player that they bind and the time at which they are judged. `AllocError`: no memory was given.
 pub fn expand(alloc: Global, spec: &Spec) -> Result<Game, AllocError>
+    requires typed { WellTyped (spec_data spec.now) }
+    requires plain { all_hidden (spec_data spec.now) ≡ 0 }
     ensures game { IfOk result (λ game. game_data game ≡ game_of (spec_data spec.now)) }
+    ensures made { IfOk result (λ game. WellMade (game_data game)) }
+    ensures agrees { IfOk result (λ game. Agrees (spec_data spec.now) (game_data game)) }
+{
+    sorted(alloc, spec)
+}
+
+// The variables, and the lines by the player that they bind and the time at which they are judged.
+fn sorted(alloc: Global, spec: &Spec) -> Result<Game, AllocError>
+    ensures { IfOk result (λ game. game_data game ≡ game_of (spec_data spec.now)) }
 {
     Ok(Game {
         vars: copy_vars(alloc, &spec.vars)?,

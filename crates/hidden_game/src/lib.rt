@@ -1,14 +1,14 @@
 //! The game that a specification is played as: its lines by whom they bind and when they are judged.
 //!
 //! A specification without past operators, patterns and triggers needs no hidden tables: its game has its variables, and
-//! its lines in text order. After every run the game has the same legal moves as the specification, and the same goals
-//! recur (Bloem et al. 2012, games of initial, safety and recurring lines).
+//! its lines in text order. After every run the game has the same legal moves as the specification, by the state that the
+//! hidden values give, and the same goals recur (Bloem et al. 2012, games of initial, safety and recurring lines).
 //!
 //! While a game is played, `first_hidden` and `next_hidden` write the values of its hidden tables, and an `InputJudge` names
 //! the assumption with the least number that an input breaks. Neither takes memory. A line that reads no present output
 //! has one value whatever output follows the input, so one output is looked at for all.
 //!
-//! Contract: `expand`; `InputJudge`; and the laws `moves_agree`, `goals_agree` and `breaks_agree`.
+//! Contract: `expand` gives a well-made game that agrees with a well-typed specification; `InputJudge`.
 //! Path: specification → **game** → regions.
 #![tactic(auto)]
 
@@ -20,8 +20,5 @@ mod sight;
 
 pub use expanding::expand;
 pub use judging::InputJudge;
-pub use laws::{breaks_agree, goals_agree, moves_agree};
+pub use laws::{games_agree, lines_rise};
 pub use reading::{first_hidden, next_hidden};
-
-#[cfg(test)]
-mod tests;

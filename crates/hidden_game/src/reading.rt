@@ -15,8 +15,8 @@ ghost use Rattle.hidden_game.specs.Sights.{cell_in as cell_in_lem, read_so_far, 
 use crate::sight::{Sight, cell, cell_in};
 use game_values::read::number_in;
 use spec_model::game::{Game, Hidden};
-use spec_model::variables::count_inputs;
 use spec_model::value::{Value, Var};
+use spec_model::variables::count_inputs;
 
 /// A number as a value.
 fn as_value(n: usize) -> Value

@@ -20,11 +20,11 @@ use Rattle.hidden_game.specs.declared.expanding.Player.{Player}
 use Rattle.hidden_game.specs.declared.expanding.Player.TheVariants.{Environment, System}
 use Rattle.hidden_game.specs.declared.expanding.Time.{Time}
 use Rattle.hidden_game.specs.declared.expanding.Time.TheVariants.{First, Always}
-use Rattle.hidden_game.specs.Agreement.{is_plain, HasPlainLines}
+use Rattle.hidden_game.proofs.Plain.{is_plain, HasPlainLines}
 use Rattle.hidden_game.specs.GameOf.{game_of, binds, said, numbered, lines_for, recurs, recurring, labelled, goals_for}
 use Rattle.spec_model.specs.WellTyped.{WellTyped, scope_of_specification, reads_some, shifts_some, is_typed, is_typed_state, is_typed_content, is_typed_line, is_domain_of, is_hidden, all_hidden, are_rising}
-use Rattle.spectra_types.proofs.Empty.{empty_parts}
-use Rattle.spectra_types.proofs.Steps.{stepwise, reads_none, awaits}
+use Rattle.hidden_game.proofs.Parts.{empty_parts}
+use Rattle.hidden_game.proofs.Stepwise.{stepwise, reads_none, awaits}
 
 -- ---- what isn't there
 

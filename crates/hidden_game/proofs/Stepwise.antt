@@ -6,7 +6,7 @@ use Rattle.spec_model.specs.Sizes.{past_trees, past_trees_of_all}
 use Rattle.spec_model.specs.Steps.{is_output_variable, reads_output, some_reads_output}
 use Rattle.spec_model.specs.WellMade.{is_stepwise, are_stepwise, awaits_output, some_awaits_output}
 use Rattle.spec_model.specs.WellTyped.{is_nested_well, are_nested_well, reads_some, some_reads, shifts_some, some_shifts}
-use Rattle.spectra_types.proofs.Empty.{empty_parts}
+use Rattle.hidden_game.proofs.Parts.{empty_parts}
 
 -- ---- tests
 

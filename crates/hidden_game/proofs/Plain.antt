@@ -1,5 +1,5 @@
--- The game of a specification and the specification have the same legal moves, and the same recurring goals.
-use Rattle.std.specs.Prelude.{◌≡◌, Bool, true, false, ◌&&◌, [], ◌∷◌, ◌++◌, Some, None, IsTrue}
+-- What the lemmas on a game without hidden tables say: its states are positions, and it has the specification's moves and goals.
+use Rattle.std.proofs.Common.{◌≡◌, Bool, true, false, ◌&&◌, [], ◌∷◌, ◌++◌, Some, None, IsTrue}
 use Rattle.std.specs.List.{list_all}
 use Rattle.spec_model.specs.Values.{Assignment}
 use Rattle.spec_model.specs.Syntax.{Content, Initial, Safety, Recurring, PatternUse, TriggerUse, Specification}
