@@ -1,13 +1,13 @@
 -- What a call leaves, from what its steps left.
-use Rattle.std.proofs.Common.{◌≡◌, ℕ, inl, inr, sym, ◌∙◌, ap, subst, ◌+◌, ◌==◌, if◌then◌else◌, ◌<◌, List, slice_index, Result, Ok, Err, IfOk, OnErr}
+use Rattle.std.proofs.Common.{◌≡◌, ℕ, ◌⊎◌, inl, inr, sym, ◌∙◌, ap, subst, ◌+◌, ◌==◌, if◌then◌else◌, ◌<◌, List, slice_index, Result, Ok, Err, IfOk, OnErr}
 use Rattle.spec_model.specs.Diagrams.{Diagram, Function, value}
 use Rattle.node_table.specs.Table.{Table, diagram_at, IsLive}
 use Rattle.bdd_store.specs.declared.fault.StoreFault.{StoreFault}
 use Rattle.bdd_store.specs.declared.fault.StoreFault.TheVariants.{Full}
-use Rattle.bdd_store.specs.State.{IsEdge, IsRoot, AddsRoot, SameRoots, IsFull}
+use Rattle.bdd_store.specs.State.{IsEdge, IsRoot, diagram_of, MakesOnly, AddsRoot, SameRoots, IsFull}
 use Rattle.bdd_ops.specs.Contents.{Contents, function_at}
 use Rattle.bdd_ops.specs.Steps.{Grows, HasFunction}
-use Rattle.bdd_ops.specs.Calls.{KeepsRoots, IsFilled, GivesRoot}
+use Rattle.bdd_ops.specs.Calls.{KeepsRoots, GivesRoot}
 
 -- growth keeps what roots are
 pub growth_keeps : (old new : Contents) (MayMake : Diagram → Type 0) → ((n : ℕ) → IsRoot old.state n → IsEdge old.state n) → Grows old new MayMake → KeepsRoots old new
@@ -24,8 +24,13 @@ refused_call old new fault f MayMake roots_live grows full = record {
   added = tt;
   refused = grows.roots;
   keeps = growth_keeps old new MayMake roots_live grows;
-  full = λ is. record { full = full (cc); nodes = grows.made };
+  made = grows.made;
+  full = λ is. full (cc);
 }
+
+made_same : (old mid new : Contents) (MayMake : Diagram → Type 0) → MakesOnly old.state mid.state MayMake → new.state.table ≡ mid.state.table → MakesOnly old.state new.state MayMake
+made_same old mid new MayMake made same =
+    subst (λ (t : Table). (n : ℕ) → IsLive t n → (IsEdge old.state n × (diagram_at t n ≡ diagram_of old.state n)) ⊎ MayMake (diagram_at t n)) (sym same) made
 
 table_same : (mid new : Contents) (n : ℕ) → new.state.table ≡ mid.state.table → function_at new n ≡ function_at mid n
 table_same mid new n same = ap (λ t. value (diagram_at t n)) same
@@ -42,6 +47,7 @@ given_call old mid new n (Ok r) f MayMake roots_live grows has same held refused
     budget = ap (λ t. t.budget) same ∙ grows.keeps.budget;
     meaning = λ k root. ap (λ t. diagram_at t k) same ∙ grows.keeps.meaning k (roots_live k root);
   };
+  made = made_same old mid new MayMake grows.made same;
   full = λ is. absurd (memory is);
 }
 given_call old mid new n (Err fault) f MayMake roots_live grows has same held refused memory = record {
@@ -53,6 +59,7 @@ given_call old mid new n (Err fault) f MayMake roots_live grows has same held re
     budget = ap (λ t. t.budget) same ∙ grows.keeps.budget;
     meaning = λ k root. ap (λ t. diagram_at t k) same ∙ grows.keeps.meaning k (roots_live k root);
   };
+  made = made_same old mid new MayMake grows.made same;
   full = λ is. absurd (memory is);
 }
 
@@ -63,14 +70,12 @@ starts_same old mid new table kept keeps = record {
   meaning = λ n root. keeps.meaning n (subst (λ (k : List ℕ). 0 < slice_index k n) (sym kept) root) ∙ ap (λ t. diagram_at t n) table;
 }
 
-filled_same : (old mid new : Contents) (First MayMake : Diagram → Type 0) → mid.state.table ≡ old.state.table → ((d : Diagram) → First d → MayMake d) → IsFilled mid new First → IsFilled old new MayMake
-filled_same old mid new First MayMake table more filled = record {
-  full = filled.full;
-  nodes = λ n live. elim (filled.nodes n live) [
-    | inl before ↦ inl (subst (λ (t : Table). IsLive t n) table before)
-    | inr made ↦ inr (more _ made)
-  ];
-}
+starts_made : (old mid new : Contents) (First MayMake : Diagram → Type 0) → mid.state.table ≡ old.state.table → ((d : Diagram) → First d → MayMake d) → MakesOnly mid.state new.state First → MakesOnly old.state new.state MayMake
+starts_made old mid new First MayMake table more made n live =
+    elim (made n live) [
+      | inl before ↦ inl (subst (λ (t : Table). IsLive t n) table before.0, before.1 ∙ ap (λ t. diagram_at t n) table)
+      | inr is ↦ inr (more _ is)
+    ]
 
 -- a call's answer, said of what was there before the nodes and roots that it began with were looked up
 pub same_start : (old mid new : Contents) (result : Result ℕ StoreFault) (f g : Function) (First MayMake : Diagram → Type 0) → mid.state.table ≡ old.state.table → mid.state.kept ≡ old.state.kept → f ≡ g → ((d : Diagram) → First d → MayMake d) → GivesRoot mid new result f First → GivesRoot old new result g MayMake
@@ -79,14 +84,16 @@ same_start old mid new (Ok r) f g First MayMake table kept same more gives = rec
   added = rw (← kept) gives.added;
   refused = tt;
   keeps = starts_same old mid new table kept gives.keeps;
-  full = λ is. filled_same old mid new First MayMake table more (gives.full is);
+  made = starts_made old mid new First MayMake table more gives.made;
+  full = gives.full;
 }
 same_start old mid new (Err fault) f g First MayMake table kept same more gives = record {
   meaning = tt;
   added = tt;
   refused = rw (← kept) gives.refused;
   keeps = starts_same old mid new table kept gives.keeps;
-  full = λ is. filled_same old mid new First MayMake table more (gives.full is);
+  made = starts_made old mid new First MayMake table more gives.made;
+  full = gives.full;
 }
 
 -- a refusal for memory that changed no node and no root
@@ -96,5 +103,6 @@ refused_memory old new fault f MayMake table kept memory = record {
   added = tt;
   refused = λ n. ap (λ k. slice_index k n) kept;
   keeps = record { levels = ap (λ t. t.levels) table; budget = ap (λ t. t.budget) table; meaning = λ n root. ap (λ t. diagram_at t n) table };
+  made = λ n live. inl (subst (λ (t : Table). IsLive t n) table live, ap (λ t. diagram_at t n) table);
   full = λ is. absurd (memory (cc));
 }

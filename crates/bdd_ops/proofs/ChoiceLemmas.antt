@@ -122,5 +122,5 @@ same_grows old mid new MayMake grows same =
       lists = same.lists;
       keeps = same_keeps mid new same;
       roots = λ n. rw same.kept refl;
-      made = λ n live. inl (rw (← same.table) live);
+      made = λ n live. inl (rw (← same.table) live, ap (λ t. diagram_at t n) same.table);
     }) (λ d made. made) (λ d made. made)

@@ -1,11 +1,11 @@
 -- What growth keeps.
-use Rattle.std.proofs.Common.{◌≡◌, ℕ, ◌<◌, ◌≤◌, ◌⊎◌, inl, inr, sym, ◌∙◌, ap, subst, refl, arith, Bool, true, false, List, ◌+◌, ◌*◌, [], ◌∷◌, ◌++◌, map, if◌then◌else◌, length, slice_index_or, Result, Ok, Err, IfOk, OnErr, Option, Some, None, IfSome}
+use Rattle.std.proofs.Common.{◌≡◌, ℕ, ◌<◌, ◌≤◌, ◌⊎◌, inl, inr, sym, ◌∙◌, ap, subst, refl, arith, Bool, true, false, List, ◌+◌, ◌*◌, [], ◌∷◌, ◌++◌, map, if◌then◌else◌, length, slice_index_or, Result, Ok, Err, IfOk, Option, Some, None, IfSome}
 use Rattle.spec_model.specs.Diagrams.{Diagram, constant, branch, Bits, Function, value, ite, shifted, IsLater, IsPartOf}
 use Rattle.bdd_cache.specs.declared.answer.Answer.{Answer}
 use Rattle.bdd_store.specs.declared.edge.Edge.{Edge}
 use Rattle.bdd_store.specs.declared.fault.StoreFault.{StoreFault}
 use Rattle.node_table.specs.Table.{diagram_at}
-use Rattle.bdd_store.specs.State.{State, IsStore, IsEdge, HasAnswer, diagram_of, KeepsEdges, SameRoots, HasParts, IsNewStore}
+use Rattle.bdd_store.specs.State.{State, IsStore, IsEdge, HasAnswer, diagram_of, KeepsEdges, MakesOnly, SameRoots, HasParts, IsNewStore}
 use Rattle.bdd_ops.specs.Functions.{split, Ignores, IgnoresTo, joined, joined_over, join_of}
 use Rattle.bdd_ops.specs.Contents.{Contents, IsAnswer, IsRight, AreRight, function_at, list_at, over_op}
 use Rattle.bdd_ops.specs.Steps.{Grows, IsChoiceOfParts, IsSplitAt, level_of, level_at, IsSplit, HasFunction}
@@ -37,7 +37,7 @@ grows_none c MayMake = record {
   lists = refl;
   keeps = record { levels = refl; budget = refl; live = λ n live. live; meaning = λ n live. refl };
   roots = λ n. refl;
-  made = λ n live. inl live;
+  made = λ n live. inl (live, refl);
 }
 
 -- one growth after another
@@ -52,9 +52,9 @@ grows_on old mid new First Second MayMake first second is_first is_second = reco
   };
   roots = λ n. second.roots n ∙ first.roots n;
   made = λ n live. elim (second.made n live) [
-    | inl before ↦ elim (first.made n before) [
-      | inl earlier ↦ inl earlier
-      | inr made ↦ inr (is_first _ (rw (second.keeps.meaning n before) made))
+    | inl before ↦ elim (first.made n before.0) [
+      | inl earlier ↦ inl (earlier.0, before.1 ∙ earlier.1)
+      | inr made ↦ inr (is_first _ (rw before.1 made))
     ]
     | inr made ↦ inr (is_second _ made)
   ];
@@ -156,26 +156,16 @@ split_given at now new level low high (Ok e) same live agree =
     subst (λ (c : Contents). IsSplit new level (function_at c low) (function_at c high) e.0) same (record { live = live; function = λ i s. agree s i })
 split_given at now new level low high (Err fault) same live agree = tt
 
--- and it is the one that may be new
-pub node_grows : (at now new : Contents) (level low high : ℕ) (r : Result Edge StoreFault) → at ≡ now → new.lists ≡ at.lists → KeepsEdges at.state new.state → SameRoots at.state new.state →
-    IfOk r (λ e. (n : ℕ) → IsEdge new.state n → (n ≡ e.0) ⊎ IsEdge at.state n) → IfOk r (λ e. (s : Bits) → function_at new e.0 s ≡ split level (function_at at low) (function_at at high) s) → OnErr r (new.state ≡ at.state) →
+-- the node that may be new is split at the level
+pub node_grows : (at now new : Contents) (level low high : ℕ) → at ≡ now → new.lists ≡ at.lists → KeepsEdges at.state new.state → SameRoots at.state new.state →
+    MakesOnly at.state new.state (λ made. made ≡ branch level (diagram_of at.state low) (diagram_of at.state high)) →
     Grows now new (λ d. value d ≡ split level (function_at now low) (function_at now high))
-node_grows at now new level low high (Ok e) same lists keeps roots added agree only =
+node_grows at now new level low high same lists keeps roots made =
     subst (λ (c : Contents). Grows c new (λ d. value d ≡ split level (function_at c low) (function_at c high))) same (record {
       lists = lists;
       keeps = keeps;
       roots = roots;
-      made = λ n live. elim (added n live) [
-        | inl is_it ↦ inr (rw is_it (λ i s. agree s i))
-        | inr before ↦ inl before
-      ];
-    })
-node_grows at now new level low high (Err fault) same lists keeps roots added agree only =
-    subst (λ (c : Contents). Grows c new (λ d. value d ≡ split level (function_at c low) (function_at c high))) same (record {
-      lists = lists;
-      keeps = keeps;
-      roots = roots;
-      made = λ n live. inl (subst (λ (x : State). IsEdge x n) only live);
+      made = λ n live. elim (made n live) [ inl before ↦ inl before | inr is ↦ inr (ap value is) ];
     })
 
 -- ---- answers

@@ -1,9 +1,9 @@
 -- What a call of diagrams gives and leaves.
-use Rattle.std.specs.Prelude.{◌≡◌, ◌<◌, ◌⊎◌, ℕ, not, List, length, slice_index_or, Result, Err, IfOk, OnErr}
+use Rattle.std.specs.Prelude.{◌≡◌, ◌<◌, ℕ, not, List, length, slice_index_or, Result, Err, IfOk, OnErr}
 use Rattle.spec_model.specs.Diagrams.{Diagram, Function, value, IsPartOf}
 use Rattle.bdd_store.specs.declared.fault.StoreFault.{StoreFault}
 use Rattle.bdd_store.specs.declared.fault.StoreFault.TheVariants.{Full}
-use Rattle.bdd_store.specs.State.{IsEdge, IsRoot, diagram_of, AddsRoot, SameRoots, IsFull}
+use Rattle.bdd_store.specs.State.{IsRoot, diagram_of, MakesOnly, AddsRoot, SameRoots, IsFull}
 use Rattle.bdd_ops.specs.Functions.{DependsOn}
 use Rattle.bdd_ops.specs.Contents.{Contents, function_at}
 
@@ -13,18 +13,15 @@ pub record KeepsRoots (old new : Contents) : Type 0 where
   pub budget : new.state.table.budget ≡ old.state.table.budget
   pub meaning : (n : ℕ) → IsRoot old.state n → diagram_of new.state n ≡ diagram_of old.state n
 
--- the store holds exactly its budget, and each of its nodes was there or is an unfinished result
-pub record IsFilled (old new : Contents) (MayMake : Diagram → Type 0) : Type 0 where
-  pub full : IsFull new.state
-  pub nodes : (n : ℕ) → IsEdge new.state n → IsEdge old.state n ⊎ MayMake (diagram_of new.state n)
-
--- the result is a root of this function, or a refusal that leaves what is kept
+-- the result is a root of this function, or a refusal that leaves what is kept. Either way each new node is one that the
+-- operation may make, and `Full` comes only where the store then holds exactly its budget
 pub record GivesRoot (old new : Contents) (result : Result ℕ StoreFault) (f : Function) (MayMake : Diagram → Type 0) : Type 0 where
   pub meaning : IfOk result (λ r. function_at new r ≡ f)
   pub added : IfOk result (λ r. AddsRoot old.state new.state r)
   pub refused : OnErr result (SameRoots old.state new.state)
   pub keeps : KeepsRoots old new
-  pub full : result ≡ Err Full → IsFilled old new MayMake
+  pub made : MakesOnly old.state new.state MayMake
+  pub full : result ≡ Err Full → IsFull new.state
 
 -- the negation
 abbrev pub negated : Function → Function

@@ -1,7 +1,7 @@
 -- What one step of an operation gives and leaves.
 use Rattle.std.specs.Prelude.{◌≡◌, ◌<◌, ◌⊎◌, ℕ, true, false, List, length, slice_index_or, if◌then◌else◌}
 use Rattle.spec_model.specs.Diagrams.{Diagram, constant, branch, Function, value, ite, shifted, IsPartOf, Reads}
-use Rattle.bdd_store.specs.State.{IsEdge, diagram_of, KeepsEdges, SameRoots}
+use Rattle.bdd_store.specs.State.{IsEdge, diagram_of, KeepsEdges, MakesOnly, SameRoots}
 use Rattle.bdd_ops.specs.Functions.{split, IgnoresTo, Join, joined, joined_over, join_of, is_among}
 use Rattle.bdd_ops.specs.Contents.{Contents, function_at}
 
@@ -18,7 +18,7 @@ pub record Grows (old new : Contents) (MayMake : Diagram → Type 0) : Type 0 wh
   pub lists : new.lists ≡ old.lists
   pub keeps : KeepsEdges old.state new.state
   pub roots : SameRoots old.state new.state
-  pub made : (n : ℕ) → IsEdge new.state n → IsEdge old.state n ⊎ MayMake (diagram_of new.state n)
+  pub made : MakesOnly old.state new.state MayMake
 
 -- the two parts of a node at a level: each is a part of its diagram, of later levels
 pub record IsSplitAt (c : Contents) (level n low high : ℕ) : Type 0 where

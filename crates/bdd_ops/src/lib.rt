@@ -4,9 +4,9 @@
 //! the node that joins their answers (Bryant 1986, operations). An answer is remembered under the operation's number;
 //! an operation over a list of levels has a number for each list, so answers about other lists are other answers.
 //!
-//! Contract: an operation's root means its operation and a refusal leaves what is kept (`GivesRoot`), and `Full` comes
-//! only where the store then holds exactly its budget, of nodes that were there and of unfinished results
-//! (`IsFilled`). Path: store → **operations** → formulas, regions.
+//! Contract (`GivesRoot`): an operation's root means its operation, and a refusal leaves what is kept; each node that is
+//! there then was there or is an unfinished result; `Full` comes only where the store then holds exactly its budget.
+//! Path: store → **operations** → formulas, regions.
 #![tactic(auto)]
 
 mod calls;

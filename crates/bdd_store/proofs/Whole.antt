@@ -1,17 +1,17 @@
 -- What a store keeps true gives what callers see of it, and each change keeps it.
-use Rattle.std.proofs.Common.{◌≡◌, ◌≢◌, ℕ, ◌<◌, ◌≤◌, ◌^◌, ◌==◌, Bool, true, false, cond, List, [], ◌∷◌, zero, suc, Some, None, Result, Ok, Err, OnErr, length, get_or, refl, sym, ◌∙◌, ap, subst, inl, inr, arith}
+use Rattle.std.proofs.Common.{◌≡◌, ◌≢◌, ℕ, ◌<◌, ◌≤◌, ◌^◌, ◌==◌, ◌⊎◌, Bool, true, false, cond, List, [], ◌∷◌, zero, suc, Some, None, Result, Ok, Err, IfOk, OnErr, length, get_or, refl, sym, ◌∙◌, ap, subst, inl, inr, arith}
 use Rattle.std.specs.Prelude.{sum, count_by}
 use Rattle.std.proofs.lemmas.Bool.{cases_lt, cases_eq, ne_eqb, eq-eqb}
 use Rattle.spec_model.specs.Diagrams.{Diagram, constant, branch, IsLater}
 use mir.Val.{bool_byte}
 use Rattle.spec_model.proofs.Diagrams.{same_function}
-use Rattle.node_table.specs.Table.{Table, level_at, low_at, high_at, is_marked, IsLive, IsSound, IsFit, IsNodeAt, HasNode, IsNew, parts_of, diagram_at}
+use Rattle.node_table.specs.Table.{Table, level_at, low_at, high_at, is_marked, IsLive, IsSound, IsFit, IsNodeAt, HasNode, IsNew, AddsNode, KeepsLive, parts_of, diagram_at}
 use Rattle.node_table.proofs.Meaning.{diagram_at-constant, diagram_at-inner, diagram_at-reduced, diagram_at-within, one_node, later_at}
 use Rattle.node_table.proofs.Adding.{node_meaning}
 use Rattle.node_table.proofs.Marking.{parts_of-inner, parts_of-level, parts_of-constant}
 use Rattle.bdd_cache.specs.declared.answer.Answer.{Answer}
 use Rattle.bdd_cache.specs.Kept.{IsKept}
-use Rattle.bdd_store.specs.State.{State, IsStore, IsEdge, HasDiagram, diagram_of, HasParts, IsConstant, IsNewStore}
+use Rattle.bdd_store.specs.State.{State, IsStore, IsEdge, HasDiagram, diagram_of, HasParts, IsConstant, IsNewStore, MakesOnly}
 use Rattle.bdd_store.specs.State.{IsFull}
 use Rattle.bdd_store.specs.Kept.{IsWhole, AddsOne, SameCounts}
 use Rattle.node_table.specs.declared.fault.NodeFault.{NodeFault}
@@ -141,6 +141,20 @@ whole_nodes s roots t whole sound marks live = record {
   counted = whole.counted;
   small = whole.small;
 }
+
+-- at most one node is new, and it stands for the level and the two parts
+pub node_made : (s : State) (t : Table) (level low high : ℕ) (q : Result ℕ NodeFault) → KeepsLive s.table t → IfOk q (λ n. (t ≡ s.table) ⊎ AddsNode s.table t n) →
+    IfOk q (λ n. diagram_at t n ≡ branch level (diagram_of s low) (diagram_of s high)) → OnErr q (t ≡ s.table) → MakesOnly s (record s { table = t }) (λ made. made ≡ branch level (diagram_of s low) (diagram_of s high))
+node_made s t level low high (Ok e) keeps added meaning only n live =
+    elim added [
+      | inl same ↦ let before : IsLive s.table n = subst (λ u. IsLive u n) same live in inl (before, keeps.meaning n before)
+      | inr adds ↦ elim (cases_eq n e) [
+        | inl is ↦ inr (ap (diagram_at t) is ∙ meaning)
+        | inr ne ↦ let before : IsLive s.table n = sym (adds.live n ne) ∙ live in inl (before, keeps.meaning n before)
+      ]
+    ]
+node_made s t level low high (Err fault) keeps added meaning only n live =
+    let before : IsLive s.table n = subst (λ u. IsLive u n) only live in inl (before, keeps.meaning n before)
 
 -- ---- parts
 

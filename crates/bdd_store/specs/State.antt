@@ -1,5 +1,5 @@
 -- What contracts see of a store: its nodes, the roots that are kept, and the answers that it remembers.
-use Rattle.std.specs.Prelude.{◌≡◌, ◌≢◌, ◌==◌, ◌<◌, ◌≤◌, ◌+◌, ℕ, List, slice_index, if◌then◌else◌}
+use Rattle.std.specs.Prelude.{◌≡◌, ◌≢◌, ◌==◌, ◌<◌, ◌≤◌, ◌+◌, ◌⊎◌, ℕ, List, slice_index, if◌then◌else◌}
 use Rattle.spec_model.specs.Diagrams.{Diagram, constant, branch, value, IsReduced, IsLater, IsWithin, IsPartOf}
 use Rattle.node_table.specs.Table.{Table, IsLive, diagram_at, count_of, IsSound}
 use Rattle.bdd_cache.specs.declared.answer.Answer.{Answer}
@@ -58,6 +58,14 @@ pub record KeepsEdges (old new : State) : Type 0 where
   pub budget : new.table.budget ≡ old.table.budget
   pub live : (n : ℕ) → IsEdge old n → IsEdge new n
   pub meaning : (n : ℕ) → IsEdge old n → diagram_of new n ≡ diagram_of old n
+
+-- the node was there, and stands for what it stood for
+abbrev pub WasThere : State → State → ℕ → Type 0
+WasThere old new n = IsEdge old n × (diagram_of new n ≡ diagram_of old n)
+
+-- each node was there, or stands for a diagram that may be made
+abbrev pub MakesOnly : State → State → (Diagram → Type 0) → Type 0
+MakesOnly old new MayMake = (n : ℕ) → IsEdge new n → WasThere old new n ⊎ MayMake (diagram_of new n)
 
 -- each node has as many roots as before
 abbrev pub SameRoots : State → State → Type 0

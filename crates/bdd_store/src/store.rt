@@ -2,7 +2,7 @@ ghost use Rattle.std.specs.Prelude.{◌≡◌, ◌≢◌, ◌<◌, ◌≤◌, �
 ghost use Rattle.spec_model.specs.Diagrams.{Diagram, constant, branch, value, Bits, IsLater};
 ghost use Rattle.node_table.specs.Table.{count_of, Table};
 ghost use Rattle.bdd_cache.specs.declared.answer.Answer.{Answer};
-ghost use Rattle.bdd_store.specs.State.{State, IsStore, IsEdge, IsRoot, diagram_of, HasDiagram, IsFull, HasAnswer, IsOfLiveNodes, KeepsEdges, SameRoots, AddsRoot, IsReached, IsConstant, HasParts, IsNewStore, roots_at};
+ghost use Rattle.bdd_store.specs.State.{State, IsStore, IsEdge, IsRoot, diagram_of, HasDiagram, IsFull, HasAnswer, IsOfLiveNodes, KeepsEdges, MakesOnly, SameRoots, AddsRoot, IsReached, IsConstant, HasParts, IsNewStore, roots_at};
 
 use crate::OutOfMemory;
 use crate::edge::Edge;
@@ -58,6 +58,7 @@ impl Store {
         ensures meaning { IfOk result (λ r. diagram_of self.new r ≡ branch level (constant false) (constant true)) }
         ensures added { IfOk result (λ r. AddsRoot self.old self.new r) }
         ensures kept { IfOk result (λ r. IsRoot self.new r) }
+        ensures made { MakesOnly self.old self.new (λ made. made ≡ branch level (constant false) (constant true)) }
         ensures keeps { KeepsEdges self.old self.new }
         ensures answers { self.new.answers ≡ self.old.answers }
         ensures full { (result ≡ Err StoreFault.Full) ↔ ((HasDiagram self.old (branch level (constant false) (constant true)) → ⊥) × IsFull self.old) }
@@ -172,7 +173,7 @@ impl Store {
         ensures answers { self.new.answers ≡ self.old.answers }
         ensures full { (result ≡ Err StoreFault.Full) ↔ ((low.0 ≢ high.0) × (HasDiagram self.old (branch level (diagram_of self.old low.0) (diagram_of self.old high.0)) → ⊥) × IsFull self.old) }
         ensures only { OnErr result (self.new ≡ self.old) }
-        ensures added { IfOk result (λ e. (n : ℕ) → IsEdge self.new n → (n ≡ e.0) ⊎ IsEdge self.old n) }
+        ensures made { MakesOnly self.old self.new (λ made. made ≡ branch level (diagram_of self.old low.0) (diagram_of self.old high.0)) }
         ensures sound { IsStore self.new }
     {
         let _ = &self.nodes;

@@ -22,4 +22,4 @@ pub returns-clause-joined : goal.returns-clause-joined
 returns-clause-joined c = split_given _ _ _ c.args.level c.args.low.0 c.args.high.0 c.node.result c.self.view_is c.node.ensures.live c.node.ensures.value
 
 pub returns-clause-grows : goal.returns-clause-grows
-returns-clause-grows c = node_grows _ _ _ c.args.level c.args.low.0 c.args.high.0 c.node.result c.self.view_is refl c.node.ensures.keeps c.node.ensures.roots c.node.ensures.added c.node.ensures.value c.node.ensures.only
+returns-clause-grows c = node_grows _ _ _ c.args.level c.args.low.0 c.args.high.0 c.self.view_is refl c.node.ensures.keeps c.node.ensures.roots c.node.ensures.made

@@ -1,12 +1,11 @@
-use Rattle.std.proofs.Common.{◌<◌, subst, sym, ap, ◌∙◌, inl, inr}
-use Rattle.bdd_store.specs.State.{IsStore, IsEdge, diagram_of}
+use Rattle.std.proofs.Common.{◌≡◌, ◌<◌, subst, sym, ap, ◌∙◌}
+use Rattle.bdd_store.specs.State.{IsStore, IsEdge, diagram_of, MakesOnly}
 use Rattle.bdd_store.specs.contracts.store.Store.{the_view}
-use Rattle.bdd_store.proofs.Whole.{store_of_whole, whole_nodes, FullExactly, fit_of, full_exactly, ok_or_err, nodes_memory, store_memory}
+use Rattle.bdd_store.proofs.Whole.{store_of_whole, whole_nodes, node_made, FullExactly, fit_of, full_exactly, ok_or_err, nodes_memory, store_memory}
 use Rattle.bdd_store.proofs.store.Store.node.Goals as goal
-use Rattle.std.proofs.lemmas.Bool.{false≢true, eq-eqb, cases_eq}
+use Rattle.std.proofs.lemmas.Bool.{false≢true, eq-eqb}
 use Rattle.std.specs.Prelude.{Err}
-use Rattle.spec_model.specs.Diagrams.{IsLater}
-use Rattle.node_table.specs.Table.{IsLive}
+use Rattle.spec_model.specs.Diagrams.{branch, IsLater}
 use Rattle.bdd_store.proofs.store.Store.node.Goals.{in-Ok, in-Err-Full, in-Err-Memory}
 
 pub returns-then-eq-clause-sound : goal.returns-then-eq-clause-sound
@@ -26,16 +25,10 @@ returns-clause-sound c = store_of_whole _ c.self.inside.roots (invariant_of-self
 pub returns-clause-keeps : goal.returns-clause-keeps
 returns-clause-keeps c = rw (← c.self.view_is) (record { levels = c.find_or_add.ensures.bounds.levels; budget = c.find_or_add.ensures.bounds.budget; live = c.find_or_add.ensures.keeps.live; meaning = c.find_or_add.ensures.keeps.meaning })
 
-pub returns-clause-added : goal.returns-clause-added
-returns-clause-added c =
-    elim c.match-find_or_add.branch [
-      | in-Ok w ↦ rw w.result-is (λ n live. elim w.in-Ok.ensures.added [
-        | inl e ↦ inr (subst (λ s. IsEdge s n) c.self.view_is (subst (λ t. IsLive t n) e live))
-        | inr adds ↦ elim (cases_eq n w.in-Ok.n) [ inl e ↦ inl e | inr ne ↦ inr (subst (λ s. IsEdge s n) c.self.view_is (sym (adds.live n ne) ∙ live)) ]
-      ])
-      | in-Err-Full w ↦ rw w.result-is tt
-      | in-Err-Memory w ↦ rw w.result-is tt
-    ]
+pub returns-clause-made : goal.returns-clause-made
+returns-clause-made c =
+    subst (λ s. MakesOnly s (record (the_view c.self.inside) { table = c.find_or_add.new.self }) (λ made. made ≡ branch c.args.level (diagram_of s c.args.low.0) (diagram_of s c.args.high.0))) c.self.view_is
+    (node_made (the_view c.self.inside) c.find_or_add.new.self c.args.level c.args.low.0 c.args.high.0 c.find_or_add.result c.find_or_add.ensures.keeps c.find_or_add.ensures.added c.find_or_add.ensures.meaning c.find_or_add.ensures.refused)
 
 pub returns-clause-full : goal.returns-clause-full
 returns-clause-full c =
