@@ -3,8 +3,7 @@
 ghost use Rattle.std.specs.Prelude.{◌≡◌};
 ghost use Rattle.spectra_trees.specs.Classes.{class_of as class_of_lem, known as known_lem, place_of, same_class};
 
-use crate::signs::sign_class;
-use crate::words::word_class;
+use crate::spellings::{sign_class, word_class};
 use spectra_lexer::Kind;
 
 /// What a token is for the grammar. Words and signs of one meaning are one class.
