@@ -12,14 +12,15 @@ use Rattle.spectra_lexer.specs.Pieces.{opening_of}
 use Rattle.spectra_lexer.specs.Tokens.{past, token_to, kind_of_piece, token_if, Lexes, piece, finish, AreTokens}
 use Rattle.spectra_trees.specs.declared.class.Class.{Class}
 use Rattle.spectra_trees.specs.declared.class.Class.TheVariants as classes
-use Rattle.spectra_trees.specs.Classes.{words, signs, class_in, word_class, sign_class, known, class_of, same_class, place_of}
+use Rattle.spectra_trees.specs.Classes.{words, signs, class_in, word_class, sign_class, class_of, same_class, place_of}
 use Rattle.spectra_trees.specs.Lexemes.{Lexeme, lexeme, lexemes_from, lexemes}
 use Rattle.spectra_parser.specs.Texts.{IsWholeFrom}
 
 -- ---- no word and no sign ends a text
 
-record NoFinish (o : Option Class) : Type 0 where
-  off : same_class (known o) classes.Finish ≡ false
+-- a class other than that of the end
+abbrev IsNoEnd : Class → Type 0
+IsNoEnd class = same_class class classes.Finish ≡ false
 
 -- no row of a table ends a text
 abbrev calm : List (List ℕ × Class) → Bool
@@ -30,23 +31,22 @@ both_calm : (a b : Bool) → not a && b ≡ true → (a ≡ false) × (b ≡ tru
 both_calm true b e = absurd (cc)
 both_calm false b e = (refl, e)
 
-either : (b : Bool) (c : Class) (o : Option Class) → same_class c classes.Finish ≡ false → NoFinish o → NoFinish (if b then Some c else o)
-unfolding known
-either true c o here other = record { off = here }
-either false c o here other = other
+either : (b : Bool) (c d : Class) → IsNoEnd c → IsNoEnd d → IsNoEnd (if b then c else d)
+either true c d here other = here
+either false c d here other = other
 
-in_calm : (rows : List (List ℕ × Class)) (w : List ℕ) → calm rows ≡ true → NoFinish (class_in rows w)
-unfolding known same_class place_of
-in_calm [] w e = record { off = refl }
+in_calm : (rows : List (List ℕ × Class)) (w : List ℕ) → calm rows ≡ true → IsNoEnd (class_in rows w)
+unfolding same_class place_of
+in_calm [] w e = refl
 in_calm (row ∷ rows) w e =
     let both = both_calm (same_class row.1 classes.Finish) (calm rows) e in
     either (same_text w row.0) row.1 (class_in rows w) both.0 (in_calm rows w both.1)
 
-word_goes_on : (w : List ℕ) → NoFinish (word_class w)
+word_goes_on : (w : List ℕ) → IsNoEnd (word_class w)
 unfolding word_class same_class place_of
 word_goes_on w = in_calm words w refl
 
-sign_goes_on : (w : List ℕ) → NoFinish (sign_class w)
+sign_goes_on : (w : List ℕ) → IsNoEnd (sign_class w)
 unfolding sign_class same_class place_of
 sign_goes_on w = in_calm signs w refl
 
@@ -54,11 +54,11 @@ sign_goes_on w = in_calm signs w refl
 
 abbrev GoesOn : Option Kind → Type 0
 GoesOn None = Unit {0}
-GoesOn (Some kind) = (w : List ℕ) → same_class (class_of kind w) classes.Finish ≡ false
+GoesOn (Some kind) = (w : List ℕ) → IsNoEnd (class_of kind w)
 
 name_or_word : (b : Bool) → GoesOn (Some (if b then kinds.Word else kinds.Name))
 unfolding class_of same_class place_of
-name_or_word true = λ w. (word_goes_on w).off
+name_or_word true = word_goes_on
 name_or_word false = λ w. refl
 
 piece_goes_on : (o : Opening) (p : List ℕ) → GoesOn (kind_of_piece o p)
@@ -70,7 +70,7 @@ piece_goes_on opens.BlockComment p = tt
 piece_goes_on opens.Name p = name_or_word (is_reserved p)
 piece_goes_on opens.Number p = λ w. refl
 piece_goes_on opens.Quoted p = λ w. refl
-piece_goes_on opens.Sign p = λ w. (sign_goes_on w).off
+piece_goes_on opens.Sign p = sign_goes_on
 
 -- ---- the last token is the end
 

@@ -1,5 +1,5 @@
 -- What a token is for the grammar, by its kind and its text: the words and the signs in a table.
-use Rattle.std.specs.Prelude.{ℕ, nat_eq, Bool, List, [], ◌∷◌, codes, Option, Some, None, if◌then◌else◌}
+use Rattle.std.specs.Prelude.{ℕ, nat_eq, Bool, List, [], ◌∷◌, codes, if◌then◌else◌}
 use Rattle.spectra_lexer.specs.declared.token.Kind.{Kind}
 use Rattle.spectra_lexer.specs.declared.token.Kind.TheVariants as kinds
 use Rattle.spectra_lexer.specs.Words.{same_text}
@@ -38,26 +38,23 @@ signs =
     (codes "(", classes.Open) ∷ (codes ")", classes.Close) ∷ (codes "[", classes.OpenBracket) ∷ (codes "]", classes.CloseBracket) ∷
     (codes "{", classes.OpenBrace) ∷ (codes "}", classes.CloseBrace) ∷ []
 
--- the class of the first row of a text
-abbrev pub class_in : List (List ℕ × Class) → List ℕ → Option Class
-class_in [] text = None
-class_in (row ∷ rows) text = if same_text text row.0 then Some row.1 else class_in rows text
+-- the class of the first row of a text; the grammar has none where there is no row
+abbrev pub class_in : List (List ℕ × Class) → List ℕ → Class
+class_in [] text = classes.Unknown
+class_in (row ∷ rows) text = if same_text text row.0 then row.1 else class_in rows text
 
 -- which reserved word a text is
-unfoldable pub word_class : List ℕ → Option Class
+unfoldable pub word_class : List ℕ → Class
 word_class = class_in words
 
 -- which sign a text is
-unfoldable pub sign_class : List ℕ → Option Class
+unfoldable pub sign_class : List ℕ → Class
 sign_class = class_in signs
 
-unfoldable pub known : Option Class → Class
-known (Some class) = class
-known None = classes.Unknown
-
+-- what a token of a kind is
 unfoldable pub class_of : Kind → List ℕ → Class
-class_of kinds.Word w = known (word_class w)
-class_of kinds.Sign w = known (sign_class w)
+class_of kinds.Word w = word_class w
+class_of kinds.Sign w = sign_class w
 class_of kinds.Name w = classes.Name
 class_of kinds.Number w = classes.Number
 class_of kinds.Text w = classes.Text

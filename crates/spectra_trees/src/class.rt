@@ -1,7 +1,7 @@
 //! What a token is for the grammar: which reserved word or sign, or a name, a number or a text.
 
 ghost use Rattle.std.specs.Prelude.{◌≡◌};
-ghost use Rattle.spectra_trees.specs.Classes.{class_of as class_of_lem, known as known_lem, place_of, same_class};
+ghost use Rattle.spectra_trees.specs.Classes.{class_of as class_of_lem, place_of, same_class};
 
 use crate::spellings::{sign_class, word_class};
 use spectra_lexer::Kind;
@@ -97,25 +97,14 @@ pub enum Class {
     Unknown,
 }
 
-/// The class of a word or a sign, where the grammar has it.
-#[tactic(auto, unfolding(crate::specs::Classes::known))]
-fn known(class: Option<Class>) -> Class
-    ensures { result ≡ known_lem class }
-{
-    match class {
-        Some(class) => class,
-        None => Class::Unknown,
-    }
-}
-
 /// What a token of a kind is for the grammar, by its text.
 #[tactic(auto, unfolding(crate::specs::Classes::class_of))]
 pub fn class_of(kind: Kind, text: &str) -> Class
     ensures { result ≡ class_of_lem kind text.now }
 {
     match kind {
-        Kind::Word => known(word_class(text)),
-        Kind::Sign => known(sign_class(text)),
+        Kind::Word => word_class(text),
+        Kind::Sign => sign_class(text),
         Kind::Name => Class::Name,
         Kind::Number => Class::Number,
         Kind::Text => Class::Text,

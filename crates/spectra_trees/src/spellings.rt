@@ -88,20 +88,20 @@ const SIGNS: [(&str, Class); 27] = [
 ];
 
 /// The class of the first row of a text.
-fn class_in(rows: &[(&str, Class)], text: &str) -> Option<Class>
+fn class_in(rows: &[(&str, Class)], text: &str) -> Class
     ensures { result ≡ class_in_lem (map (λ row. (row.0.now, row.1)) rows.now) text.now }
 {
     for &(spelling, class) in rows {
         if text == spelling {
-            return Some(class);
+            return class;
         }
     }
-    None
+    Class::Unknown
 }
 
 /// Which reserved word a text is.
 #[tactic(auto, unfolding(crate::specs::Classes::word_class))]
-pub fn word_class(text: &str) -> Option<Class>
+pub fn word_class(text: &str) -> Class
     ensures { result ≡ word_class_lem text.now }
 {
     class_in(&WORDS, text)
@@ -109,7 +109,7 @@ pub fn word_class(text: &str) -> Option<Class>
 
 /// Which sign a text is.
 #[tactic(auto, unfolding(crate::specs::Classes::sign_class))]
-pub fn sign_class(text: &str) -> Option<Class>
+pub fn sign_class(text: &str) -> Class
     ensures { result ≡ sign_class_lem text.now }
 {
     class_in(&SIGNS, text)
