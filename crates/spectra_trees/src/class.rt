@@ -6,10 +6,9 @@ ghost use Rattle.spectra_trees.specs.Classes.{class_of as class_of_lem, place_of
 use crate::spellings::{sign_class, word_class};
 use spectra_lexer::Kind;
 
-/// What a token is for the grammar. Words and signs of one meaning are one class.
+/// What a token is for the grammar. Words and signs of one meaning are one class, as the tables of `spellings` have them.
 #[derive(Clone, Copy, Debug, PartialEq, Eq)]
 pub enum Class {
-    /// `spec` or `module`.
     Head,
     Import,
     Env,
@@ -23,39 +22,24 @@ pub enum Class {
     Pattern,
     Var,
     Monitor,
-    /// `asm` or `assumption`.
     Asm,
-    /// `gar` or `guarantee`.
     Gar,
-    /// `ini` or `initially`.
     Ini,
-    /// `alw`, `always`, `G` or `trans`.
     Alw,
-    /// `alwEv`, `alwaysEventually` or `GF`.
     AlwEv,
     Trig,
     Next,
     True,
     False,
-    /// `!` or `not`.
     Not,
-    /// `PREV` or `Y`.
     Prev,
-    /// `ONCE` or `O`.
     Once,
-    /// `HISTORICALLY` or `H`.
     Historically,
-    /// `->` or `implies`.
     Implies,
-    /// `<->` or `iff`.
     Iff,
-    /// `SINCE` or `S`.
     Since,
-    /// `TRIGGERED` or `T`.
     Triggered,
-    /// `&` or `and`.
     And,
-    /// The word `or`.
     Or,
     /// The sign `|`, which also stands between regular expressions.
     Bar,
@@ -69,23 +53,17 @@ pub enum Class {
     Minus,
     Star,
     Mod,
-    /// `|=>`.
     Then,
-    /// `:=`.
     Becomes,
-    /// `..`.
     UpTo,
     Question,
     Colon,
     Semicolon,
     Comma,
-    /// `(` and `)`.
     Open,
     Close,
-    /// `[` and `]`.
     OpenBracket,
     CloseBracket,
-    /// `{` and `}`.
     OpenBrace,
     CloseBrace,
     Name,
