@@ -17,7 +17,7 @@ use Rattle.spectra_lexer.specs.Pieces.{opening_of, IsPiece}
 use Rattle.spectra_lexer.specs.Tokens.{kind_of_piece}
 use Rattle.spectra_trees.specs.declared.class.Class.{Class}
 use Rattle.spectra_trees.specs.declared.class.Class.TheVariants as classes
-use Rattle.spectra_trees.specs.Classes.{class_of, same_class, place_of, sign_class, known, arrow_class, relation_class, sum_class, mark_class, bracket_class, word_class, head_class, type_class, item_class, line_class, value_class, logic_class, past_class}
+use Rattle.spectra_trees.specs.Classes.{class_of, same_class, place_of, sign_class, word_class}
 use Rattle.spectra_trees.specs.Lexemes.{Lexeme}
 use Rattle.spectra_exprs.specs.Spellings.{IsToken}
 use Rattle.spectra_exprs.proofs.Opening.{Example}
@@ -87,179 +87,179 @@ a_Number = record {
 }
 
 pub a_Equal : Example classes.Equal
-unfolding unicode_ident is_sign same_class class_of sign_class known arrow_class relation_class sum_class mark_class bracket_class place_of
+unfolding unicode_ident is_sign same_class class_of sign_class place_of
 a_Equal = sign_of classes.Equal (codes "=") refl refl refl refl
 
 pub a_Unequal : Example classes.Unequal
-unfolding unicode_ident is_sign same_class class_of sign_class known arrow_class relation_class sum_class mark_class bracket_class place_of
+unfolding unicode_ident is_sign same_class class_of sign_class place_of
 a_Unequal = sign_of classes.Unequal (codes "!=") refl refl refl refl
 
 pub a_Less : Example classes.Less
-unfolding unicode_ident is_sign same_class class_of sign_class known arrow_class relation_class sum_class mark_class bracket_class place_of
+unfolding unicode_ident is_sign same_class class_of sign_class place_of
 a_Less = sign_of classes.Less (codes "<") refl refl refl refl
 
 pub a_AtMost : Example classes.AtMost
-unfolding unicode_ident is_sign same_class class_of sign_class known arrow_class relation_class sum_class mark_class bracket_class place_of
+unfolding unicode_ident is_sign same_class class_of sign_class place_of
 a_AtMost = sign_of classes.AtMost (codes "<=") refl refl refl refl
 
 pub a_Greater : Example classes.Greater
-unfolding unicode_ident is_sign same_class class_of sign_class known arrow_class relation_class sum_class mark_class bracket_class place_of
+unfolding unicode_ident is_sign same_class class_of sign_class place_of
 a_Greater = sign_of classes.Greater (codes ">") refl refl refl refl
 
 pub a_AtLeast : Example classes.AtLeast
-unfolding unicode_ident is_sign same_class class_of sign_class known arrow_class relation_class sum_class mark_class bracket_class place_of
+unfolding unicode_ident is_sign same_class class_of sign_class place_of
 a_AtLeast = sign_of classes.AtLeast (codes ">=") refl refl refl refl
 
 pub a_Plus : Example classes.Plus
-unfolding unicode_ident is_sign same_class class_of sign_class known arrow_class relation_class sum_class mark_class bracket_class place_of
+unfolding unicode_ident is_sign same_class class_of sign_class place_of
 a_Plus = sign_of classes.Plus (codes "+") refl refl refl refl
 
 pub a_Minus : Example classes.Minus
-unfolding unicode_ident is_sign same_class class_of sign_class known arrow_class relation_class sum_class mark_class bracket_class place_of
+unfolding unicode_ident is_sign same_class class_of sign_class place_of
 a_Minus = sign_of classes.Minus (codes "-") refl refl refl refl
 
 pub a_Star : Example classes.Star
-unfolding unicode_ident is_sign same_class class_of sign_class known arrow_class relation_class sum_class mark_class bracket_class place_of
+unfolding unicode_ident is_sign same_class class_of sign_class place_of
 a_Star = sign_of classes.Star (codes "*") refl refl refl refl
 
 pub a_Not : Example classes.Not
-unfolding unicode_ident is_sign same_class class_of sign_class known arrow_class relation_class sum_class mark_class bracket_class place_of
+unfolding unicode_ident is_sign same_class class_of sign_class place_of
 a_Not = sign_of classes.Not (codes "!") refl refl refl refl
 
 pub a_And : Example classes.And
-unfolding unicode_ident is_sign same_class class_of sign_class known arrow_class relation_class sum_class mark_class bracket_class place_of
+unfolding unicode_ident is_sign same_class class_of sign_class place_of
 a_And = sign_of classes.And (codes "&") refl refl refl refl
 
 pub a_Bar : Example classes.Bar
-unfolding unicode_ident is_sign same_class class_of sign_class known arrow_class relation_class sum_class mark_class bracket_class place_of
+unfolding unicode_ident is_sign same_class class_of sign_class place_of
 a_Bar = sign_of classes.Bar (codes "|") refl refl refl refl
 
 pub a_Question : Example classes.Question
-unfolding unicode_ident is_sign same_class class_of sign_class known arrow_class relation_class sum_class mark_class bracket_class place_of
+unfolding unicode_ident is_sign same_class class_of sign_class place_of
 a_Question = sign_of classes.Question (codes "?") refl refl refl refl
 
 pub a_Colon : Example classes.Colon
-unfolding unicode_ident is_sign same_class class_of sign_class known arrow_class relation_class sum_class mark_class bracket_class place_of
+unfolding unicode_ident is_sign same_class class_of sign_class place_of
 a_Colon = sign_of classes.Colon (codes ":") refl refl refl refl
 
 pub a_Semicolon : Example classes.Semicolon
-unfolding unicode_ident is_sign same_class class_of sign_class known arrow_class relation_class sum_class mark_class bracket_class place_of
+unfolding unicode_ident is_sign same_class class_of sign_class place_of
 a_Semicolon = sign_of classes.Semicolon (codes ";") refl refl refl refl
 
 pub a_Comma : Example classes.Comma
-unfolding unicode_ident is_sign same_class class_of sign_class known arrow_class relation_class sum_class mark_class bracket_class place_of
+unfolding unicode_ident is_sign same_class class_of sign_class place_of
 a_Comma = sign_of classes.Comma (codes ",") refl refl refl refl
 
 pub a_Open : Example classes.Open
-unfolding unicode_ident is_sign same_class class_of sign_class known arrow_class relation_class sum_class mark_class bracket_class place_of
+unfolding unicode_ident is_sign same_class class_of sign_class place_of
 a_Open = sign_of classes.Open (codes "(") refl refl refl refl
 
 pub a_Close : Example classes.Close
-unfolding unicode_ident is_sign same_class class_of sign_class known arrow_class relation_class sum_class mark_class bracket_class place_of
+unfolding unicode_ident is_sign same_class class_of sign_class place_of
 a_Close = sign_of classes.Close (codes ")") refl refl refl refl
 
 pub a_OpenBracket : Example classes.OpenBracket
-unfolding unicode_ident is_sign same_class class_of sign_class known arrow_class relation_class sum_class mark_class bracket_class place_of
+unfolding unicode_ident is_sign same_class class_of sign_class place_of
 a_OpenBracket = sign_of classes.OpenBracket (codes "[") refl refl refl refl
 
 pub a_CloseBracket : Example classes.CloseBracket
-unfolding unicode_ident is_sign same_class class_of sign_class known arrow_class relation_class sum_class mark_class bracket_class place_of
+unfolding unicode_ident is_sign same_class class_of sign_class place_of
 a_CloseBracket = sign_of classes.CloseBracket (codes "]") refl refl refl refl
 
 pub a_OpenBrace : Example classes.OpenBrace
-unfolding unicode_ident is_sign same_class class_of sign_class known arrow_class relation_class sum_class mark_class bracket_class place_of
+unfolding unicode_ident is_sign same_class class_of sign_class place_of
 a_OpenBrace = sign_of classes.OpenBrace (codes "{") refl refl refl refl
 
 pub a_CloseBrace : Example classes.CloseBrace
-unfolding unicode_ident is_sign same_class class_of sign_class known arrow_class relation_class sum_class mark_class bracket_class place_of
+unfolding unicode_ident is_sign same_class class_of sign_class place_of
 a_CloseBrace = sign_of classes.CloseBrace (codes "}") refl refl refl refl
 
 pub a_Then : Example classes.Then
-unfolding unicode_ident is_sign same_class class_of sign_class known arrow_class relation_class sum_class mark_class bracket_class place_of
+unfolding unicode_ident is_sign same_class class_of sign_class place_of
 a_Then = sign_of classes.Then (codes "|=>") refl refl refl refl
 
 pub a_Becomes : Example classes.Becomes
-unfolding unicode_ident is_sign same_class class_of sign_class known arrow_class relation_class sum_class mark_class bracket_class place_of
+unfolding unicode_ident is_sign same_class class_of sign_class place_of
 a_Becomes = sign_of classes.Becomes (codes ":=") refl refl refl refl
 
 pub a_UpTo : Example classes.UpTo
-unfolding unicode_ident is_sign same_class class_of sign_class known arrow_class relation_class sum_class mark_class bracket_class place_of
+unfolding unicode_ident is_sign same_class class_of sign_class place_of
 a_UpTo = sign_of classes.UpTo (codes "..") refl refl refl refl
 
 pub a_Mod : Example classes.Mod
-unfolding unicode_ident is_reserved same_class class_of word_class known head_class type_class item_class line_class value_class logic_class past_class place_of
+unfolding unicode_ident is_reserved same_class class_of word_class place_of
 a_Mod = word_of classes.Mod 109 (codes "od") refl refl refl refl refl
 
 pub a_Or : Example classes.Or
-unfolding unicode_ident is_reserved same_class class_of word_class known head_class type_class item_class line_class value_class logic_class past_class place_of
+unfolding unicode_ident is_reserved same_class class_of word_class place_of
 a_Or = word_of classes.Or 111 (codes "r") refl refl refl refl refl
 
 pub a_True : Example classes.True
-unfolding unicode_ident is_reserved same_class class_of word_class known head_class type_class item_class line_class value_class logic_class past_class place_of
+unfolding unicode_ident is_reserved same_class class_of word_class place_of
 a_True = word_of classes.True 116 (codes "rue") refl refl refl refl refl
 
 pub a_False : Example classes.False
-unfolding unicode_ident is_reserved same_class class_of word_class known head_class type_class item_class line_class value_class logic_class past_class place_of
+unfolding unicode_ident is_reserved same_class class_of word_class place_of
 a_False = word_of classes.False 102 (codes "alse") refl refl refl refl refl
 
 pub a_Next : Example classes.Next
-unfolding unicode_ident is_reserved same_class class_of word_class known head_class type_class item_class line_class value_class logic_class past_class place_of
+unfolding unicode_ident is_reserved same_class class_of word_class place_of
 a_Next = word_of classes.Next 110 (codes "ext") refl refl refl refl refl
 
 pub a_Boolean : Example classes.Boolean
-unfolding unicode_ident is_reserved same_class class_of word_class known head_class type_class item_class line_class value_class logic_class past_class place_of
+unfolding unicode_ident is_reserved same_class class_of word_class place_of
 a_Boolean = word_of classes.Boolean 98 (codes "oolean") refl refl refl refl refl
 
 pub a_Int : Example classes.Int
-unfolding unicode_ident is_reserved same_class class_of word_class known head_class type_class item_class line_class value_class logic_class past_class place_of
+unfolding unicode_ident is_reserved same_class class_of word_class place_of
 a_Int = word_of classes.Int 73 (codes "nt") refl refl refl refl refl
 
 pub a_TypeWord : Example classes.TypeWord
-unfolding unicode_ident is_reserved same_class class_of word_class known head_class type_class item_class line_class value_class logic_class past_class place_of
+unfolding unicode_ident is_reserved same_class class_of word_class place_of
 a_TypeWord = word_of classes.TypeWord 116 (codes "ype") refl refl refl refl refl
 
 pub a_Var : Example classes.Var
-unfolding unicode_ident is_reserved same_class class_of word_class known head_class type_class item_class line_class value_class logic_class past_class place_of
+unfolding unicode_ident is_reserved same_class class_of word_class place_of
 a_Var = word_of classes.Var 118 (codes "ar") refl refl refl refl refl
 
 pub a_Define : Example classes.Define
-unfolding unicode_ident is_reserved same_class class_of word_class known head_class type_class item_class line_class value_class logic_class past_class place_of
+unfolding unicode_ident is_reserved same_class class_of word_class place_of
 a_Define = word_of classes.Define 100 (codes "efine") refl refl refl refl refl
 
 pub a_Predicate : Example classes.Predicate
-unfolding unicode_ident is_reserved same_class class_of word_class known head_class type_class item_class line_class value_class logic_class past_class place_of
+unfolding unicode_ident is_reserved same_class class_of word_class place_of
 a_Predicate = word_of classes.Predicate 112 (codes "redicate") refl refl refl refl refl
 
 pub a_Pattern : Example classes.Pattern
-unfolding unicode_ident is_reserved same_class class_of word_class known head_class type_class item_class line_class value_class logic_class past_class place_of
+unfolding unicode_ident is_reserved same_class class_of word_class place_of
 a_Pattern = word_of classes.Pattern 112 (codes "attern") refl refl refl refl refl
 
 pub a_Monitor : Example classes.Monitor
-unfolding unicode_ident is_reserved same_class class_of word_class known head_class type_class item_class line_class value_class logic_class past_class place_of
+unfolding unicode_ident is_reserved same_class class_of word_class place_of
 a_Monitor = word_of classes.Monitor 109 (codes "onitor") refl refl refl refl refl
 
 pub a_Ini : Example classes.Ini
-unfolding unicode_ident is_reserved same_class class_of word_class known head_class type_class item_class line_class value_class logic_class past_class place_of
+unfolding unicode_ident is_reserved same_class class_of word_class place_of
 a_Ini = word_of classes.Ini 105 (codes "ni") refl refl refl refl refl
 
 pub a_Alw : Example classes.Alw
-unfolding unicode_ident is_reserved same_class class_of word_class known head_class type_class item_class line_class value_class logic_class past_class place_of
+unfolding unicode_ident is_reserved same_class class_of word_class place_of
 a_Alw = word_of classes.Alw 97 (codes "lw") refl refl refl refl refl
 
 pub a_AlwEv : Example classes.AlwEv
-unfolding unicode_ident is_reserved same_class class_of word_class known head_class type_class item_class line_class value_class logic_class past_class place_of
+unfolding unicode_ident is_reserved same_class class_of word_class place_of
 a_AlwEv = word_of classes.AlwEv 97 (codes "lwEv") refl refl refl refl refl
 
 pub a_Trig : Example classes.Trig
-unfolding unicode_ident is_reserved same_class class_of word_class known head_class type_class item_class line_class value_class logic_class past_class place_of
+unfolding unicode_ident is_reserved same_class class_of word_class place_of
 a_Trig = word_of classes.Trig 116 (codes "rig") refl refl refl refl refl
 
 pub a_Import : Example classes.Import
-unfolding unicode_ident is_reserved same_class class_of word_class known head_class type_class item_class line_class value_class logic_class past_class place_of
+unfolding unicode_ident is_reserved same_class class_of word_class place_of
 a_Import = word_of classes.Import 105 (codes "mport") refl refl refl refl refl
 
 pub a_Head : Example classes.Head
-unfolding unicode_ident is_reserved same_class class_of word_class known head_class type_class item_class line_class value_class logic_class past_class place_of
+unfolding unicode_ident is_reserved same_class class_of word_class place_of
 a_Head = word_of classes.Head 115 (codes "pec") refl refl refl refl refl
 
 -- two quotation marks

@@ -1,14 +1,13 @@
 -- Which fault a text has, and where.
 use Rattle.std.specs.Prelude.{ℕ, ◌≡◌, ◌≤◌, ◌<◌, List, [], length, take}
 use Rattle.std.specs.Str.{chars, IsUtf8, IsValidUpTo}
-use Rattle.spectra_lexer.specs.declared.lexing.TheConstants.{MAX_BYTES}
 use Rattle.spectra_lexer.specs.declared.spot.Spot.{Spot}
 use Rattle.spectra_lexer.specs.Pieces.{opening_of, IsPiece}
-use Rattle.spectra_lexer.specs.Tokens.{past, first_spot, without_mark}
+use Rattle.spectra_lexer.specs.Tokens.{most_bytes, past, first_spot, without_mark}
 
 -- there are more bytes than a text may have
 abbrev pub IsTooLong : List ℕ → Type 0
-IsTooLong text = MAX_BYTES < length text
+IsTooLong text = most_bytes < length text
 
 -- no token, comment or blank is at the front of a text
 pub record IsStranger (text : List ℕ) : Type 0 where
@@ -28,14 +27,14 @@ pub record IsPlaced (spot : Spot) (line column : ℕ) : Type 0 where
 
 -- the text is no UTF-8, and the place is behind its longest front that is
 pub record IsNotUtf8At (text : List ℕ) (line column : ℕ) : Type 0 where
-  pub short : length text ≤ MAX_BYTES
+  pub short : length text ≤ most_bytes
   pub valid : ℕ
   pub broken : IsValidUpTo text valid
   pub placed : let front = chars (take valid text) in IsPlaced (past (without_mark front) (first_spot front)) line column
 
 -- the text is UTF-8, and no token, comment or blank begins at the place, the first such
 pub record IsBadAt (text : List ℕ) (line column : ℕ) : Type 0 where
-  pub short : length text ≤ MAX_BYTES
+  pub short : length text ≤ most_bytes
   pub utf8 : IsUtf8 text
   pub spot : Spot
   pub fails : FailsAt (first_spot (chars text)) (without_mark (chars text)) spot

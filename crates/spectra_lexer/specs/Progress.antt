@@ -1,6 +1,5 @@
 -- What a step over a piece of a text means for its tokens and its fault.
 use Rattle.std.specs.Prelude.{ℕ, ◌≡◌, ◌+◌, ◌≤◌, List, ◌++◌, length, codes}
-use Rattle.spectra_lexer.specs.declared.lexing.TheConstants.{MAX_BYTES}
 use Rattle.spectra_lexer.specs.declared.characters.Run.{Run}
 use Rattle.spectra_lexer.specs.declared.opening.Opening.{Opening}
 use Rattle.spectra_lexer.specs.declared.spot.Spot.{Spot}
@@ -8,12 +7,12 @@ use Rattle.spectra_lexer.specs.declared.token.Token.{Token}
 use Rattle.spectra_lexer.specs.declared.fault.LexFault.{LexFault}
 use Rattle.spectra_lexer.specs.declared.fault.LexFault.TheVariants.{NotUtf8, BadCharacter, TooLong, Memory}
 use Rattle.spectra_lexer.specs.Pieces.{IsPiece, IsFirstAndRun}
-use Rattle.spectra_lexer.specs.Tokens.{past, Lexes}
+use Rattle.spectra_lexer.specs.Tokens.{most_bytes, past, Lexes}
 use Rattle.spectra_lexer.specs.Faults.{FailsAt}
 
 -- a spot in a text that isn't too long, with the bytes that are left there
 pub record IsInside (at : Spot) (rest : List ℕ) : Type 0 where
-  pub byte : at.byte + length rest ≤ MAX_BYTES
+  pub byte : at.byte + length rest ≤ most_bytes
   pub line : at.line ≤ at.byte + 1
   pub column : at.column ≤ at.byte + 1
 

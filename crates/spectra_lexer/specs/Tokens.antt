@@ -2,7 +2,6 @@
 use Rattle.std.specs.Prelude.{ℕ, ◌+◌, ◌≤◌, ◌==◌, List, [], ◌∷◌, ◌++◌, length, drop, Option, Some, None, if◌then◌else◌}
 use Rattle.std.specs.Char.{len_utf8}
 use Rattle.std.specs.Str.{chars, IsUtf8}
-use Rattle.spectra_lexer.specs.declared.lexing.TheConstants.{MAX_BYTES}
 use Rattle.spectra_lexer.specs.declared.spot.Spot.{Spot}
 use Rattle.spectra_lexer.specs.declared.opening.Opening.{Opening}
 use Rattle.spectra_lexer.specs.declared.opening.Opening.TheVariants as opens
@@ -11,6 +10,10 @@ use Rattle.spectra_lexer.specs.declared.token.Kind.TheVariants as kinds
 use Rattle.spectra_lexer.specs.declared.token.Token.{Token}
 use Rattle.spectra_lexer.specs.Words.{is_reserved}
 use Rattle.spectra_lexer.specs.Pieces.{opening_of, IsPiece, begins_with}
+
+-- the greatest number of bytes of a text
+abbrev pub most_bytes : ℕ
+most_bytes = 1048576
 
 -- behind a character; a line feed ends a line
 abbrev pub behind : ℕ → Spot → Spot
@@ -64,6 +67,6 @@ pub data Lexes : Spot → List ℕ → List Token → Type 0 where
 
 -- the tokens of a whole text
 pub record AreTokens (text : List ℕ) (tokens : List Token) : Type 0 where
-  pub short : length text ≤ MAX_BYTES
+  pub short : length text ≤ most_bytes
   pub utf8 : IsUtf8 text
   pub lexed : Lexes (first_spot (chars text)) (without_mark (chars text)) tokens

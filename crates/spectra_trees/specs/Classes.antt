@@ -1,150 +1,60 @@
 -- What a token is for the grammar, by its kind and its text: the words and the signs in a table.
-use Rattle.std.specs.Prelude.{ℕ, ◌||◌, nat_eq, Bool, List, codes, Option, Some, None, if◌then◌else◌}
+use Rattle.std.specs.Prelude.{ℕ, nat_eq, Bool, List, [], ◌∷◌, codes, if◌then◌else◌}
 use Rattle.spectra_lexer.specs.declared.token.Kind.{Kind}
 use Rattle.spectra_lexer.specs.declared.token.Kind.TheVariants as kinds
 use Rattle.spectra_lexer.specs.Words.{same_text}
 use Rattle.spectra_trees.specs.declared.class.Class.{Class}
 use Rattle.spectra_trees.specs.declared.class.Class.TheVariants as classes
 
-abbrev pub otherwise : Option Class → Option Class → Option Class
-otherwise (Some class) next = Some class
-otherwise None next = next
+-- the reserved words, each with its class
+abbrev pub words : List (List ℕ × Class)
+words =
+    (codes "spec", classes.Head) ∷ (codes "module", classes.Head) ∷ (codes "import", classes.Import) ∷ (codes "env", classes.Env) ∷
+    (codes "sys", classes.Sys) ∷ (codes "aux", classes.Aux) ∷
+    (codes "boolean", classes.Boolean) ∷ (codes "Int", classes.Int) ∷ (codes "type", classes.TypeWord) ∷ (codes "var", classes.Var) ∷
+    (codes "define", classes.Define) ∷ (codes "predicate", classes.Predicate) ∷ (codes "pattern", classes.Pattern) ∷
+    (codes "monitor", classes.Monitor) ∷ (codes "asm", classes.Asm) ∷ (codes "assumption", classes.Asm) ∷ (codes "gar", classes.Gar) ∷
+    (codes "guarantee", classes.Gar) ∷
+    (codes "ini", classes.Ini) ∷ (codes "initially", classes.Ini) ∷ (codes "alw", classes.Alw) ∷ (codes "always", classes.Alw) ∷
+    (codes "G", classes.Alw) ∷ (codes "trans", classes.Alw) ∷ (codes "alwEv", classes.AlwEv) ∷ (codes "alwaysEventually", classes.AlwEv) ∷
+    (codes "GF", classes.AlwEv) ∷ (codes "trig", classes.Trig) ∷
+    (codes "next", classes.Next) ∷ (codes "true", classes.True) ∷ (codes "false", classes.False) ∷ (codes "mod", classes.Mod) ∷
+    (codes "not", classes.Not) ∷ (codes "and", classes.And) ∷ (codes "or", classes.Or) ∷ (codes "implies", classes.Implies) ∷
+    (codes "iff", classes.Iff) ∷
+    (codes "PREV", classes.Prev) ∷ (codes "Y", classes.Prev) ∷ (codes "ONCE", classes.Once) ∷ (codes "O", classes.Once) ∷
+    (codes "HISTORICALLY", classes.Historically) ∷ (codes "H", classes.Historically) ∷ (codes "SINCE", classes.Since) ∷ (codes "S", classes.Since) ∷
+    (codes "TRIGGERED", classes.Triggered) ∷ (codes "T", classes.Triggered) ∷ []
 
--- the words that begin a text or a declaration of a variable
-unfoldable pub head_class : List ℕ → Option Class
-head_class w =
-    if same_text w (codes "spec") || same_text w (codes "module") then Some classes.Head
-    else if same_text w (codes "import") then Some classes.Import
-    else if same_text w (codes "env") then Some classes.Env
-    else if same_text w (codes "sys") then Some classes.Sys
-    else if same_text w (codes "aux") then Some classes.Aux
-    else None
+-- the signs, each with its class
+abbrev pub signs : List (List ℕ × Class)
+signs =
+    (codes "->", classes.Implies) ∷ (codes "<->", classes.Iff) ∷ (codes "|=>", classes.Then) ∷ (codes ":=", classes.Becomes) ∷
+    (codes "..", classes.UpTo) ∷
+    (codes "=", classes.Equal) ∷ (codes "!=", classes.Unequal) ∷ (codes "<", classes.Less) ∷ (codes "<=", classes.AtMost) ∷
+    (codes ">", classes.Greater) ∷ (codes ">=", classes.AtLeast) ∷
+    (codes "+", classes.Plus) ∷ (codes "-", classes.Minus) ∷ (codes "*", classes.Star) ∷ (codes "!", classes.Not) ∷ (codes "&", classes.And) ∷
+    (codes "|", classes.Bar) ∷
+    (codes "?", classes.Question) ∷ (codes ":", classes.Colon) ∷ (codes ";", classes.Semicolon) ∷ (codes ",", classes.Comma) ∷
+    (codes "(", classes.Open) ∷ (codes ")", classes.Close) ∷ (codes "[", classes.OpenBracket) ∷ (codes "]", classes.CloseBracket) ∷
+    (codes "{", classes.OpenBrace) ∷ (codes "}", classes.CloseBrace) ∷ []
 
--- the words of types
-unfoldable pub type_class : List ℕ → Option Class
-type_class w =
-    if same_text w (codes "boolean") then Some classes.Boolean
-    else if same_text w (codes "Int") then Some classes.Int
-    else if same_text w (codes "type") then Some classes.TypeWord
-    else if same_text w (codes "var") then Some classes.Var
-    else None
-
--- the words that begin other items
-unfoldable pub item_class : List ℕ → Option Class
-item_class w =
-    if same_text w (codes "define") then Some classes.Define
-    else if same_text w (codes "predicate") then Some classes.Predicate
-    else if same_text w (codes "pattern") then Some classes.Pattern
-    else if same_text w (codes "monitor") then Some classes.Monitor
-    else if same_text w (codes "asm") || same_text w (codes "assumption") then Some classes.Asm
-    else if same_text w (codes "gar") || same_text w (codes "guarantee") then Some classes.Gar
-    else None
-
--- the words of lines
-unfoldable pub line_class : List ℕ → Option Class
-line_class w =
-    if same_text w (codes "ini") || same_text w (codes "initially") then Some classes.Ini
-    else if same_text w (codes "alw") || same_text w (codes "always") || same_text w (codes "G") || same_text w (codes "trans") then Some classes.Alw
-    else if same_text w (codes "alwEv") || same_text w (codes "alwaysEventually") || same_text w (codes "GF") then Some classes.AlwEv
-    else if same_text w (codes "trig") then Some classes.Trig
-    else None
-
--- the words of values
-unfoldable pub value_class : List ℕ → Option Class
-value_class w =
-    if same_text w (codes "next") then Some classes.Next
-    else if same_text w (codes "true") then Some classes.True
-    else if same_text w (codes "false") then Some classes.False
-    else if same_text w (codes "mod") then Some classes.Mod
-    else None
-
--- the words between and before formulas
-unfoldable pub logic_class : List ℕ → Option Class
-logic_class w =
-    if same_text w (codes "not") then Some classes.Not
-    else if same_text w (codes "and") then Some classes.And
-    else if same_text w (codes "or") then Some classes.Or
-    else if same_text w (codes "implies") then Some classes.Implies
-    else if same_text w (codes "iff") then Some classes.Iff
-    else None
-
--- the words that look back
-unfoldable pub past_class : List ℕ → Option Class
-past_class w =
-    if same_text w (codes "PREV") || same_text w (codes "Y") then Some classes.Prev
-    else if same_text w (codes "ONCE") || same_text w (codes "O") then Some classes.Once
-    else if same_text w (codes "HISTORICALLY") || same_text w (codes "H") then Some classes.Historically
-    else if same_text w (codes "SINCE") || same_text w (codes "S") then Some classes.Since
-    else if same_text w (codes "TRIGGERED") || same_text w (codes "T") then Some classes.Triggered
-    else None
+-- the class of the first row of a text; the grammar has none where there is no row
+abbrev pub class_in : List (List ℕ × Class) → List ℕ → Class
+class_in [] text = classes.Unknown
+class_in (row ∷ rows) text = if same_text text row.0 then row.1 else class_in rows text
 
 -- which reserved word a text is
-unfoldable pub word_class : List ℕ → Option Class
-word_class w = otherwise (head_class w) (otherwise (type_class w) (otherwise (item_class w) (otherwise (line_class w) (otherwise (value_class w) (otherwise (logic_class w) (past_class w))))))
-
--- signs of more than one character that are no comparisons
-unfoldable pub arrow_class : List ℕ → Option Class
-arrow_class w =
-    if same_text w (codes "->") then Some classes.Implies
-    else if same_text w (codes "<->") then Some classes.Iff
-    else if same_text w (codes "|=>") then Some classes.Then
-    else if same_text w (codes ":=") then Some classes.Becomes
-    else if same_text w (codes "..") then Some classes.UpTo
-    else None
-
--- the comparisons
-unfoldable pub relation_class : List ℕ → Option Class
-relation_class w =
-    if same_text w (codes "=") then Some classes.Equal
-    else if same_text w (codes "!=") then Some classes.Unequal
-    else if same_text w (codes "<") then Some classes.Less
-    else if same_text w (codes "<=") then Some classes.AtMost
-    else if same_text w (codes ">") then Some classes.Greater
-    else if same_text w (codes ">=") then Some classes.AtLeast
-    else None
-
--- the signs of formulas and sums
-unfoldable pub sum_class : List ℕ → Option Class
-sum_class w =
-    if same_text w (codes "+") then Some classes.Plus
-    else if same_text w (codes "-") then Some classes.Minus
-    else if same_text w (codes "*") then Some classes.Star
-    else if same_text w (codes "!") then Some classes.Not
-    else if same_text w (codes "&") then Some classes.And
-    else if same_text w (codes "|") then Some classes.Bar
-    else None
-
--- the signs that part and end
-unfoldable pub mark_class : List ℕ → Option Class
-mark_class w =
-    if same_text w (codes "?") then Some classes.Question
-    else if same_text w (codes ":") then Some classes.Colon
-    else if same_text w (codes ";") then Some classes.Semicolon
-    else if same_text w (codes ",") then Some classes.Comma
-    else None
-
--- brackets
-unfoldable pub bracket_class : List ℕ → Option Class
-bracket_class w =
-    if same_text w (codes "(") then Some classes.Open
-    else if same_text w (codes ")") then Some classes.Close
-    else if same_text w (codes "[") then Some classes.OpenBracket
-    else if same_text w (codes "]") then Some classes.CloseBracket
-    else if same_text w (codes "{") then Some classes.OpenBrace
-    else if same_text w (codes "}") then Some classes.CloseBrace
-    else None
+unfoldable pub word_class : List ℕ → Class
+word_class = class_in words
 
 -- which sign a text is
-unfoldable pub sign_class : List ℕ → Option Class
-sign_class w = otherwise (arrow_class w) (otherwise (relation_class w) (otherwise (sum_class w) (otherwise (mark_class w) (bracket_class w))))
+unfoldable pub sign_class : List ℕ → Class
+sign_class = class_in signs
 
-unfoldable pub known : Option Class → Class
-known (Some class) = class
-known None = classes.Unknown
-
+-- what a token of a kind is
 unfoldable pub class_of : Kind → List ℕ → Class
-class_of kinds.Word w = known (word_class w)
-class_of kinds.Sign w = known (sign_class w)
+class_of kinds.Word w = word_class w
+class_of kinds.Sign w = sign_class w
 class_of kinds.Name w = classes.Name
 class_of kinds.Number w = classes.Number
 class_of kinds.Text w = classes.Text

@@ -1,16 +1,14 @@
 //! What a token is for the grammar: which reserved word or sign, or a name, a number or a text.
 
 ghost use Rattle.std.specs.Prelude.{◌≡◌};
-ghost use Rattle.spectra_trees.specs.Classes.{class_of as class_of_lem, known as known_lem, place_of, same_class};
+ghost use Rattle.spectra_trees.specs.Classes.{class_of as class_of_lem, place_of, same_class};
 
-use crate::signs::sign_class;
-use crate::words::word_class;
+use crate::spellings::{sign_class, word_class};
 use spectra_lexer::Kind;
 
-/// What a token is for the grammar. Words and signs of one meaning are one class.
+/// What a token is for the grammar. Words and signs of one meaning are one class, as the tables of `spellings` have them.
 #[derive(Clone, Copy, Debug, PartialEq, Eq)]
 pub enum Class {
-    /// `spec` or `module`.
     Head,
     Import,
     Env,
@@ -24,39 +22,24 @@ pub enum Class {
     Pattern,
     Var,
     Monitor,
-    /// `asm` or `assumption`.
     Asm,
-    /// `gar` or `guarantee`.
     Gar,
-    /// `ini` or `initially`.
     Ini,
-    /// `alw`, `always`, `G` or `trans`.
     Alw,
-    /// `alwEv`, `alwaysEventually` or `GF`.
     AlwEv,
     Trig,
     Next,
     True,
     False,
-    /// `!` or `not`.
     Not,
-    /// `PREV` or `Y`.
     Prev,
-    /// `ONCE` or `O`.
     Once,
-    /// `HISTORICALLY` or `H`.
     Historically,
-    /// `->` or `implies`.
     Implies,
-    /// `<->` or `iff`.
     Iff,
-    /// `SINCE` or `S`.
     Since,
-    /// `TRIGGERED` or `T`.
     Triggered,
-    /// `&` or `and`.
     And,
-    /// The word `or`.
     Or,
     /// The sign `|`, which also stands between regular expressions.
     Bar,
@@ -70,23 +53,17 @@ pub enum Class {
     Minus,
     Star,
     Mod,
-    /// `|=>`.
     Then,
-    /// `:=`.
     Becomes,
-    /// `..`.
     UpTo,
     Question,
     Colon,
     Semicolon,
     Comma,
-    /// `(` and `)`.
     Open,
     Close,
-    /// `[` and `]`.
     OpenBracket,
     CloseBracket,
-    /// `{` and `}`.
     OpenBrace,
     CloseBrace,
     Name,
@@ -98,25 +75,14 @@ pub enum Class {
     Unknown,
 }
 
-/// The class of a word or a sign, where the grammar has it.
-#[tactic(auto, unfolding(crate::specs::Classes::known))]
-fn known(class: Option<Class>) -> Class
-    ensures { result ≡ known_lem class }
-{
-    match class {
-        Some(class) => class,
-        None => Class::Unknown,
-    }
-}
-
 /// What a token of a kind is for the grammar, by its text.
 #[tactic(auto, unfolding(crate::specs::Classes::class_of))]
 pub fn class_of(kind: Kind, text: &str) -> Class
     ensures { result ≡ class_of_lem kind text.now }
 {
     match kind {
-        Kind::Word => known(word_class(text)),
-        Kind::Sign => known(sign_class(text)),
+        Kind::Word => word_class(text),
+        Kind::Sign => sign_class(text),
         Kind::Name => Class::Name,
         Kind::Number => Class::Number,
         Kind::Text => Class::Text,

@@ -8,8 +8,7 @@
 pub mod chain;
 pub mod class;
 pub mod lexeme;
-mod signs;
+mod spellings;
 #[cfg(test)]
 mod tests;
 pub mod tree;
-mod words;

@@ -37,19 +37,10 @@ fn repeats(alloc: Global, levels: u32) -> Result<RegexTree, AllocError> {
 }
 
 #[test]
-fn a_long_sum_is_dropped(rt: HostRuntime) -> Result<(), Fail> {
-    drop(chain(rt.alloc(), BinaryWord::Add, LEVELS)?);
-    Ok(())
-}
-
-#[test]
-fn a_long_product_is_dropped(rt: HostRuntime) -> Result<(), Fail> {
-    drop(chain(rt.alloc(), BinaryWord::Mul, LEVELS)?);
-    Ok(())
-}
-
-#[test]
-fn many_repeats_are_dropped(rt: HostRuntime) -> Result<(), Fail> {
+fn deep_trees_are_dropped(rt: HostRuntime) -> Result<(), Fail> {
+    for word in [BinaryWord::Add, BinaryWord::Mul] {
+        drop(chain(rt.alloc(), word, LEVELS)?);
+    }
     drop(repeats(rt.alloc(), LEVELS)?);
     Ok(())
 }
