@@ -121,76 +121,35 @@ past_inputs g x past = at (is_input g x) refl
 
 -- ---- by time
 
-module _ (g : GameData) (x : Assignment) where
-  later_none : (t : StateSet) → find (outputs_into g Later t None x) (outputs_of g) ≡ None
-  later_none t = find-none (outputs_into g Later t None x) (outputs_of g) (λ y. refl)
+module _ (g : GameData) (t : StateSet) (values : List Value) where
+  outputs_in_time : (x : Assignment) (when : When) (b : Before) → is_time g when b ≡ true → find (outputs_into g when t b x) (outputs_of g) ≡ find (output_test g t b x) (outputs_of g)
+  outputs_in_time x when b time = find-same _ (output_test g t b x) (outputs_of g) (every_of (λ y. ap (λ c. c && output_test g t b x y) time) (outputs_of g))
 
-  first_none : (t : StateSet) (s : State) → find (outputs_into g First t (Some s) x) (outputs_of g) ≡ None
-  first_none t s = find-none (outputs_into g First t (Some s) x) (outputs_of g) (λ y. refl)
+  inputs_in_time : (when : When) (b : Before) → is_time g when b ≡ true → find (inputs_into g when t b) (inputs_of g) ≡ find (input_test g t b) (inputs_of g)
+  inputs_in_time when b time = find-same _ (input_test g t b) (inputs_of g) (every_of (λ x. ap (λ c. c && input_test g t b x) time) (inputs_of g))
 
-  -- moves that were kept at the first move
-  pub when_first : (a t : StateSet) (when : When) (b : Before) → outputs_into g First a ≡ outputs_into g when t → is_time g when b ≡ true → find (outputs_into g when t b x) (outputs_of g) ≡ find (output_test g a None x) (outputs_of g)
-  when_first a t First None e time = ap (λ f. find (f None x) (outputs_of g)) (sym e)
-  when_first a t First (Some s) e time = absurd (false≢true time)
-  when_first a t Later None e time = absurd (false≢true time)
-  when_first a t Later (Some s) e time =
-      ap (λ f. find (f (Some s) x) (outputs_of g)) (sym e) ∙ (first_none a s ∙ (sym (later_none t) ∙ ap (λ f. find (f None x) (outputs_of g)) (sym e)))
+  -- at the first move nothing is before
+  pub first_outputs : (x : Assignment) (b : Before) → AreBefore g First b values → find (outputs_into g First t b x) (outputs_of g) ≡ find (output_test g t None x) (outputs_of g)
+  first_outputs x None before = outputs_in_time x First None before.time
+  first_outputs x (Some s) before = absurd (false≢true before.time)
 
-  -- and those that were kept for later ones
-  pub when_later : (a t : StateSet) (s : State) → outputs_into g Later a ≡ outputs_into g Later t → is_state g s ≡ true → find (outputs_into g Later t (Some s) x) (outputs_of g) ≡ find (output_test g a (Some s) x) (outputs_of g)
-  when_later a t s e here = ap (λ f. find (f (Some s) x) (outputs_of g)) (sym e) ∙ find-same _ (output_test g a (Some s) x) (outputs_of g) (every_of (λ y. ap (λ c. c && output_test g a (Some s) x y) here) (outputs_of g))
+  pub first_inputs : (b : Before) → AreBefore g First b values → find (inputs_into g First t b) (inputs_of g) ≡ find (input_test g t None) (inputs_of g)
+  first_inputs None before = inputs_in_time First None before.time
+  first_inputs (Some s) before = absurd (false≢true before.time)
 
-  pub when_nowhere : (a t : StateSet) → outputs_into g Later a ≡ outputs_into g First t → (s : State) → is_state g s ≡ true → find (output_test g a (Some s) x) (outputs_of g) ≡ None
-  when_nowhere a t e s here = sym (find-same (outputs_into g Later a (Some s) x) (output_test g a (Some s) x) (outputs_of g) (every_of (λ y. ap (λ c. c && output_test g a (Some s) x y) here) (outputs_of g))) ∙ (ap (λ f. find (f (Some s) x) (outputs_of g)) e ∙ first_none t s)
+  -- later a state is
+  pub later_outputs : (x : Assignment) (b : Before) (found : Option Assignment) → AreBefore g Later b values →
+      ((s : State) → is_state g s ≡ true → listed s ≡ values → found ≡ find (output_test g t (Some s) x) (outputs_of g)) → find (outputs_into g Later t b x) (outputs_of g) ≡ found
+  later_outputs x None found before after_it = absurd (false≢true before.time)
+  later_outputs x (Some s) found before after_it = outputs_in_time x Later (Some s) before.time ∙ sym (after_it s before.time before.listed)
 
-  pub first_nowhere : (a t : StateSet) → outputs_into g Later a ≡ outputs_into g First t → find (outputs_into g First t None x) (outputs_of g) ≡ None
-  first_nowhere a t e = ap (λ f. find (f None x) (outputs_of g)) (sym e) ∙ later_none a
-
-module _ (g : GameData) where
-  later_in_none : (t : StateSet) → find (inputs_into g Later t None) (inputs_of g) ≡ None
-  later_in_none t = find-none (inputs_into g Later t None) (inputs_of g) (λ x. refl)
-
-  first_in_none : (t : StateSet) (s : State) → find (inputs_into g First t (Some s)) (inputs_of g) ≡ None
-  first_in_none t s = find-none (inputs_into g First t (Some s)) (inputs_of g) (λ x. refl)
-
-  pub when_first_in : (a t : StateSet) (when : When) (b : Before) → inputs_into g First a ≡ inputs_into g when t → is_time g when b ≡ true → find (inputs_into g when t b) (inputs_of g) ≡ find (input_test g a None) (inputs_of g)
-  when_first_in a t First None e time = ap (λ f. find (f None) (inputs_of g)) (sym e)
-  when_first_in a t First (Some s) e time = absurd (false≢true time)
-  when_first_in a t Later None e time = absurd (false≢true time)
-  when_first_in a t Later (Some s) e time =
-      ap (λ f. find (f (Some s)) (inputs_of g)) (sym e) ∙ (first_in_none a s ∙ (sym (later_in_none t) ∙ ap (λ f. find (f None) (inputs_of g)) (sym e)))
-
-  pub when_later_in : (a t : StateSet) (s : State) → inputs_into g Later a ≡ inputs_into g Later t → is_state g s ≡ true → find (inputs_into g Later t (Some s)) (inputs_of g) ≡ find (input_test g a (Some s)) (inputs_of g)
-  when_later_in a t s e here = ap (λ f. find (f (Some s)) (inputs_of g)) (sym e) ∙ find-same _ (input_test g a (Some s)) (inputs_of g) (every_of (λ x. ap (λ c. c && input_test g a (Some s) x) here) (inputs_of g))
-
-  pub when_nowhere_in : (a t : StateSet) → inputs_into g Later a ≡ inputs_into g First t → (s : State) → is_state g s ≡ true → find (input_test g a (Some s)) (inputs_of g) ≡ None
-  when_nowhere_in a t e s here = sym (find-same (inputs_into g Later a (Some s)) (input_test g a (Some s)) (inputs_of g) (every_of (λ x. ap (λ c. c && input_test g a (Some s) x) here) (inputs_of g))) ∙ (ap (λ f. find (f (Some s)) (inputs_of g)) e ∙ first_in_none t s)
-
-  pub first_nowhere_in : (a t : StateSet) → inputs_into g Later a ≡ inputs_into g First t → find (inputs_into g First t None) (inputs_of g) ≡ None
-  first_nowhere_in a t e = ap (λ f. find (f None) (inputs_of g)) (sym e) ∙ later_in_none a
+  pub later_inputs : (b : Before) (found : Option Assignment) → AreBefore g Later b values →
+      ((s : State) → is_state g s ≡ true → listed s ≡ values → found ≡ find (input_test g t (Some s)) (inputs_of g)) → find (inputs_into g Later t b) (inputs_of g) ≡ found
+  later_inputs None found before after_it = absurd (false≢true before.time)
+  later_inputs (Some s) found before after_it = inputs_in_time Later (Some s) before.time ∙ sym (after_it s before.time before.listed)
 
 -- the default of a place that is there doesn't matter
 pub get-default : {X : Type 0} (xs : List X) (i : ℕ) (d e : X) → i < length xs → get_or xs i d ≡ get_or xs i e
 get-default [] i d e h = absurd (omega arith)
 get-default (x ∷ xs) zero d e h = refl
 get-default (x ∷ xs) (suc i) d e h = get-default xs i d e (omega arith)
-
--- a place that holds what is found after a state, and nothing where nothing is found after any, holds what is found in time
-module _ (g : GameData) (values : List Value) (a t : StateSet) (k : ℕ) where
-  pub output_in_time : (x : Assignment) (when : When) (b : Before) → outputs_into g Later a ≡ outputs_into g when t → AreBefore g when b values →
-      ((s : State) → is_state g s ≡ true → listed s ≡ values → slice_get (outputs_of g) k ≡ find (output_test g a (Some s) x) (outputs_of g)) →
-      (((s : State) → is_state g s ≡ true → find (output_test g a (Some s) x) (outputs_of g) ≡ None) → slice_get (outputs_of g) k ≡ None) →
-      find (outputs_into g when t b x) (outputs_of g) ≡ slice_get (outputs_of g) k
-  output_in_time x Later (Some s) e before after_it nowhere = when_later g x a t s e before.time ∙ sym (after_it s before.time before.listed)
-  output_in_time x First None e before after_it nowhere = first_nowhere g x a t e ∙ sym (nowhere (when_nowhere g x a t e))
-  output_in_time x First (Some s) e before after_it nowhere = absurd (false≢true before.time)
-  output_in_time x Later None e before after_it nowhere = absurd (false≢true before.time)
-
-  pub input_in_time : (when : When) (b : Before) → inputs_into g Later a ≡ inputs_into g when t → AreBefore g when b values →
-      ((s : State) → is_state g s ≡ true → listed s ≡ values → slice_get (inputs_of g) k ≡ find (input_test g a (Some s)) (inputs_of g)) →
-      (((s : State) → is_state g s ≡ true → find (input_test g a (Some s)) (inputs_of g) ≡ None) → slice_get (inputs_of g) k ≡ None) →
-      find (inputs_into g when t b) (inputs_of g) ≡ slice_get (inputs_of g) k
-  input_in_time Later (Some s) e before after_it nowhere = when_later_in g a t s e before.time ∙ sym (after_it s before.time before.listed)
-  input_in_time First None e before after_it nowhere = first_nowhere_in g a t e ∙ sym (nowhere (when_nowhere_in g a t e))
-  input_in_time First (Some s) e before after_it nowhere = absurd (false≢true before.time)
-  input_in_time Later None e before after_it nowhere = absurd (false≢true before.time)

@@ -48,22 +48,3 @@ small =
 pub record IsSmall {R M : Type 0} (k : Kept R M) : Type 0 where
   pub game : k.game ≡ small
   pub jam : k.jam ≡ None
-
--- ---- as many states as the domains make
-
-abbrev pub ranges : ℤ → ℤ → ℤ → GameData
-ranges x y z =
-    record {
-      variables =
-          record { name = codes "x"; owner = Env; domain = WholeNumbers (pos 0) x }
-          ∷ record { name = codes "y"; owner = Sys; domain = WholeNumbers (pos 0) y }
-          ∷ record { name = codes "z"; owner = Sys; domain = WholeNumbers (pos 0) z }
-          ∷ [];
-      hidden = [];
-      initial_asm = [];
-      initial_gar = [];
-      safe_asm = [];
-      safe_gar = [];
-      assume = [];
-      goals = [];
-    }

@@ -1,11 +1,10 @@
 -- What slots hold, weighed slot by slot.
-use Rattle.std.proofs.Common.{◌≡◌, ℕ, zero, suc, ◌+◌, ◌<◌, ◌≤◌, Bool, true, false, if◌then◌else◌, List, [], ◌∷◌, ◌++◌, length, Some, slice_get, slice_set, refl, sym, ◌∙◌, ap, subst, arith, ◌==◌, zero-add, inl, inr}
+use Rattle.std.proofs.Common.{◌≡◌, ℕ, zero, suc, ◌+◌, ◌-◌, ◌<◌, ◌≤◌, Bool, true, false, if◌then◌else◌, List, [], ◌∷◌, ◌++◌, length, Some, slice_get, slice_set, refl, sym, ◌∙◌, ap, subst, arith, ◌==◌, zero-add, inl, inr}
 use borrow.Author.Tests.{eqb-true, eq-eqb}
-use Rattle.spec_model.specs.Values.{Assignment}
-use Rattle.spec_model.specs.Games.{GameData, State}
-use Rattle.spec_model.specs.Steps.{Before}
-use Rattle.spec_model.specs.Sets.{no_states}
+use Rattle.spec_model.specs.Games.{GameData}
+use Rattle.spec_model.specs.Sets.{StateSet, no_states}
 use Rattle.regions.specs.Kept.{Item, Region as RegionItem, Move, Meaning, States, Outputs as OutputMoves, Inputs as InputMoves, weigh, weight, meaning_of, IsHeld, IsExact}
+use Rattle.regions.specs.declared.types.When.TheVariants.{First, Later}
 use Rattle.region_rows.specs.declared.row.Row.{Row}
 use Rattle.region_rows.specs.declared.slots.Slot.{Slot}
 use Rattle.region_rows.specs.declared.slots.Slot.TheVariants.{Free, Region, Outputs, Inputs}
@@ -165,48 +164,55 @@ compare false false h k = refl
 compare true false h k = absurd (omega (arith, h, k))
 compare false true h k = absurd (omega (arith, h, k))
 
-abbrev in_set : State → Meaning → ℕ
-in_set s (States c) = if c s then 1 else 0
-in_set s _ = 0
+-- a meaning is its kind and its set
+abbrev states_in : Meaning → StateSet
+states_in (States s) = s
+states_in (OutputMoves when s) = s
+states_in (InputMoves when s) = s
 
-abbrev out_of_set : State → Meaning → ℕ
-out_of_set s (States c) = if c s then 0 else 1
-out_of_set s _ = 0
+abbrev kind_of : Meaning → ℕ
+kind_of (States s) = 0
+kind_of (OutputMoves First s) = 1
+kind_of (OutputMoves Later s) = 2
+kind_of (InputMoves First s) = 3
+kind_of (InputMoves Later s) = 4
 
-abbrev in_outputs : Before → Assignment → Assignment → Meaning → ℕ
-in_outputs b x y (OutputMoves c) = if c b x y then 1 else 0
-in_outputs b x y _ = 0
+abbrev meaning_with : ℕ → StateSet → Meaning
+meaning_with zero s = States s
+meaning_with (suc zero) s = OutputMoves First s
+meaning_with (suc (suc zero)) s = OutputMoves Later s
+meaning_with (suc (suc (suc zero))) s = InputMoves First s
+meaning_with (suc (suc (suc (suc n)))) s = InputMoves Later s
 
-abbrev out_of_outputs : Before → Assignment → Assignment → Meaning → ℕ
-out_of_outputs b x y (OutputMoves c) = if c b x y then 0 else 1
-out_of_outputs b x y _ = 0
-
-abbrev in_inputs : Before → Assignment → Meaning → ℕ
-in_inputs b x (InputMoves c) = if c b x then 1 else 0
-in_inputs b x _ = 0
-
-abbrev out_of_inputs : Before → Assignment → Meaning → ℕ
-out_of_inputs b x (InputMoves c) = if c b x then 0 else 1
-out_of_inputs b x _ = 0
-
-abbrev kind_of_meaning : (a b c : ℕ) → Meaning → ℕ
-kind_of_meaning a b c (States s) = a
-kind_of_meaning a b c (OutputMoves m) = b
-kind_of_meaning a b c (InputMoves m) = c
+with_both : (m : Meaning) → meaning_with (kind_of m) (states_in m) ≡ m
+with_both (States s) = refl
+with_both (OutputMoves First s) = refl
+with_both (OutputMoves Later s) = refl
+with_both (InputMoves First s) = refl
+with_both (InputMoves Later s) = refl
 
 no_less : 1 ≤ 0 → ⊥
 no_less h = absurd (omega (arith, h))
 
+same_kind : (a m : Meaning) → ((f : Meaning → ℕ) → f m ≤ f a) → kind_of a ≡ kind_of m
+same_kind a m heavy =
+    let least = heavy kind_of in
+    let most = heavy (λ n. 4 - kind_of n) in
+    let small = kind_below a in
+    let small' = kind_below m in
+    omega (arith, least, most, small, small')
+  where
+    kind_below : (m : Meaning) → kind_of m ≤ 4
+    kind_below (States s) = omega arith
+    kind_below (OutputMoves First s) = omega arith
+    kind_below (OutputMoves Later s) = omega arith
+    kind_below (InputMoves First s) = omega arith
+    kind_below (InputMoves Later s) = omega arith
+
 pub same_meaning : (a m : Meaning) → ((f : Meaning → ℕ) → f m ≤ f a) → a ≡ m
-same_meaning (States a) (States b) heavy = ap States (λ i s. compare (a s) (b s) (heavy (in_set s)) (heavy (out_of_set s)) i)
-same_meaning (OutputMoves a) (OutputMoves b) heavy = ap OutputMoves (λ i d x y. compare (a d x y) (b d x y) (heavy (in_outputs d x y)) (heavy (out_of_outputs d x y)) i)
-same_meaning (InputMoves a) (InputMoves b) heavy = ap InputMoves (λ i d x. compare (a d x) (b d x) (heavy (in_inputs d x)) (heavy (out_of_inputs d x)) i)
-same_meaning (States a) (OutputMoves b) heavy = absurd (no_less (heavy (kind_of_meaning 0 1 0)))
-same_meaning (States a) (InputMoves b) heavy = absurd (no_less (heavy (kind_of_meaning 0 0 1)))
-same_meaning (OutputMoves a) (States b) heavy = absurd (no_less (heavy (kind_of_meaning 1 0 0)))
-same_meaning (OutputMoves a) (InputMoves b) heavy = absurd (no_less (heavy (kind_of_meaning 0 0 1)))
-same_meaning (InputMoves a) (States b) heavy = absurd (no_less (heavy (kind_of_meaning 1 0 0)))
-same_meaning (InputMoves a) (OutputMoves b) heavy = absurd (no_less (heavy (kind_of_meaning 0 1 0)))
+same_meaning a m heavy =
+    let sets : states_in a ≡ states_in m = λ i s. compare (states_in a s) (states_in m s) (heavy (λ n. if states_in n s then 1 else 0)) (heavy (λ n. if states_in n s then 0 else 1)) i in
+    sym (with_both a) ∙ (ap (λ k. meaning_with k (states_in a)) (same_kind a m heavy) ∙ (ap (meaning_with (kind_of m)) sets ∙ with_both m))
 
 module _ (g : GameData) where
   -- a held region's slot has its row

@@ -4,7 +4,6 @@ use Rattle.spec_model.specs.Games.{GameData}
 use Rattle.spec_model.specs.Steps.{is_state}
 use Rattle.spec_model.specs.Sets.{StateSet, no_states}
 use Rattle.regions.specs.Kept.{Kept, Item, Region as RegionItem, Move, Meaning, States, Outputs as OutputMoves, Inputs as InputMoves}
-use Rattle.regions.specs.Rules.{outputs_into, inputs_into}
 use Rattle.region_rows.specs.declared.row.Row.{Row}
 use Rattle.region_rows.specs.declared.slots.Slot.{Slot}
 use Rattle.region_rows.specs.declared.slots.Slot.TheVariants.{Free, Region, Outputs, Inputs}
@@ -21,8 +20,8 @@ marked g row s = is_state g s && bit_of row (number_of_state g s)
 abbrev pub content_meaning : GameData → Slot → Meaning
 content_meaning g (Free next) = States no_states
 content_meaning g (Region row) = States (marked g row)
-content_meaning g (Outputs when row) = OutputMoves (outputs_into g when (marked g row))
-content_meaning g (Inputs when row) = InputMoves (inputs_into g when (marked g row))
+content_meaning g (Outputs when row) = OutputMoves when (marked g row)
+content_meaning g (Inputs when row) = InputMoves when (marked g row)
 
 abbrev pub set_of : Meaning → StateSet
 set_of (States s) = s

@@ -91,8 +91,8 @@ impl RegionRows {
     ) -> bool
         requires there { m.now.slot < length self.now.slots.slots.items }
         requires room { length out.old ≡ output_count (game_data self.now.numbered.game) }
-        ensures { (when : When) (t : StateSet) (b : Before) → content_meaning (game_data self.now.numbered.game) (content_at self.now.slots.slots.items m.now.slot) ≡ Outputs (outputs_into (game_data self.now.numbered.game) when t) →
-            AreBefore (game_data self.now.numbered.game) when b state.now → Found result out.new (find (outputs_into (game_data self.now.numbered.game) when t b input.now) (outputs_of (game_data self.now.numbered.game))) }
+        ensures { let g = game_data self.now.numbered.game in (when : When) (t : StateSet) (b : Before) → content_meaning g (content_at self.now.slots.slots.items m.now.slot) ≡ Outputs when t →
+            AreBefore g when b state.now → Found result out.new (find (outputs_into g when t b input.now) (outputs_of g)) }
     {
         match &self.slots.slots[m.slot] {
             Slot::Outputs(when, row) => self.output_when(*when, row, state, input, out),
@@ -109,8 +109,8 @@ impl RegionRows {
         out: &mut [Value],
     ) -> bool
         requires { length out.old ≡ output_count (game_data self.now.numbered.game) }
-        ensures { (time : When) (t : StateSet) (b : Before) → outputs_into (game_data self.now.numbered.game) when (marked (game_data self.now.numbered.game) row.now) ≡ outputs_into (game_data self.now.numbered.game) time t →
-            AreBefore (game_data self.now.numbered.game) time b state.now → Found result out.new (find (outputs_into (game_data self.now.numbered.game) time t b input.now) (outputs_of (game_data self.now.numbered.game))) }
+        ensures { let g = game_data self.now.numbered.game in (b : Before) →
+            AreBefore g when b state.now → Found result out.new (find (outputs_into g when (marked g row.now) b input.now) (outputs_of g)) }
     {
         let k = match when {
             When::First => first_output(&self.numbered, &self.first, row, input),
@@ -120,10 +120,8 @@ impl RegionRows {
     }
 
     fn later_output(&self, row: &Row, state: &[Value], input: &[Value]) -> usize
-        ensures first { (s : State) → IsTrue (is_state (game_data self.now.numbered.game) s) → listed s ≡ state.now →
-            slice_get (outputs_of (game_data self.now.numbered.game)) result ≡ find (output_test (game_data self.now.numbered.game) (marked (game_data self.now.numbered.game) row.now) (Some s) input.now) (outputs_of (game_data self.now.numbered.game)) }
-        ensures nowhere { ((s : State) → is_state (game_data self.now.numbered.game) s ≡ true → find (output_test (game_data self.now.numbered.game) (marked (game_data self.now.numbered.game) row.now) (Some s) input.now) (outputs_of (game_data self.now.numbered.game)) ≡ None) →
-            slice_get (outputs_of (game_data self.now.numbered.game)) result ≡ None }
+        ensures { let g = game_data self.now.numbered.game in (s : State) → IsTrue (is_state g s) → listed s ≡ state.now →
+            slice_get (outputs_of g) result ≡ find (output_test g (marked g row.now) (Some s) input.now) (outputs_of g) }
     {
         match self.numbered.number_of(state) {
             Some(p) => {
@@ -140,8 +138,8 @@ impl RegionRows {
     pub fn find_input(&self, m: &RowMove, state: &[Value], input: &mut [Value]) -> bool
         requires there { m.now.slot < length self.now.slots.slots.items }
         requires room { length input.old ≡ input_count (game_data self.now.numbered.game) }
-        ensures { (when : When) (t : StateSet) (b : Before) → content_meaning (game_data self.now.numbered.game) (content_at self.now.slots.slots.items m.now.slot) ≡ Inputs (inputs_into (game_data self.now.numbered.game) when t) →
-            AreBefore (game_data self.now.numbered.game) when b state.now → Found result input.new (find (inputs_into (game_data self.now.numbered.game) when t b) (inputs_of (game_data self.now.numbered.game))) }
+        ensures { let g = game_data self.now.numbered.game in (when : When) (t : StateSet) (b : Before) → content_meaning g (content_at self.now.slots.slots.items m.now.slot) ≡ Inputs when t →
+            AreBefore g when b state.now → Found result input.new (find (inputs_into g when t b) (inputs_of g)) }
     {
         match &self.slots.slots[m.slot] {
             Slot::Inputs(when, row) => self.input_when(*when, row, state, input),
@@ -151,8 +149,8 @@ impl RegionRows {
 
     fn input_when(&self, when: When, row: &Row, state: &[Value], input: &mut [Value]) -> bool
         requires { length input.old ≡ input_count (game_data self.now.numbered.game) }
-        ensures { (time : When) (t : StateSet) (b : Before) → inputs_into (game_data self.now.numbered.game) when (marked (game_data self.now.numbered.game) row.now) ≡ inputs_into (game_data self.now.numbered.game) time t →
-            AreBefore (game_data self.now.numbered.game) time b state.now → Found result input.new (find (inputs_into (game_data self.now.numbered.game) time t b) (inputs_of (game_data self.now.numbered.game))) }
+        ensures { let g = game_data self.now.numbered.game in (b : Before) →
+            AreBefore g when b state.now → Found result input.new (find (inputs_into g when (marked g row.now) b) (inputs_of g)) }
     {
         let k = match when {
             When::First => first_input(&self.numbered, &self.first, row),
@@ -162,10 +160,8 @@ impl RegionRows {
     }
 
     fn later_input(&self, row: &Row, state: &[Value]) -> usize
-        ensures first { (s : State) → IsTrue (is_state (game_data self.now.numbered.game) s) → listed s ≡ state.now →
-            slice_get (inputs_of (game_data self.now.numbered.game)) result ≡ find (input_test (game_data self.now.numbered.game) (marked (game_data self.now.numbered.game) row.now) (Some s)) (inputs_of (game_data self.now.numbered.game)) }
-        ensures nowhere { ((s : State) → is_state (game_data self.now.numbered.game) s ≡ true → find (input_test (game_data self.now.numbered.game) (marked (game_data self.now.numbered.game) row.now) (Some s)) (inputs_of (game_data self.now.numbered.game)) ≡ None) →
-            slice_get (inputs_of (game_data self.now.numbered.game)) result ≡ None }
+        ensures { let g = game_data self.now.numbered.game in (s : State) → IsTrue (is_state g s) → listed s ≡ state.now →
+            slice_get (inputs_of g) result ≡ find (input_test g (marked g row.now) (Some s)) (inputs_of g) }
     {
         match self.numbered.number_of(state) {
             Some(p) => {

@@ -67,10 +67,10 @@ module _ {R M : Type 0} where
 
   -- so they stay moves of their kind
   pub outputs_stay : (old new : Kept R M) (m : M) (more : List (Item R M × Meaning)) → IsExact new → HasMove old m → GivesOutputs old m → HoldsBesides old new more → GivesOutputs new m
-  outputs_stay old new m more exact here gives made = (gives.0, choice_stays old new m more exact here made ∙ gives.1)
+  outputs_stay old new m more exact here gives made = (gives.0, gives.1, choice_stays old new m more exact here made ∙ gives.2)
 
   pub inputs_stay : (old new : Kept R M) (m : M) (more : List (Item R M × Meaning)) → IsExact new → HasMove old m → GivesInputs old m → HoldsBesides old new more → GivesInputs new m
-  inputs_stay old new m more exact here gives made = (gives.0, choice_stays old new m more exact here made ∙ gives.1)
+  inputs_stay old new m more exact here gives made = (gives.0, gives.1, choice_stays old new m more exact here made ∙ gives.2)
 
   -- a region that is spent after calls that only read was spent as it stood before them
   pub spends_later : (old mid new : Kept R M) (r : R) → IsExact mid → HasRegion old r → Stays old mid → Spends mid new (Region r) → Spends old new (Region r)

@@ -109,9 +109,9 @@ pub trait Regions {
         requires free { (kept self.old).jam ≡ None }
         requires t { HasRegion (kept self.old) t.now }
         ensures made { let k = kept self.old in
-            IfOk result (λ m. Makes k (kept self.new) (Move m) (Outputs (outputs_into k.game when (k.set t.now)))) }
+            IfOk result (λ m. Makes k (kept self.new) (Move m) (Outputs when (k.set t.now))) }
         ensures halted { let k = kept self.old in
-            IfErr result (Halts k (kept self.new) OutMoves (States (k.set t.now) ∷ [])) }
+            IfErr result (Halts k (kept self.new) (OutMoves when) (States (k.set t.now) ∷ [])) }
         ensures same { IsSameGame (kept self.old) (kept self.new) };
 
     /// The legal inputs all of whose legal outputs lead into `t`, after each state.
@@ -119,9 +119,9 @@ pub trait Regions {
         requires free { (kept self.old).jam ≡ None }
         requires t { HasRegion (kept self.old) t.now }
         ensures made { let k = kept self.old in
-            IfOk result (λ m. Makes k (kept self.new) (Move m) (Inputs (inputs_into k.game when (k.set t.now)))) }
+            IfOk result (λ m. Makes k (kept self.new) (Move m) (Inputs when (k.set t.now))) }
         ensures halted { let k = kept self.old in
-            IfErr result (Halts k (kept self.new) InMoves (States (k.set t.now) ∷ [])) }
+            IfErr result (Halts k (kept self.new) (InMoves when) (States (k.set t.now) ∷ [])) }
         ensures same { IsSameGame (kept self.old) (kept self.new) };
 
     /// Whether every legal first input has a legal first output into `t`.
@@ -166,7 +166,7 @@ pub trait Regions {
         requires m { HasMove (kept self.old) m.now }
         requires kind { GivesOutputs (kept self.old) m.now }
         requires room { length out.old ≡ output_count (kept self.old).game }
-        ensures first { let k = kept self.old in (when : When) (t : StateSet) (b : Before) → k.choice m.now ≡ Outputs (outputs_into k.game when t) →
+        ensures first { let k = kept self.old in (when : When) (t : StateSet) (b : Before) → k.choice m.now ≡ Outputs when t →
             AreBefore k.game when b state.now → Found result out.new (find (outputs_into k.game when t b input.now) (outputs_of k.game)) }
         ensures stays { Stays (kept self.old) (kept self.new) }
         ensures same { IsSameGame (kept self.old) (kept self.new) };
@@ -176,7 +176,7 @@ pub trait Regions {
         requires m { HasMove (kept self.old) m.now }
         requires kind { GivesInputs (kept self.old) m.now }
         requires room { length input.old ≡ input_count (kept self.old).game }
-        ensures first { let k = kept self.old in (when : When) (t : StateSet) (b : Before) → k.choice m.now ≡ Inputs (inputs_into k.game when t) →
+        ensures first { let k = kept self.old in (when : When) (t : StateSet) (b : Before) → k.choice m.now ≡ Inputs when t →
             AreBefore k.game when b state.now → Found result input.new (find (inputs_into k.game when t b) (inputs_of k.game)) }
         ensures stays { Stays (kept self.old) (kept self.new) }
         ensures same { IsSameGame (kept self.old) (kept self.new) };

@@ -39,58 +39,12 @@ fn variables(alloc: Global) -> Result<Vec<Var>, AllocError>
     Ok(vec![in alloc; n, a, g]?)
 }
 
-/// `n = k`
 fn n_is(alloc: Global, k: i64) -> Result<Expr, AllocError>
     ensures { IfOk result (λ e. formula e ≡ n_is_lem k) }
 {
     let n = Box::new(alloc, Expr::Var(0))?;
     let number = Box::new(alloc, Expr::Const(Value::Int(k)))?;
     Ok(Expr::Cmp(Compare::Eq, n, number))
-}
-
-/// `!a`
-fn not_a(alloc: Global) -> Result<Expr, AllocError>
-    ensures { IfOk result (λ e. formula e ≡ Negation (Variable 1)) }
-{
-    Ok(Expr::Not(Box::new(alloc, Expr::Var(1))?))
-}
-
-/// `g -> next(a)`
-fn a_follows_g(alloc: Global) -> Result<Expr, AllocError>
-    ensures { IfOk result (λ e. formula e ≡ Implication (Variable 2) (NextOf (Variable 1))) }
-{
-    let g = Box::new(alloc, Expr::Var(2))?;
-    let next = Expr::Next(Box::new(alloc, Expr::Var(1))?);
-    Ok(Expr::Implies(g, Box::new(alloc, next)?))
-}
-
-/// `!(a & n = 2)`
-fn not_a_at_2(alloc: Global) -> Result<Expr, AllocError>
-    ensures { IfOk result (λ e. formula e ≡ Negation (Conjunction (formulas (Variable 1 ∷ n_is_lem (pos 2) ∷ [])))) }
-{
-    let two = n_is(alloc, 2)?;
-    let both = Expr::And(vec![in alloc; Expr::Var(1), two]?);
-    Ok(Expr::Not(Box::new(alloc, both)?))
-}
-
-/// `n <= next(n)`
-fn n_never_falls(alloc: Global) -> Result<Expr, AllocError>
-    ensures { IfOk result (λ e. formula e ≡ Comparison Compare.Le (Variable 0) (NextOf (Variable 0))) }
-{
-    let n = Box::new(alloc, Expr::Var(0))?;
-    let next = Expr::Next(Box::new(alloc, Expr::Var(0))?);
-    Ok(Expr::Cmp(Compare::Le, n, Box::new(alloc, next)?))
-}
-
-/// `a -> n < 2`
-fn below_2_at_a(alloc: Global) -> Result<Expr, AllocError>
-    ensures { IfOk result (λ e. formula e ≡ Implication (Variable 1) (Comparison Compare.Lt (Variable 0) (Constant (Value.Int (pos 2))))) }
-{
-    let a = Box::new(alloc, Expr::Var(1))?;
-    let n = Box::new(alloc, Expr::Var(0))?;
-    let two = Box::new(alloc, Expr::Const(Value::Int(2)))?;
-    let less = Expr::Cmp(Compare::Lt, n, two);
-    Ok(Expr::Implies(a, Box::new(alloc, less)?))
 }
 
 fn goal(line: u32, holds: Expr) -> Goal
@@ -102,30 +56,18 @@ fn goal(line: u32, holds: Expr) -> Goal
     }
 }
 
-/// `asm alwEv a; asm alwEv n = 0;`
-fn assumed(alloc: Global) -> Result<Vec<Goal>, AllocError>
-    ensures { IfOk result (λ goals. map goal_data goals.items ≡ small_lem.assume) }
-{
-    let zero = n_is(alloc, 0)?;
-    Ok(vec![in alloc; goal(7, Expr::Var(1)), goal(8, zero)]?)
-}
-
-/// `gar alwEv n = 1; gar alwEv g;`
-fn guaranteed(alloc: Global) -> Result<Vec<Goal>, AllocError>
-    ensures { IfOk result (λ goals. map goal_data goals.items ≡ small_lem.goals) }
-{
-    let one = n_is(alloc, 1)?;
-    Ok(vec![in alloc; goal(9, one), goal(10, Expr::Var(2))]?)
-}
-
 type Lines = Vec<(u32, Expr)>;
 
 /// `asm alw g -> next(a); asm alw !(a & n = 2);`
 fn safe_assumptions(alloc: Global) -> Result<Lines, AllocError>
     ensures { IfOk result (λ ls. map (λ l. (l.0, formula l.1)) ls.items ≡ small_lem.safe_asm) }
 {
-    let follows = a_follows_g(alloc)?;
-    let never = not_a_at_2(alloc)?;
+    let g = Box::new(alloc, Expr::Var(2))?;
+    let a = Expr::Next(Box::new(alloc, Expr::Var(1))?);
+    let follows = Expr::Implies(g, Box::new(alloc, a)?);
+    let two = n_is(alloc, 2)?;
+    let both = Expr::And(vec![in alloc; Expr::Var(1), two]?);
+    let never = Expr::Not(Box::new(alloc, both)?);
     Ok(vec![in alloc; (3, follows), (4, never)]?)
 }
 
@@ -133,39 +75,31 @@ fn safe_assumptions(alloc: Global) -> Result<Lines, AllocError>
 fn safe_guarantees(alloc: Global) -> Result<Lines, AllocError>
     ensures { IfOk result (λ ls. map (λ l. (l.0, formula l.1)) ls.items ≡ small_lem.safe_gar) }
 {
-    let rising = n_never_falls(alloc)?;
-    let below = below_2_at_a(alloc)?;
+    let next = Expr::Next(Box::new(alloc, Expr::Var(0))?);
+    let n = Box::new(alloc, Expr::Var(0))?;
+    let rising = Expr::Cmp(Compare::Le, n, Box::new(alloc, next)?);
+    let n = Box::new(alloc, Expr::Var(0))?;
+    let two = Box::new(alloc, Expr::Const(Value::Int(2)))?;
+    let a = Box::new(alloc, Expr::Var(1))?;
+    let below = Expr::Implies(a, Box::new(alloc, Expr::Cmp(Compare::Lt, n, two))?);
     Ok(vec![in alloc; (5, rising), (6, below)]?)
 }
 
-/// `asm ini !a;`
-fn initial_assumptions(alloc: Global) -> Result<Lines, AllocError>
-    ensures { IfOk result (λ ls. map (λ l. (l.0, formula l.1)) ls.items ≡ small_lem.initial_asm) }
-{
-    let e = not_a(alloc)?;
-    Ok(vec![in alloc; (1, e)]?)
-}
-
-/// `gar ini n = 0;`
-fn initial_guarantees(alloc: Global) -> Result<Lines, AllocError>
-    ensures { IfOk result (λ ls. map (λ l. (l.0, formula l.1)) ls.items ≡ small_lem.initial_gar) }
-{
-    let e = n_is(alloc, 0)?;
-    Ok(vec![in alloc; (2, e)]?)
-}
-
-/// The game.
 pub fn small(alloc: Global) -> Result<Game, AllocError>
     ensures { IfOk result (λ g. game_data g ≡ small_lem) }
 {
+    let no_a = Expr::Not(Box::new(alloc, Expr::Var(1))?);
+    let at_zero = n_is(alloc, 0)?;
+    let zero = n_is(alloc, 0)?;
+    let one = n_is(alloc, 1)?;
     Ok(Game {
         vars: variables(alloc)?,
         hidden: Vec::new(alloc),
-        initial_asm: initial_assumptions(alloc)?,
-        initial_gar: initial_guarantees(alloc)?,
+        initial_asm: vec![in alloc; (1, no_a)]?,
+        initial_gar: vec![in alloc; (2, at_zero)]?,
         safe_asm: safe_assumptions(alloc)?,
         safe_gar: safe_guarantees(alloc)?,
-        assume: assumed(alloc)?,
-        goals: guaranteed(alloc)?,
+        assume: vec![in alloc; goal(7, Expr::Var(1)), goal(8, zero)]?,
+        goals: vec![in alloc; goal(9, one), goal(10, Expr::Var(2))]?,
     })
 }

@@ -1,12 +1,6 @@
-use Rattle.regions.specs.Kept.{HasRegion, Stays, IsSameGame}
+use Rattle.regions.specs.Kept.{HasRegion}
+use Rattle.region_rows.specs.Examples.{IsSmall}
 use Rattle.region_rows.proofs.tests.digits.Given as goal
 
--- reading the region changes nothing
 abbrev pub invariant-loop-k : goal.invariant-loop-k
-invariant-loop-k g l =
-    let kept = g.S.Regions.kept in
-    record {
-      held : HasRegion (kept l.g) l.region;
-      stays : Stays (kept l.fn.g) (kept l.g);
-      same : IsSameGame (kept l.fn.g) (kept l.g);
-    }
+invariant-loop-k g l = record { small : IsSmall (g.S.Regions.kept l.g); held : HasRegion (g.S.Regions.kept l.g) l.region }

@@ -2,7 +2,6 @@ use Rattle.std.proofs.Common.{sym, ap, ◌∙◌}
 use Rattle.spec_model.specs.GameViews.{game_data}
 use Rattle.region_rows.proofs.RowLaws.{has_row, set-row, makes_inputs, copy_is}
 use Rattle.regions.specs.Kept.{Inputs}
-use Rattle.regions.specs.Rules.{inputs_into}
 use Rattle.region_rows.proofs.impls.RegionRowsRegions.in_moves.Goals as goal
 
 pub row-requires : goal.row-requires
@@ -13,4 +12,4 @@ returns-in-Ok-keep_inputs-clause-made c =
     let g = game_data c.args.self.now.numbered.game in
     let slots = c.args.self.now.slots.slots.items in
     makes_inputs g slots _ c.in-Ok-keep_inputs.moves c.args.when c.in-Ok.row _ c.in-Ok-keep_inputs.ensures.kept
-    (ap (λ s. Inputs (inputs_into g c.args.when s)) (copy_is g c.in-Ok.row c.count.result c.count.ensures c.row.result.now c.in-Ok.ensures ∙ sym (set-row g slots c.args.t.now c.row.result.now c.row.ensures)))
+    (ap (Inputs c.args.when) (copy_is g c.in-Ok.row c.count.result c.count.ensures c.row.result.now c.in-Ok.ensures ∙ sym (set-row g slots c.args.t.now c.row.result.now c.row.ensures)))
