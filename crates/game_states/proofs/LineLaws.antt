@@ -16,7 +16,8 @@ use Rattle.spec_model.proofs.Closed.{nexts_fit}
 use Rattle.spec_model.specs.WellMade.{scope_of, is_step_formula}
 use Rattle.spec_model.proofs.AllStates.{Every}
 use Rattle.spec_model.proofs.Listed.{every_mapped, every_flat, every_weaker, inputs_fit, outputs_fit}
-use Rattle.game_values.specs.Moments.{MomentData, reading_of, moment_of, IsSafe}
+use Rattle.game_values.specs.Safety.{IsSafe}
+use Rattle.game_values.specs.Moments.{MomentData, reading_of, moment_of}
 use Rattle.game_values.specs.Lines.{moment_in, IsThere, IsLineSafe, AreLinesSafe, line_at, lines_at}
 use Rattle.game_values.specs.declared.read.Readout.{Readout}
 use Rattle.game_values.specs.Moments.{moment_data}

@@ -9,8 +9,8 @@ ghost use Rattle.game_states.specs.Numbers.{number_at, number_of_state};
 
 use crate::choices::place;
 use crate::numbered::Numbered;
-use game_values::read::count_inputs;
 use spec_model::value::Value;
+use spec_model::variables::count_inputs;
 
 fn front(values: &[Value], n: usize) -> &[Value]
     requires { n ≤ length values.now }

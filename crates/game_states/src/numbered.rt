@@ -15,8 +15,7 @@ ghost use Rattle.game_states.specs.Seen.{seen as seen_data, seen_at};
 ghost use Rattle.game_states.specs.Tables.{before_of, judged, is_legal_from, answer_at, answers_from, input_moves_from, moves_from, moves_of};
 
 use crate::places::{firsts, place_of_numbers};
-use game_values::eval::{At, holds};
-use game_values::lines::all_hold;
+use game_values::lines::{all_hold, holds_between};
 use game_values::read::Readout;
 use spec_model::game::{Game, Goal};
 use spec_model::value::Value;
@@ -217,7 +216,7 @@ impl Numbered {
         let mut bits = Vec::new(alloc);
         for at in 0..self.seen.len() {
             let moment = &self.seen[at].moment;
-            bits.push(holds(&goal.holds, moment, moment, At::Now))?;
+            bits.push(holds_between(&goal.holds, moment, moment))?;
         }
         Ok(bits)
     }

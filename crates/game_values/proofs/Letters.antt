@@ -7,12 +7,18 @@ use Rattle.spec_model.specs.Syntax.{Formula}
 use Rattle.spec_model.specs.Views.{formula}
 use Rattle.spec_model.specs.Meaning.{Reading}
 use Rattle.spec_model.specs.Games.{letter_of}
-use Rattle.game_values.specs.Moments.{IsSafe, AreSafe, formulas_in}
+use Rattle.spec_model.specs.FormulaSizes.{nodes_in, nodes_in_each}
+use Rattle.game_values.specs.Safety.{IsSafe, AreSafe, formulas_in}
 
 pub safe_at : (r : Reading) (es : List Expr) (k : ℕ) (e : Expr) → k < length es → e ≡ get_or es k e → AreSafe r (formulas_in es) 0 → IsSafe r (formula e) 0
 safe_at r [] k e h is all = absurd (omega arith)
 safe_at r (d ∷ es) zero e h is all = subst (λ x. IsSafe r (formula x) 0) (sym is) all.0
 safe_at r (d ∷ es) (suc k) e h is all = safe_at r es k e (omega arith) is all.1
+
+pub lighter_at : (es : List Expr) (k : ℕ) (e : Expr) → k < length es → e ≡ get_or es k e → nodes_in (formula e) ≤ nodes_in_each (formulas_in es)
+lighter_at [] k e h is = absurd (omega arith)
+lighter_at (d ∷ es) zero e h is = subst (λ x. nodes_in (formula x) ≤ nodes_in (formula d) + nodes_in_each (formulas_in es)) (sym is) (omega arith)
+lighter_at (d ∷ es) (suc k) e h is = let there = lighter_at es k e (omega arith) is in omega (arith, there)
 
 letter_at : (f : Formula → Bool) (es : List Expr) (k : ℕ) (e : Expr) → k < length es → e ≡ get_or es k e →
     letter_of (map f (map formula (drop k es))) ≡ (if f (formula e) then 1 else 0) + 2 * letter_of (map f (map formula (drop (suc k) es)))

@@ -10,7 +10,7 @@ use Rattle.spec_model.specs.Syntax.{Formula, Constant, Variable, NextOf, Negatio
 use Rattle.spec_model.specs.Meaning.{Reading, value_at}
 use Rattle.spec_model.specs.Typing.{whole, Kind, Truth, Whole, NameOf, OneName, Scope, kind_of, kind_of_value, kind_of_domain, are_truths, is_truth, truth_if, compared, can_compare, summed, subtracted, multiplied, reduced, has_table, count_of, operands_of}
 use Rattle.spec_model.specs.WellMade.{is_stepwise, are_stepwise}
-use Rattle.game_values.specs.Moments.{IsSafe, AreSafe}
+use Rattle.game_values.specs.Safety.{IsSafe, AreSafe}
 use Rattle.game_values.proofs.Spans.{IsWithin, within_whole, within_sum, within_difference, within_product, within_remainder, fits_sum, fits_difference, fits_product}
 
 -- each variable is within its domain's interval

@@ -24,7 +24,8 @@ use Rattle.spec_model.specs.Moves.{has_next}
 use Rattle.spec_model.specs.Games.{present_reading}
 use Rattle.spec_model.specs.Steps.{below}
 use Rattle.spec_model.specs.WellMade.{is_step_formula, is_state_formula}
-use Rattle.game_values.specs.Moments.{MomentData, reading_of, values_at, AreSafe}
+use Rattle.game_values.specs.Safety.{AreSafe}
+use Rattle.game_values.specs.Moments.{MomentData, reading_of, values_at}
 use Rattle.game_values.proofs.Spans.{IsWithin}
 use Rattle.game_values.proofs.Safe.{IsTyped, step_safe}
 use Rattle.game_values.proofs.Lists.{get-left, get-right}

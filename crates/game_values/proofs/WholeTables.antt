@@ -13,7 +13,7 @@ use Rattle.spec_model.specs.Typing.{Scope}
 use Rattle.spec_model.specs.WellMade.{is_table, are_tables, cell_count}
 use Rattle.game_values.specs.Whole.{IsWhole, AreWhole}
 
-table_whole : (sc : Scope) (h : Hidden) → is_table sc (hidden_data h) ≡ true → IsWhole h
+pub table_whole : (sc : Scope) (h : Hidden) → is_table sc (hidden_data h) ≡ true → IsWhole h
 table_whole sc h e =
     let one = and_parts (nat_lt h.first h.values) _ e in
     let two = and_parts (list_all (λ v. nat_lt v h.values) h.next.items) _ one.1 in

@@ -1,4 +1,7 @@
+pub mod Times
+pub mod Safety
+pub mod Whole
+pub mod Found
 pub mod Moments
 pub mod Readouts
-pub mod Whole
 pub mod Lines

@@ -3,7 +3,8 @@ use Rattle.std.specs.Prelude.{ℕ, ◌<◌, Bool, true, false, ◌&&◌, List, [
 use Rattle.std.specs.List.{AllByRecursion}
 use Rattle.spec_model.specs.Syntax.{Formula}
 use Rattle.spec_model.specs.Meaning.{holds_at}
-use Rattle.game_values.specs.Moments.{MomentData, reading_of, IsSafe}
+use Rattle.game_values.specs.Safety.{IsSafe}
+use Rattle.game_values.specs.Moments.{MomentData, reading_of}
 
 -- the moment of a number
 abbrev pub moment_in : List MomentData → ℕ → MomentData

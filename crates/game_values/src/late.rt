@@ -6,10 +6,10 @@ ghost use Rattle.spec_model.specs.Views.{formula, variable_data};
 ghost use Rattle.spec_model.specs.GameViews.{hidden_data};
 ghost use Rattle.spec_model.specs.Moves.{has_next, some_has_next};
 ghost use Rattle.spec_model.specs.Steps.{is_output_variable, reads_output, some_reads_output, varies, reads_letter, tables_reading_output};
-ghost use Rattle.game_values.specs.Moments.{formulas_in};
-ghost use Rattle.game_values.specs.Whole.{AreWhole};
+ghost use Rattle.game_values.specs.Safety.{formulas_in};
+ghost use Rattle.game_values.specs.Whole.{IsWhole, AreWhole};
 
-use crate::read::{bit_in, letters};
+use crate::cells::{bit_in, letters};
 use spec_model::expr::Expr;
 use spec_model::game::Hidden;
 use spec_model::value::{Owner, Var};
@@ -135,8 +135,7 @@ fn some_table_varies(letters: usize, tables: &[Vec<bool>]) -> bool
 
 /// Whether a table's entries depend on its letter.
 fn depends_on_letter(h: &Hidden) -> bool
-    requires some { 0 < h.now.values }
-    requires whole { length h.now.next.items ≡ h.now.values * 2 ^ length h.now.atoms.items }
+    requires { IsWhole h.now }
     ensures { result ≡ reads_letter (hidden_data h.now) }
 {
     some_table_varies(letters(h), &h.tables)

@@ -3,12 +3,24 @@
 ghost use Rattle.std.specs.Prelude.{◌≡◌, ◌&&◌, ◌||◌, is_some, map, length, false};
 ghost use Rattle.std.specs.List.{list_all};
 ghost use Rattle.spec_model.specs.Views.{formula};
-ghost use Rattle.game_values.specs.Moments.{moment_data};
+ghost use Rattle.spec_model.specs.Meaning.{holds_at};
+ghost use Rattle.game_values.specs.Moments.{moment_data, reading_of};
+ghost use Rattle.game_values.specs.Safety.{IsSafe};
 ghost use Rattle.game_values.specs.Lines.{IsThere, IsLineSafe, AreLinesSafe, line_at, lines_at};
 
-use crate::eval::{At, holds};
+use crate::eval::holds;
+use crate::moments::{Moment, Moments};
 use crate::read::Readout;
+use crate::seen::At;
 use spec_model::expr::Expr;
+
+/// Whether an expression holds at a moment and the next one.
+pub fn holds_between(e: &Expr, here: &Moment, next: &Moment) -> bool
+    requires { IsSafe (reading_of (moment_data here.now) (moment_data next.now)) (formula e.now) 0 }
+    ensures { result ≡ holds_at (reading_of (moment_data here.now) (moment_data next.now)) (formula e.now) 0 }
+{
+    holds(e, &Moments { here, next }, At::Now)
+}
 
 /// Whether a line holds at the move from a state, if there is one, to another. One that is late is judged at the
 /// state before, and at the first move not at all.
@@ -18,11 +30,11 @@ fn line_holds(e: &Expr, late: bool, seen: &[Readout], before: Option<usize>, at:
     ensures { result ≡ line_at (map (λ r. moment_data r.moment) seen.now) before at late (formula e.now) }
 {
     if !late {
-        return holds(e, &seen[at].moment, &seen[at].moment, At::Now);
+        return holds_between(e, &seen[at].moment, &seen[at].moment);
     }
     match before {
         None => true,
-        Some(from) => holds(e, &seen[from].moment, &seen[at].moment, At::Now),
+        Some(from) => holds_between(e, &seen[from].moment, &seen[at].moment),
     }
 }
 

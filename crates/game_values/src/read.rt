@@ -1,35 +1,25 @@
 //! What a state gives to expressions, and the hidden values that follow it.
 
-ghost use Rattle.std.specs.Prelude.{◌≡◌, ◌*◌, ◌+◌, ◌-◌, ◌^◌, ◌<◌, ◌≤◌, ℕ, true, false, map, length, get_or, slice_index, drop, IfOk, OnOk, [], not, count_by, if◌then◌else◌};
-ghost use Rattle.spec_model.specs.Views.{variable_data, formula};
-ghost use Rattle.spec_model.specs.GameViews.{hidden_data};
+ghost use Rattle.std.specs.Prelude.{◌≡◌, true, false, map, get_or, IfOk, OnOk, [], not};
 ghost use Rattle.std.specs.List.{list_all};
+ghost use Rattle.spec_model.specs.Views.{variable_data};
+ghost use Rattle.spec_model.specs.GameViews.{hidden_data};
 ghost use Rattle.spec_model.specs.Values.{is_assignment};
 ghost use Rattle.spec_model.specs.Moves.{is_env, domains_of, value_among};
-ghost use Rattle.spec_model.specs.Games.{letter_of, read_table, read_tables, nothing_read};
+ghost use Rattle.spec_model.specs.Games.{read_table, read_tables, nothing_read};
 ghost use Rattle.spec_model.specs.Steps.{are_hidden_values};
 ghost use Rattle.spec_model.specs.WellMade.{is_domain, are_tables};
 ghost use Rattle.game_values.specs.Readouts.{readout_data};
-ghost use Rattle.game_values.specs.Moments.{moment_data, reading_of, values_at, at_moment, AreSafe, formulas_in};
+ghost use Rattle.game_values.specs.Moments.{moment_data, reading_of, reading_in, values_at};
 
-use crate::eval::{At, Moment, holds};
+use crate::cells::{bit_in, number_in};
+use crate::eval::cell;
+use crate::moments::{Moment, Moments};
 use crate::values::value_or;
-use spec_model::expr::Expr;
 use spec_model::game::Hidden;
 use spec_model::value::{Owner, Value, Var};
+use spec_model::variables::{count_inputs, count_outputs};
 use std::alloc::{AllocError, Global};
-
-pub fn count_inputs(vars: &[Var]) -> usize
-    ensures { result ≡ count_by (λ v. is_env v.owner) (map variable_data vars.now) }
-{
-    vars.iter().filter(|v| v.owner == Owner::Env).count()
-}
-
-pub fn count_outputs(vars: &[Var]) -> usize
-    ensures { result ≡ count_by (λ v. not (is_env v.owner)) (map variable_data vars.now) }
-{
-    vars.iter().filter(|v| v.owner == Owner::Sys).count()
-}
 
 /// The value of a variable, where these are the moves.
 pub fn variable(vars: &[Var], input: &[Value], output: &[Value], k: usize) -> Value
@@ -62,46 +52,6 @@ pub fn declared(
     Ok(all)
 }
 
-/// 1 for true, 0 for false.
-pub fn bit(b: bool) -> usize
-    ensures { result ≡ (if b then 1 else 0) }
-{
-    if b { 1 } else { 0 }
-}
-
-/// The number whose bit k is 1 where the k-th atom is true.
-fn letter(atoms: &[Expr], moment: &Moment) -> usize
-    requires few { 2 ^ length atoms.now < 2 ^ 64 }
-    requires safe { AreSafe (reading_of (moment_data moment.now) (moment_data moment.now)) (formulas_in atoms.now) 0 }
-    ensures value { result ≡ letter_of (map (λ e. at_moment (moment_data moment.now) e) (map formula atoms.now)) }
-    ensures below { result < 2 ^ length atoms.now }
-{
-    let mut letter = 0;
-    let mut k = atoms.len();
-    while k > 0 {
-        k -= 1;
-        letter = bit(holds(&atoms[k], moment, moment, At::Now)) + 2 * letter;
-    }
-    letter
-}
-
-pub fn bit_in(table: &[bool], cell: usize) -> bool
-    ensures { result ≡ get_or table.now cell false }
-{
-    cell < table.len() && table[cell]
-}
-
-/// The number at a place, or 0 where there is none.
-pub fn number_in(numbers: &[u16], cell: usize) -> u16
-    ensures { result ≡ slice_index numbers.now cell }
-{
-    if cell < numbers.len() {
-        numbers[cell]
-    } else {
-        0
-    }
-}
-
 /// The entry of each truth table at a cell.
 fn entries_at(alloc: Global, tables: &[Vec<bool>], cell: usize) -> Result<Vec<bool>, AllocError>
     ensures { IfOk result (λ es. es.items ≡ map (λ table. get_or table cell false) (map (λ t. t.items) tables.now)) }
@@ -111,27 +61,6 @@ fn entries_at(alloc: Global, tables: &[Vec<bool>], cell: usize) -> Result<Vec<bo
         entries.push(bit_in(table, cell))?;
     }
     Ok(entries)
-}
-
-/// How many letters a table has.
-pub fn letters(h: &Hidden) -> usize
-    requires some { 0 < h.now.values }
-    requires whole { length h.now.next.items ≡ h.now.values * 2 ^ length h.now.atoms.items }
-    ensures count { result ≡ 2 ^ length h.now.atoms.items }
-    ensures few { h.now.values * result < 2 ^ 64 }
-{
-    h.next.len() / h.values as usize
-}
-
-/// The cell of a table at a value and at the letter of a moment.
-fn cell(h: &Hidden, value: u16, moment: &Moment) -> usize
-    requires below { value < h.now.values }
-    requires whole { length h.now.next.items ≡ h.now.values * 2 ^ length h.now.atoms.items }
-    requires safe { AreSafe (reading_of (moment_data moment.now) (moment_data moment.now)) (formulas_in h.now.atoms.items) 0 }
-    ensures { result ≡ value * 2 ^ length h.now.atoms.items + letter_of (map (λ e. at_moment (moment_data moment.now) e) (map formula h.now.atoms.items)) }
-{
-    let letters = letters(h);
-    value as usize * letters + letter(&h.atoms, moment)
 }
 
 /// What a state gives to expressions, and the hidden values that follow it.
@@ -150,6 +79,16 @@ fn add_table(alloc: Global, out: &mut Readout, h: &Hidden, cell: usize) -> Resul
     out.moment.entries.push(entries)?;
     out.next.push(number_in(&h.next, cell))?;
     Ok(())
+}
+
+/// A moment alone.
+fn moment_alone(moment: &Moment) -> Moments<'_>
+    ensures { reading_in result ≡ reading_of (moment_data moment.now) (moment_data moment.now) }
+{
+    Moments {
+        here: moment,
+        next: moment,
+    }
 }
 
 /// Reads the tables in order, each at its value and at the letter of the present and of the tables before it.
@@ -179,7 +118,7 @@ pub fn read(
     };
     for k in 0..hidden.len() {
         let h = &hidden[k];
-        let at = cell(h, numbers[k], &out.moment);
+        let at = cell(h, numbers[k], &moment_alone(&out.moment));
         add_table(alloc, &mut out, h, at)?;
     }
     Ok(out)

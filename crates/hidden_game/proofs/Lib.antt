@@ -6,6 +6,7 @@ pub mod Choices
 pub mod Agreeing
 pub mod Recurrences
 pub mod Sights
+pub mod Tables
 pub mod Least
 pub mod AnyOutput
 pub mod FirstBroken

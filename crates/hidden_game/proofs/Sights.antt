@@ -16,7 +16,7 @@ use Rattle.spec_model.specs.Typing.{Scope}
 use Rattle.spec_model.specs.Meaning.{holds_at}
 use Rattle.spec_model.specs.Views.{formula}
 use Rattle.spec_model.specs.WellMade.{is_table, are_tables}
-use Rattle.game_values.specs.Moments.{AreSafe}
+use Rattle.game_values.specs.Safety.{AreSafe}
 use Rattle.game_values.proofs.Safe.{IsTyped}
 use Rattle.game_values.proofs.Typed.{typed_among, states_safe, count-cons}
 use Rattle.game_values.proofs.TableSteps.{table_atoms}
@@ -124,19 +124,6 @@ more_read hs out k v below room h is =
     nexts (g ∷ hs) (c ∷ out) zero below room is = ap (λ ns. slice_index g.next.items (cell_in v) ∷ ns) (nothing_next (map hidden_data hs)) ∙ ap (λ (j : Hidden). slice_index j.next.items (cell_in v) ∷ []) (sym is)
     nexts (g ∷ hs) (c ∷ out) (suc k) below room is = ap (λ ns. slice_index g.next.items (cell_in c) ∷ ns) (nexts hs out k (omega arith) (omega arith) is)
 
--- the hidden value of a table is below its number of values
-pub value_below : (hs : List Hidden) (ns : List ℕ) (k : ℕ) → k < length hs → (h : Hidden) → h ≡ get_or hs k h → are_hidden_values (map hidden_data (drop k hs)) (drop k ns) ≡ true → (k < length ns) × (get_or ns k 0 < h.values)
-value_below [] ns k below h is fit = absurd (omega arith)
-value_below (g ∷ hs) [] zero below h is fit = absurd (false≢true fit)
-value_below (g ∷ hs) [] (suc k) below h is fit = absurd (nothing_left hs k (omega arith) fit)
-  where
-    nothing_left : (hs : List Hidden) (k : ℕ) → k < length hs → are_hidden_values (map hidden_data (drop k hs)) [] ≡ true → ⊥
-    nothing_left [] k h e = absurd (omega arith)
-    nothing_left (g ∷ hs) zero h e = false≢true e
-    nothing_left (g ∷ hs) (suc k) h e = nothing_left hs k (omega arith) e
-value_below (g ∷ hs) (n ∷ ns) zero below h is fit = (omega arith, (let less : n < g.values = ltb-true n g.values (and_parts (nat_lt n g.values) (are_hidden_values (map hidden_data hs) ns) fit).0 in subst (λ (j : Hidden). n < j.values) (sym is) less))
-value_below (g ∷ hs) (n ∷ ns) (suc k) below h is fit = let rest = value_below hs ns k (omega arith) h is fit in (omega (arith, rest.0), rest.1)
-
 pub nothing_so_far : (hs : List HiddenData) → read_so_far hs [] ≡ nothing_read
 nothing_so_far [] = refl
 nothing_so_far (h ∷ hs) = refl
@@ -168,13 +155,6 @@ module _ (vs : List VariableData) (p : Position) (entries : List (List Bool)) (b
   seen_safe input output h hs tables =
       states_safe sc (seen_reading vs p p entries) (seen_typed vs p p entries before input output input output) (map formula h.atoms.items)
       (table_atoms sc (hidden_data h) (and_parts (is_table sc (hidden_data h)) _ tables).0)
-
-pub seen_cell : (vs : List VariableData) (p : Position) (entries : List (List Bool)) (h : Hidden) (v w cell : ℕ) → v ≡ w →
-    cell ≡ v * 2 ^ length h.atoms.items + letter_of (map (λ e. holds_at (seen_reading vs p p entries) e 0) (map formula h.atoms.items)) → cell ≡ cell_of vs p entries (hidden_data h) w
-seen_cell vs p entries h v w cell same is =
-    is ∙ ap (λ r. v * 2 ^ length h.atoms.items + letter_of (map (λ e. holds_at r e 0) (map formula h.atoms.items))) (seen_once vs p entries)
-    ∙ (ap (λ n. v * 2 ^ n + letter_of (map (λ e. holds_at (present_reading vs p entries) e 0) (map formula h.atoms.items))) (sym (length-map h.atoms.items formula))
-    ∙ ap (λ n. n * 2 ^ length (map formula h.atoms.items) + letter_of (map (λ e. holds_at (present_reading vs p entries) e 0) (map formula h.atoms.items))) same)
 
 -- ---- the parts of a listed state
 

@@ -1,14 +1,18 @@
--- What is seen of a state and the next one, where hidden tables are read to their cells.
-use Rattle.std.specs.Prelude.{ℕ, zero, suc, pos, List, [], ◌∷◌, ◌≡◌, Bool, false, slice_index, map, get_or}
+-- What is seen of a state and the next one: the tables of one were read to their cells, those of another are read where they
+-- are asked for.
+use Rattle.std.specs.Prelude.{ℕ, zero, suc, pos, ◌+◌, List, [], ◌∷◌, ◌≡◌, Bool, false, slice_index, map, get_or}
 use Rattle.spec_model.specs.declared.value.Value.{Value}
 use Rattle.spec_model.specs.declared.value.Value.TheVariants as value
+use Rattle.spec_model.specs.declared.game.Hidden.{Hidden}
 use Rattle.spec_model.specs.Syntax.{VariableData}
 use Rattle.spec_model.specs.Views.{variable_data}
 use Rattle.spec_model.specs.GameViews.{hidden_data}
 use Rattle.spec_model.specs.Rules.{Position}
 use Rattle.spec_model.specs.Moves.{value_among}
 use Rattle.spec_model.specs.Meaning.{Reading}
-use Rattle.spec_model.specs.Games.{HiddenData, State, Readout, entries_in}
+use Rattle.spec_model.specs.FormulaSizes.{nodes_in_each}
+use Rattle.spec_model.specs.Games.{GameData, HiddenData, State, listed, next_hidden, Readout, entries_in, read_tables, nothing_read, readout_of, present_reading}
+use Rattle.game_values.specs.Safety.{formulas_in}
 use Rattle.hidden_game.specs.declared.sight.Sight.{Sight}
 
 -- the cell that a value stands for
@@ -59,3 +63,24 @@ nexts_at (h ∷ hs) (c ∷ cells) = slice_index h.next (cell_in c) ∷ nexts_at 
 -- what is read so far, and the tables that are left
 abbrev pub read_so_far : List HiddenData → List Value → Readout
 read_so_far hs cells = record { entries = entries_at hs cells; next = nexts_at hs cells }
+
+-- these are the cells of the tables at the state
+abbrev pub AreCells : GameData → State → List Value → Type 0
+AreCells g s cells = read_so_far g.hidden cells ≡ readout_of g s
+
+-- The state is listed; at it the tables have these cells, and after it these hidden values.
+pub record IsReadAt (g : GameData) (s : State) (state cells numbers : List Value) : Type 0 where
+  pub lists : listed s ≡ state
+  pub read : AreCells g s cells
+  pub next : numbers ≡ as_values (next_hidden g s)
+
+-- ---- tables that are read where they are asked for
+
+-- what is present at a position with these hidden values
+abbrev pub reading_at : List VariableData → List HiddenData → List Value → Position → Reading
+reading_at vs hs numbers p = present_reading vs p (read_tables vs p nothing_read hs (map cell_in numbers)).entries
+
+-- how many nodes the tables' atoms have
+abbrev pub nodes_of_atoms : List Hidden → ℕ
+nodes_of_atoms [] = 0
+nodes_of_atoms (h ∷ hs) = nodes_in_each (formulas_in h.atoms.items) + nodes_of_atoms hs

@@ -1,34 +1,33 @@
 //! Which assumption an input breaks first. Only `InputJudge::make` takes memory.
 
-ghost use Rattle.std.specs.Prelude.{◌≡◌, ◌≤◌, ◌<◌, [], not, map, length, true, false, get_or, option_map, Some, None, is_none, IfOk, IsTrue};
+ghost use Rattle.std.specs.Prelude.{◌≡◌, [], not, map, true, false, get_or, option_map, Some, None, is_none, IfOk, IsTrue};
 ghost use Rattle.std.specs.List.{list_any, list_all};
 ghost use Rattle.spec_model.specs.Values.{is_assignment, same_value, values_of};
 ghost use Rattle.spec_model.specs.Views.{formula, domain_data, variable_data};
 ghost use Rattle.spec_model.specs.GameViews.{game_data};
 ghost use Rattle.spec_model.specs.Moves.{is_env, domains_of};
-ghost use Rattle.spec_model.specs.Games.{State, listed, first_hidden, next_hidden};
-ghost use Rattle.spec_model.specs.Steps.{is_state, is_input, legal_input, waits_for_output};
+ghost use Rattle.spec_model.specs.Games.{State, listed, first_hidden, step_reading};
+ghost use Rattle.spec_model.specs.Steps.{is_state, is_input, legal_input};
 ghost use Rattle.spec_model.specs.WellMade.{WellMade, is_domain};
-ghost use Rattle.hidden_game.specs.Judged.{judged_in, numbers_false, IsSafeIn, AreSafeIn, IsJudgeOf};
 ghost use Rattle.spec_model.specs.FirstBroken.{lesser, least as least_lem, line_label, first_broken};
-ghost use Rattle.hidden_game.specs.Sights.{as_values, entries_at, seen_reading, reading_in};
+ghost use Rattle.hidden_game.specs.Judged.{made_reading, judged_in, numbers_false, IsSafeIn, AreSafeIn, IsJudgeOf};
+ghost use Rattle.hidden_game.specs.Sights.{as_values, entries_at, seen_reading, reading_in, IsSplit, IsReadAt};
 
-use crate::reading::{parts, read_state};
-use crate::sight::{Sight, holds};
-use game_values::eval::At;
+use crate::made::Made;
+use crate::reading::parts;
+use crate::sight::Sight;
+use game_values::eval::holds;
 use game_values::late::waits;
+use game_values::seen::At;
 use spec_model::expr::Expr;
 use spec_model::game::{Game, Label};
 use spec_model::value::{Domain, Owner, Value, Var};
 use std::alloc::{AllocError, Global};
 
-/// How many hidden tables an input is judged with at most.
-pub const MAX_TABLES: usize = 1024;
-
 /// What is seen of a move: the position that it makes, as far as inputs tell, and the state before with the next input.
 #[derive(Clone, Copy, Debug)]
 pub struct Move<'a> {
-    pub made: Sight<'a>,
+    pub made: Made<'a>,
     pub before: Option<Sight<'a>>,
 }
 
@@ -130,7 +129,7 @@ fn false_safety(game: &Game, late: &[bool], m: &Move) -> Option<u32>
 }
 
 /// The least number of an assumption that is false at the first position.
-fn false_at_start(game: &Game, late: &[bool], made: Sight) -> Option<u32>
+fn false_at_start(game: &Game, late: &[bool], made: Made) -> Option<u32>
     requires initial { AreSafeIn (record { made = made; before = None }) game.now.initial_asm.items }
     requires safety { AreSafeIn (record { made = made; before = None }) game.now.safe_asm.items }
     ensures { let test = judged_in (record { made = made.entry; before = None }) in
@@ -140,17 +139,39 @@ fn false_at_start(game: &Game, late: &[bool], made: Sight) -> Option<u32>
     lesser_of(false_initial(game, &m), false_safety(game, late, &m))
 }
 
-/// What is seen of two positions, where the cells of the tables at the first are these.
-fn sight<'a>(
+/// What is seen of the position that an input and an output make, where it has these hidden values.
+fn made_position<'a>(
     game: &'a Game,
+    numbers: &'a [Value],
     input: &'a [Value],
     output: &'a [Value],
+) -> Made<'a>
+    requires made { WellMade (game_data game.now) }
+    requires state { (s : State) × IsTrue (is_state (game_data game.now) s) × IsSplit s numbers.now input.now output.now }
+    ensures { (s : State) → IsTrue (is_state (game_data game.now) s) → IsSplit s numbers.now input.now output.now → made_reading result ≡ step_reading (game_data game.now) s s }
+{
+    Made {
+        vars: &game.vars,
+        hidden: &game.hidden,
+        numbers,
+        input,
+        output,
+    }
+}
+
+/// What is seen of a state and the next input, where the cells of the tables at the state are these.
+fn last_position<'a>(
+    game: &'a Game,
+    state: &'a [Value],
+    cells: &'a [Value],
     next_input: &'a [Value],
     next_output: &'a [Value],
-    cells: &'a [Value],
 ) -> Sight<'a>
-    ensures { reading_in result ≡ seen_reading (game_data game.now).variables (record { input = input.now; output = output.now }) (record { input = next_input.now; output = next_output.now }) (entries_at (game_data game.now).hidden cells.now) }
+    requires { (s : State) × IsTrue (is_state (game_data game.now) s) × (listed s ≡ state.now) }
+    ensures { (s : State) → IsTrue (is_state (game_data game.now) s) → listed s ≡ state.now →
+        reading_in result ≡ seen_reading (game_data game.now).variables s.position (record { input = next_input.now; output = next_output.now }) (entries_at (game_data game.now).hidden cells.now) }
 {
+    let (_, input, output) = parts(game, state);
     Sight {
         vars: &game.vars,
         hidden: &game.hidden,
@@ -173,14 +194,11 @@ fn label_of(line: Option<u32>) -> Option<Label>
 }
 
 impl InputJudge {
-    /// A judge of the inputs of a game. `AllocError`: no memory was given, or there are more tables than `MAX_TABLES`.
+    /// A judge of the inputs of a game. `AllocError`: no memory was given.
     pub fn make(alloc: Global, game: &Game) -> Result<InputJudge, AllocError>
         requires { WellMade (game_data game.now) }
         ensures { IfOk result (IsJudgeOf (game_data game.now)) }
     {
-        if game.hidden.len() > MAX_TABLES {
-            return Err(AllocError);
-        }
         Ok(InputJudge {
             waits: waits(alloc, &game.safe_asm, &game.vars, &game.hidden)?,
             output: first_output(alloc, &game.vars)?,
@@ -201,41 +219,33 @@ impl InputJudge {
         ensures first { result ≡ first_broken (game_data game.now) None input.now }
         ensures none { is_none result ≡ legal_input (game_data game.now) None input.now }
     {
-        let mut room = [Value::Bool(false); MAX_TABLES];
-        let cells = &mut room[..game.hidden.len()];
         let output: &[Value] = &self.output;
-        read_state(game, numbers, input, output, cells);
-        let made = sight(game, input, output, input, output, cells);
+        let made = made_position(game, numbers, input, output);
         label_of(false_at_start(game, &self.waits, made))
     }
 
-    /// The assumption with the least number that an input breaks after a state; the hidden values after it are given.
+    /// The assumption with the least number that an input breaks after a state. The cells of the tables at the state are given,
+    /// and the hidden values after it.
     pub fn first_broken_after(
         &self,
         game: &Game,
         state: &[Value],
+        cells: &[Value],
         numbers: &[Value],
         input: &[Value],
     ) -> Option<Label>
         requires made { WellMade (game_data game.now) }
         requires judge { IsJudgeOf (game_data game.now) self.now }
-        requires state { (s : State) × IsTrue (is_state (game_data game.now) s) × (listed s ≡ state.now) × (numbers.now ≡ as_values (next_hidden (game_data game.now) s)) }
+        requires state { (s : State) × IsTrue (is_state (game_data game.now) s) × IsReadAt (game_data game.now) s state.now cells.now numbers.now }
         requires input { IsTrue (is_input (game_data game.now) input.now) }
-        ensures first { (s : State) → IsTrue (is_state (game_data game.now) s) → listed s ≡ state.now → numbers.now ≡ as_values (next_hidden (game_data game.now) s) →
+        ensures first { (s : State) → IsTrue (is_state (game_data game.now) s) → IsReadAt (game_data game.now) s state.now cells.now numbers.now →
             result ≡ first_broken (game_data game.now) (Some s) input.now }
-        ensures none { (s : State) → IsTrue (is_state (game_data game.now) s) → listed s ≡ state.now → numbers.now ≡ as_values (next_hidden (game_data game.now) s) →
+        ensures none { (s : State) → IsTrue (is_state (game_data game.now) s) → IsReadAt (game_data game.now) s state.now cells.now numbers.now →
             is_none result ≡ legal_input (game_data game.now) (Some s) input.now }
     {
-        let mut room = [Value::Bool(false); MAX_TABLES];
-        let cells = &mut room[..game.hidden.len()];
         let output: &[Value] = &self.output;
-        read_state(game, numbers, input, output, cells);
-        let made = sight(game, input, output, input, output, cells);
-        let (last_numbers, last_input, last_output) = parts(game, state);
-        let mut last_room = [Value::Bool(false); MAX_TABLES];
-        let last_cells = &mut last_room[..game.hidden.len()];
-        read_state(game, last_numbers, last_input, last_output, last_cells);
-        let last = sight(game, last_input, last_output, input, output, last_cells);
+        let made = made_position(game, numbers, input, output);
+        let last = last_position(game, state, cells, input, output);
         let m = Move {
             made,
             before: Some(last),

@@ -6,7 +6,8 @@
 //!
 //! While a game is played, `first_hidden` and `next_hidden` write the values of its hidden tables, and an `InputJudge` names
 //! the assumption with the least number that an input breaks. Neither takes memory. A line that reads no present output
-//! has one value whatever output follows the input, so one output is looked at for all.
+//! has one value whatever output follows the input, so one output is looked at for all. Of the position that the input makes
+//! only those entries are read that a line asks for.
 //!
 //! Contract: `expand` gives a well-made game that agrees with a well-typed specification; `InputJudge`.
 //! Path: specification → **game** → regions.
@@ -15,6 +16,7 @@
 mod expanding;
 mod judging;
 mod laws;
+mod made;
 mod reading;
 mod sight;
 

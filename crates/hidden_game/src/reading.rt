@@ -7,13 +7,15 @@ ghost use Rattle.spec_model.specs.GameViews.{game_data, hidden_data};
 ghost use Rattle.spec_model.specs.Views.{variable_data};
 ghost use Rattle.spec_model.specs.Moves.{is_env, domains_of};
 ghost use Rattle.std.specs.Prelude.{not};
-ghost use Rattle.spec_model.specs.Games.{State, listed, nothing_read, read_tables, readout_of, first_hidden as first_hidden_lem, next_hidden as next_hidden_lem};
+ghost use Rattle.spec_model.specs.Games.{State, listed, nothing_read, read_tables, first_hidden as first_hidden_lem, next_hidden as next_hidden_lem};
 ghost use Rattle.spec_model.specs.Steps.{is_state, are_hidden_values};
 ghost use Rattle.spec_model.specs.WellMade.{WellMade, is_domain, are_tables};
-ghost use Rattle.hidden_game.specs.Sights.{cell_in as cell_in_lem, read_so_far, nexts_at, IsSplit};
+ghost use Rattle.hidden_game.specs.Sights.{cell_in as cell_in_lem, read_so_far, nexts_at, AreCells, IsSplit, as_values};
 
-use crate::sight::{Sight, cell, cell_in};
-use game_values::read::number_in;
+use crate::made::number_of;
+use crate::sight::{Sight, cell_in};
+use game_values::cells::number_in;
+use game_values::eval::cell;
 use spec_model::game::{Game, Hidden};
 use spec_model::value::{Value, Var};
 use spec_model::variables::count_inputs;
@@ -24,16 +26,6 @@ fn as_value(n: usize) -> Value
     ensures { result ≡ Value.Int (pos n) }
 {
     Value::Int(n as i64)
-}
-
-/// The number of a hidden value of a table.
-fn number_of(h: &Hidden, value: Value) -> u16
-    requires { cell_in_lem value < h.now.values }
-    ensures value { result ≡ cell_in_lem value }
-    ensures below { result < h.now.values }
-{
-    let _values = h.values;
-    cell_in(value) as u16
 }
 
 /// Writes the first value of each table.
@@ -87,13 +79,14 @@ pub fn read_cells(
     }
 }
 
-/// The value of each table's cell that is next, in the place of the cell.
-fn move_on(hidden: &[Hidden], out: &mut [Value])
-    requires { length out.old ≡ length hidden.now }
-    ensures { out.new ≡ map (λ v. Value.Int (pos v)) (nexts_at (map hidden_data hidden.now) out.old) }
+/// Writes the value that each table has next, at its cell.
+fn move_on(hidden: &[Hidden], cells: &[Value], out: &mut [Value])
+    requires cells { length cells.now ≡ length hidden.now }
+    requires room { length out.old ≡ length hidden.now }
+    ensures { out.new ≡ map (λ v. Value.Int (pos v)) (nexts_at (map hidden_data hidden.now) cells.now) }
 {
     for k in 0..hidden.len() {
-        let next = number_in(&hidden[k].next, cell_in(out[k]));
+        let next = number_in(&hidden[k].next, cell_in(cells[k]));
         out[k] = as_value(next as usize);
     }
 }
@@ -119,19 +112,21 @@ pub fn read_state(
     requires made { WellMade (game_data game.now) }
     requires room { length cells.old ≡ length (game_data game.now).hidden }
     requires state { (s : State) × IsTrue (is_state (game_data game.now) s) × IsSplit s numbers.now input.now output.now }
-    ensures { (s : State) → IsTrue (is_state (game_data game.now) s) → IsSplit s numbers.now input.now output.now → read_so_far (game_data game.now).hidden cells.new ≡ readout_of (game_data game.now) s }
+    ensures { (s : State) → IsTrue (is_state (game_data game.now) s) → IsSplit s numbers.now input.now output.now → AreCells (game_data game.now) s cells.new }
 {
     read_cells(&game.vars, &game.hidden, numbers, input, output, cells);
 }
 
-/// Writes the hidden values of the position after a state.
-pub fn next_hidden(game: &Game, state: &[Value], out: &mut [Value])
+/// Writes the cells of the tables at a state, and the hidden values of the position after it.
+pub fn next_hidden(game: &Game, state: &[Value], cells: &mut [Value], out: &mut [Value])
     requires made { WellMade (game_data game.now) }
+    requires cells { length cells.old ≡ length (game_data game.now).hidden }
     requires room { length out.old ≡ length (game_data game.now).hidden }
     requires state { (s : State) × IsTrue (is_state (game_data game.now) s) × (listed s ≡ state.now) }
-    ensures { (s : State) → IsTrue (is_state (game_data game.now) s) → listed s ≡ state.now → out.new ≡ map (λ v. Value.Int (pos v)) (next_hidden_lem (game_data game.now) s) }
+    ensures cells { (s : State) → IsTrue (is_state (game_data game.now) s) → listed s ≡ state.now → AreCells (game_data game.now) s cells.new }
+    ensures next { (s : State) → IsTrue (is_state (game_data game.now) s) → listed s ≡ state.now → out.new ≡ as_values (next_hidden_lem (game_data game.now) s) }
 {
     let (numbers, input, output) = parts(game, state);
-    read_state(game, numbers, input, output, out);
-    move_on(&game.hidden, out);
+    read_state(game, numbers, input, output, cells);
+    move_on(&game.hidden, cells, out);
 }

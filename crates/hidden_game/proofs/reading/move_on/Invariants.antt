@@ -6,4 +6,4 @@ use Rattle.hidden_game.proofs.reading.move_on.Given as goal
 
 -- the values so far are written, the others are as they were
 abbrev pub invariant-loop-k : goal.invariant-loop-k
-invariant-loop-k l = l.out ≡ take l.k (map (λ v. value.Int (pos v)) (nexts_at (map hidden_data l.fn.hidden) l.fn.out)) ++ drop l.k l.fn.out
+invariant-loop-k l = l.out ≡ take l.k (map (λ v. value.Int (pos v)) (nexts_at (map hidden_data l.fn.hidden) l.fn.cells)) ++ drop l.k l.fn.out

@@ -9,9 +9,10 @@ use Rattle.spec_model.specs.Typing.{Scope}
 use Rattle.spec_model.specs.Games.{read_tables, read_table}
 use Rattle.spec_model.specs.WellMade.{is_table, are_tables}
 use Rattle.game_values.proofs.Lists.{map_drop}
-use Rattle.game_values.proofs.TableSteps.{read_more}
-use Rattle.hidden_game.specs.Sights.{cell_in, read_so_far, entries_at}
-use Rattle.hidden_game.proofs.Sights.{nothing_so_far, value_below, seen_safe, seen_cell, more_read}
+use Rattle.game_values.proofs.TableSteps.{read_more, value_below, cell_is}
+use Rattle.hidden_game.specs.Sights.{cell_in, read_so_far, entries_at, seen_reading}
+use Rattle.game_values.proofs.WholeTables.{table_whole}
+use Rattle.hidden_game.proofs.Sights.{nothing_so_far, seen_once, seen_safe, more_read}
 use Rattle.hidden_game.proofs.reading.read_cells.Goals as goal
 
 pub loop-k-init : goal.loop-k-init
@@ -35,15 +36,19 @@ number_of-requires c =
     let same = get_or-map cell_in c.args.numbers.now k (value.Bool false) 0 (omega (arith, fits.0, length-map c.args.numbers.now cell_in)) in
     subst (λ (n : ℕ). n < h.values) same fits.1
 
-pub cell-at-requires-clause-safe : goal.cell-at-requires-clause-safe
-cell-at-requires-clause-safe c =
+pub cell-at-requires : goal.cell-at-requires
+cell-at-requires c =
     let vs = map variable_data c.args.vars.now in
     let p : Position = record { input = c.args.input.now; output = c.args.output.now } in
     let sc : Scope = record { domains = map (λ v. v.domain) vs; tables = c.loop-k.invariant.tables.0 } in
     let h = c.index-hidden-k.result in
     let list = map_drop hidden_data c.args.hidden.now c.loop-k.k h c.loop-k-test.true c.index-hidden-k.is in
     let tables = ap (λ hs. are_tables sc hs) (sym list) ∙ c.loop-k.invariant.tables.1 in
-    seen_safe vs p (entries_at (map hidden_data c.args.hidden.now) (take c.loop-k.k c.loop-k.out)) c.loop-k.invariant.tables.0 c.requires.input c.requires.output h (map hidden_data (drop (c.loop-k.k + 1) c.args.hidden.now)) tables
+    record {
+      below = c.number_of.ensures.below;
+      whole = table_whole sc h (and_parts (is_table sc (hidden_data h)) _ tables).0;
+      safe = seen_safe vs p (entries_at (map hidden_data c.args.hidden.now) (take c.loop-k.k c.loop-k.out)) c.loop-k.invariant.tables.0 c.requires.input c.requires.output h (map hidden_data (drop (c.loop-k.k + 1) c.args.hidden.now)) tables;
+    }
 
 pub loop-k-preserved : goal.loop-k-preserved
 loop-k-preserved c =
@@ -63,7 +68,8 @@ loop-k-preserved c =
     let here = and_parts (is_table sc (hidden_data h)) _ tables in
     let fits = value_below hs ns k below h c.index-hidden-k.is inv.numbers in
     let number : c.number_of.result ≡ get_or ns k 0 = c.number_of.ensures.value ∙ sym (get_or-map cell_in c.args.numbers.now k (value.Bool false) 0 (omega (arith, fits.0, length-map c.args.numbers.now cell_in))) in
-    let cell = seen_cell vs p (entries_at (map hidden_data hs) (take k out)) h c.number_of.result (get_or ns k 0) c.cell-at.result number c.cell-at.ensures.value in
+    let entries = entries_at (map hidden_data hs) (take k out) in
+    let cell = cell_is vs p (seen_reading vs p p entries) entries h c.number_of.result (get_or ns k 0) c.cell-at.result (seen_once vs p entries) number c.cell-at.ensures.value in
     let read = more_read hs out k v below (omega (arith, inv.room, below)) h c.index-hidden-k.is ∙ ap (λ (n : ℕ). read_table (read_so_far (map hidden_data hs) (take k out)) (hidden_data h) n) (ap cell_in c.as_value.ensures) in
     let more = read_more vs p (read_so_far (map hidden_data hs) (take k out)) (read_so_far (map hidden_data hs) (take (k + 1) (slice_set out k v))) _ h c.cell-at.result hs ns k below c.index-hidden-k.is inv.numbers read cell inv.same in
     record {

@@ -14,8 +14,8 @@ use Rattle.game_states.proofs.LineLaws.{seen_here, state_fits, state_safe, state
 use Rattle.game_states.proofs.TableLaws.{spread-map, spread-is, spread_push, spread_past, append-nothing}
 use Rattle.game_states.proofs.numbered.Numbered.holding.Goals as goal
 
-pub holds-requires : goal.holds-requires
-holds-requires c =
+pub holds_between-requires : goal.holds_between-requires
+holds_between-requires c =
     let self = c.args.self.now in
     let g = game_data self.game in
     let below : c.loop-at.at < length self.seen.items = omega (arith, c.loop-at-test.true, c.len-at-end.ensures) in
@@ -38,9 +38,9 @@ loop-at-preserved c =
     let f = judged g test in
     let below : c.loop-at.at < length self.seen.items = omega (arith, c.loop-at-test.true, c.len-at-end.ensures) in
     let here = seen_here g self.seen.items self.states_seen c.loop-at.at c.index.result.now below c.index.ensures in
-    let is = c.holds.ensures ∙ (state_value g (moment_data c.index.result.now.moment) here.0 (formula c.args.goal.now.holds) (ap (λ (d : SeenData). d.moment) here.2) ∙ sym (judged_is g test c.loop-at.at here.0 here.1)) in
+    let is = c.holds_between.ensures ∙ (state_value g (moment_data c.index.result.now.moment) here.0 (formula c.args.goal.now.holds) (ap (λ (d : SeenData). d.moment) here.2) ∙ sym (judged_is g test c.loop-at.at here.0 here.1)) in
     ap (λ r. r ++ spread f (c.loop-at.at + 1) (drop (c.loop-at.at + 1) self.seen.items)) c.in_ok-push.ensures.items
-    ∙ spread_push f c.loop-at.at self.seen.items c.loop-at.bits.items _ c.holds.result below is c.loop-at.invariant
+    ∙ spread_push f c.loop-at.at self.seen.items c.loop-at.bits.items _ c.holds_between.result below is c.loop-at.invariant
 
 pub returns : goal.returns
 returns c =

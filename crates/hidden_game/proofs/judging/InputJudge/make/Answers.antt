@@ -1,6 +1,5 @@
-use Rattle.std.proofs.Common.{arith, ◌∙◌}
-use Rattle.std.proofs.lemmas.List.{length-map}
-use Rattle.spec_model.specs.GameViews.{game_data, hidden_data}
+use Rattle.std.proofs.Common.{◌∙◌}
+use Rattle.spec_model.specs.GameViews.{game_data}
 use Rattle.spec_model.specs.Steps.{waits_for_output}
 use Rattle.game_values.proofs.WholeTables.{tables_whole, map-flags}
 use Rattle.hidden_game.proofs.judging.InputJudge.make.Goals as goal
@@ -12,7 +11,6 @@ pub returns : goal.returns
 returns c =
     let g = game_data c.args.game.now in
     record {
-      few = let over = c.if-len-gt-MAX_TABLES.false in let many = c.len.ensures in omega (arith, over, many, length-map c.args.game.now.hidden.items hidden_data);
       waits = rw (c.deref.ensures.value, c.deref-2.ensures.value, c.deref-3.ensures.value) at c.in_ok-waits.ensures ∙ map-flags (waits_for_output g) c.args.game.now.safe_asm.items;
       output = rw c.deref-4.ensures.value at c.in_ok-first_output.ensures;
     }

@@ -1,35 +1,37 @@
-use Rattle.std.proofs.Common.{Bool, ◌+◌, ◌-◌, ◌*◌, ◌<◌, arith, ap, sym, ◌∙◌, length, if◌then◌else◌}
-use Rattle.spec_model.specs.Views.{formula}
+use Rattle.std.proofs.Common.{Bool, ◌+◌, ◌-◌, ◌*◌, ◌<◌, arith, rules, ap, sym, ◌∙◌, length, if◌then◌else◌}
 use Rattle.spec_model.specs.Syntax.{Formula}
+use Rattle.spec_model.specs.Views.{formula}
 use Rattle.spec_model.specs.Meaning.{holds_at}
-use Rattle.hidden_game.specs.Sights.{reading_in}
-use Rattle.game_values.proofs.Letters.{safe_at, letter_step, letter_fits}
-use Rattle.hidden_game.proofs.sight.letter.Goals as goal
+use Rattle.game_values.proofs.Letters.{safe_at, lighter_at, letter_step, letter_fits}
+use Rattle.game_values.proofs.eval.+eval.Goals as goal
 
-pub holds-requires : goal.holds-requires
-holds-requires c =
+pub letter-holds-requires : goal.letter-holds-requires
+letter-holds-requires g t c κs within =
     let test = c.loop-k-test.true in
-    let within = c.loop-k.invariant.within in
-    safe_at (reading_in c.args.s.now) c.args.atoms.now (c.loop-k.k - 1) c.index-atoms-k.result (omega arith) c.index-atoms-k.is c.requires.safe
+    let inside = c.loop-k.invariant.within in
+    let below : c.loop-k.k - 1 < length c.args.atoms.now = omega arith in
+    let less = lighter_at c.args.atoms.now (c.loop-k.k - 1) c.index-atoms-k.result below c.index-atoms-k.is in
+    let safe = safe_at (g.S.Seen.reading c.args.s.now) c.args.atoms.now (c.loop-k.k - 1) c.index-atoms-k.result below c.index-atoms-k.is c.requires.safe in
+    search rules
 
-pub overflow_mul-letter : goal.overflow_mul-letter
-overflow_mul-letter c =
+pub letter-overflow_mul-letter : goal.letter-overflow_mul-letter
+letter-overflow_mul-letter g t c =
     let test = c.loop-k-test.true in
     let fits = letter_fits (length c.args.atoms.now) (c.loop-k.k - 1) c.loop-k.k c.loop-k.letter c.holds.result (omega arith) c.loop-k.invariant.within c.loop-k.invariant.below c.requires.few in
     omega (arith, fits.1)
 
-pub overflow_add-letter : goal.overflow_add-letter
-overflow_add-letter c =
+pub letter-overflow_add-letter : goal.letter-overflow_add-letter
+letter-overflow_add-letter g t c =
     let test = c.loop-k-test.true in
     let fits = letter_fits (length c.args.atoms.now) (c.loop-k.k - 1) c.loop-k.k c.loop-k.letter c.holds.result (omega arith) c.loop-k.invariant.within c.loop-k.invariant.below c.requires.few in
     omega (arith, fits.1, c.bit.ensures)
 
-pub loop-k-preserved : goal.loop-k-preserved
-loop-k-preserved c =
+pub letter-loop-k-preserved : goal.letter-loop-k-preserved
+letter-loop-k-preserved g t c =
     let test = c.loop-k-test.true in
-    let within = c.loop-k.invariant.within in
+    let inside = c.loop-k.invariant.within in
     let fits = letter_fits (length c.args.atoms.now) (c.loop-k.k - 1) c.loop-k.k c.loop-k.letter c.holds.result (omega arith) c.loop-k.invariant.within c.loop-k.invariant.below c.requires.few in
-    let f : Formula → Bool = λ e. holds_at (reading_in c.args.s.now) e 0 in
+    let f : Formula → Bool = λ e. holds_at (g.S.Seen.reading c.args.s.now) e 0 in
     let below : c.loop-k.k - 1 < length c.args.atoms.now = omega arith in
     record {
       within = omega arith;

@@ -1,7 +1,7 @@
 use Rattle.std.proofs.Common.{List, Bool, Vec, false, [], map, get_or, sym, ap, ◌∙◌, arith}
 use Rattle.std.proofs.lemmas.List.{get_or-map, length-map}
 use Rattle.std.specs.declared.alloc.Global.{Global}
-use Rattle.hidden_game.proofs.sight.entry_in.Goals as goal
+use Rattle.game_values.proofs.cells.entry_in.Goals as goal
 
 pub returns-then-part-tables : goal.returns-then-part-tables
 returns-then-part-tables c =
