@@ -1,13 +1,22 @@
 -- The sets that a solver has at one moment, and what is told of them when it halts.
-use Rattle.std.specs.Prelude.{◌≡◌, ℕ, List, length, map, Some, None}
+use Rattle.std.specs.Prelude.{◌≡◌, ℕ, ◌<◌, ◌≤◌, List, [], ◌∷◌, length, map, Some, None}
 use Rattle.spec_model.specs.Games.{GameData}
 use Rattle.spec_model.specs.Steps.{states_of}
 use Rattle.spec_model.specs.Sets.{StateSet, no_states, both, either, rest, pre_sys}
 use Rattle.regions.specs.declared.types.Halt.{Halt}
 use Rattle.regions.specs.declared.types.Halt.TheVariants.{Budget, Memory}
-use Rattle.regions.specs.Kept.{Kept, Meaning, States, Outputs, Inputs, Each, Call, All, NoStates, Copy, And, Or, Not, Holding, PreSys, PreEnv, OutMoves, InMoves, StartSys, StartEnv, Jam, JamAdds}
-use Rattle.gr1_law.specs.Layers.{goal_set, assumption_set, assumption_sets, union, part_value}
+use Rattle.regions.specs.Kept.{Kept, Meaning, States, Each, Call, All, NoStates, And, Or, Not, Holding, PreSys, StartSys, Jam, JamAdds}
+use Rattle.gr1_law.specs.Layers.{goal_set, goal_sets, assumption_set, assumption_sets, union, part_value}
 use Rattle.gr1_sys.specs.Solution.{iterate, part_of, layer_of, meet, following}
+
+-- ---- numbers
+
+-- the number of a goal, and of an assumption
+abbrev pub IsGoal : GameData → ℕ → Type 0
+IsGoal g j = j < length (goal_sets g)
+
+abbrev pub IsAssumption : GameData → ℕ → Type 0
+IsAssumption g i = i < length (assumption_sets g)
 
 -- ---- one value of Z
 
@@ -23,54 +32,48 @@ part_iterate g z j r i n = iterate g (part_value g z (layer_of g z j r) j i) n
 abbrev pub base_of : GameData → StateSet → (j r : ℕ) → StateSet
 base_of g z j r = either (pre_sys g (layer_of g z j r)) (both (goal_set g j) (pre_sys g z))
 
--- An iterate of the moment of that value: the value, the one that follows, a layer, or an iterate of a part.
+-- An iterate of the moment of that value: the value, a layer, or an iterate of a part.
 pub data IsIterate (g : GameData) (z t : StateSet) : Type 0 where
   this_value : t ≡ z → IsIterate g z t
-  next_value : t ≡ following g z → IsIterate g z t
-  layer : (j r : ℕ) → t ≡ layer_of g z j r → IsIterate g z t
-  part : (j r i n : ℕ) → t ≡ part_iterate g z j r i n → IsIterate g z t
+  layer : (j r : ℕ) → IsGoal g j → t ≡ layer_of g z j r → IsIterate g z t
+  part : (j r i n : ℕ) → IsGoal g j → IsAssumption g i → t ≡ part_iterate g z j r i n → IsIterate g z t
 
--- A set of that moment: an iterate, a formula of the game, or a part of the right side of an equation at iterates.
+-- A set of that moment: an iterate, a formula of the game, or a part of the right side of an equation at iterates. A part
+-- waits for its own assumption alone, and at its own iterates.
 pub data IsNamed (g : GameData) (z t : StateSet) : Type 0 where
   iterated : IsIterate g z t → IsNamed g z t
   nothing : t ≡ no_states → IsNamed g z t
-  goal : (j : ℕ) → t ≡ goal_set g j → IsNamed g z t
-  assumption : (i : ℕ) → t ≡ assumption_set g i → IsNamed g z t
-  lapse : (i : ℕ) → t ≡ rest g (assumption_set g i) → IsNamed g z t
+  goal : (j : ℕ) → IsGoal g j → t ≡ goal_set g j → IsNamed g z t
+  assumption : (i : ℕ) → IsAssumption g i → t ≡ assumption_set g i → IsNamed g z t
+  lapse : (i : ℕ) → IsAssumption g i → t ≡ rest g (assumption_set g i) → IsNamed g z t
   forced : (u : StateSet) → IsIterate g z u → t ≡ pre_sys g u → IsNamed g z t
-  reached : (j : ℕ) → t ≡ both (goal_set g j) (pre_sys g z) → IsNamed g z t
-  based : (j r : ℕ) → t ≡ base_of g z j r → IsNamed g z t
-  waited : (i : ℕ) (u : StateSet) → IsIterate g z u → t ≡ both (pre_sys g u) (rest g (assumption_set g i)) → IsNamed g z t
-  joined : (j r n : ℕ) → t ≡ union (part_of g z (layer_of g z j r) j) n → IsNamed g z t
-  common : (n : ℕ) → t ≡ meet g (λ j. layer_of g z j (length (states_of g))) n → IsNamed g z t
+  reached : (j : ℕ) → IsGoal g j → t ≡ both (goal_set g j) (pre_sys g z) → IsNamed g z t
+  based : (j r : ℕ) → IsGoal g j → t ≡ base_of g z j r → IsNamed g z t
+  waited : (j r i n : ℕ) → IsGoal g j → IsAssumption g i → t ≡ both (pre_sys g (part_iterate g z j r i n)) (rest g (assumption_set g i)) → IsNamed g z t
+  joined : (j r n : ℕ) → IsGoal g j → n ≤ length (assumption_sets g) → t ≡ union (part_of g z (layer_of g z j r) j) n → IsNamed g z t
+  common : (n : ℕ) → n ≤ length (goal_sets g) → t ≡ meet g (λ j. layer_of g z j (length (states_of g))) n → IsNamed g z t
 
 -- ---- what is told
 
 abbrev pub IsOfMoment : GameData → StateSet → Meaning → Type 0
 IsOfMoment g z (States t) = IsNamed g z t
-IsOfMoment g z (Outputs moves) = ⊥
-IsOfMoment g z (Inputs moves) = ⊥
+IsOfMoment g z _ = ⊥
 
 abbrev pub IsIterateOfMoment : GameData → StateSet → Meaning → Type 0
 IsIterateOfMoment g z (States t) = IsIterate g z t
-IsIterateOfMoment g z (Outputs moves) = ⊥
-IsIterateOfMoment g z (Inputs moves) = ⊥
+IsIterateOfMoment g z _ = ⊥
 
--- a call that looks a move ahead was asked of iterates
+-- Only these calls are made: whether the first state is forced into a set is asked of the value, and from where the next is, of iterates.
 abbrev pub AsksOfIterates : GameData → StateSet → Call → List Meaning → Type 0
 AsksOfIterates g z PreSys asked = Each (IsIterateOfMoment g z) asked
-AsksOfIterates g z PreEnv asked = Each (IsIterateOfMoment g z) asked
-AsksOfIterates g z OutMoves asked = Each (IsIterateOfMoment g z) asked
-AsksOfIterates g z InMoves asked = Each (IsIterateOfMoment g z) asked
-AsksOfIterates g z StartSys asked = Each (IsIterateOfMoment g z) asked
-AsksOfIterates g z StartEnv asked = Each (IsIterateOfMoment g z) asked
+AsksOfIterates g z StartSys asked = asked ≡ States z ∷ []
 AsksOfIterates g z All asked = Unit {0}
 AsksOfIterates g z NoStates asked = Unit {0}
-AsksOfIterates g z Copy asked = Unit {0}
 AsksOfIterates g z And asked = Unit {0}
 AsksOfIterates g z Or asked = Unit {0}
 AsksOfIterates g z Not asked = Unit {0}
 AsksOfIterates g z Holding asked = Unit {0}
+AsksOfIterates g z _ asked = ⊥
 
 module _ {R M : Type 0} where
   -- A budget that ran out is told, with what was held then: what was held at first, and of what was made only sets of this moment.
@@ -92,9 +95,12 @@ module _ {R M : Type 0} where
 
 -- ---- what a part is made for
 
--- the two sets are the base of a layer's parts, and the states at which the assumption is false
-abbrev pub AreOfPart : GameData → StateSet → (j r i : ℕ) → (base away : StateSet) → Type 0
-AreOfPart g z j r i base away = (base ≡ base_of g z j r) × (away ≡ rest g (assumption_set g i))
+-- The two sets are the base of a layer's parts, and the states at which the assumption is false.
+pub record AreOfPart (g : GameData) (z : StateSet) (j r i : ℕ) (base away : StateSet) : Type 0 where
+  pub goal_in : IsGoal g j
+  pub index_in : IsAssumption g i
+  pub base_is : base ≡ base_of g z j r
+  pub away_is : away ≡ rest g (assumption_set g i)
 
 -- the sets are those at which each assumption is false
 abbrev pub AreLapses : GameData → List StateSet → Type 0

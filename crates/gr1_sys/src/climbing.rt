@@ -6,7 +6,7 @@ ghost use Rattle.spec_model.specs.Sets.{StateSet, both, pre_sys};
 ghost use Rattle.regions.specs.Kept.{HasRegion, HoldsBesides, IsSameGame};
 ghost use Rattle.gr1_law.specs.Layers.{goal_set};
 ghost use Rattle.gr1_sys.specs.Solution.{layer_of};
-ghost use Rattle.gr1_sys.specs.Moment.{TellsHalt};
+ghost use Rattle.gr1_sys.specs.Moment.{IsGoal, TellsHalt};
 ghost use Rattle.gr1_sys.specs.Held.{HasTogether, HoldsWithoutAll, IsGiven, goal_regions, last_region, Reaches, Grows, HasClimbed};
 
 use crate::givens::Given;
@@ -31,7 +31,7 @@ fn grow<G: Regions>(
     ensures grown { let k = G.kept g.old in (z : StateSet) (j n : _) → k.set reach.now ≡ both (goal_set k.game j) (pre_sys k.game z) →
         k.set (last_region given.now.none layers.items) ≡ layer_of k.game z j n → IfOk result (λ r. Grows k.game k (G.kept g.new) z j layers.items n r.0.items r.1) }
     ensures halted { OnErr result (HoldsWithoutAll (G.kept g.old) (G.kept g.new) (goal_regions layers.items)) }
-    ensures told { let k = G.kept g.old in (z : StateSet) (j n : _) → k.set reach.now ≡ both (goal_set k.game j) (pre_sys k.game z) →
+    ensures told { let k = G.kept g.old in (z : StateSet) (j n : _) → IsGoal k.game j → k.set reach.now ≡ both (goal_set k.game j) (pre_sys k.game z) →
         k.set (last_region given.now.none layers.items) ≡ layer_of k.game z j n → IfErr result (TellsHalt k (G.kept g.new) z) }
     ensures same { IsSameGame (G.kept g.old) (G.kept g.new) }
 {
@@ -76,7 +76,7 @@ pub fn goal_layers<G: Regions>(
     ensures climbed { let k = G.kept g.old in (z : StateSet) (j : _) → k.set reach.now ≡ both (goal_set k.game j) (pre_sys k.game z) →
         IfOk result (λ layers. HasClimbed k.game k (G.kept g.new) z j layers.items) }
     ensures halted { OnErr result (HoldsBesides (G.kept g.old) (G.kept g.new) []) }
-    ensures told { let k = G.kept g.old in (z : StateSet) (j : _) → k.set reach.now ≡ both (goal_set k.game j) (pre_sys k.game z) → IfErr result (TellsHalt k (G.kept g.new) z) }
+    ensures told { let k = G.kept g.old in (z : StateSet) (j : _) → IsGoal k.game j → k.set reach.now ≡ both (goal_set k.game j) (pre_sys k.game z) → IfErr result (TellsHalt k (G.kept g.new) z) }
     ensures same { IsSameGame (G.kept g.old) (G.kept g.new) }
 {
     let mut layers = Vec::new(alloc);

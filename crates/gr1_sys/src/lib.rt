@@ -4,7 +4,7 @@
 //! above the layer below (Bloem et al. 2012, solving GR(1) games). Each round of the solver holds one value of Z and the
 //! layers for it: those of earlier values are spent.
 //!
-//! Contract: `solve_sys` and `SysLayers::k`. Path: regions → **layers** → controller.
+//! Contract: `solve_sys` and `SysLayers::k`; `spend_all` gives back many regions. Path: regions → **layers** → controller.
 #![tactic(auto)]
 
 mod climbing;
@@ -19,6 +19,7 @@ mod turns;
 
 pub use layers::{SysLayer, SysLayers};
 pub use solving::solve_sys;
+pub use spending::spend_all;
 
 #[cfg(test)]
 mod tests;

@@ -1,12 +1,12 @@
 //! The layers of each goal for one value of Z, and the value that follows.
 
-ghost use Rattle.std.specs.Prelude.{◌≡◌, ◌<◌, ℕ, [], ◌∷◌, None, IfOk, IfErr, OnErr, length};
+ghost use Rattle.std.specs.Prelude.{◌≡◌, ◌<◌, ◌≤◌, ℕ, [], ◌∷◌, None, IfOk, IfErr, OnErr, length};
 ghost use Rattle.spec_model.specs.Steps.{states_of};
 ghost use Rattle.spec_model.specs.Sets.{StateSet, pre_sys};
 ghost use Rattle.regions.specs.Kept.{HasRegion, HoldsBesides, MakesRegion, IsSameGame};
-ghost use Rattle.gr1_law.specs.Layers.{goal_set};
+ghost use Rattle.gr1_law.specs.Layers.{goal_set, goal_sets};
 ghost use Rattle.gr1_sys.specs.Solution.{layer_of, meet, following};
-ghost use Rattle.gr1_sys.specs.Moment.{TellsHalt};
+ghost use Rattle.gr1_sys.specs.Moment.{IsGoal, TellsHalt};
 ghost use Rattle.gr1_sys.specs.Held.{HasEach, MakesRegions, IsGiven, HasClimbed, HaveClimbed, all_regions, last_set, TurnsTo};
 
 use crate::climbing::goal_layers;
@@ -35,7 +35,7 @@ fn layers_of<G: Regions>(
     ensures climbed { let k = G.kept g.old in (z : StateSet) (j : ℕ) → k.set goal.now ≡ goal_set k.game j → k.set ready.now ≡ pre_sys k.game z →
         IfOk result (λ layers. HasClimbed k.game k (G.kept g.new) z j layers.items) }
     ensures halted { OnErr result (HoldsBesides (G.kept g.old) (G.kept g.new) []) }
-    ensures told { let k = G.kept g.old in (z : StateSet) (j : ℕ) → k.set goal.now ≡ goal_set k.game j → k.set ready.now ≡ pre_sys k.game z → IfErr result (TellsHalt k (G.kept g.new) z) }
+    ensures told { let k = G.kept g.old in (z : StateSet) (j : ℕ) → IsGoal k.game j → k.set goal.now ≡ goal_set k.game j → k.set ready.now ≡ pre_sys k.game z → IfErr result (TellsHalt k (G.kept g.new) z) }
     ensures same { IsSameGame (G.kept g.old) (G.kept g.new) }
 {
     let reach = g.and(goal, ready)?;
@@ -120,7 +120,7 @@ fn common<G: Regions>(g: &mut G, none: &G::R, goals: &[Vec<SysLayer<G>>]) -> Res
     ensures made { let k = G.kept g.old in
         IfOk result (λ r. MakesRegion k (G.kept g.new) r (meet k.game (last_set k none.now goals.now) (length goals.now))) }
     ensures halted { OnErr result (HoldsBesides (G.kept g.old) (G.kept g.new) []) }
-    ensures told { let k = G.kept g.old in (z : StateSet) → ((j : ℕ) → j < length goals.now → last_set k none.now goals.now j ≡ layer_of k.game z j (length (states_of k.game))) → IfErr result (TellsHalt k (G.kept g.new) z) }
+    ensures told { let k = G.kept g.old in (z : StateSet) → length goals.now ≤ length (goal_sets k.game) → ((j : ℕ) → j < length goals.now → last_set k none.now goals.now j ≡ layer_of k.game z j (length (states_of k.game))) → IfErr result (TellsHalt k (G.kept g.new) z) }
     ensures same { IsSameGame (G.kept g.old) (G.kept g.new) }
 {
     let mut met = g.all()?;

@@ -7,7 +7,7 @@ use Rattle.gr1_sys.proofs.Climbed.{climbs_first, climbs_next, climbs_fewer, clim
 use Rattle.spec_model.specs.Sets.{both, pre_sys}
 use Rattle.gr1_law.specs.Layers.{goal_set}
 use Rattle.gr1_sys.specs.Solution.{layer_of}
-use Rattle.gr1_sys.specs.Moment.{TellsHalt}
+use Rattle.gr1_sys.specs.Moment.{IsGoal, TellsHalt}
 use Rattle.gr1_sys.proofs.Told.{handed_on, past_many}
 use Rattle.gr1_sys.proofs.Naming.{rank_named, flatten_named}
 use Rattle.gr1_sys.proofs.climbing.goal_layers.Goals as goal
@@ -93,7 +93,7 @@ loop-more-preserved g c =
     }
 
 pub returns-in_err-more-clause-told : goal.returns-in_err-more-clause-told
-returns-in_err-more-clause-told g c = λ z j reach_is.
+returns-in_err-more-clause-told g c = λ z j goal_in reach_is.
     let kept = g.G.Regions.kept in
     let first = kept c.args.g.now in
     let k = kept c.loop-more.g in
@@ -106,5 +106,5 @@ returns-in_err-more-clause-told g c = λ z j reach_is.
     let reach_now = reach_kept ∙ (reach_is ∙ ap (λ h. both (goal_set h j) (pre_sys h z)) (sym game)) in
     let last_now = climbs.last ∙ ap (λ h. layer_of h z j n) (sym game) in
     handed_on c.from_residual.result c.in_err-more.field-0.0 (TellsHalt first new z) c.from_residual.ensures.1
-    (past_many first k new new z (goal_regions ls) (flatten (rank_sets first.game z j) n) c.in_err-more.field-0.0 game climbs.made (flatten_named first.game z (rank_sets first.game z j) n (λ r. rank_named first.game z j r)) refl
-    (c.in_err-more.ensures.told z j n reach_now last_now))
+    (past_many first k new new z (goal_regions ls) (flatten (rank_sets first.game z j) n) c.in_err-more.field-0.0 game climbs.made (flatten_named first.game z (rank_sets first.game z j) n (λ r. rank_named first.game z j r goal_in)) refl
+    (c.in_err-more.ensures.told z j n (subst (λ h. IsGoal h j) (sym game) goal_in) reach_now last_now))

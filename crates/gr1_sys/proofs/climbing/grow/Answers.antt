@@ -84,8 +84,8 @@ returns-in-Err-clause-halted g c =
     (subst (λ (ls : List _). SpendsAll (kept c.layer_above.new.g) (kept c.spend_layers-in-Err.new.g) (goal_regions ls)) c.reserve.ensures.items c.spend_layers-in-Err.ensures.spends)
 
 pub returns-in-Err-clause-told : goal.returns-in-Err-clause-told
-returns-in-Err-clause-told g c = λ z j n reach_is last_is.
+returns-in-Err-clause-told g c = λ z j n goal_in reach_is last_is.
     let kept = g.G.Regions.kept in
     let k = kept c.args.g.now in
     let below_is = c.last_layer.ensures ∙ ap (last_region c.args.given.now.none) (c.deref.ensures.value ∙ c.reserve.ensures.items) in
-    still_told k (kept c.layer_above.new.g) (kept c.spend_layers-in-Err.new.g) z c.in-Err.halt c.spend_layers-in-Err.ensures.spends.jam (c.in-Err.ensures.told z j n reach_is (ap k.set below_is ∙ last_is))
+    still_told k (kept c.layer_above.new.g) (kept c.spend_layers-in-Err.new.g) z c.in-Err.halt c.spend_layers-in-Err.ensures.spends.jam (c.in-Err.ensures.told z j n goal_in reach_is (ap k.set below_is ∙ last_is))

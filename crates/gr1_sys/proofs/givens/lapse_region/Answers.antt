@@ -9,7 +9,7 @@ use Rattle.regions.proofs.Holding.{set_is}
 use Rattle.gr1_sys.proofs.Parted.{halted_above}
 use Rattle.gr1_sys.proofs.Givings.{assumption_alone, assumption_there, lapse_alone, lapse_there, lapse_counted, one_above}
 use Rattle.regions.specs.Kept.{Not, Holding, States}
-use Rattle.gr1_sys.specs.Moment.{IsNamed, TellsHalt, assumption}
+use Rattle.gr1_sys.specs.Moment.{IsAssumption, IsNamed, TellsHalt, assumption}
 use Rattle.gr1_sys.proofs.Told.{handed_on, told, told_none, past_one}
 use Rattle.gr1_sys.proofs.givens.lapse_region.Goals as goal
 
@@ -61,6 +61,7 @@ returns-in-Err-clause-told g c = λ z.
     let made = c.in_ok-holds.ensures.made in
     let found = assumption_there c.game.result.now k.game c.game.ensures (sym c.is_empty.ensures ∙ c.if-is_empty.false) c.args.i (lapse_counted k.game c.args.i c.requires.there) in
     let is = set_is k1 c.in_ok-holds.holds (states_holding k.game (Assumption c.args.i)) (g.met.G.Regions.exact _) (λ w. omega (arith, made.held w)) in
-    let named : IsNamed k1.game z (k1.set c.in_ok-holds.holds) = assumption c.args.i (is ∙ (found.1 ∙ ap (λ h. assumption_set h c.args.i) (sym c.holding.ensures.same.game))) in
-    past_one k k1 (kept c.not.new.self) (kept c.spend-in-Err.new.self) z c.in_ok-holds.holds (states_holding k.game (Assumption c.args.i)) c.in-Err.halt c.holding.ensures.same.game made (assumption c.args.i found.1) c.spend-in-Err.ensures.spends.jam
+    let index_in : IsAssumption k.game c.args.i = lapse_counted k.game c.args.i c.requires.there in
+    let named : IsNamed k1.game z (k1.set c.in_ok-holds.holds) = assumption c.args.i (subst (λ h. IsAssumption h c.args.i) (sym c.holding.ensures.same.game) index_in) (is ∙ (found.1 ∙ ap (λ h. assumption_set h c.args.i) (sym c.holding.ensures.same.game))) in
+    past_one k k1 (kept c.not.new.self) (kept c.spend-in-Err.new.self) z c.in_ok-holds.holds (states_holding k.game (Assumption c.args.i)) c.in-Err.halt c.holding.ensures.same.game made (assumption c.args.i index_in found.1) c.spend-in-Err.ensures.spends.jam
     (told k1 (kept c.not.new.self) z Not (States (k1.set c.in_ok-holds.holds) ∷ []) c.in-Err.halt c.in-Err.ensures.halted.jam (named, tt) tt)

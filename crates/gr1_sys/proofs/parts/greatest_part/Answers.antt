@@ -77,5 +77,5 @@ returns-in_err-next-clause-told g c = λ z j r i are.
     let is = part_iterated first.game z j r i n (first.set c.args.base.now) (first.set c.args.lapse.now) (k.set c.loop-next.x) are inv.iterates.1 in
     let here = part_still first k z j r i c.args.base.now c.args.lapse.now (g.met.G.Regions.exact _) inv.same.game (λ w. omega (arith, inv.made.held w)) c.requires.base c.requires.lapse are in
     handed_on c.from_residual-in_err-next.result c.in_err-next.field-0.0 (TellsHalt first (kept c.next_part.new.g) z) c.from_residual-in_err-next.ensures.1
-    (past_one first k (kept c.next_part.new.g) (kept c.next_part.new.g) z c.loop-next.x (k.set c.loop-next.x) c.in_err-next.field-0.0 inv.same.game inv.made (iterated (part j r i n is)) refl
+    (past_one first k (kept c.next_part.new.g) (kept c.next_part.new.g) z c.loop-next.x (k.set c.loop-next.x) c.in_err-next.field-0.0 inv.same.game inv.made (iterated (part j r i n are.goal_in are.index_in is)) refl
     (c.in_err-next.ensures.told z j r i n here (is ∙ ap (λ h. part_iterate h z j r i n) (sym inv.same.game))))

@@ -5,7 +5,7 @@ use Rattle.gr1_sys.proofs.Parted.{rank_made, made_above, halted_above, given_cou
 use Rattle.spec_model.specs.Sets.{either, pre_sys}
 use Rattle.regions.proofs.Holding.{set_is}
 use Rattle.gr1_sys.specs.Solution.{layer_of}
-use Rattle.gr1_sys.specs.Moment.{AreLapses, TellsHalt, base_of, based}
+use Rattle.gr1_sys.specs.Moment.{IsGoal, AreLapses, TellsHalt, base_of, based}
 use Rattle.gr1_sys.proofs.Told.{handed_on, past_one}
 use Rattle.gr1_sys.proofs.ranks.layer_above.Goals as goal
 
@@ -42,12 +42,12 @@ returns-in-Ok-clause-some g c =
     )
 
 pub returns-in_err-base-clause-told : goal.returns-in_err-base-clause-told
-returns-in_err-base-clause-told g c = λ z j r reach_is low_is.
+returns-in_err-base-clause-told g c = λ z j r goal_in reach_is low_is.
     let kept = g.G.Regions.kept in
-    handed_on c.from_residual.result c.in_err-base.field-0.0 (TellsHalt (kept c.args.g.now) (kept c.base_above.new.g) z) c.from_residual.ensures.1 (c.in_err-base.ensures.told z j r reach_is low_is)
+    handed_on c.from_residual.result c.in_err-base.field-0.0 (TellsHalt (kept c.args.g.now) (kept c.base_above.new.g) z) c.from_residual.ensures.1 (c.in_err-base.ensures.told z j r goal_in reach_is low_is)
 
 pub returns-in-Err-clause-told : goal.returns-in-Err-clause-told
-returns-in-Err-clause-told g c = λ z j r reach_is low_is.
+returns-in-Err-clause-told g c = λ z j r goal_in reach_is low_is.
     let kept = g.G.Regions.kept in
     let k = kept c.args.g.now in
     let k1 = kept c.base_above.new.g in
@@ -57,5 +57,5 @@ returns-in-Err-clause-told g c = λ z j r reach_is low_is.
     let base_now = set_is k1 c.in_ok-base.base set (g.met.G.Regions.exact _) (λ w. omega (arith, made.held w)) ∙ (base_is ∙ ap (λ h. base_of h z j r) (sym c.base_above.ensures.same.game)) in
     let given = given_stays k k1 c.args.given.now (g.met.G.Regions.exact _) c.base_above.ensures.same (λ w. omega (arith, made.held w)) c.requires.given in
     let lapses = subst (λ (rs : List _). AreLapses k1.game (map k1.set rs)) (sym c.deref.ensures.value) given.lapse_sets in
-    past_one k k1 (kept c.layer_on.new.g) (kept c.spend-in-Err.new.self) z c.in_ok-base.base set c.in-Err.halt c.base_above.ensures.same.game made (based j r base_is) c.spend-in-Err.ensures.spends.jam
-    (c.in-Err.ensures.told z j r base_now lapses)
+    past_one k k1 (kept c.layer_on.new.g) (kept c.spend-in-Err.new.self) z c.in_ok-base.base set c.in-Err.halt c.base_above.ensures.same.game made (based j r goal_in base_is) c.spend-in-Err.ensures.spends.jam
+    (c.in-Err.ensures.told z j r (subst (λ h. IsGoal h j) (sym c.base_above.ensures.same.game) goal_in) base_now lapses)

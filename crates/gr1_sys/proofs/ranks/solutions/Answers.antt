@@ -1,4 +1,4 @@
-use Rattle.std.proofs.Common.{◌∙◌, ◌+◌, ◌++◌, [], ◌∷◌, List, map, ap, subst, sym, refl, arith}
+use Rattle.std.proofs.Common.{◌∙◌, ◌+◌, ◌<◌, ◌++◌, [], ◌∷◌, List, map, ap, subst, sym, refl, arith}
 use Rattle.spec_model.specs.Steps.{below}
 use Rattle.regions.specs.Kept.{MakesRegion}
 use Rattle.gr1_sys.specs.Held.{MakesRegions, part_at}
@@ -6,7 +6,7 @@ use Rattle.gr1_sys.proofs.Holdings.{same_then}
 use Rattle.gr1_sys.proofs.Lists.{one_of, set_at_is, region_stays, part_stays, together_as, makes_more, made_and_spent_all}
 use Rattle.gr1_sys.proofs.Parted.{nothing_made, map_below-more}
 use Rattle.gr1_sys.proofs.Told.{past_many}
-use Rattle.gr1_sys.proofs.Naming.{lapse_at, part_still, parts_named}
+use Rattle.gr1_sys.proofs.Naming.{lapse_at, lapse_count, part_still, parts_named}
 use Rattle.gr1_sys.proofs.ranks.solutions.Goals as goal
 
 pub loop-lapse-init : goal.loop-lapse-init
@@ -59,7 +59,7 @@ loop-lapse-preserved g c =
     }
 
 pub returns-in-Err-clause-told : goal.returns-in-Err-clause-told
-returns-in-Err-clause-told g c = λ z j r base_is are.
+returns-in-Err-clause-told g c = λ z j r goal_in base_is are.
     let kept = g.G.Regions.kept in
     let first = kept c.args.g.now in
     let k = kept c.loop-lapse.g in
@@ -67,6 +67,7 @@ returns-in-Err-clause-told g c = λ z j r base_is are.
     let i = c.loop-lapse.lapse-index in
     let here = one_of first c.args.lapses.now i c.lapse-item.result c.requires.lapses c.loop-lapse-test.true c.lapse-item.is in
     let lapse_is = sym (set_at_is first c.args.lapses.now i c.lapse-item.result c.loop-lapse-test.true c.lapse-item.is) ∙ lapse_at first c.args.lapses.now i are c.loop-lapse-test.true in
-    let now = part_still first k z j r i c.args.base.now c.lapse-item.result (g.met.G.Regions.exact _) inv.same.game (λ w. omega (arith, inv.made.held w)) c.requires.base here (base_is, lapse_is) in
-    past_many first k (kept c.greatest_part.new.g) (kept c.spend_all.new.g) z c.loop-lapse.xs.items _ c.in-Err.halt inv.same.game inv.made (parts_named first z j r c.args.base.now c.args.lapses.now i base_is are (omega (arith, c.loop-lapse-test.true))) c.spend_all.ensures.spends.jam
+    let now = part_still first k z j r i c.args.base.now c.lapse-item.result (g.met.G.Regions.exact _) inv.same.game (λ w. omega (arith, inv.made.held w)) c.requires.base here
+    (record { goal_in = goal_in; index_in = subst (λ n. i < n) (lapse_count first c.args.lapses.now are) c.loop-lapse-test.true; base_is = base_is; away_is = lapse_is }) in
+    past_many first k (kept c.greatest_part.new.g) (kept c.spend_all.new.g) z c.loop-lapse.xs.items _ c.in-Err.halt inv.same.game inv.made (parts_named first z j r c.args.base.now c.args.lapses.now i goal_in base_is are (omega (arith, c.loop-lapse-test.true))) c.spend_all.ensures.spends.jam
     (c.in-Err.ensures.told z j r i now)

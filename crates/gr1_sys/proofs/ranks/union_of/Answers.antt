@@ -37,14 +37,14 @@ loop-x-preserved g c =
     }
 
 pub returns-in_err-joined-clause-told : goal.returns-in_err-joined-clause-told
-returns-in_err-joined-clause-told g c = λ z j r n are.
+returns-in_err-joined-clause-told g c = λ z j r n goal_in few are.
     let kept = g.G.Regions.kept in
     let k = kept c.args.g.now in
     handed_on c.from_residual.result c.in_err-joined.field-0.0 (TellsHalt k (kept c.none.new.self) z) c.from_residual.ensures.1
     (told k (kept c.none.new.self) z NoStates [] c.in_err-joined.field-0.0 c.in_err-joined.ensures.halted.jam tt tt)
 
 pub returns-in_err-joined-2-clause-told : goal.returns-in_err-joined-2-clause-told
-returns-in_err-joined-2-clause-told g c = λ z j r n are.
+returns-in_err-joined-2-clause-told g c = λ z j r n goal_in few are.
     let kept = g.G.Regions.kept in
     let first = kept c.args.g.now in
     let i = c.loop-x.x-index in
@@ -54,4 +54,4 @@ returns-in_err-joined-2-clause-told g c = λ z j r n are.
     let x_is = sym (set_at_is first c.args.xs.now i c.x-item.result c.loop-x-test.true c.x-item.is) ∙ sets i c.loop-x-test.true in
     handed_on c.from_residual-in_err-joined-2.result c.in_err-joined-2.field-0.0 (TellsHalt first (kept c.or_in.new.g) z) c.from_residual-in_err-joined-2.ensures.1
     (joined_told first (kept c.loop-x.g) (kept c.or_in.new.g) z c.loop-x.joined c.x-item.result (union (set_at first c.args.xs.now) i) Or c.in_err-joined-2.field-0.0 (g.met.G.Regions.exact _) inv.same.game here inv.made
-    (union_named first.game z (set_at first c.args.xs.now) j r i (length c.args.xs.now) sets (omega (arith, c.loop-x-test.true))) (subst (IsNamed first.game z) (sym x_is) (part_named first.game z j r i)) tt c.in_err-joined-2.ensures.told)
+    (union_named first.game z (set_at first c.args.xs.now) j r i (length c.args.xs.now) goal_in few sets (omega (arith, c.loop-x-test.true))) (subst (IsNamed first.game z) (sym x_is) (part_named first.game z j r i goal_in (omega (arith, few, c.loop-x-test.true)))) tt c.in_err-joined-2.ensures.told)

@@ -77,4 +77,4 @@ returns-in-Err-clause-told g c =
     let k1 = kept c.start_sys.new.self in
     let z = k.set c.args.z in
     still_told k k1 (kept c.spend_goals-in-Err.new.g) z c.in-Err.halt (c.spend_goals-in-Err.ensures.spends.jam ∙ c.spend-in-Err.ensures.spends.jam)
-    (told k k1 z StartSys (States z ∷ []) c.in-Err.halt c.in-Err.ensures.halted.jam (iterated (this_value refl), tt) (this_value refl, tt))
+    (told k k1 z StartSys (States z ∷ []) c.in-Err.halt c.in-Err.ensures.halted.jam (iterated (this_value refl), tt) refl)

@@ -9,7 +9,7 @@ use Rattle.spec_model.specs.Sets.{all_states}
 use Rattle.gr1_sys.specs.Moment.{IsValueOfZ, TellsHalt, TellsOneMoment, iterated, this_value}
 use Rattle.gr1_sys.proofs.Rounds.{first_is}
 use Rattle.gr1_sys.proofs.Told.{handed_on, past_many, of_value, moment_past}
-use Rattle.gr1_sys.proofs.Naming.{rank_named, goals_named, given_named}
+use Rattle.gr1_sys.proofs.Naming.{layers_named, given_named}
 use Rattle.gr1_sys.proofs.solving.solve_sys.Goals as goal
 
 pub winning-requires-clause-given : goal.winning-requires-clause-given
@@ -90,5 +90,5 @@ returns-in-Ok-clause-told g c =
     let value = subst (λ h. IsValueOfZ h z) c.give.ensures.same.game c.in-Ok.ensures.value in
     IfErr-weaker c.decide.result _ _
     (λ halt tells. of_value k k4 z halt value
-    (past_many k k3 k4 k4 z (c.in-Ok.z ∷ all_regions goals) (z ∷ sets_of (rank_sets k.game z) goals) halt game made (iterated (this_value refl), goals_named k.game z (rank_sets k.game z) goals (λ j r. rank_named k.game z j r)) refl
+    (past_many k k3 k4 k4 z (c.in-Ok.z ∷ all_regions goals) (z ∷ sets_of (rank_sets k.game z) goals) halt game made (iterated (this_value refl), layers_named k.game z goals (omega (arith, left.0.counted))) refl
     (subst (λ t. TellsHalt k3 k4 t halt) z_is tells))) c.decide.ensures.told

@@ -2,11 +2,12 @@ use Rattle.std.proofs.Common.{◌≡◌, ◌∙◌, ◌+◌, List, length, ap, s
 use Rattle.spec_model.specs.Sets.{pre_sys}
 use Rattle.gr1_sys.specs.Held.{HasClimbed, HaveClimbed, rank_sets, sets_of, all_regions}
 use Rattle.gr1_sys.proofs.Holdings.{same_then}
-use Rattle.gr1_sys.proofs.Lists.{region_stays, set_kept, together_as, made_and_spent_all}
+use Rattle.gr1_sys.proofs.Lists.{region_stays, length_map, set_kept, together_as, made_and_spent_all}
 use Rattle.gr1_sys.proofs.Parted.{given_stays}
 use Rattle.gr1_sys.proofs.Turned.{none_climbed, more_climbed, goal_is}
 use Rattle.gr1_sys.proofs.Told.{past_many}
-use Rattle.gr1_sys.proofs.Naming.{rank_named, goals_named}
+use Rattle.gr1_sys.proofs.Naming.{layers_named}
+use Rattle.gr1_sys.specs.Moment.{IsGoal}
 use Rattle.gr1_sys.proofs.turns.all_layers.Goals as goal
 
 pub loop-goal-init : goal.loop-goal-init
@@ -105,5 +106,9 @@ returns-in-Err-clause-told g c = λ z ready_is.
     let goals = c.loop-goal.goals.items in
     let is = goal_is first k c.args.given.now c.deref-goal-items.result.now c.goal-item.result c.loop-goal.goal-index (g.met.G.Regions.exact _) inv.same (λ w. omega (arith, climbed.made.held w)) c.requires.given c.deref-goal-items.ensures.value c.loop-goal-test.true c.goal-item.is in
     let ready_now = set_kept first k c.args.ready.now (g.met.G.Regions.exact _) (λ w. omega (arith, climbed.made.held w)) c.requires.ready ∙ (ready_is ∙ ap (λ h. pre_sys h z) (sym inv.same.game)) in
-    past_many first k (kept c.layers_of.new.g) (kept c.spend_goals.new.g) z (all_regions goals) (sets_of (rank_sets first.game z) goals) c.in-Err.halt inv.same.game climbed.made (goals_named first.game z (rank_sets first.game z) goals (λ j r. rank_named first.game z j r)) c.spend_goals.ensures.spends.jam
-    (c.in-Err.ensures.told z c.loop-goal.goal-index is.1 ready_now)
+    let given = c.requires.given in
+    let counted = sym (length_map first.set c.args.given.now.goals.items) ∙ ap (λ (ss : List _). length ss) given.goal_sets in
+    let listed = ap (λ (rs : List _). length rs) c.deref-goal-items.ensures.value in
+    let goal_in : IsGoal first.game c.loop-goal.goal-index = omega (arith, c.loop-goal-test.true, counted, listed) in
+    past_many first k (kept c.layers_of.new.g) (kept c.spend_goals.new.g) z (all_regions goals) (sets_of (rank_sets first.game z) goals) c.in-Err.halt inv.same.game climbed.made (layers_named first.game z goals (omega (arith, inv.counted, goal_in))) c.spend_goals.ensures.spends.jam
+    (c.in-Err.ensures.told z c.loop-goal.goal-index (subst (λ h. IsGoal h c.loop-goal.goal-index) (sym inv.same.game) goal_in) is.1 ready_now)

@@ -49,14 +49,14 @@ loop-layers-preserved g c =
     }
 
 pub returns-in_err-met-clause-told : goal.returns-in_err-met-clause-told
-returns-in_err-met-clause-told g c = λ z lasts.
+returns-in_err-met-clause-told g c = λ z few lasts.
     let kept = g.G.Regions.kept in
     let k = kept c.args.g.now in
     handed_on c.from_residual.result c.in_err-met.field-0.0 (TellsHalt k (kept c.all.new.self) z) c.from_residual.ensures.1
     (told k (kept c.all.new.self) z All [] c.in_err-met.field-0.0 c.in_err-met.ensures.halted.jam tt tt)
 
 pub returns-in_err-met-2-clause-told : goal.returns-in_err-met-2-clause-told
-returns-in_err-met-2-clause-told g c = λ z lasts.
+returns-in_err-met-2-clause-told g c = λ z few lasts.
     let kept = g.G.Regions.kept in
     let first = kept c.args.g.now in
     let new = kept c.and_in.new.g in
@@ -69,4 +69,4 @@ returns-in_err-met-2-clause-told g c = λ z lasts.
     let set_is = ap first.set last_is ∙ (sym (last_set_is first c.args.none.now c.args.goals.now j item c.loop-layers-test.true c.layers-item.is) ∙ lasts j c.loop-layers-test.true) in
     handed_on c.from_residual-in_err-met-2.result c.in_err-met-2.field-0.0 (TellsHalt first new z) c.from_residual-in_err-met-2.ensures.1
     (joined_told first (kept c.loop-layers.g) new z c.loop-layers.met c.last_layer.result.now (meet first.game (last_set first c.args.none.now c.args.goals.now) j) And c.in_err-met-2.field-0.0 (g.met.G.Regions.exact _) inv.same.game here inv.made
-    (meet_named first.game z (last_set first c.args.none.now c.args.goals.now) j (length c.args.goals.now) lasts (omega (arith, c.loop-layers-test.true))) (iterated (layer j (length (states_of first.game)) set_is)) tt c.in_err-met-2.ensures.told)
+    (meet_named first.game z (last_set first c.args.none.now c.args.goals.now) j (length c.args.goals.now) few lasts (omega (arith, c.loop-layers-test.true))) (iterated (layer j (length (states_of first.game)) (omega (arith, few, c.loop-layers-test.true)) set_is)) tt c.in_err-met-2.ensures.told)

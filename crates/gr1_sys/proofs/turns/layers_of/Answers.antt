@@ -1,4 +1,4 @@
-use Rattle.std.proofs.Common.{arith, ◌∙◌, [], ◌∷◌, ap, refl}
+use Rattle.std.proofs.Common.{arith, ◌∙◌, [], ◌∷◌, ap, subst, sym, refl}
 use Rattle.gr1_sys.proofs.Parted.{given_stays, halted_above}
 use Rattle.gr1_sys.proofs.Turned.{above_held, reach_is, climbed_above}
 use Rattle.spec_model.specs.Sets.{both}
@@ -42,17 +42,17 @@ returns-in-Err-clause-halted g c =
     halted_above (kept c.args.g.now) (kept c.and.new.self) (kept c.goal_layers.new.g) (kept c.spend-in-Err.new.self) c.in_ok-reach.reach _ (g.met.G.Regions.exact _) c.in_ok-reach.ensures.made c.in-Err.ensures.halted c.spend-in-Err.ensures.spends
 
 pub returns-in_err-reach-clause-told : goal.returns-in_err-reach-clause-told
-returns-in_err-reach-clause-told g c = λ z j goal_is ready_is.
+returns-in_err-reach-clause-told g c = λ z j goal_in goal_is ready_is.
     let kept = g.G.Regions.kept in
     let k = kept c.args.g.now in
     handed_on c.from_residual.result c.in_err-reach.field-0.0 (TellsHalt k (kept c.and.new.self) z) c.from_residual.ensures.1
-    (told k (kept c.and.new.self) z And (States (k.set c.args.goal.now) ∷ States (k.set c.args.ready.now) ∷ []) c.in_err-reach.field-0.0 c.in_err-reach.ensures.halted.jam (Moment.goal j goal_is, (forced z (this_value refl) ready_is, tt)) tt)
+    (told k (kept c.and.new.self) z And (States (k.set c.args.goal.now) ∷ States (k.set c.args.ready.now) ∷ []) c.in_err-reach.field-0.0 c.in_err-reach.ensures.halted.jam (Moment.goal j goal_in goal_is, (forced z (this_value refl) ready_is, tt)) tt)
 
 pub returns-in-Err-clause-told : goal.returns-in-Err-clause-told
-returns-in-Err-clause-told g c = λ z j goal_is ready_is.
+returns-in-Err-clause-told g c = λ z j goal_in goal_is ready_is.
     let kept = g.G.Regions.kept in
     let k = kept c.args.g.now in
     let is = reach_is k (kept c.and.new.self) c.in_ok-reach.reach c.args.goal.now c.args.ready.now z j (g.met.G.Regions.exact _) c.and.ensures.same c.in_ok-reach.ensures.made goal_is ready_is in
     let set_is = ap (λ t. both t (k.set c.args.ready.now)) goal_is ∙ ap (both (goal_set k.game j)) ready_is in
-    past_one k (kept c.and.new.self) (kept c.goal_layers.new.g) (kept c.spend-in-Err.new.self) z c.in_ok-reach.reach (both (k.set c.args.goal.now) (k.set c.args.ready.now)) c.in-Err.halt c.and.ensures.same.game c.in_ok-reach.ensures.made (reached j set_is) c.spend-in-Err.ensures.spends.jam
-    (c.in-Err.ensures.told z j is)
+    past_one k (kept c.and.new.self) (kept c.goal_layers.new.g) (kept c.spend-in-Err.new.self) z c.in_ok-reach.reach (both (k.set c.args.goal.now) (k.set c.args.ready.now)) c.in-Err.halt c.and.ensures.same.game c.in_ok-reach.ensures.made (reached j goal_in set_is) c.spend-in-Err.ensures.spends.jam
+    (c.in-Err.ensures.told z j (subst (λ h. Moment.IsGoal h j) (sym c.and.ensures.same.game) goal_in) is)

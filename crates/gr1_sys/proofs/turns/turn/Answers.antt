@@ -1,4 +1,4 @@
-use Rattle.std.proofs.Common.{◌∙◌, List, length, ap, subst, sym, arith, ◌<◌, ◌≡◌, ℕ}
+use Rattle.std.proofs.Common.{◌∙◌, List, length, ap, subst, sym, arith, ◌<◌, ◌≤◌, ◌≡◌, ℕ}
 use Rattle.regions.specs.Kept.{MakesRegion}
 use Rattle.gr1_sys.specs.Solution.{layer_of, meet}
 use Rattle.gr1_sys.specs.Held.{HasEach, rank_sets, sets_of, all_regions, last_set}
@@ -7,7 +7,8 @@ use Rattle.gr1_sys.proofs.Turned.{turns_to, last_sets_stand}
 use Rattle.spec_model.specs.Steps.{states_of}
 use Rattle.gr1_sys.specs.Moment.{TellsHalt}
 use Rattle.gr1_sys.proofs.Told.{handed_on, past_many}
-use Rattle.gr1_sys.proofs.Naming.{rank_named, goals_named}
+use Rattle.gr1_sys.proofs.Naming.{layers_named}
+use Rattle.gr1_law.specs.Layers.{goal_sets}
 use Rattle.gr1_sys.proofs.turns.turn.Goals as goal
 
 pub common-requires-clause-none : goal.common-requires-clause-none
@@ -61,5 +62,8 @@ returns-in-Err-clause-told g c =
     let empty = set_kept k k1 none (g.met.G.Regions.exact _) (λ w. omega (arith, climbed.made.held w)) c.requires.given.none ∙ c.requires.given.empty in
     let stand = subst (λ h. (j : ℕ) → j < length goals → last_set k1 none goals j ≡ layer_of h z j (length (states_of h))) (sym c.layers_for.ensures.same.game) (last_sets_stand k.game k k1 none z goals (g.met.G.Regions.exact _) empty climbed) in
     let lasts = subst (λ (vs : List _). (j : ℕ) → j < length vs → last_set k1 none vs j ≡ layer_of k1.game z j (length (states_of k1.game))) (sym c.deref.ensures.value) stand in
-    past_many k k1 (kept c.common.new.g) (kept c.spend_goals.new.g) z (all_regions goals) (sets_of (rank_sets k.game z) goals) c.in-Err.halt c.layers_for.ensures.same.game climbed.made (goals_named k.game z (rank_sets k.game z) goals (λ j r. rank_named k.game z j r)) c.spend_goals.ensures.spends.jam
-    (c.in-Err.ensures.told z lasts)
+    let counted = c.in_ok-goals.ensures.climbed.1 ∙ (sym (length_map k.set c.args.given.now.goals.items) ∙ ap (λ (ss : List _). length ss) c.requires.given.goal_sets) in
+    let asked = ap (λ (vs : List _). length vs) c.deref.ensures.value in
+    let few = subst (λ h. length c.deref.result.now ≤ length (goal_sets h)) (sym c.layers_for.ensures.same.game) (omega (arith, asked, counted)) in
+    past_many k k1 (kept c.common.new.g) (kept c.spend_goals.new.g) z (all_regions goals) (sets_of (rank_sets k.game z) goals) c.in-Err.halt c.layers_for.ensures.same.game climbed.made (layers_named k.game z goals (omega (arith, counted))) c.spend_goals.ensures.spends.jam
+    (c.in-Err.ensures.told z few lasts)
