@@ -1,5 +1,0 @@
-use Rattle.session.proofs.HandingLemmas.{all_told}
-use Rattle.session.proofs.laws.an_end_tells_all_lines.Goals as goal
-
-pub returns : goal.returns
-returns c = all_told

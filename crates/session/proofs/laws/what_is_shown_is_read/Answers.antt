@@ -1,5 +1,0 @@
-use Rattle.session.proofs.ShownIsRead.{shown_reads}
-use Rattle.session.proofs.laws.what_is_shown_is_read.Goals as goal
-
-pub returns : goal.returns
-returns c = shown_reads

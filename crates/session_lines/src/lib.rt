@@ -1,0 +1,23 @@
+//! The lines of plays: from the bytes of an input to assignments, and from assignments to lines.
+//!
+//! A line has an item `name=value` for each wanted variable, in any order, with spaces and tabs between. A value is
+//! written exactly as it is printed. Input comes in pieces of any size. Each buffer is taken before the first line.
+//!
+//! Contract: `Lines::next_line` hands out the lines of the input in order; `Lines::read` reads a line exactly where it reads
+//! as an assignment; `Lines::write_shown` writes a whole line. The laws are in `laws`. Path: verdict → **lines**.
+#![tactic(auto)]
+
+pub mod laws;
+mod lines;
+mod make;
+mod number;
+mod print;
+mod read;
+mod reader;
+mod row;
+mod value;
+mod word;
+
+pub use lines::Lines;
+pub use reader::Taken;
+pub use row::Row;
