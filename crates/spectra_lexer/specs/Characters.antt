@@ -1,7 +1,9 @@
 -- Which characters separate tokens, begin a name, and go on in a run.
 use Rattle.std.specs.Prelude.{ℕ, ◌≡◌, ◌==◌, ◌&&◌, ◌||◌, nat_le, not, Bool, true, List, [], ◌∷◌, ◌++◌}
 use Rattle.std.specs.List.{list_all}
-use Rattle.unicode_ident.specs.Ident.{is_xid_start, is_xid_continue}
+use Rattle.unicode_ident.specs.Ident.{is_xid_continue}
+-- what a name begins with
+pub use Rattle.spec_model.specs.Names.{begins_name}
 use Rattle.spectra_lexer.specs.declared.characters.Run.{Run}
 use Rattle.spectra_lexer.specs.declared.characters.Run.TheVariants as runs
 
@@ -11,10 +13,6 @@ is_blank c = c == 32 || c == 9 || c == 13 || c == 10
 
 abbrev pub is_digit : ℕ → Bool
 is_digit c = nat_le 48 c && nat_le c 57
-
--- a name begins with an XID start character or _
-abbrev pub begins_name : ℕ → Bool
-begins_name c = is_xid_start c || c == 95
 
 -- whether a run of a sort goes on with a character
 abbrev pub goes_on : Run → ℕ → Bool
