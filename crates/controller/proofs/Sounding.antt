@@ -104,6 +104,8 @@ remembered g p b m goal rank index next here goal_is rank_is index_is =
     record {
       started = here.started;
       listed = here.listed;
+      read = here.read;
+      cells = here.cells;
       next = here.next;
       tables = here.tables;
       room = here.room;
