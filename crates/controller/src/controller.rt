@@ -66,12 +66,13 @@ fn aims_of<'a, G: Regions>(goals: &'a [Vec<Aim<G>>], goal: usize) -> &'a [Aim<G>
 impl<G: Regions> Controller<G> {
     /// A strategy that has made no move, for the layers that `gr1_sys::solve_sys` gave for this `g`. They are taken.
     ///
-    /// `Budget`: a call of `g` answered it. `Memory`: none was given. Then the layers are spent, and nothing else is held.
+    /// `Budget`: a call of `g` answered it, for the states of a goal, for first moves into a layer of the first goal, or for
+    /// later ones into a layer or a part of one. `Memory`: none was given. Then the layers are spent, and nothing else is held.
     pub fn make(alloc: Global, g: G, layers: SysLayers<G>) -> Result<Controller<G>, MakeRefusal<G>>
         requires free { (G.kept g).jam ≡ None }
         requires won { (l : LayerSets) × AreLayersOf (G.kept g) layers.z layers.goals.items l }
         ensures begins { (l : LayerSets) → AreLayersOf (G.kept g) layers.z layers.goals.items l → IfOk result (Begins G.kept (G.kept g) layers.z layers.goals.items l) }
-        ensures refused { (l : LayerSets) → AreLayersOf (G.kept g) layers.z layers.goals.items l → IfErr result (λ r. IsRefused (G.kept g) (G.kept r.g) layers.z layers.goals.items l r.halt) }
+        ensures refused { (l : LayerSets) → AreLayersOf (G.kept g) layers.z layers.goals.items l → IfErr result (λ r. IsRefused (G.kept g) (G.kept r.g) layers.z layers.goals.items r.halt) }
     {
         let mut g = g;
         let Ok((place, judge)) = prepared(alloc, g.game()) else {
