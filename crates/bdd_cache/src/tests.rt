@@ -2,15 +2,9 @@ use super::*;
 use std::test::Fail;
 
 #[test]
-fn answers_come_back_until_they_are_removed(rt: HostRuntime) -> Result<(), Fail> {
+fn an_answer_comes_back_until_it_is_removed(rt: HostRuntime) -> Result<(), Fail> {
     let mut answers = Answers::make(rt.alloc())?;
-    assert_eq!(rt; answers.get(1, 2, 3, 4), None);
     answers.put(1, 2, 3, 4, 5);
-    assert_eq!(rt; answers.get(1, 2, 3, 4), Some(5));
-    assert_eq!(rt; answers.get(2, 2, 3, 4), None);
-    assert_eq!(rt; answers.get(1, 3, 3, 4), None);
-    assert_eq!(rt; answers.get(1, 2, 4, 4), None);
-    assert_eq!(rt; answers.get(1, 2, 3, 3), None);
     answers.keep_only(&[true, true, true, true, true, true]);
     assert_eq!(rt; answers.get(1, 2, 3, 4), Some(5));
     answers.keep_only(&[true, true, true, true, true]);

@@ -10,20 +10,20 @@ use Rattle.spec_model.specs.Sets.{StateSet, no_states, system_forces}
 use Rattle.spec_model.specs.WellMade.{WellMade}
 use Rattle.regions.specs.declared.types.When.{When}
 use Rattle.regions.specs.declared.types.When.TheVariants.{First, Later}
-use Rattle.regions.specs.Kept.{Kept, Item, Region, Move, Meaning, States, meaning_of, weight, IsHeldAs, IsExact, IsSameGame}
+use Rattle.regions.specs.Kept.{Kept, Item, Region, Move, Meaning, States, meaning_of, weight, IsHeldAs, IsExact, IsSameGame, Outputs}
 use Rattle.regions.proofs.Holding.{held_as}
 use Rattle.gr1_law.specs.Layers.{LayerSets, IsWinning, AreGreatestRanks, goal_set, goal_sets, assumption_sets}
 use Rattle.gr1_law.specs.Choice.{Memory, ChosenPlay, first_memory}
 use Rattle.gr1_sys.specs.declared.layers.SysLayer.{SysLayer}
 use Rattle.gr1_sys.specs.Held.{HasEach, layer_regions, goal_regions, all_regions, ranks_of, AllHaveParts, HaveParts as LayersHaveParts}
 use Rattle.controller.specs.declared.aims.Aim.{Aim}
-use Rattle.controller.specs.Aims.{leading, RegionsAre, MovesLead, AimsLead, GoalsLead, LayersAre, AllLayersAre}
+use Rattle.controller.specs.Aims.{RegionsAre, MovesLead, AimsLead, GoalsLead, LayersAre, AllLayersAre}
 use Rattle.controller.specs.Turns.{HaveParts}
 use Rattle.controller.specs.Owned.{weight_as, HasAll, MakesAll, region_items, move_items, aim_items, aims_items, all_aims_items, made_items, layer_items}
-use Rattle.controller.specs.Made.{IsOfLayers, whole_layer, part_of_layer, AreOfLayers, leadings, parts_for, regions_for, AreLike, AreAllLike, first_layers, move_meanings, made_meanings, AreLayersOf}
+use Rattle.controller.specs.Made.{leadings, parts_for, regions_for, AreLike, AreAllLike, first_layers, move_meanings, made_meanings, AreLayersOf}
 use Rattle.controller.specs.Objects.{AreSound, AllAimsHaveParts, AreAlike, IsFirstOf}
 use Rattle.controller.proofs.Owning.{length_map, length_both, weight_as-append, weight_as-more, all_as, together_regions, together_each, sets_as-more}
-use Rattle.controller.proofs.Makings.{every_both, later_regions, some_goal}
+use Rattle.controller.proofs.Makings.{later_regions, some_goal}
 
 -- a play without a state has no position
 pub none_yet : (g : GameData) (l : LayerSets) (h : Run) (b : Before) (m : Memory) → ChosenPlay g l h b m → is_some b ≡ false → (h ≡ []) × (b ≡ None) × (m ≡ first_memory)
@@ -52,15 +52,15 @@ module _ {R M : Type 0} where
       (first, are_sets k rs (λ i. sets (suc i)) n others)
 
   module _ (old new : Kept R M) (same : IsSameGame old new) where
-    held_leading : (when : When) (m : M) (s t : StateSet) → s ≡ t → ((w : Item R M → Meaning → ℕ) → w (Move m) (leading old.game when s) ≤ weight new w) → IsHeldAs new (Move m) (leading new.game when t)
-    held_leading when m s t e held = subst (λ (g : GameData). IsHeldAs new (Move m) (leading g when t)) (sym same.game) (subst (λ (u : StateSet). IsHeldAs new (Move m) (leading old.game when u)) e held)
+    held_leading : (when : When) (m : M) (s t : StateSet) → s ≡ t → ((w : Item R M → Meaning → ℕ) → w (Move m) (Outputs when s) ≤ weight new w) → IsHeldAs new (Move m) (Outputs when t)
+    held_leading when m s t e held = subst (λ (u : StateSet). IsHeldAs new (Move m) (Outputs when u)) e held
 
     moves_lead : (when : When) (ms : List M) (rs : List R) (sets : ℕ → StateSet) → length ms ≡ length rs → ((w : Item R M → Meaning → ℕ) → weight_as (move_items ms) (leadings old when rs) w ≤ weight new w) → AreSets old rs sets → MovesLead new when ms sets
     moves_lead when [] rs sets e held are = tt
     moves_lead when (m ∷ ms) [] sets e held are = absurd (omega arith)
     moves_lead when (m ∷ ms) (r ∷ rs) sets e held are = (
-      held_leading when m (old.set r) (sets 0) are.0 (λ w. omega (arith, held w, weight_as-more (Move m) (move_items ms) (leading old.game when (old.set r)) (leadings old when rs) w)),
-      moves_lead when ms rs (λ i. sets (suc i)) (omega arith) (λ w. omega (arith, held w, weight_as-more (Move m) (move_items ms) (leading old.game when (old.set r)) (leadings old when rs) w)) are.1,
+      held_leading when m (old.set r) (sets 0) are.0 (λ w. omega (arith, held w, weight_as-more (Move m) (move_items ms) (Outputs when (old.set r)) (leadings old when rs) w)),
+      moves_lead when ms rs (λ i. sets (suc i)) (omega arith) (λ w. omega (arith, held w, weight_as-more (Move m) (move_items ms) (Outputs when (old.set r)) (leadings old when rs) w)) are.1,
     )
 
   module _ (old new : Kept R M) (more : (w : Item R M → Meaning → ℕ) → weight old w ≤ weight new w) where
@@ -183,17 +183,17 @@ module _ {G R M : Type 0} where
         counted : length (aim_items a) ≡ length (leadings old when (l.y ∷ parts_for when l))
         counted =
             let moves : length (move_items {R = R} a.parts.items) ≡ length a.parts.items = length_map {X = M} {Y = Item R M} Move a.parts.items in
-            let meant : length (leadings old when (parts_for when l)) ≡ length (parts_for when l) = length_map {X = R} {Y = Meaning} (λ r. leading old.game when (old.set r)) (parts_for when l) in
+            let meant : length (leadings old when (parts_for when l)) ≡ length (parts_for when l) = length_map {X = R} {Y = Meaning} (λ r. Outputs when (old.set r)) (parts_for when l) in
             let parts = like.0 in
             omega (arith, moves, meant, parts)
 
         split : (w : Item R M → Meaning → ℕ) → weight_as (aims_items (a ∷ aims)) (leadings old when (regions_for when (l ∷ ls))) w ≡ weight_as (aim_items a) (leadings old when (l.y ∷ parts_for when l)) w + weight_as (aims_items aims) (leadings old when (regions_for when ls)) w
         split w =
-            ap (λ ms. weight_as (aims_items (a ∷ aims)) ms w) (map-append (λ r. leading old.game when (old.set r)) (l.y ∷ parts_for when l) (regions_for when ls))
+            ap (λ ms. weight_as (aims_items (a ∷ aims)) ms w) (map-append (λ r. Outputs when (old.set r)) (l.y ∷ parts_for when l) (regions_for when ls))
             ∙ weight_as-append (aim_items a) (aims_items aims) (leadings old when (l.y ∷ parts_for when l)) (leadings old when (regions_for when ls)) w counted
 
-        one : (w : Item R M → Meaning → ℕ) → weight_as (aim_items a) (leadings old when (l.y ∷ parts_for when l)) w ≡ w (Move a.layer) (leading old.game when (old.set l.y)) + weight_as (move_items a.parts.items) (leadings old when (parts_for when l)) w
-        one w = weight_as-more (Move a.layer) (move_items a.parts.items) (leading old.game when (old.set l.y)) (leadings old when (parts_for when l)) w
+        one : (w : Item R M → Meaning → ℕ) → weight_as (aim_items a) (leadings old when (l.y ∷ parts_for when l)) w ≡ w (Move a.layer) (Outputs when (old.set l.y)) + weight_as (move_items a.parts.items) (leadings old when (parts_for when l)) w
+        one w = weight_as-more (Move a.layer) (move_items a.parts.items) (Outputs when (old.set l.y)) (leadings old when (parts_for when l)) w
 
     goals_lead : (goals : List (Vec (Aim G R M) Global)) (vs : List (Vec (SysLayer G R M) Global)) (y : ℕ → ℕ → StateSet) (x : ℕ → ℕ → ℕ → StateSet) → AreAllLike goals vs →
         ((w : Item R M → Meaning → ℕ) → weight_as (all_aims_items goals) (leadings old Later (all_regions vs)) w ≤ weight new w) → AllShow old n vs y x → GoalsLead new goals y x
@@ -207,46 +207,22 @@ module _ {G R M : Type 0} where
       where
         counted : length (aims_items a.items) ≡ length (leadings old Later (regions_for Later v.items))
         counted =
-            let meant : length (leadings old Later (regions_for Later v.items)) ≡ length (regions_for Later v.items) = length_map {X = R} {Y = Meaning} (λ r. leading old.game Later (old.set r)) (regions_for Later v.items) in
+            let meant : length (leadings old Later (regions_for Later v.items)) ≡ length (regions_for Later v.items) = length_map {X = R} {Y = Meaning} (λ r. Outputs Later (old.set r)) (regions_for Later v.items) in
             let many = like_counted Later a.items v.items like.0 in
             omega (arith, meant, many)
 
         split : (w : Item R M → Meaning → ℕ) → weight_as (all_aims_items (a ∷ goals)) (leadings old Later (all_regions (v ∷ vs))) w ≡ weight_as (aims_items a.items) (leadings old Later (regions_for Later v.items)) w + weight_as (all_aims_items goals) (leadings old Later (all_regions vs)) w
         split w =
             ap (λ (rs : List R). weight_as (all_aims_items (a ∷ goals)) (leadings old Later (rs ++ all_regions vs)) w) (sym (later_regions v.items))
-            ∙ (ap (λ ms. weight_as (all_aims_items (a ∷ goals)) ms w) (map-append (λ r. leading old.game Later (old.set r)) (regions_for Later v.items) (all_regions vs))
+            ∙ (ap (λ ms. weight_as (all_aims_items (a ∷ goals)) ms w) (map-append (λ r. Outputs Later (old.set r)) (regions_for Later v.items) (all_regions vs))
             ∙ weight_as-append (aims_items a.items) (all_aims_items goals) (leadings old Later (regions_for Later v.items)) (leadings old Later (all_regions vs)) w counted)
 
 -- ---- all together
 
-module _ {R M : Type 0} (l : LayerSets) (k : Kept R M) where
-  of_parts : (rs : List R) (sets : ℕ → StateSet) → ((i : ℕ) → IsOfLayers l (sets i)) → AreSets k rs sets → AreOfLayers l k rs
-  of_parts [] sets at are = tt
-  of_parts (r ∷ rs) sets at are = (subst (IsOfLayers l) (sym are.0) (at 0), of_parts rs (λ i. sets (suc i)) (λ i. at (suc i)) are.1)
-
 module _ {G R M : Type 0} where
-  module _ (l : LayerSets) (k : Kept R M) where
-    of_goal : (n : ℕ) (ls : List (SysLayer G R M)) (y : ℕ → StateSet) (x : ℕ → ℕ → StateSet) → ((r : ℕ) → IsOfLayers l (y r)) → ((r i : ℕ) → IsOfLayers l (x r i)) → Shows k n ls y x → AreOfLayers l k (goal_regions ls)
-    of_goal n [] y x at_y at_x shown = tt
-    of_goal n (q ∷ ls) y x at_y at_x shown =
-        every_both (λ r. IsOfLayers l (k.set r)) (layer_regions q) (goal_regions ls)
-        (subst (IsOfLayers l) (sym (shown 0 q refl).0) (at_y 0), of_parts l k q.x.items (x 0) (at_x 0) (are_sets k q.x.items (x 0) n (shown 0 q refl).1))
-        (of_goal n ls (λ r. y (suc r)) (λ r. x (suc r)) (λ r. at_y (suc r)) (λ r. at_x (suc r)) (λ r p. shown (suc r) p))
-
-    of_all : (n : ℕ) (vs : List (Vec (SysLayer G R M) Global)) (y : ℕ → ℕ → StateSet) (x : ℕ → ℕ → ℕ → StateSet) → ((j r : ℕ) → IsOfLayers l (y j r)) → ((j r i : ℕ) → IsOfLayers l (x j r i)) → AllShow k n vs y x → AreOfLayers l k (all_regions vs)
-    of_all n [] y x at_y at_x shown = tt
-    of_all n (v ∷ vs) y x at_y at_x shown =
-        every_both (λ r. IsOfLayers l (k.set r)) (goal_regions v.items) (all_regions vs)
-        (of_goal n v.items (y 0) (x 0) (at_y 0) (at_x 0) (λ r q. shown 0 r v q refl))
-        (of_all n vs (λ j. y (suc j)) (λ j. x (suc j)) (λ j. at_y (suc j)) (λ j. at_x (suc j)) (λ j r u q. shown (suc j) r u q))
-
-  -- each region of the layers is held, and stands for a layer or a part of one
+  -- each region of the layers is held
   pub layers_each : (k : Kept R M) (z : R) (layers : List (Vec (SysLayer G R M) Global)) (l : LayerSets) → AreLayersOf k z layers l → HasEach k (all_regions layers)
   layers_each k z layers l own = together_each k (all_regions layers) (λ w. omega (arith, own.held w, sets_as-more z (all_regions layers) (k.set z) (map k.set (all_regions layers)) w))
-
-  pub layers_of : (k : Kept R M) (z : R) (layers : List (Vec (SysLayer G R M) Global)) (l : LayerSets) → AreLayersOf k z layers l → AreOfLayers l k (all_regions layers)
-  layers_of k z layers l own =
-      of_all l k (length (assumption_sets k.game)) layers (λ j r. l.y j (suc r)) (λ j r. l.x j (suc r)) (λ j r. whole_layer j (suc r) refl) (λ j r i. part_of_layer j (suc r) i refl) own.shown
 
 module _ {G R M : Type 0} (old new : Kept R M) (same : IsSameGame old new) (exact : IsExact new) (z : R) (layers : List (Vec (SysLayer G R M) Global)) (l : LayerSets) (own : AreLayersOf old z layers l) where
   pub layers_counted : length layers ≡ length (goal_sets old.game)
@@ -264,7 +240,7 @@ module _ {G R M : Type 0} (old new : Kept R M) (same : IsSameGame old new) (exac
 
     first_counted : length (aims_items first) ≡ length (leadings old First (regions_for First (first_layers layers)))
     first_counted =
-        let a : length (leadings old First (regions_for First (first_layers layers))) ≡ length (regions_for First (first_layers layers)) = length_map {X = R} {Y = Meaning} (λ r. leading old.game First (old.set r)) (regions_for First (first_layers layers)) in
+        let a : length (leadings old First (regions_for First (first_layers layers))) ≡ length (regions_for First (first_layers layers)) = length_map {X = R} {Y = Meaning} (λ r. Outputs First (old.set r)) (regions_for First (first_layers layers)) in
         let b = like_counted First first (first_layers layers) like_first in
         omega (arith, a, b)
 

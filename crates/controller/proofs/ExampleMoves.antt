@@ -7,7 +7,6 @@ use Rattle.spec_model.specs.Moves.{is_env, domains_of}
 use Rattle.spec_model.specs.Games.{GameData}
 use Rattle.spec_model.specs.Steps.{is_input}
 use Rattle.gr1_sys.specs.Examples.{two_variables}
-use Rattle.controller.specs.Examples.{four_variables}
 
 pub one_input : (g : GameData) → g.variables ≡ two_variables → (r : Bool) → is_input g (value.Bool r ∷ []) ≡ true
 one_input g is r = ap (λ (vs : List VariableData). is_assignment (domains_of is_env vs) (value.Bool r ∷ [])) is ∙ fits r
@@ -15,12 +14,3 @@ one_input g is r = ap (λ (vs : List VariableData). is_assignment (domains_of is
     fits : (r : Bool) → is_assignment (domains_of is_env two_variables) (value.Bool r ∷ []) ≡ true
     fits true = refl
     fits false = refl
-
-pub two_inputs : (g : GameData) → g.variables ≡ four_variables → (a b : Bool) → is_input g (value.Bool a ∷ value.Bool b ∷ []) ≡ true
-two_inputs g is a b = ap (λ (vs : List VariableData). is_assignment (domains_of is_env vs) (value.Bool a ∷ value.Bool b ∷ [])) is ∙ fits a b
-  where
-    fits : (a b : Bool) → is_assignment (domains_of is_env four_variables) (value.Bool a ∷ value.Bool b ∷ []) ≡ true
-    fits true true = refl
-    fits true false = refl
-    fits false true = refl
-    fits false false = refl

@@ -1,22 +1,22 @@
 -- Moves and regions that are made one after the other, and what is told where one isn't.
-use Rattle.std.proofs.Common.{◌≡◌, ℕ, zero, suc, ◌+◌, ◌≤◌, ◌<◌, List, [], ◌∷◌, ◌++◌, map, length, get_or, take, Vec, None, ap, sym, ◌∙◌, refl, subst, arith}
+use Rattle.std.proofs.Common.{◌≡◌, ℕ, zero, suc, ◌+◌, ◌≤◌, ◌<◌, List, [], ◌∷◌, ◌++◌, map, length, get_or, take, Vec, None, inl, inr, ap, sym, ◌∙◌, refl, subst, arith}
 use Rattle.std.proofs.lemmas.List.{append_assoc, append-nil, take_more, take_all}
 use Rattle.std.specs.declared.alloc.Global.{Global}
 use Rattle.spec_model.specs.Games.{GameData}
-use Rattle.spec_model.specs.Sets.{StateSet, no_states, holding}
+use Rattle.spec_model.specs.Sets.{StateSet, holding}
 use Rattle.regions.specs.declared.types.Halt.{Halt}
 use Rattle.regions.specs.declared.types.Halt.TheVariants.{Budget, Memory}
 use Rattle.regions.specs.declared.types.When.{When}
 use Rattle.regions.specs.declared.types.When.TheVariants.{First, Later}
-use Rattle.regions.specs.Kept.{Kept, Item, Region, Move, Meaning, States, Each, weigh, weight, HasRegion, HoldsBesides, Makes, Halts, Call, IsExact, IsSameGame}
-use Rattle.regions.proofs.Holding.{held_as, set_is, jam_adds}
-use Rattle.gr1_law.specs.Layers.{LayerSets, or_all_states, goal_set, goal_sets}
+use Rattle.regions.specs.Kept.{Kept, Item, Region, Move, Meaning, States, Each, weigh, weight, HasRegion, HoldsBesides, Makes, Halts, Call, IsExact, IsSameGame, Outputs, meanings}
+use Rattle.regions.proofs.Holding.{held_as, set_is, weigh_meanings}
+use Rattle.gr1_law.specs.Layers.{or_all_states, goal_sets}
 use Rattle.gr1_sys.specs.declared.layers.SysLayer.{SysLayer}
 use Rattle.gr1_sys.specs.Held.{HasEach, layer_regions, goal_regions, all_regions}
 use Rattle.controller.specs.declared.aims.Aim.{Aim}
-use Rattle.controller.specs.Aims.{leading}
+
 use Rattle.controller.specs.Owned.{weight_as, HasAll, SpendsAll, MakesAll, region_items, move_items, aim_items}
-use Rattle.controller.specs.Made.{Every, IsOfLayers, IsNamed, the_moves, the_goal, AreOfLayers, TellsHalt, leadings, parts_for, regions_for, AreLike, AreAllLike, first_layers, move_meanings}
+use Rattle.controller.specs.Made.{Every, IsIn, Targets, IsMade, AsksOfTargets, AreTargets, TellsHalt, leadings, parts_for, regions_for, AreLike, AreAllLike, first_layers, move_meanings}
 use Rattle.controller.proofs.Owning.{length_map, length_both, weight_as-append, weight_as-one, weight_as-none, weight_as-more, all_as, spent_as}
 
 -- ---- of each
@@ -48,21 +48,29 @@ pub each_append : (P : Meaning → Type 0) (ms ns : List Meaning) → Each P ms 
 each_append P [] ns a b = b
 each_append P (m ∷ ms) ns a b = (a.0, each_append P ms ns a.1 b)
 
--- each of a list is one by its number
-every_numbered : {X : Type 0} (d : X) (xs ys : List X) → ((i : ℕ) → (j : ℕ) × (get_or ys i d ≡ get_or xs j d)) → Every (λ x. (j : ℕ) × (x ≡ get_or xs j d)) ys
-every_numbered d xs [] at = tt
-every_numbered d xs (y ∷ ys) at = (at 0, every_numbered d xs ys (λ i. at (suc i)))
+-- each of a list is one of it
+every_more : {X : Type 0} (f : X → StateSet) (s : StateSet) (ss : List StateSet) (xs : List X) → Every (λ x. IsIn (f x) ss) xs → Every (λ x. IsIn (f x) (s ∷ ss)) xs
+every_more f s ss [] all = tt
+every_more f s ss (x ∷ xs) all = (inr all.0, every_more f s ss xs all.1)
 
--- so the states of the goals, or of the first of them, are named
-pub named_goals : (g : GameData) (l : LayerSets) (n : ℕ) → Each (IsNamed g l) (map States (take n (goal_sets g)))
-named_goals g l n = names (take n (goal_sets g)) (every_take (λ s. (j : ℕ) × (s ≡ goal_set g j)) n (goal_sets g) (every_numbered no_states (goal_sets g) (goal_sets g) (λ i. (i, refl))))
+pub every_in : {X : Type 0} (f : X → StateSet) (xs : List X) → Every (λ x. IsIn (f x) (map f xs)) xs
+every_in f [] = tt
+every_in f (x ∷ xs) = (inl refl, every_more f (f x) (map f xs) xs (every_in f xs))
+
+-- so the states of the goals, or of the first of them, are made
+pub made_goals : (g : GameData) (targets : Targets) (n : ℕ) → Each (IsMade g targets) (map States (take n (goal_sets g)))
+made_goals g targets n = of_each (take n (goal_sets g)) (every_take (λ s. IsIn s (goal_sets g)) n (goal_sets g) (subst (λ (sets : List StateSet). Every (λ s. IsIn s sets) (goal_sets g)) (map-same (goal_sets g)) (every_in (λ s. s) (goal_sets g))))
   where
-    names : (sets : List StateSet) → Every (λ s. (j : ℕ) × (s ≡ goal_set g j)) sets → Each (IsNamed g l) (map States sets)
-    names [] all = tt
-    names (s ∷ sets) all = (the_goal all.0.0 (ap States all.0.1), names sets all.1)
+    map-same : (ss : List StateSet) → map (λ s. s) ss ≡ ss
+    map-same [] = refl
+    map-same (s ∷ ss) = ap (λ ts. s ∷ ts) (map-same ss)
 
-pub all_goals_named : (g : GameData) (l : LayerSets) → Each (IsNamed g l) (map States (goal_sets g))
-all_goals_named g l = subst (λ (sets : List StateSet). Each (IsNamed g l) (map States sets)) (take_all (length (goal_sets g)) (goal_sets g) (omega arith)) (named_goals g l (length (goal_sets g)))
+    of_each : (sets : List StateSet) → Every (λ s. IsIn s (goal_sets g)) sets → Each (IsMade g targets) (map States sets)
+    of_each [] all = tt
+    of_each (s ∷ sets) all = (all.0, of_each sets all.1)
+
+pub all_goals_made : (g : GameData) (targets : Targets) → Each (IsMade g targets) (map States (goal_sets g))
+all_goals_made g targets = subst (λ (sets : List StateSet). Each (IsMade g targets) (map States sets)) (take_all (length (goal_sets g)) (goal_sets g) (omega arith)) (made_goals g targets (length (goal_sets g)))
 
 -- there is a goal
 pub some_goal : (g : GameData) → 0 < length (goal_sets g)
@@ -98,16 +106,13 @@ module _ {R M : Type 0} where
     each_stays [] each = tt
     each_stays (r ∷ rs) each = (region_stays r each.0, each_stays rs each.1)
 
-    pub of_layers_stay : (l : LayerSets) (rs : List R) → HasEach old rs → AreOfLayers l old rs → AreOfLayers l new rs
-    of_layers_stay l [] each all = tt
-    of_layers_stay l (r ∷ rs) each all = (subst (IsOfLayers l) (sym (set_stays r each.0)) all.0, of_layers_stay l rs each.1 all.1)
+    pub targets_stay : (targets : Targets) (when : When) (rs : List R) → HasEach old rs → AreTargets targets when old rs → AreTargets targets when new rs
+    targets_stay targets when [] each all = tt
+    targets_stay targets when (r ∷ rs) each all = (subst (λ (s : StateSet). IsIn s (targets when)) (sym (set_stays r each.0)) all.0, targets_stay targets when rs each.1 all.1)
 
-    pub leading_stays : (when : When) (r : R) → IsSameGame old new → HasRegion old r → leading new.game when (new.set r) ≡ leading old.game when (old.set r)
-    leading_stays when r same here = ap (λ (g : GameData). leading g when (new.set r)) same.game ∙ ap (leading old.game when) (set_stays r here)
-
-    pub leadings_stay : (when : When) (rs : List R) → IsSameGame old new → HasEach old rs → leadings new when rs ≡ leadings old when rs
-    leadings_stay when [] same each = refl
-    leadings_stay when (r ∷ rs) same each = ap (λ m. m ∷ leadings new when rs) (leading_stays when r same each.0) ∙ ap (λ ms. leading old.game when (old.set r) ∷ ms) (leadings_stay when rs same each.1)
+    pub leadings_stay : (when : When) (rs : List R) → HasEach old rs → leadings new when rs ≡ leadings old when rs
+    leadings_stay when [] each = refl
+    leadings_stay when (r ∷ rs) each = ap (λ (s : StateSet). Outputs when s ∷ leadings new when rs) (set_stays r each.0) ∙ ap (λ ms. Outputs when (old.set r) ∷ ms) (leadings_stay when rs each.1)
 
   -- ---- what is made
 
@@ -147,9 +152,9 @@ module _ {R M : Type 0} where
 
   -- ---- what is told
 
-  pub named : (k : Kept R M) (when : When) (l : LayerSets) (rs : List R) → AreOfLayers l k rs → Each (IsNamed k.game l) (leadings k when rs)
-  named k when l [] all = tt
-  named k when l (r ∷ rs) all = (the_moves when (k.set r) all.0 refl, named k when l rs all.1)
+  pub made_moves : (k : Kept R M) (targets : Targets) (when : When) (rs : List R) → AreTargets targets when k rs → Each (IsMade k.game targets) (leadings k when rs)
+  made_moves k targets when [] all = tt
+  made_moves k targets when (r ∷ rs) all = (all.0, made_moves k targets when rs all.1)
 
   weigh_named : (is : List (Item R M)) (ms : List Meaning) (w : Meaning → ℕ) → length is ≡ length ms → weight_as is ms (λ i m. w m) ≡ weigh w ms
   unfolding weight_as
@@ -159,30 +164,38 @@ module _ {R M : Type 0} where
   weigh_named (i ∷ is) (m ∷ ms) w e = ap (λ n. w m + n) (weigh_named is ms w (omega arith))
 
   -- a call halted after some were made
-  pub told : (first k new : Kept R M) (l : LayerSets) (is : List (Item R M)) (ms : List Meaning) (asked : Call) (arguments : List Meaning) (halt : Halt) → MakesAll first k is ms → Halts k new asked arguments halt →
-      Each (IsNamed first.game l) ms → Each (IsNamed first.game l) arguments → TellsHalt first new l halt
-  told first k new l is ms asked arguments Memory made halts names asked_names = halts.jam
-  told first k new l is ms asked arguments Budget made halts names asked_names =
-      jam_adds first k new asked arguments ms (IsNamed first.game l) Budget halts refl (λ w. omega (arith, made.held (λ i m. w m), weigh_named is ms w made.counted)) names asked_names
+  pub told : (first k new : Kept R M) (targets : Targets) (is : List (Item R M)) (ms : List Meaning) (asked : Call) (arguments : List Meaning) (halt : Halt) → MakesAll first k is ms → Halts k new asked arguments halt →
+      Each (IsMade first.game targets) ms → AsksOfTargets targets asked arguments → TellsHalt first new targets halt
+  told first k new targets is ms asked arguments Memory made halts are asks = halts.jam
+  told first k new targets is ms asked arguments Budget made halts are asks =
+      record {
+        jam = record { call = asked; arguments = arguments; held = meanings k };
+        told = halts.jam;
+        besides = ms;
+        held = λ w. omega (arith, weigh_meanings k w, made.held (λ i m. w m), weigh_named is ms w made.counted);
+        made = are;
+        asked = asks;
+      }
 
   -- likewise a call that tells of it
-  pub told_after : (first k new : Kept R M) (l : LayerSets) (is : List (Item R M)) (ms : List Meaning) (halt : Halt) → MakesAll first k is ms → IsSameGame first k → Each (IsNamed first.game l) ms → TellsHalt k new l halt → TellsHalt first new l halt
-  told_after first k new l is ms Memory made same names tells = tells
-  told_after first k new l is ms Budget made same names (jam, is_jam, adds) = (
-    jam,
-    is_jam,
-    record {
-      besides = adds.besides ++ ms;
-      held = λ w. omega (arith, adds.held w, made.held (λ i m. w m), weigh_named is ms w made.counted, weigh-append w adds.besides ms);
-      named = each_append (IsNamed first.game l) adds.besides ms (subst (λ (g : GameData). Each (IsNamed g l) adds.besides) same.game adds.named) names;
-      arguments = subst (λ (g : GameData). Each (IsNamed g l) jam.arguments) same.game adds.arguments;
-    },
-  )
+  pub told_after : (first k new : Kept R M) (targets : Targets) (is : List (Item R M)) (ms : List Meaning) (halt : Halt) → MakesAll first k is ms → IsSameGame first k → Each (IsMade first.game targets) ms →
+      TellsHalt k new targets halt → TellsHalt first new targets halt
+  told_after first k new targets is ms Memory made same are tells = tells
+  told_after first k new targets is ms Budget made same are tells =
+      record {
+        jam = tells.jam;
+        told = tells.told;
+        besides = tells.besides ++ ms;
+        held = λ w. omega (arith, tells.held w, made.held (λ i m. w m), weigh_named is ms w made.counted, weigh-append w tells.besides ms);
+        made = each_append (IsMade first.game targets) tells.besides ms (subst (λ (g : GameData). Each (IsMade g targets) tells.besides) same.game tells.made) are;
+        asked = tells.asked;
+      }
 
   -- and what is spent then changes nothing of it
-  pub told_still : (first k new : Kept R M) (l : LayerSets) (halt : Halt) → new.jam ≡ k.jam → TellsHalt first k l halt → TellsHalt first new l halt
-  told_still first k new l Memory e tells = e ∙ tells
-  told_still first k new l Budget e (jam, is_jam, adds) = (jam, e ∙ is_jam, adds)
+  pub told_still : (first k new : Kept R M) (targets : Targets) (halt : Halt) → new.jam ≡ k.jam → TellsHalt first k targets halt → TellsHalt first new targets halt
+  told_still first k new targets Memory e tells = e ∙ tells
+  told_still first k new targets Budget e tells =
+      record { jam = tells.jam; told = e ∙ tells.told; besides = tells.besides; held = tells.held; made = tells.made; asked = tells.asked }
 
 -- ---- layer by layer
 
@@ -192,7 +205,7 @@ module _ {G R M : Type 0} where
   as_many first k new a when r rs made =
       let e = made.counted in
       let items : length (move_items {R = R} a.parts.items) ≡ length a.parts.items = length_map {X = M} {Y = Item R M} Move a.parts.items in
-      let meant : length (leadings first when rs) ≡ length rs = length_map {X = R} {Y = Meaning} (λ r. leading first.game when (first.set r)) rs in
+      let meant : length (leadings first when rs) ≡ length rs = length_map {X = R} {Y = Meaning} (λ r. Outputs when (first.set r)) rs in
       omega (arith, e, items, meant)
 
   pub regions_for-push : (when : When) (ls : List (SysLayer G R M)) (l : SysLayer G R M) → regions_for when (ls ++ l ∷ []) ≡ regions_for when ls ++ (l.y ∷ parts_for when l)
@@ -251,15 +264,18 @@ module _ {G R M : Type 0} where
   every_first P [] all = tt
   every_first P (v ∷ vs) all = tops P v.items (every_append P (goal_regions v.items) (all_regions vs) all).0
 
+  pub first_each : (k : Kept R M) (vs : List (Vec (SysLayer G R M) Global)) → HasEach k (all_regions vs) → HasEach k (regions_for First (first_layers vs))
+  first_each k vs each = has_each k (regions_for First (first_layers vs)) (every_first (HasRegion k) vs (has_every k (all_regions vs) each))
+
   pub first_is : (vs : List (Vec (SysLayer G R M) Global)) (v : Vec (SysLayer G R M) Global) → 0 < length vs → v ≡ get_or vs 0 v → v.items ≡ first_layers vs
   first_is [] v some is = absurd (omega arith)
   first_is (q ∷ vs) v some is = ap (λ (p : Vec (SysLayer G R M) Global). p.items) is
 
   -- the moves stand for the same where more is held
-  pub moves_stay_told : (old new : Kept R M) → IsExact new → ((w : Item R M → Meaning → ℕ) → weight old w ≤ weight new w) → (vs : List (Vec (SysLayer G R M) Global)) → IsSameGame old new → HasEach old (all_regions vs) → move_meanings new vs ≡ move_meanings old vs
-  moves_stay_told old new exact more vs same each =
-      let first = leadings_stay old new exact more First (regions_for First (first_layers vs)) same (has_each old (regions_for First (first_layers vs)) (every_first (HasRegion old) vs (has_every old (all_regions vs) each))) in
-      let later = leadings_stay old new exact more Later (all_regions vs) same each in
+  pub moves_stay_told : (old new : Kept R M) → IsExact new → ((w : Item R M → Meaning → ℕ) → weight old w ≤ weight new w) → (vs : List (Vec (SysLayer G R M) Global)) → HasEach old (all_regions vs) → move_meanings new vs ≡ move_meanings old vs
+  moves_stay_told old new exact more vs each =
+      let first = leadings_stay old new exact more First (regions_for First (first_layers vs)) (first_each old vs each) in
+      let later = leadings_stay old new exact more Later (all_regions vs) each in
       ap (λ ms. ms ++ leadings new Later (all_regions vs)) first ∙ ap (λ ms. leadings old First (regions_for First (first_layers vs)) ++ ms) later
 
 module _ {R : Type 0} (M : Type 0) where

@@ -7,13 +7,13 @@ use Rattle.spec_model.specs.Games.{GameData, State, listed, outputs_of}
 use Rattle.spec_model.specs.Steps.{Before, is_state}
 use Rattle.spec_model.specs.Sets.{StateSet}
 use Rattle.regions.specs.declared.types.When.{When}
-use Rattle.regions.specs.Kept.{Kept, Region, Move, Outputs, States, HasMove, HasRegion, IsHeldAs, GivesOutputs, IsExact, Stays, IsSameGame}
+use Rattle.regions.specs.Kept.{Kept, Region, Move, Outputs, States, HasMove, HasRegion, GivesOutputs, IsExact, Stays, IsSameGame}
 use Rattle.regions.specs.Rules.{AreBefore, Found, outputs_into}
 use Rattle.regions.proofs.Holding.{choice_is, set_is}
 use Rattle.gr1_law.specs.Layers.{IsLeastNumber, goal_set}
 use Rattle.gr1_law.specs.Choice.{Memory}
 use Rattle.controller.specs.declared.aims.Aim.{Aim}
-use Rattle.controller.specs.Aims.{leading, AimsLead, RegionsAre, LeadSomewhere, AreSomewhere}
+use Rattle.controller.specs.Aims.{AimsLead, RegionsAre, LeadSomewhere, AreSomewhere}
 use Rattle.controller.specs.Turns.{first_into, IsFirstReached}
 use Rattle.controller.proofs.Holdings.{nothing_done, same_game, held_stays, has_move, has_region, gives, aim_at, region_at}
 
@@ -48,21 +48,21 @@ module _ {G R M : Type 0} (first k : Kept R M) (exact : IsExact k) (stays : Stay
     m = (get_or aims n d).layer
 
     pub aim_held : LeadSomewhere first aims → HasMove k m
-    aim_held some = has_move k m (leading first.game some.0 (some.1 n)) (held_stays first k (Move m) (leading first.game some.0 (some.1 n)) stays (aim_at first some.0 aims some.1 some.2 some.3 n below d).0)
+    aim_held some = has_move k m (Outputs some.0 (some.1 n)) (held_stays first k (Move m) (Outputs some.0 (some.1 n)) stays (aim_at first some.0 aims some.1 some.2 some.3 n below d).0)
 
     pub aim_gives : LeadSomewhere first aims → GivesOutputs k m
     aim_gives some =
-        gives k m some.0 (some.1 n) exact (held_stays first k (Move m) (leading k.game some.0 (some.1 n)) stays
-        (subst (λ (g : GameData). IsHeldAs first (Move m) (leading g some.0 (some.1 n))) (sym same.game) (aim_at first some.0 aims some.1 some.2 some.3 n below d).0))
+        gives k m some.0 (some.1 n) exact (held_stays first k (Move m) (Outputs some.0 (some.1 n)) stays
+        (aim_at first some.0 aims some.1 some.2 some.3 n below d).0)
 
     pub found_at : (when : When) (y : ℕ → StateSet) (x : ℕ → ℕ → StateSet) (b : Before) (values : List Value) (input out : Assignment) (answer : Bool) →
-        ((when : When) (t : StateSet) (b : Before) → k.choice m ≡ Outputs (outputs_into k.game when t) → AreBefore k.game when b values → Found answer out (find (outputs_into k.game when t b input) (outputs_of k.game))) →
+        ((when : When) (t : StateSet) (b : Before) → k.choice m ≡ Outputs when t → AreBefore k.game when b values → Found answer out (find (outputs_into k.game when t b input) (outputs_of k.game))) →
         AimsLead first when aims y x → AreBefore first.game when b values → Found answer out (first_into first.game when (y n) b input)
     found_at when y x b values input out answer call lead before =
         subst (λ (g : GameData). Found answer out (first_into g when (y n) b input)) same.game
         (call when (y n) b
-        (choice_is k m (leading k.game when (y n)) exact (held_stays first k (Move m) (leading k.game when (y n)) stays
-        (subst (λ (g : GameData). IsHeldAs first (Move m) (leading g when (y n))) (sym same.game) (aim_at first when aims y x lead n below d).0)))
+        (choice_is k m (Outputs when (y n)) exact (held_stays first k (Move m) (Outputs when (y n)) stays
+        (aim_at first when aims y x lead n below d).0))
         (subst (λ (g : GameData). AreBefore g when b values) (sym same.game) before))
 
 module _ {R M : Type 0} (first k : Kept R M) (exact : IsExact k) (stays : Stays first k) (same : IsSameGame first k) where

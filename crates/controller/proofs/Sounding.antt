@@ -8,14 +8,14 @@ use Rattle.spec_model.specs.Sets.{StateSet, system_forces}
 use Rattle.spec_model.specs.WellMade.{WellMade}
 use Rattle.regions.specs.declared.types.When.{When}
 use Rattle.regions.specs.declared.types.When.TheVariants.{First, Later}
-use Rattle.regions.specs.Kept.{Kept, Move, IsHeldAs, Stays, IsSameGame}
+use Rattle.regions.specs.Kept.{Kept, Move, Stays, IsSameGame, Outputs}
 use Rattle.gr1_law.specs.Layers.{LayerSets, IsWinning, AreGreatestRanks, goal_set, goal_sets, assumption_sets}
 use Rattle.gr1_law.specs.Choice.{Memory, waits}
 use Rattle.gr1_sys.specs.declared.layers.SysLayer.{SysLayer}
 use Rattle.gr1_sys.specs.Held.{AllHaveParts, ranks_of}
 use Rattle.controller.specs.declared.aims.Aim.{Aim}
 use Rattle.controller.specs.declared.place.Place.{Place}
-use Rattle.controller.specs.Aims.{leading, AimsLead, GoalsLead, RegionsAre, LayersAre, AllLayersAre}
+use Rattle.controller.specs.Aims.{AimsLead, GoalsLead, RegionsAre, LayersAre, AllLayersAre}
 use Rattle.controller.specs.Places.{IsAt}
 use Rattle.controller.specs.Turns.{IsTurn, HaveParts}
 use Rattle.controller.specs.Settled.{Settles}
@@ -26,7 +26,7 @@ module _ {G R M : Type 0} (k k1 : Kept R M) (stays : Stays k k1) (same : IsSameG
   aims_stay : (when : When) (aims : List (Aim G R M)) (y : ℕ → StateSet) (x : ℕ → ℕ → StateSet) → AimsLead k when aims y x → AimsLead k1 when aims y x
   aims_stay when [] y x all = tt
   aims_stay when (a ∷ aims) y x all = (
-    subst (λ (g : GameData). IsHeldAs k1 (Move a.layer) (leading g when (y 0))) (sym same.game) (held_stays k k1 (Move a.layer) (leading k.game when (y 0)) stays all.0),
+    held_stays k k1 (Move a.layer) (Outputs when (y 0)) stays all.0,
     moves_stay k k1 when a.parts.items (x 0) stays same all.1,
     aims_stay when aims (λ r. y (suc r)) (λ r. x (suc r)) all.2,
   )
@@ -104,6 +104,8 @@ remembered g p b m goal rank index next here goal_is rank_is index_is =
     record {
       started = here.started;
       listed = here.listed;
+      read = here.read;
+      cells = here.cells;
       next = here.next;
       tables = here.tables;
       room = here.room;

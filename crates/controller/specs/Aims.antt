@@ -1,18 +1,12 @@
 -- What the regions and the moves of a strategy stand for: the sets of the layers, by their numbers.
 use Rattle.std.specs.Prelude.{ℕ, suc, List, [], ◌∷◌, Vec}
 use Rattle.std.specs.declared.alloc.Global.{Global}
-use Rattle.spec_model.specs.Games.{GameData}
 use Rattle.spec_model.specs.Sets.{StateSet}
 use Rattle.regions.specs.declared.types.When.{When}
 use Rattle.regions.specs.declared.types.When.TheVariants.{Later}
-use Rattle.regions.specs.Kept.{Kept, Region, Move, Meaning, States, Outputs, IsHeldAs}
-use Rattle.regions.specs.Rules.{outputs_into}
+use Rattle.regions.specs.Kept.{Kept, Region, Move, States, Outputs, IsHeldAs}
 use Rattle.gr1_sys.specs.declared.layers.SysLayer.{SysLayer}
 use Rattle.controller.specs.declared.aims.Aim.{Aim}
-
--- the legal outputs that lead into a set
-abbrev pub leading : GameData → When → StateSet → Meaning
-leading g when t = Outputs (outputs_into g when t)
 
 module _ {R M : Type 0} where
   -- the regions are held as the sets, one after the other
@@ -23,7 +17,7 @@ module _ {R M : Type 0} where
   -- the moves are held as those into the sets
   abbrev pub MovesLead : Kept R M → When → List M → (ℕ → StateSet) → Type 0
   MovesLead k when [] sets = Unit {0}
-  MovesLead k when (m ∷ ms) sets = IsHeldAs k (Move m) (leading k.game when (sets 0)) × MovesLead k when ms (λ i. sets (suc i))
+  MovesLead k when (m ∷ ms) sets = IsHeldAs k (Move m) (Outputs when (sets 0)) × MovesLead k when ms (λ i. sets (suc i))
 
   abbrev pub AreSomewhere : Kept R M → List R → Type 0
   AreSomewhere k rs = (sets : ℕ → StateSet) × RegionsAre k rs sets
@@ -32,7 +26,7 @@ module _ {G R M : Type 0} where
   -- for each rank from the first on: the moves into the layer, and those into its parts
   abbrev pub AimsLead : Kept R M → When → List (Aim G R M) → (y : ℕ → StateSet) → (x : ℕ → ℕ → StateSet) → Type 0
   AimsLead k when [] y x = Unit {0}
-  AimsLead k when (a ∷ more) y x = IsHeldAs k (Move a.layer) (leading k.game when (y 0)) × MovesLead k when a.parts.items (x 0) × AimsLead k when more (λ r. y (suc r)) (λ r. x (suc r))
+  AimsLead k when (a ∷ more) y x = IsHeldAs k (Move a.layer) (Outputs when (y 0)) × MovesLead k when a.parts.items (x 0) × AimsLead k when more (λ r. y (suc r)) (λ r. x (suc r))
 
   abbrev pub LeadSomewhere : Kept R M → List (Aim G R M) → Type 0
   LeadSomewhere k aims = (when : When) × (y : ℕ → StateSet) × (x : ℕ → ℕ → StateSet) × AimsLead k when aims y x

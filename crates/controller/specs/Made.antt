@@ -1,5 +1,5 @@
 -- What is asked for to make a strategy, what is made, and what is told where it isn't.
-use Rattle.std.specs.Prelude.{◌≡◌, ℕ, suc, true, List, [], ◌∷◌, ◌++◌, map, length, slice_get, Some, None, Vec}
+use Rattle.std.specs.Prelude.{◌≡◌, ◌⊎◌, ℕ, suc, ◌+◌, true, List, [], ◌∷◌, ◌++◌, map, length, slice_get, Some, None, Vec}
 use Rattle.std.specs.declared.alloc.Global.{Global}
 use Rattle.spec_model.specs.Games.{GameData}
 use Rattle.spec_model.specs.Steps.{below}
@@ -9,46 +9,65 @@ use Rattle.regions.specs.declared.types.Halt.{Halt}
 use Rattle.regions.specs.declared.types.Halt.TheVariants.{Budget, Memory}
 use Rattle.regions.specs.declared.types.When.{When}
 use Rattle.regions.specs.declared.types.When.TheVariants.{First, Later}
-use Rattle.regions.specs.Kept.{Kept, Meaning, States, Jam, JamAdds, IsSameGame}
-use Rattle.gr1_law.specs.Layers.{LayerSets, IsWinning, AreGreatestRanks, goal_set, goal_sets, assumption_sets}
+use Rattle.regions.specs.Kept.{Kept, Meaning, States, Outputs, Each, Call, All, Holding, OutMoves, Jam, IsSameGame, weigh, weight}
+use Rattle.gr1_law.specs.Layers.{LayerSets, IsWinning, AreGreatestRanks, goal_sets, assumption_sets}
 use Rattle.gr1_sys.specs.declared.layers.SysLayer.{SysLayer}
 use Rattle.gr1_sys.specs.Held.{HasTogether, HoldsWithoutAll, all_regions, ranks_of}
 use Rattle.controller.specs.declared.aims.Aim.{Aim}
-use Rattle.controller.specs.Aims.{leading}
+
 
 -- something holds of each of a list
 abbrev pub Every : {X : Type 0} → (X → Type 0) → List X → Type 0
 Every P [] = Unit {0}
 Every P (x ∷ xs) = P x × Every P xs
 
--- ---- which sets are told of
+-- ---- what is told of
 
--- a layer, or a part of one
-pub data IsOfLayers (l : LayerSets) (s : StateSet) : Type 0 where
-  whole_layer : (j r : ℕ) → s ≡ l.y j r → IsOfLayers l s
-  part_of_layer : (j r i : ℕ) → s ≡ l.x j r i → IsOfLayers l s
+-- it is one of them
+abbrev pub IsIn : StateSet → List StateSet → Type 0
+IsIn s [] = ⊥
+IsIn s (t ∷ ts) = (s ≡ t) ⊎ IsIn s ts
 
--- such a set, the moves into one, or the states of a goal
-pub data IsNamed (g : GameData) (l : LayerSets) (m : Meaning) : Type 0 where
-  the_set : (s : StateSet) → IsOfLayers l s → m ≡ States s → IsNamed g l m
-  the_moves : (when : When) (s : StateSet) → IsOfLayers l s → m ≡ leading g when s → IsNamed g l m
-  the_goal : (j : ℕ) → m ≡ States (goal_set g j) → IsNamed g l m
+-- The sets that first moves lead into, and later ones.
+abbrev pub Targets : Type 0
+Targets = When → List StateSet
+
+-- What is made besides the layers: the states of a goal, or the moves into a target.
+abbrev pub IsMade : GameData → Targets → Meaning → Type 0
+IsMade g targets (States s) = IsIn s (goal_sets g)
+IsMade g targets (Outputs when s) = IsIn s (targets when)
+IsMade g targets _ = ⊥
+
+-- Only these calls are made: for moves, into a target of that time, and for the states of a goal, without an argument.
+abbrev pub AsksOfTargets : Targets → Call → List Meaning → Type 0
+AsksOfTargets targets (OutMoves when) asked = (s : StateSet) × IsIn s (targets when) × (asked ≡ States s ∷ [])
+AsksOfTargets targets Holding asked = asked ≡ []
+AsksOfTargets targets All asked = asked ≡ []
+AsksOfTargets targets _ asked = ⊥
 
 module _ {R M : Type 0} where
-  -- each region stands for a layer or a part of one
-  abbrev pub AreOfLayers : LayerSets → Kept R M → List R → Type 0
-  AreOfLayers l k rs = Every (λ r. IsOfLayers l (k.set r)) rs
+  -- each region stands for a target of that time
+  abbrev pub AreTargets : Targets → When → Kept R M → List R → Type 0
+  AreTargets targets when k rs = Every (λ r. IsIn (k.set r) (targets when)) rs
 
-  -- a budget that ran out is told, with what was held then: what was held at first, and of what was made only these sets
-  abbrev pub TellsHalt : Kept R M → Kept R M → LayerSets → Halt → Type 0
-  TellsHalt old new l Budget = (jam : Jam) × (new.jam ≡ Some jam) × JamAdds old (IsNamed old.game l) jam
-  TellsHalt old new l Memory = new.jam ≡ None
+  -- A budget that ran out is told: which call, of what, and what was held then, order aside: what was held at first, and what was made.
+  pub record TellsBudget (old new : Kept R M) (targets : Targets) : Type 0 where
+    pub jam : Jam
+    pub told : new.jam ≡ Some jam
+    pub besides : List Meaning
+    pub held : (w : Meaning → ℕ) → weigh w jam.held ≡ weigh w besides + weight old (λ i m. w m)
+    pub made : Each (IsMade old.game targets) besides
+    pub asked : AsksOfTargets targets jam.call jam.arguments
+
+  abbrev pub TellsHalt : Kept R M → Kept R M → Targets → Halt → Type 0
+  TellsHalt old new targets Budget = TellsBudget old new targets
+  TellsHalt old new targets Memory = new.jam ≡ None
 
   -- ---- what is made
 
   -- the moves into each region
   abbrev pub leadings : Kept R M → When → List R → List Meaning
-  leadings k when rs = map (λ r. leading k.game when (k.set r)) rs
+  leadings k when rs = map (λ r. Outputs when (k.set r)) rs
 
 module _ {G R M : Type 0} where
   -- the parts that have moves of their own: at the first position none
@@ -83,6 +102,11 @@ module _ {G R M : Type 0} where
   abbrev pub move_meanings : Kept R M → List (Vec (SysLayer G R M) Global) → List Meaning
   move_meanings k layers = leadings k First (regions_for First (first_layers layers)) ++ leadings k Later (all_regions layers)
 
+  -- First moves lead into the layers of the first goal, later ones into each layer of each goal and into its parts.
+  abbrev pub targets_of : Kept R M → List (Vec (SysLayer G R M) Global) → Targets
+  targets_of k layers First = map k.set (regions_for First (first_layers layers))
+  targets_of k layers Later = map k.set (all_regions layers)
+
   -- the states of each goal, and the moves
   abbrev pub made_meanings : Kept R M → List (Vec (SysLayer G R M) Global) → List Meaning
   made_meanings k layers = map States (goal_sets k.game) ++ move_meanings k layers
@@ -100,7 +124,7 @@ module _ {G R M : Type 0} where
         (k.set layer.y ≡ l.y j (suc r)) × (map k.set layer.x.items ≡ map (l.x j (suc r)) (below (length (assumption_sets k.game))))
 
   -- after a call that halted and spent Z and the layers
-  pub record IsRefused (old new : Kept R M) (z : R) (layers : List (Vec (SysLayer G R M) Global)) (l : LayerSets) (halt : Halt) : Type 0 where
+  pub record IsRefused (old new : Kept R M) (z : R) (layers : List (Vec (SysLayer G R M) Global)) (halt : Halt) : Type 0 where
     pub held : HoldsWithoutAll old new (z ∷ all_regions layers)
-    pub told : TellsHalt old new l halt
+    pub told : TellsHalt old new (targets_of old layers) halt
     pub game : IsSameGame old new

@@ -1,11 +1,12 @@
 -- Where a play is, as the buffers of a strategy hold it.
-use Rattle.std.specs.Prelude.{◌≡◌, ◌+◌, List, [], map, length, pos, is_some, if◌then◌else◌, IsTrue}
+use Rattle.std.specs.Prelude.{◌≡◌, ◌+◌, List, [], map, length, pos, is_some, if◌then◌else◌, IfSome, IsTrue}
 use Rattle.spec_model.specs.declared.value.Value.{Value}
 use Rattle.spec_model.specs.declared.value.Value.TheVariants as value
 use Rattle.spec_model.specs.Values.{Assignment}
 use Rattle.spec_model.specs.Games.{GameData}
 use Rattle.spec_model.specs.Steps.{Before, is_state, is_input, is_output, reached}
 use Rattle.regions.specs.Rules.{listed_before, input_count, output_count}
+use Rattle.hidden_game.specs.Sights.{AreCells}
 use Rattle.gr1_law.specs.Choice.{Memory}
 use Rattle.controller.specs.declared.place.Place.{Place}
 
@@ -23,6 +24,8 @@ hidden_values_after g b = map (λ v. value.Int (pos v)) (reached g b [] []).hidd
 pub record IsAt (g : GameData) (p : Place) (b : Before) (m : Memory) : Type 0 where
   pub started : p.started ≡ is_some b
   pub listed : listed_before b ≡ values_at p
+  pub read : IfSome b (λ s. AreCells g s p.cells.items)
+  pub cells : length p.cells.items ≡ length g.hidden
   pub next : p.next.items ≡ hidden_values_after g b
   pub tables : length p.next.items ≡ length g.hidden
   pub room : length p.state.items ≡ length g.hidden + (input_count g + output_count g)

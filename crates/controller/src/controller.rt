@@ -66,13 +66,13 @@ fn aims_of<'a, G: Regions>(goals: &'a [Vec<Aim<G>>], goal: usize) -> &'a [Aim<G>
 impl<G: Regions> Controller<G> {
     /// A strategy that has made no move, for the layers that `gr1_sys::solve_sys` gave for this `g`. They are taken.
     ///
-    /// `Budget`: a call of `g` answered it. `Memory`: none was given, or the game has more than 1,024 hidden tables. Then the
-    /// layers are spent, and nothing else is held.
+    /// `Budget`: a call of `g` answered it, for the states of a goal, for first moves into a layer of the first goal, or for
+    /// later ones into a layer or a part of one. `Memory`: none was given. Then the layers are spent, and nothing else is held.
     pub fn make(alloc: Global, g: G, layers: SysLayers<G>) -> Result<Controller<G>, MakeRefusal<G>>
         requires free { (G.kept g).jam ≡ None }
         requires won { (l : LayerSets) × AreLayersOf (G.kept g) layers.z layers.goals.items l }
         ensures begins { (l : LayerSets) → AreLayersOf (G.kept g) layers.z layers.goals.items l → IfOk result (Begins G.kept (G.kept g) layers.z layers.goals.items l) }
-        ensures refused { (l : LayerSets) → AreLayersOf (G.kept g) layers.z layers.goals.items l → IfErr result (λ r. IsRefused (G.kept g) (G.kept r.g) layers.z layers.goals.items l r.halt) }
+        ensures refused { (l : LayerSets) → AreLayersOf (G.kept g) layers.z layers.goals.items l → IfErr result (λ r. IsRefused (G.kept g) (G.kept r.g) layers.z layers.goals.items r.halt) }
     {
         let mut g = g;
         let Ok((place, judge)) = prepared(alloc, g.game()) else {
@@ -112,8 +112,9 @@ impl<G: Regions> Controller<G> {
         ensures none { InEachPlay G.kept self.now (λ z l h b m. is_none result ≡ legal_input (game_of G.kept self.now) b input.now) }
     {
         if self.place.started {
+            let place = &self.place;
             self.judge
-                .first_broken_after(self.g.game(), &self.place.state, &self.place.next, input)
+                .first_broken_after(self.g.game(), &place.state, &place.cells, &place.next, input)
         } else {
             self.judge
                 .first_broken_at_start(self.g.game(), &self.place.next, input)

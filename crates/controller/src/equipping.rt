@@ -2,11 +2,11 @@
 
 ghost use Rattle.std.specs.Prelude.{◌≡◌, ◌<◌, ◌++◌, [], None, Some, length, map, IfOk, IfErr, OnErr};
 ghost use Rattle.regions.specs.Kept.{States, HoldsBesides, MakesRegion, IsSameGame};
-ghost use Rattle.regions.specs.declared.types.When.TheVariants.{First};
-ghost use Rattle.gr1_law.specs.Layers.{LayerSets, goal_set, goal_sets};
+ghost use Rattle.regions.specs.declared.types.When.TheVariants.{First, Later};
+ghost use Rattle.gr1_law.specs.Layers.{goal_set, goal_sets};
 ghost use Rattle.gr1_sys.specs.Held.{HasEach, all_regions};
 ghost use Rattle.controller.specs.Owned.{MakesAll, region_items, aims_items, all_aims_items, made_items};
-ghost use Rattle.controller.specs.Made.{AreOfLayers, TellsHalt, AreLike, AreAllLike, first_layers, move_meanings, made_meanings};
+ghost use Rattle.controller.specs.Made.{Targets, AreTargets, TellsHalt, AreLike, AreAllLike, regions_for, first_layers, move_meanings, made_meanings};
 
 use crate::aims::Aim;
 use crate::making::{aims_into, later_aims};
@@ -21,7 +21,7 @@ fn goal_region<G: Regions>(g: &mut G, j: usize) -> Result<G::R, Halt>
     requires there { j < length (goal_sets (G.kept g.old).game) }
     ensures made { let k = G.kept g.old in IfOk result (λ r. MakesRegion k (G.kept g.new) r (goal_set k.game j)) }
     ensures halted { OnErr result (HoldsBesides (G.kept g.old) (G.kept g.new) []) }
-    ensures told { (l : LayerSets) → IfErr result (TellsHalt (G.kept g.old) (G.kept g.new) l) }
+    ensures told { (targets : Targets) → IfErr result (TellsHalt (G.kept g.old) (G.kept g.new) targets) }
     ensures same { IsSameGame (G.kept g.old) (G.kept g.new) }
 {
     if g.game().goals.is_empty() {
@@ -37,7 +37,7 @@ fn goal_regions<G: Regions>(alloc: Global, g: &mut G, n: usize) -> Result<Vec<G:
     requires count { n ≡ length (goal_sets (G.kept g.old).game) }
     ensures made { let k = G.kept g.old in IfOk result (λ rs. MakesAll k (G.kept g.new) (region_items rs.items) (map States (goal_sets k.game))) }
     ensures halted { OnErr result (HoldsBesides (G.kept g.old) (G.kept g.new) []) }
-    ensures told { (l : LayerSets) → IfErr result (TellsHalt (G.kept g.old) (G.kept g.new) l) }
+    ensures told { (targets : Targets) → IfErr result (TellsHalt (G.kept g.old) (G.kept g.new) targets) }
     ensures same { IsSameGame (G.kept g.old) (G.kept g.new) }
 {
     let Ok(mut holds) = Vec::with_capacity(alloc, n) else {
@@ -76,7 +76,7 @@ fn moves_of<G: Regions>(
     ensures first { IfOk result (λ m. AreLike First m.0.items (first_layers layers.now)) }
     ensures alike { IfOk result (λ m. AreAllLike m.1.items layers.now) }
     ensures halted { OnErr result (HoldsBesides (G.kept g.old) (G.kept g.new) []) }
-    ensures told { let k = G.kept g.old in (l : LayerSets) → AreOfLayers l k (all_regions layers.now) → IfErr result (TellsHalt k (G.kept g.new) l) }
+    ensures told { let k = G.kept g.old in (targets : Targets) → AreTargets targets First k (regions_for First (first_layers layers.now)) → AreTargets targets Later k (all_regions layers.now) → IfErr result (TellsHalt k (G.kept g.new) targets) }
     ensures same { IsSameGame (G.kept g.old) (G.kept g.new) }
 {
     let first = aims_into(alloc, g, When::First, layers_of_first::<G>(layers))?;
@@ -103,7 +103,7 @@ pub fn equip<G: Regions>(
     ensures alike { IfOk result (λ m. AreAllLike m.1.items layers.now) }
     ensures counted { let k = G.kept g.old in IfOk result (λ m. length m.2.items ≡ length (goal_sets k.game)) }
     ensures halted { OnErr result (HoldsBesides (G.kept g.old) (G.kept g.new) []) }
-    ensures told { let k = G.kept g.old in (l : LayerSets) → AreOfLayers l k (all_regions layers.now) → IfErr result (TellsHalt k (G.kept g.new) l) }
+    ensures told { let k = G.kept g.old in (targets : Targets) → AreTargets targets First k (regions_for First (first_layers layers.now)) → AreTargets targets Later k (all_regions layers.now) → IfErr result (TellsHalt k (G.kept g.new) targets) }
     ensures same { IsSameGame (G.kept g.old) (G.kept g.new) }
 {
     let holds = goal_regions(alloc, g, layers.len())?;

@@ -2,10 +2,9 @@
 
 ghost use Rattle.std.specs.Prelude.{◌≡◌, [], ◌∷◌, None, length, IfOk, IfErr, OnErr};
 ghost use Rattle.regions.specs.Kept.{HasRegion, HoldsBesides, IsSameGame};
-ghost use Rattle.gr1_law.specs.Layers.{LayerSets};
 ghost use Rattle.gr1_sys.specs.Held.{HasEach, goal_regions, all_regions};
 ghost use Rattle.controller.specs.Owned.{MakesAll, move_items, aim_items, aims_items, all_aims_items};
-ghost use Rattle.controller.specs.Made.{AreOfLayers, TellsHalt, AreLike, AreAllLike, leadings, parts_for as parts_for_lem, regions_for};
+ghost use Rattle.controller.specs.Made.{Targets, AreTargets, TellsHalt, AreLike, AreAllLike, leadings, parts_for as parts_for_lem, regions_for};
 
 use crate::aims::Aim;
 use crate::spending::{spend_aims, spend_all_aims, spend_moves};
@@ -24,7 +23,7 @@ fn moves_into<G: Regions>(
     requires regions { HasEach (G.kept g.old) regions.now }
     ensures made { let k = G.kept g.old in IfOk result (λ ms. MakesAll k (G.kept g.new) (move_items ms.items) (leadings k when regions.now)) }
     ensures halted { OnErr result (HoldsBesides (G.kept g.old) (G.kept g.new) []) }
-    ensures told { let k = G.kept g.old in (l : LayerSets) → AreOfLayers l k regions.now → IfErr result (TellsHalt k (G.kept g.new) l) }
+    ensures told { let k = G.kept g.old in (targets : Targets) → AreTargets targets when k regions.now → IfErr result (TellsHalt k (G.kept g.new) targets) }
     ensures same { IsSameGame (G.kept g.old) (G.kept g.new) }
 {
     let Ok(mut moves) = Vec::with_capacity(alloc, regions.len()) else {
@@ -54,7 +53,7 @@ fn aim_into<G: Regions>(
     requires regions { HasEach (G.kept g.old) (layer.now ∷ parts.now) }
     ensures made { let k = G.kept g.old in IfOk result (λ a. MakesAll k (G.kept g.new) (aim_items a) (leadings k when (layer.now ∷ parts.now))) }
     ensures halted { OnErr result (HoldsBesides (G.kept g.old) (G.kept g.new) []) }
-    ensures told { let k = G.kept g.old in (l : LayerSets) → AreOfLayers l k (layer.now ∷ parts.now) → IfErr result (TellsHalt k (G.kept g.new) l) }
+    ensures told { let k = G.kept g.old in (targets : Targets) → AreTargets targets when k (layer.now ∷ parts.now) → IfErr result (TellsHalt k (G.kept g.new) targets) }
     ensures same { IsSameGame (G.kept g.old) (G.kept g.new) }
 {
     let parts = moves_into(alloc, g, when, parts)?;
@@ -89,7 +88,7 @@ pub fn aims_into<G: Regions>(
     ensures made { let k = G.kept g.old in IfOk result (λ aims. MakesAll k (G.kept g.new) (aims_items aims.items) (leadings k when (regions_for when layers.now))) }
     ensures alike { IfOk result (λ aims. AreLike when aims.items layers.now) }
     ensures halted { OnErr result (HoldsBesides (G.kept g.old) (G.kept g.new) []) }
-    ensures told { let k = G.kept g.old in (l : LayerSets) → AreOfLayers l k (regions_for when layers.now) → IfErr result (TellsHalt k (G.kept g.new) l) }
+    ensures told { let k = G.kept g.old in (targets : Targets) → AreTargets targets when k (regions_for when layers.now) → IfErr result (TellsHalt k (G.kept g.new) targets) }
     ensures same { IsSameGame (G.kept g.old) (G.kept g.new) }
 {
     let Ok(mut aims) = Vec::with_capacity(alloc, layers.len()) else {
@@ -118,7 +117,7 @@ pub fn later_aims<G: Regions>(
     ensures made { let k = G.kept g.old in IfOk result (λ goals. MakesAll k (G.kept g.new) (all_aims_items goals.items) (leadings k When.Later (all_regions layers.now))) }
     ensures alike { IfOk result (λ goals. AreAllLike goals.items layers.now) }
     ensures halted { OnErr result (HoldsBesides (G.kept g.old) (G.kept g.new) []) }
-    ensures told { let k = G.kept g.old in (l : LayerSets) → AreOfLayers l k (all_regions layers.now) → IfErr result (TellsHalt k (G.kept g.new) l) }
+    ensures told { let k = G.kept g.old in (targets : Targets) → AreTargets targets When.Later k (all_regions layers.now) → IfErr result (TellsHalt k (G.kept g.new) targets) }
     ensures same { IsSameGame (G.kept g.old) (G.kept g.new) }
 {
     let Ok(mut goals) = Vec::with_capacity(alloc, layers.len()) else {

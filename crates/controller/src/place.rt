@@ -5,16 +5,17 @@ ghost use Rattle.spec_model.specs.GameViews.{game_data};
 ghost use Rattle.spec_model.specs.Steps.{Before, is_state, reached};
 ghost use Rattle.spec_model.specs.Games.{State, listed, first_hidden as first_hidden_lem, next_hidden as next_hidden_lem};
 ghost use Rattle.spec_model.specs.WellMade.{WellMade};
+ghost use Rattle.hidden_game.specs.Sights.{AreCells};
 ghost use Rattle.gr1_law.specs.Choice.{Memory, first_memory};
 ghost use Rattle.controller.specs.Places.{IsAt, IsClosedAt, values_at};
 
 use hidden_game::{first_hidden, next_hidden};
 use spec_model::game::Game;
-use spec_model::variables::{count_inputs, count_outputs};
 use spec_model::value::Value;
+use spec_model::variables::{count_inputs, count_outputs};
 use std::alloc::{AllocError, Global};
 
-/// The last state of a play, the hidden values of the next one, and what is remembered.
+/// The last state of a play, the cells of the hidden tables there, the hidden values of the next state, and what is remembered.
 #[derive(Debug, Drop)]
 pub struct Place {
     pub started: bool,
@@ -23,6 +24,8 @@ pub struct Place {
     pub index: usize,
     /// The values of the last state; before the first they say nothing.
     pub state: Vec<Value>,
+    /// The cells of the hidden tables at the last state; before the first they say nothing.
+    pub cells: Vec<Value>,
     /// The hidden values of the next state.
     pub next: Vec<Value>,
 }
@@ -56,15 +59,18 @@ fn write_first(game: &Game, next: &mut Vec<Value>)
     first_hidden(game, next);
 }
 
-/// Writes the hidden values of the position after a state.
-fn write_next(game: &Game, state: &[Value], next: &mut Vec<Value>)
+/// Writes the cells of the hidden tables at a state, and the hidden values of the position after it.
+fn write_next(game: &Game, state: &[Value], cells: &mut Vec<Value>, next: &mut Vec<Value>)
     requires made { WellMade (game_data game.now) }
+    requires cells { length cells.old.items ≡ length (game_data game.now).hidden }
     requires room { length next.old.items ≡ length (game_data game.now).hidden }
     requires state { (s : State) × IsTrue (is_state (game_data game.now) s) × (listed s ≡ state.now) }
+    ensures cells { (s : State) → IsTrue (is_state (game_data game.now) s) → listed s ≡ state.now → AreCells (game_data game.now) s cells.new.items }
     ensures value { (s : State) → IsTrue (is_state (game_data game.now) s) → listed s ≡ state.now → next.new.items ≡ map (λ v. Value.Int (pos v)) (next_hidden_lem (game_data game.now) s) }
+    ensures tables { length cells.new.items ≡ length (game_data game.now).hidden }
     ensures room { length next.new.items ≡ length (game_data game.now).hidden }
 {
-    next_hidden(game, state, next);
+    next_hidden(game, state, cells, next);
 }
 
 impl Place {
@@ -83,6 +89,7 @@ impl Place {
             rank: 0,
             index: 0,
             state: vec![in alloc; Value::Bool(false); size]?,
+            cells: vec![in alloc; Value::Bool(false); hidden]?,
             next,
         })
     }
@@ -102,7 +109,7 @@ impl Place {
             IsAt (game_data game.now) self.new (Some (reached (game_data game.now) b input.now output.now)) m }
     {
         write_state(&mut self.state, &self.next, input, output);
-        write_next(game, &self.state, &mut self.next);
+        write_next(game, &self.state, &mut self.cells, &mut self.next);
         self.started = true;
     }
 

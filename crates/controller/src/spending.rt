@@ -5,18 +5,16 @@ ghost use Rattle.regions.specs.Kept.{IsSameGame};
 ghost use Rattle.controller.specs.Owned.{HasAll, SpendsAll, region_items, move_items, aim_items, aims_items, all_aims_items, made_items};
 
 use crate::aims::Aim;
+use gr1_sys::spend_all;
 use regions::Regions;
 
 /// Spends each region.
-pub fn spend_regions<G: Regions>(g: &mut G, mut rs: Vec<G::R>)
+pub fn spend_regions<G: Regions>(g: &mut G, rs: Vec<G::R>)
     requires { HasAll (G.kept g.old) (region_items rs.items) }
     ensures spends { SpendsAll (G.kept g.old) (G.kept g.new) (region_items rs.items) }
     ensures same { IsSameGame (G.kept g.old) (G.kept g.new) }
 {
-    while let Some(r) = rs.pop() {
-        g.spend(r);
-    }
-    rs.destroy_empty();
+    spend_all(g, rs);
 }
 
 /// Spends each of several moves.

@@ -1,7 +1,7 @@
-//! Plays in small games, with replies and broken lines that are worked out by hand.
+//! Plays in small games, with replies that are worked out by hand.
 
 ghost use Rattle.std.specs.Prelude.{◌≡◌, None, length, map, IfOk, IfSome, IsTrue};
-ghost use Rattle.spec_model.specs.Syntax.{Negation, Implication, NextOf};
+ghost use Rattle.spec_model.specs.Syntax.{Negation, Implication};
 ghost use Rattle.spec_model.specs.Views.{formula, variable_data};
 ghost use Rattle.spec_model.specs.GameViews.{goal_data};
 ghost use Rattle.spec_model.specs.Steps.{is_input};
@@ -19,9 +19,7 @@ use spec_model::game::{Goal, Label};
 use spec_model::value::{Domain, Owner, Value, Var};
 use std::alloc::{AllocError, Global};
 
-mod legality;
 mod replies;
-mod waiting;
 
 /// An input r and an output g.
 fn two(alloc: Global) -> Result<Vec<Var>, AllocError>
@@ -53,12 +51,6 @@ fn not(alloc: Global, e: Expr) -> Result<Expr, AllocError>
     ensures { IfOk result (λ n. formula n ≡ Negation (formula e)) }
 {
     Ok(Expr::Not(Box::new(alloc, e)?))
-}
-
-fn next(alloc: Global, e: Expr) -> Result<Expr, AllocError>
-    ensures { IfOk result (λ n. formula n ≡ NextOf (formula e)) }
-{
-    Ok(Expr::Next(Box::new(alloc, e)?))
 }
 
 fn implies(alloc: Global, a: Expr, b: Expr) -> Result<Expr, AllocError>

@@ -15,22 +15,6 @@ fn bit(table: &mut Nodes, level: u32) -> Result<u32, NodeFault>
 }
 
 #[test]
-fn alike_nodes_are_one(rt: HostRuntime) -> Result<(), Fail> {
-    let mut table = Nodes::make(rt.alloc(), 2, 10)?;
-    assert_eq!(rt; table.count(), 2);
-    assert_eq!(rt; table.parts(0), None);
-    assert_eq!(rt; table.parts(1), None);
-    let below = table.find_or_add(1, 0, 1)?;
-    let above = table.find_or_add(0, 0, below)?;
-    assert_ne!(rt; below, above);
-    assert_eq!(rt; table.parts(above), Some((0, 0, below)));
-    assert_eq!(rt; table.count(), 4);
-    assert_eq!(rt; table.find_or_add(1, 0, 1), Ok(below));
-    assert_eq!(rt; table.count(), 4);
-    Ok(())
-}
-
-#[test]
 fn a_sweep_leaves_what_is_marked_and_makes_room(rt: HostRuntime) -> Result<(), Fail> {
     let mut table = Nodes::make(rt.alloc(), 2, 4)?;
     let below = table.find_or_add(1, 0, 1)?;

@@ -1,354 +1,298 @@
 -- One line more of a talk, and how a talk ends.
-use Rattle.std.proofs.Common.{◌≡◌, ℕ, ◌+◌, ◌<◌, ◌≤◌, true, false, List, [], ◌∷◌, ◌++◌, length, map, take, Option, Some, None, IfSome, IfNone, refl, sym, ap, subst, ◌∙◌, arith, append_assoc, append-nil, length-append}
-use Rattle.std.proofs.KnownBytes.{Appends-nil, Appends-trans, Consumes-nil, Consumes-trans}
-use Rattle.std.specs.Io.KnownBytes.{Appends, Consumes}
+use Rattle.std.proofs.Common.{◌≡◌, ℕ, ◌+◌, ◌<◌, ◌≤◌, true, false, List, [], ◌∷◌, ◌++◌, length, map, take, Option, Some, None, refl, sym, ap, subst, ◌∙◌, arith, append-nil, length-append}
+use Rattle.std.proofs.KnownBytes.{Appends-nil, Appends-trans}
+use Rattle.std.specs.Io.KnownBytes.{Appends}
 use Rattle.std.proofs.Math.Seq.{take-append-add}
 use Rattle.sp_outside.specs.Causes.{Rose}
+use Rattle.sp_outside.specs.Written.{AppendsFront}
+use Rattle.spec_model.specs.declared.game.Label.{Label}
 use Rattle.spec_model.specs.Values.{Assignment}
-use Rattle.spec_model.specs.Syntax.{Specification}
-use Rattle.spec_model.specs.Rules.{Run, after}
-use Rattle.session.specs.declared.reader.Taken.{Taken}
-use Rattle.session.specs.declared.reader.Taken.TheVariants as taken
+use Rattle.session_lines.specs.declared.reader.Taken.{Taken}
+use Rattle.session_lines.specs.declared.reader.Taken.TheVariants as taken
+use Rattle.session_lines.specs.Taking.{Takes}
+use Rattle.session_lines.specs.Handing.{IsNext, AreFirst, Hands}
+use Rattle.session_lines.proofs.HandingLemmas.{first_with, none_handed, handed_first, given_now, taken_now, hands_more, line_next, last_ended, last_told, last_next, end_ended, end_told, fault_told, long_next}
 use Rattle.session.specs.declared.talking.End.{End}
 use Rattle.session.specs.declared.talking.End.TheVariants as ends
-use Rattle.session.specs.InputLines.{Line, input_lines}
-use Rattle.session.specs.Taking.{Takes, GivesLine, IsEndIf, BeginsTooLong}
-use Rattle.spec_model.specs.Plays.{IsPlay, nothing, more}
-use Rattle.spec_model.specs.Realizable.{Kept}
-use Rattle.spec_model.specs.Moves.{rules_of}
-use Rattle.session.specs.Talks.{ReadsInput, shown_output, AreInputs, shown_outputs, IsNext, AreFirst, EndsSo, RunTalk, SoFar, IsAnswered, IsNotAnswered, IsLastEnd}
-use Rattle.session.proofs.HandingLemmas.{pushed, one_more, all_told}
+use Rattle.session.specs.Exchanges.{Terms, Ends, Wrote, ReadsAs, Exchanges, opened, answered, Talk, SoFar, Answer, Replies, IsMet, HasEnded, GoesOn, IsLastEnd}
 
--- ---- one position more
-
-inputs_more : (s : Specification) (lines : List (List ℕ)) (h : Run) (line : List ℕ) (x y : Assignment) → AreInputs s lines h → ReadsInput s line x → AreInputs s (lines ++ line ∷ []) (after h x y)
-inputs_more s [] [] line x y are reads = (reads, tt)
-inputs_more s [] (p ∷ h) line x y are reads = absurd are
-inputs_more s (l ∷ lines) [] line x y are reads = absurd are
-inputs_more s (l ∷ lines) (p ∷ h) line x y are reads = (are.0, inputs_more s lines h line x y are.1 reads)
-
-shown_more : (s : Specification) (h : Run) (x y : Assignment) → shown_outputs s h ++ shown_output s y ≡ shown_outputs s (after h x y)
-shown_more s [] x y = sym (append-nil (shown_output s y))
-shown_more s (p ∷ h) x y = append_assoc (shown_output s p.output) (shown_outputs s h) (shown_output s y) ∙ ap (λ l. shown_output s p.output ++ l) (shown_more s h x y)
-
-length_more : (h : Run) (x y : Assignment) → length (after h x y) ≡ length h + 1
-length_more h x y = length-append h (record { input = x; output = y } ∷ [])
+one_longer : (handed : List (List ℕ)) (line : List ℕ) → length (handed ++ line ∷ []) ≡ length handed + 1
+one_longer handed line = length-append handed (line ∷ [])
 
 nothing_more : (a b c : Option (List ℕ)) (text : List ℕ) → Appends a b text → Appends b c [] → Appends a c text
 nothing_more a b c text first second = subst (Appends a c) (append-nil text) (Appends-trans a b c text [] first second)
 
--- with the next line, too, the lines that were handed out are the first
-first_with : (given : List ℕ) (left : Option (List ℕ)) (handed : List (List ℕ)) (line : List ℕ) → IsNext given left handed (Some line) → AreFirst given left (handed ++ line ∷ [])
-first_with given left handed line next =
-    record {
-      at_end = next.at_end;
-      ended = next.ended;
-      rest = next.rest;
-      follows =
-          next.follows
-          ∙ sym (ap (λ (ls : List Line). ls ++ next.rest) (pushed handed line) ∙ append_assoc (map (λ l. Some l) handed) (Some line ∷ []) next.rest);
-    }
+front_more : (a b c : Option (List ℕ)) (text more : List ℕ) → Appends a b text → AppendsFront b c more → AppendsFront a c (text ++ more)
+front_more a b c text more first front = (
+  length text + front.0,
+  subst (Appends a c) (sym (take-append-add text more front.0)) (Appends-trans a b c text (take front.0 more) first front.1),
+)
 
-module _ (s : Specification) (k : ℕ) (Stands : Run → Type 0) (left0 left1 left2 written0 written1 : Option (List ℕ)) (before line after_it : List ℕ) (count limit : ℕ)
-    (so : SoFar s k Stands left0 left1 written0 written1 before count) (what : Taken) (takes : Takes left1 left2 before line after_it what) where
+-- the whole text is written
+abbrev WritesAll : End → Type 0
+WritesAll ends.WriteFault = ⊥
+WritesAll _ = Unit {0}
+
+wrote_all : (end : End) → WritesAll end → (old new : Option (List ℕ)) (text : List ℕ) → Appends old new text → Wrote end old new text
+wrote_all ends.Finished all old new text wrote = wrote
+wrote_all (ends.Broken label) all old new text wrote = wrote
+wrote_all (ends.BadLine n) all old new text wrote = wrote
+wrote_all ends.StateLimit all old new text wrote = wrote
+wrote_all ends.ReadFault all old new text wrote = wrote
+wrote_all ends.WriteFault all old new text wrote = absurd all
+
+module _ {State : Type 0} (t : Terms State) (Stands : State → Type 0) (first : State) (left0 left1 left2 written0 written1 : Option (List ℕ)) (before line after : List ℕ) (count limit : ℕ)
+    (so : SoFar t Stands first left0 left1 written0 written1 before count) (what : Taken) (takes : Takes left1 left2 before line after what) where
   abbrev given' : List ℕ
-  given' = so.given ++ takes.got
+  given' = given_now left0 left1 left2 so.handed before line after so.hands what takes
 
-  taken_so : Consumes left0 left2 given'
-  taken_so = Consumes-trans left0 left1 left2 so.given takes.got so.taken_from takes.taken_from
+  -- ---- a line that is answered
 
-  -- the line that was handed out is the next one
-  pub next_line : (what ≡ taken.Line) → IsNext given' left2 so.handed (Some line)
-  next_line is =
-      let out = one_more so.given before takes.got line after_it so.handed so.hands_out (subst (λ w. GivesLine w before takes.got line after_it) is takes.gives) in
-      record {
-        at_end = false;
-        ended = λ never. absurd (cc);
-        rest = input_lines false (after_it ++ []);
-        follows =
-            ap (input_lines false) (sym (append-nil given'))
-            ∙ (out false [] ∙ (ap (λ (ls : List Line). ls ++ input_lines false (after_it ++ [])) (pushed so.handed line)
-            ∙ append_assoc (map (λ l. Some l) so.handed) (Some line ∷ []) (input_lines false (after_it ++ []))));
-      }
+  module _ (Stands' : State → Type 0) (x : Assignment) (reads : ReadsAs t line x) (a : Answer t Stands' so.last x) where
+    exchanges_more : Exchanges t first (so.handed ++ line ∷ []) (so.texts ++ a.text) a.next
+    exchanges_more = answered so.handed so.texts so.last line x a.text a.next so.exchanges reads a.legal a.answers
 
-  told_last : (what ≡ taken.Last) → input_lines true given' ≡ map (λ l. Some l) (so.handed ++ line ∷ [])
-  told_last is = all_told taken.Last so.given before takes.got line after_it so.handed so.hands_out (subst (λ w. GivesLine w before takes.got line after_it) is takes.gives)
-
-  pub last_line : (what ≡ taken.Last) → IsNext given' left2 so.handed (Some line)
-  last_line is =
-      record {
-        at_end = true;
-        ended = λ e. subst (λ w. IsEndIf w left2) is takes.ended;
-        rest = [];
-        follows = told_last is ∙ pushed so.handed line;
-      }
-
-  -- ---- an answered line
-
-  module _ (Stands' : Run → Type 0) (written2 : Option (List ℕ)) (answered : IsAnswered s k so.play Stands' line written1 written2) where
-    abbrev play' : Run
-    play' = after so.play answered.input answered.output
-
-    wrote_more : Appends written0 written2 (shown_outputs s play')
-    wrote_more = subst (Appends written0 written2) (shown_more s so.play answered.input answered.output) (Appends-trans written0 written1 written2 (shown_outputs s so.play) (shown_output s answered.output) so.wrote answered.wrote)
-
-    counted_more : length play' ≡ count + 1
-    counted_more = let e = length_more so.play answered.input answered.output in omega (arith, e, so.counted)
-
-    legal_more : IsPlay (rules_of s) play'
-    legal_more = more so.play answered.input answered.output so.legal answered.legal_in answered.legal_out
-
-    pub goes_on : (what ≡ taken.Line) → SoFar s k Stands' left0 left2 written0 written2 after_it (count + 1)
-    goes_on is =
+    goes_on : (what ≡ taken.Line) → (written2 : Option (List ℕ)) → Appends written1 written2 a.text → SoFar t Stands' first left0 left2 written0 written2 after (count + 1)
+    goes_on is written2 wrote =
         record {
-          given = given';
-          taken_from = taken_so;
           handed = so.handed ++ line ∷ [];
-          hands_out = one_more so.given before takes.got line after_it so.handed so.hands_out (subst (λ w. GivesLine w before takes.got line after_it) is takes.gives);
-          play = play';
-          inputs = inputs_more s so.handed so.play line answered.input answered.output so.inputs answered.read;
-          legal = legal_more;
-          kept = answered.kept;
-          counted = counted_more;
-          wrote = wrote_more;
-          stands = answered.stands;
+          hands = hands_more left0 left1 left2 so.handed before line after so.hands what takes is;
+          texts = so.texts ++ a.text;
+          last = a.next;
+          exchanges = exchanges_more;
+          counted = (let e = one_longer so.handed line in omega (arith, e, so.counted));
+          wrote = Appends-trans written0 written1 written2 so.texts a.text so.wrote wrote;
+          stands = a.stands;
         }
 
-    pub is_last : (what ≡ taken.Last) → count < limit → (rose_in rose_out : Type 0) (end : End) → IsLastEnd (count + 1) limit end → RunTalk s k limit left0 left2 written0 written2 rose_in rose_out end
-    is_last is below rose_in rose_out ends.Finished last =
+    finishes : (what ≡ taken.Last) → count < limit → (written2 : Option (List ℕ)) → Appends written1 written2 a.text → (rose_in rose_out : Type 0) (end : End) → IsLastEnd (count + 1) limit end → Talk t first limit left0 left2 written0 written2 rose_in rose_out end
+    finishes is below written2 wrote rose_in rose_out ends.Finished last =
+        let e = one_longer so.handed line in
         record {
           given = given';
-          taken_from = taken_so;
+          taken_from = taken_now left0 left1 left2 so.handed before line after so.hands what takes;
           handed = so.handed ++ line ∷ [];
-          play = play';
-          inputs = inputs_more s so.handed so.play line answered.input answered.output so.inputs answered.read;
-          legal = legal_more;
-          kept = answered.kept;
-          few = omega (arith, counted_more, below);
-          wrote = wrote_more;
-          ends = (subst (λ w. IsEndIf w left2) is takes.ended, told_last is, (omega (arith, counted_more, last)));
+          texts = so.texts ++ a.text;
+          last = a.next;
+          exchanges = exchanges_more;
+          few = omega (arith, e, so.counted, below);
+          wrote = Appends-trans written0 written1 written2 so.texts a.text so.wrote wrote;
+          ends = (
+            last_ended left0 left1 left2 so.handed before line after so.hands what takes is,
+            last_told left0 left1 left2 so.handed before line after so.hands what takes is,
+            (omega (arith, e, so.counted, last)),
+          );
         }
-    is_last is below rose_in rose_out ends.StateLimit last =
+    finishes is below written2 wrote rose_in rose_out ends.StateLimit last =
+        let e = one_longer so.handed line in
         record {
           given = given';
-          taken_from = taken_so;
+          taken_from = taken_now left0 left1 left2 so.handed before line after so.hands what takes;
           handed = so.handed ++ line ∷ [];
-          play = play';
-          inputs = inputs_more s so.handed so.play line answered.input answered.output so.inputs answered.read;
-          legal = legal_more;
-          kept = answered.kept;
-          few = omega (arith, counted_more, below);
-          wrote = wrote_more;
-          ends = ((omega (arith, counted_more, last)), first_with given' left2 so.handed line (last_line is));
+          texts = so.texts ++ a.text;
+          last = a.next;
+          exchanges = exchanges_more;
+          few = omega (arith, e, so.counted, below);
+          wrote = Appends-trans written0 written1 written2 so.texts a.text so.wrote wrote;
+          ends = (
+            (omega (arith, e, so.counted, last)),
+            first_with given' left2 so.handed line (last_next left0 left1 left2 so.handed before line after so.hands what takes is),
+          );
         }
-    is_last is below rose_in rose_out (ends.Broken label) last = absurd last
-    is_last is below rose_in rose_out (ends.BadLine n) last = absurd last
-    is_last is below rose_in rose_out ends.ReadFault last = absurd last
-    is_last is below rose_in rose_out ends.WriteFault last = absurd last
+    finishes is below written2 wrote rose_in rose_out (ends.Broken label) last = absurd last
+    finishes is below written2 wrote rose_in rose_out (ends.BadLine n) last = absurd last
+    finishes is below written2 wrote rose_in rose_out ends.ReadFault last = absurd last
+    finishes is below written2 wrote rose_in rose_out ends.WriteFault last = absurd last
 
-  -- ---- a line that is not answered
+    is_cut : IsNext given' left2 so.handed (Some line) → count < limit → (written2 : Option (List ℕ)) → AppendsFront written1 written2 a.text → (rose_in rose_out : Type 0) → rose_out → Talk t first limit left0 left2 written0 written2 rose_in rose_out ends.WriteFault
+    is_cut next below written2 part rose_in rose_out rose =
+        let e = one_longer so.handed line in
+        record {
+          given = given';
+          taken_from = taken_now left0 left1 left2 so.handed before line after so.hands what takes;
+          handed = so.handed ++ line ∷ [];
+          texts = so.texts ++ a.text;
+          last = a.next;
+          exchanges = exchanges_more;
+          few = omega (arith, e, so.counted, below);
+          wrote = front_more written0 written1 written2 so.texts a.text so.wrote part;
+          ends = (rose, first_with given' left2 so.handed line next);
+        }
 
-  pub not_answered : IsNext given' left2 so.handed (Some line) → count < limit → (written2 : Option (List ℕ)) (rose_in rose_out : Type 0) (end : End) → IsNotAnswered s k so.play count line written1 written2 rose_out end → RunTalk s k limit left0 left2 written0 written2 rose_in rose_out end
-  not_answered next below written2 rose_in rose_out (ends.BadLine n) why =
+  -- ---- no line more is answered
+
+  stops : (written2 : Option (List ℕ)) → Appends written1 written2 [] → count < limit → (rose_in rose_out : Type 0) (end : End) → WritesAll end →
+      Ends (ReadsAs t) (t.first_broken so.last) limit given' left2 so.handed (length so.handed) rose_in rose_out end → Talk t first limit left0 left2 written0 written2 rose_in rose_out end
+  stops written2 none below rose_in rose_out end all how =
       record {
         given = given';
-        taken_from = taken_so;
+        taken_from = taken_now left0 left1 left2 so.handed before line after so.hands what takes;
         handed = so.handed;
-        play = so.play;
-        inputs = so.inputs;
-        legal = so.legal;
-        kept = so.kept;
+        texts = so.texts;
+        last = so.last;
+        exchanges = so.exchanges;
         few = omega (arith, so.counted, below);
-        wrote = nothing_more written0 written1 written2 (shown_outputs s so.play) so.wrote why.2;
-        ends = (Some line, next, why.0, (omega (arith, so.counted, why.1)), (omega (arith, so.counted, below)));
+        wrote = wrote_all end all written0 written2 so.texts (nothing_more written0 written1 written2 so.texts so.wrote none);
+        ends = how;
       }
-  not_answered next below written2 rose_in rose_out (ends.Broken label) why =
+
+  -- what came of the line at hand, where that ends the talk
+  met_last : IsNext given' left2 so.handed (Some line) → count < limit → (Stands' : State → Type 0) (written2 : Option (List ℕ)) (rose_in rose_out : Type 0) (end : End) →
+      IsMet t Stands' so.last written1 written2 rose_out count line (Some end) → HasEnded t Stands' first limit left0 left2 written0 written2 rose_in rose_out end
+  met_last next below Stands' written2 rose_in rose_out (ends.BadLine n) met =
       record {
-        given = given';
-        taken_from = taken_so;
-        handed = so.handed;
-        play = so.play;
-        inputs = so.inputs;
-        legal = so.legal;
-        kept = so.kept;
-        few = omega (arith, so.counted, below);
-        wrote = nothing_more written0 written1 written2 (shown_outputs s so.play) so.wrote why.3;
-        ends = (line, why.0, next, why.1, why.2, (omega (arith, so.counted, below)));
+        talk = stops written2 met.2 below rose_in rose_out (ends.BadLine n) tt (Some line, next, met.0, (omega (arith, so.counted, met.1)), (omega (arith, so.counted, below)));
+        state = so.last;
+        stands = met.3;
       }
-  not_answered next below written2 rose_in rose_out ends.WriteFault why =
-      let count_more = length_more so.play why.0 why.1 in
+  met_last next below Stands' written2 rose_in rose_out (ends.Broken label) met =
+      let reply = met.2 in
       record {
-        given = given';
-        taken_from = taken_so;
-        handed = so.handed ++ line ∷ [];
-        play = after so.play why.0 why.1;
-        inputs = inputs_more s so.handed so.play line why.0 why.1 so.inputs why.2;
-        legal = more so.play why.0 why.1 so.legal why.3 why.4;
-        kept = why.5;
-        few = omega (arith, count_more, so.counted, below);
-        wrote = (
-          length (shown_outputs s so.play) + why.6.0,
-          subst (Appends written0 written2)
-              (sym (take-append-add (shown_outputs s so.play) (shown_output s why.1) why.6.0) ∙ ap (take (length (shown_outputs s so.play) + why.6.0)) (shown_more s so.play why.0 why.1))
-              (Appends-trans written0 written1 written2 (shown_outputs s so.play) (take why.6.0 (shown_output s why.1)) so.wrote why.6.1),
-        );
-        ends = (why.7, first_with given' left2 so.handed line next);
+        talk = stops written2 reply.1 below rose_in rose_out (ends.Broken label) tt (line, met.0, next, met.1, reply.0, (omega (arith, so.counted, below)));
+        state = so.last;
+        stands = reply.2;
       }
-  not_answered next below written2 rose_in rose_out ends.Finished why = absurd why
-  not_answered next below written2 rose_in rose_out ends.StateLimit why = absurd why
-  not_answered next below written2 rose_in rose_out ends.ReadFault why = absurd why
+  met_last next below Stands' written2 rose_in rose_out ends.WriteFault met =
+      let reply = met.2 in
+      record { talk = is_cut Stands' met.0 met.1 reply.0 next below written2 reply.1 rose_in rose_out reply.2; state = reply.0.next; stands = reply.0.stands }
+  met_last next below Stands' written2 rose_in rose_out ends.Finished met = absurd met.2
+  met_last next below Stands' written2 rose_in rose_out ends.StateLimit met = absurd met.2
+  met_last next below Stands' written2 rose_in rose_out ends.ReadFault met = absurd met.2
+
+  module _ (below : count < limit) (Stands' : State → Type 0) (written2 : Option (List ℕ)) (rose_in rose_out : Type 0) where
+    -- a line
+    pub by_line : (what ≡ taken.Line) → (r : Option End) → IsMet t Stands' so.last written1 written2 rose_out count line r → GoesOn t Stands' first limit left0 left2 written0 written2 rose_in rose_out after count r
+    by_line is None met = let reply = met.2 in goes_on Stands' met.0 met.1 reply.0 is written2 reply.1
+    by_line is (Some end) met = met_last (line_next left0 left1 left2 so.handed before line after so.hands what takes is) below Stands' written2 rose_in rose_out end met
+
+    -- the last line
+    pub by_last : (what ≡ taken.Last) → (r : Option End) (end : End) → r ≡ Some end → IsMet t Stands' so.last written1 written2 rose_out count line r → GoesOn t Stands' first limit left0 left2 written0 written2 rose_in rose_out after count (Some end)
+    by_last is r end same met =
+        met_last (last_next left0 left1 left2 so.handed before line after so.hands what takes is) below Stands' written2 rose_in rose_out end
+        (subst (IsMet t Stands' so.last written1 written2 rose_out count line) same met)
+
+    pub by_finish : (what ≡ taken.Last) → (r : Option End) (end : End) → r ≡ None → IsLastEnd (count + 1) limit end → IsMet t Stands' so.last written1 written2 rose_out count line r → GoesOn t Stands' first limit left0 left2 written0 written2 rose_in rose_out after count (Some end)
+    by_finish is r end same last met =
+        let m = subst (IsMet t Stands' so.last written1 written2 rose_out count line) same met in
+        let reply = m.2 in
+        record { talk = finishes Stands' m.0 m.1 reply.0 is below written2 reply.1 rose_in rose_out end last; state = reply.0.next; stands = reply.0.stands }
 
   -- ---- no line
 
   module _ (below : count < limit) (rose_in rose_out : Type 0) where
-    pub too_long : (what ≡ taken.TooLong) → RunTalk s k limit left0 left2 written0 written1 rose_in rose_out (ends.BadLine (count + 1))
+    ended : (end : End) → Talk t first limit left0 left2 written0 written1 rose_in rose_out end → HasEnded t Stands first limit left0 left2 written0 written1 rose_in rose_out end
+    ended end talk = record { talk = talk; state = so.last; stands = so.stands }
+
+    pub too_long : (what ≡ taken.TooLong) → GoesOn t Stands first limit left0 left2 written0 written1 rose_in rose_out after count (Some (ends.BadLine (count + 1)))
     too_long is =
-        let told = all_told taken.TooLong so.given before takes.got line after_it so.handed so.hands_out (subst (λ w. GivesLine w before takes.got line after_it) is takes.gives) false [] in
-        record {
-          given = given';
-          taken_from = taken_so;
-          handed = so.handed;
-          play = so.play;
-          inputs = so.inputs;
-          legal = so.legal;
-          kept = so.kept;
-          few = omega (arith, so.counted, below);
-          wrote = so.wrote;
-          ends = (None, first_none told.0 (ap (input_lines false) (sym (append-nil given')) ∙ told.1) told.2, tt, (omega (arith, so.counted)), (omega (arith, so.counted, below)));
-        }
-      where
-        first_none : (rest : List Line) → input_lines false given' ≡ map (λ l. Some l) so.handed ++ rest → BeginsTooLong rest → IsNext given' left2 so.handed None
-        first_none [] e begins = absurd begins
-        first_none (l ∷ rest) e begins =
-            record {
-              at_end = false;
-              ended = λ never. absurd (cc);
-              rest = rest;
-              follows = e ∙ ap (λ (l : Line). map (λ l. Some l) so.handed ++ l ∷ rest) begins;
-            }
+        ended (ends.BadLine (count + 1))
+        (stops written1 (Appends-nil written1) below rose_in rose_out (ends.BadLine (count + 1)) tt
+        (None, long_next left0 left1 left2 so.handed before line after so.hands what takes is, tt, (omega (arith, so.counted)), (omega (arith, so.counted, below))))
 
-    pub at_end : (what ≡ taken.End) → RunTalk s k limit left0 left2 written0 written1 rose_in rose_out ends.Finished
+    pub at_end : (what ≡ taken.End) → GoesOn t Stands first limit left0 left2 written0 written1 rose_in rose_out after count (Some ends.Finished)
     at_end is =
-        record {
-          given = given';
-          taken_from = taken_so;
-          handed = so.handed;
-          play = so.play;
-          inputs = so.inputs;
-          legal = so.legal;
-          kept = so.kept;
-          few = omega (arith, so.counted, below);
-          wrote = so.wrote;
-          ends = (
-            subst (λ w. IsEndIf w left2) is takes.ended,
-            all_told taken.End so.given before takes.got line after_it so.handed so.hands_out (subst (λ w. GivesLine w before takes.got line after_it) is takes.gives),
-            (omega (arith, so.counted, below)),
-          );
-        }
+        ended ends.Finished
+        (stops written1 (Appends-nil written1) below rose_in rose_out ends.Finished tt
+        (end_ended left0 left1 left2 so.handed before line after so.hands what takes is, end_told left0 left1 left2 so.handed before line after so.hands what takes is, (omega (arith, so.counted, below))))
 
-    pub failed : (what ≡ taken.Failed) → rose_in → RunTalk s k limit left0 left2 written0 written1 rose_in rose_out ends.ReadFault
+    pub failed : (what ≡ taken.Failed) → rose_in → GoesOn t Stands first limit left0 left2 written0 written1 rose_in rose_out after count (Some ends.ReadFault)
     failed is rose =
-        record {
-          given = given';
-          taken_from = taken_so;
-          handed = so.handed;
-          play = so.play;
-          inputs = so.inputs;
-          legal = so.legal;
-          kept = so.kept;
-          few = omega (arith, so.counted, below);
-          wrote = so.wrote;
-          ends = (
-            rose,
-            all_told taken.Failed so.given before takes.got line after_it so.handed so.hands_out (subst (λ w. GivesLine w before takes.got line after_it) is takes.gives),
-            (omega (arith, so.counted, below)),
-          );
-        }
+        ended ends.ReadFault
+        (stops written1 (Appends-nil written1) below rose_in rose_out ends.ReadFault tt (rose, fault_told left0 left1 left2 so.handed before line after so.hands what takes is, (omega (arith, so.counted, below))))
+
+-- what came of what was read came of the line
+pub met_by_reply : {State : Type 0} (t : Terms State) (Stands : State → Type 0) (st : State) (old new : Option (List ℕ)) (rose_out : Type 0) (count : ℕ) (line : List ℕ) (x : Assignment) → ReadsAs t line x → (r : Option End) →
+    Replies t Stands st old new rose_out x r → IsMet t Stands st old new rose_out count line r
+met_by_reply t Stands st old new rose_out count line x reads None reply = (x, reads, reply)
+met_by_reply t Stands st old new rose_out count line x reads (Some (ends.Broken label)) reply = (x, reads, reply)
+met_by_reply t Stands st old new rose_out count line x reads (Some ends.WriteFault) reply = (x, reads, reply)
+met_by_reply t Stands st old new rose_out count line x reads (Some (ends.BadLine n)) reply = absurd reply
+met_by_reply t Stands st old new rose_out count line x reads (Some ends.Finished) reply = absurd reply
+met_by_reply t Stands st old new rose_out count line x reads (Some ends.StateLimit) reply = absurd reply
+met_by_reply t Stands st old new rose_out count line x reads (Some ends.ReadFault) reply = absurd reply
+
+-- ---- before the first line, and at the limit
+
+module _ {State : Type 0} (t : Terms State) (Stands : State → Type 0) (first : State) (left written0 written1 : Option (List ℕ)) (pending : List ℕ) (fresh : pending ≡ []) (text : List ℕ) (next : State) (opens : t.Opens first text next) where
+  pub begun : Stands next → Appends written0 written1 text → SoFar t Stands first left left written0 written1 pending 0
+  begun stands wrote =
+      record {
+        handed = [];
+        hands = none_handed left pending fresh;
+        texts = text;
+        last = next;
+        exchanges = opened text next opens;
+        counted = refl;
+        wrote = wrote;
+        stands = stands;
+      }
+
+  pub cut_at_once : Stands next → (limit : ℕ) (rose_in rose_out : Type 0) → rose_out → AppendsFront written0 written1 text → HasEnded t Stands first limit left left written0 written1 rose_in rose_out ends.WriteFault
+  cut_at_once stands limit rose_in rose_out rose part =
+      let hands = none_handed left pending fresh in
+      let talk : Talk t first limit left left written0 written1 rose_in rose_out ends.WriteFault =
+      record {
+        given = hands.given;
+        taken_from = hands.taken_from;
+        handed = [];
+        texts = text;
+        last = next;
+        exchanges = opened text next opens;
+        few = omega arith;
+        wrote = part;
+        ends = (rose, handed_first left left [] pending hands);
+      } in
+      record { talk = talk; state = next; stands = stands }
 
 -- a talk that has the limit's number of lines
-pub at_limit : (s : Specification) (k : ℕ) (Stands : Run → Type 0) (left0 left1 written0 written1 : Option (List ℕ)) (pending : List ℕ) (count limit : ℕ) → count ≡ limit → (rose_in rose_out : Type 0) →
-    SoFar s k Stands left0 left1 written0 written1 pending count → RunTalk s k limit left0 left1 written0 written1 rose_in rose_out ends.StateLimit
-at_limit s k Stands left0 left1 written0 written1 pending count limit reached rose_in rose_out so =
+pub at_limit : {State : Type 0} (t : Terms State) (Stands : State → Type 0) (first : State) (left0 left1 written0 written1 : Option (List ℕ)) (pending : List ℕ) (count limit : ℕ) → count ≡ limit → (rose_in rose_out : Type 0) →
+    SoFar t Stands first left0 left1 written0 written1 pending count → HasEnded t Stands first limit left0 left1 written0 written1 rose_in rose_out ends.StateLimit
+at_limit t Stands first left0 left1 written0 written1 pending count limit reached rose_in rose_out so =
+    let talk : Talk t first limit left0 left1 written0 written1 rose_in rose_out ends.StateLimit =
     record {
-      given = so.given;
-      taken_from = so.taken_from;
+      given = so.hands.given;
+      taken_from = so.hands.taken_from;
       handed = so.handed;
-      play = so.play;
-      inputs = so.inputs;
-      legal = so.legal;
-      kept = so.kept;
+      texts = so.texts;
+      last = so.last;
+      exchanges = so.exchanges;
       few = omega (arith, so.counted, reached);
       wrote = so.wrote;
-      ends = (
-        so.counted ∙ reached,
-        record {
-          at_end = false;
-          ended = λ never. absurd (cc);
-          rest = input_lines false (pending ++ []);
-          follows = ap (input_lines false) (sym (append-nil so.given)) ∙ so.hands_out false [];
-        },
-      );
-    }
+      ends = (so.counted ∙ reached, handed_first left0 left1 so.handed pending so.hands);
+    } in
+    record { talk = talk; state = so.last; stands = so.stands }
 
--- what rose in a part rose in the whole
-pub weaker : (s : Specification) (k limit : ℕ) (left0 left1 written0 written1 : Option (List ℕ)) (rose_in rose_out rose_in' rose_out' : Type 0) (end : End) → (rose_in → rose_in') → (rose_out → rose_out') →
-    RunTalk s k limit left0 left1 written0 written1 rose_in rose_out end → RunTalk s k limit left0 left1 written0 written1 rose_in' rose_out' end
-weaker s k limit left0 left1 written0 written1 rose_in rose_out rose_in' rose_out' end from_in from_out talk =
-    record {
-      given = talk.given;
-      taken_from = talk.taken_from;
-      handed = talk.handed;
-      play = talk.play;
-      inputs = talk.inputs;
-      legal = talk.legal;
-      kept = talk.kept;
-      few = talk.few;
-      wrote = talk.wrote;
-      ends = by_end end talk.ends;
-    }
-  where
-    by_end : (e : End) → EndsSo s limit talk.given left1 talk.handed talk.play rose_in rose_out e → EndsSo s limit talk.given left1 talk.handed talk.play rose_in' rose_out' e
-    by_end ends.Finished so = so
-    by_end (ends.Broken label) so = so
-    by_end (ends.BadLine n) so = so
-    by_end ends.StateLimit so = so
-    by_end ends.ReadFault so = (from_in so.0, so.1, so.2)
-    by_end ends.WriteFault so = (from_out so.0, so.1)
-
-pub none_weaker : {X : Type 0} {P Q : Type 0} (o : Option X) → (P → Q) → IfNone o P → IfNone o Q
-none_weaker None from is = from is
-none_weaker (Some x) from is = tt
-
-pub some_weaker : {X : Type 0} (o : Option X) (P Q : X → Type 0) → ((x : X) → P x → Q x) → IfSome o P → IfSome o Q
-some_weaker None P Q from is = tt
-some_weaker (Some x) P Q from is = from x is
-
--- before the first line
-pub nothing_yet : (s : Specification) (k : ℕ) (Stands : Run → Type 0) (left written : Option (List ℕ)) (pending : List ℕ) → pending ≡ [] → Kept (rules_of s) k [] → Stands [] → SoFar s k Stands left left written written pending 0
-nothing_yet s k Stands left written pending fresh kept stands =
-    record {
-      given = [];
-      taken_from = Consumes-nil left;
-      handed = [];
-      hands_out = λ at_end later. ap (λ (l : List ℕ). input_lines at_end (l ++ later)) (sym fresh);
-      play = [];
-      inputs = tt;
-      legal = nothing;
-      kept = kept;
-      counted = refl;
-      wrote = Appends-nil written;
-      stands = stands;
-    }
+-- ---- causes
 
 -- a count that rose since later rose since earlier
 pub rose_earlier : (first before now : ℕ) → first ≤ before → Rose before now → Rose first now
 rose_earlier first before now later rose = omega (arith, later, rose)
 
--- a turn that ends the talk, from the lines that were answered before
-pub ended_by : (s : Specification) (k : ℕ) (Stands : Run → Type 0) (left0 left1 left2 written0 written1 written2 : Option (List ℕ)) (pending : List ℕ) (count limit in0 in1 in2 out0 out1 out2 : ℕ) (end : End) →
-    SoFar s k Stands left0 left1 written0 written1 pending count →
-    ((left written : Option (List ℕ)) → SoFar s k Stands left left1 written written1 pending count → RunTalk s k limit left left2 written written2 (Rose in1 in2) (Rose out1 out2) end) →
-    in0 ≤ in1 → out0 ≤ out1 → RunTalk s k limit left0 left2 written0 written2 (Rose in0 in2) (Rose out0 out2) end
-ended_by s k Stands left0 left1 left2 written0 written1 written2 pending count limit in0 in1 in2 out0 out1 out2 end so turn later_in later_out =
-    weaker s k limit left0 left2 written0 written2 (Rose in1 in2) (Rose out1 out2) (Rose in0 in2) (Rose out0 out2) end (rose_earlier in0 in1 in2 later_in) (rose_earlier out0 out1 out2 later_out)
-    (turn left0 written0 so)
+-- what rose in a part rose in the whole
+pub ends_weaker : (ReadsAs : List ℕ → Assignment → Type 0) (first_broken : Assignment → Option Label) (limit : ℕ) (given : List ℕ) (left : Option (List ℕ)) (handed : List (List ℕ)) (count : ℕ) (rose_in rose_out rose_in' rose_out' : Type 0) →
+    (rose_in → rose_in') → (rose_out → rose_out') → (end : End) → Ends ReadsAs first_broken limit given left handed count rose_in rose_out end → Ends ReadsAs first_broken limit given left handed count rose_in' rose_out' end
+ends_weaker ReadsAs first_broken limit given left handed count rose_in rose_out rose_in' rose_out' from_in from_out ends.Finished so = so
+ends_weaker ReadsAs first_broken limit given left handed count rose_in rose_out rose_in' rose_out' from_in from_out (ends.Broken label) so = so
+ends_weaker ReadsAs first_broken limit given left handed count rose_in rose_out rose_in' rose_out' from_in from_out (ends.BadLine n) so = so
+ends_weaker ReadsAs first_broken limit given left handed count rose_in rose_out rose_in' rose_out' from_in from_out ends.StateLimit so = so
+ends_weaker ReadsAs first_broken limit given left handed count rose_in rose_out rose_in' rose_out' from_in from_out ends.ReadFault so = (from_in so.0, so.1, so.2)
+ends_weaker ReadsAs first_broken limit given left handed count rose_in rose_out rose_in' rose_out' from_in from_out ends.WriteFault so = (from_out so.0, so.1)
+
+pub ended_since : {State : Type 0} (t : Terms State) (Stands : State → Type 0) (first : State) (left0 left1 written0 written1 : Option (List ℕ)) (limit in0 in1 in2 out0 out1 out2 : ℕ) (end : End) → in0 ≤ in1 → out0 ≤ out1 →
+    HasEnded t Stands first limit left0 left1 written0 written1 (Rose in1 in2) (Rose out1 out2) end → HasEnded t Stands first limit left0 left1 written0 written1 (Rose in0 in2) (Rose out0 out2) end
+ended_since t Stands first left0 left1 written0 written1 limit in0 in1 in2 out0 out1 out2 end later_in later_out ended =
+    let talk = ended.talk in
+    let since : Talk t first limit left0 left1 written0 written1 (Rose in0 in2) (Rose out0 out2) end =
+    record {
+      given = talk.given;
+      taken_from = talk.taken_from;
+      handed = talk.handed;
+      texts = talk.texts;
+      last = talk.last;
+      exchanges = talk.exchanges;
+      few = talk.few;
+      wrote = talk.wrote;
+      ends = ends_weaker (ReadsAs t) (t.first_broken talk.last) limit talk.given left1 talk.handed (length talk.handed) (Rose in1 in2) (Rose out1 out2) (Rose in0 in2) (Rose out0 out2)
+      (rose_earlier in0 in1 in2 later_in) (rose_earlier out0 out1 out2 later_out) end talk.ends;
+    } in
+    record { talk = since; state = ended.state; stands = ended.stands }

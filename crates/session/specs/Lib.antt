@@ -1,15 +1,3 @@
-pub mod Shown
-pub mod Reading
-pub mod InputLines
-pub mod Pieces
-pub mod Taking
+pub mod Exchanges
+pub mod Protocols
 pub mod Talks
-pub mod Players
-pub mod Room
-pub mod Handing
-pub mod Views
-pub mod Plain
-pub mod Examples
-pub mod PlayerLaws
-pub mod Strategies
-pub mod StrategyLaws

@@ -14,6 +14,9 @@ pub mod OpeningSteps
 pub mod Examples
 pub mod OpeningExpressions
 pub mod Awaiting
+pub mod Counting
+pub mod CountingTokens
+pub mod CountingExpressions
 pub mod Closing
 pub mod AwaitingExpressions
 pub mod Shapes

@@ -223,7 +223,7 @@ full_right {Q = Q} s = full_of Q (λ used a q. inr q) s
 pub opens_here : {A : Type 0} (P : List Lexeme → A → Type 0) (ts : List Lexeme) (at : ℕ) → IsNext at ts → Begun P [] → OpensAt P ts (faults.Unexpected at)
 opens_here P ts at place begun = record { used = []; rest = ts; front = refl; place = place; begun = begun; behind = tt }
 
-next_number : (ts : List Lexeme) → IsNext (first_number ts) ts
+pub next_number : (ts : List Lexeme) → IsNext (first_number ts) ts
 unfolding first_number
 next_number [] = refl
 next_number (t ∷ ts) = refl

@@ -6,3 +6,4 @@ pub mod Forms
 pub mod Grammar
 pub mod Spellings
 pub mod Phrases
+pub mod Nesting

@@ -14,6 +14,9 @@ mod OpeningItems
 mod OpeningDeclarations
 mod OpeningTexts
 mod Beginnings
+mod CountingItems
+mod CountingTexts
+mod OneFault
 mod TokenEnds
 pub mod ComparingItems
 pub mod ComparingTexts

@@ -1,5 +1,5 @@
 -- What a text's tree is, and what an answer of the program says.
-use Rattle.std.specs.Prelude.{ℕ, ◌≡◌, ◌+◌, ◌<◌, true, false, List, [], ◌∷◌, ◌++◌, length, take, Some, None}
+use Rattle.std.specs.Prelude.{ℕ, ◌≡◌, ◌+◌, ◌<◌, ◌≤◌, ◌⊎◌, true, false, List, [], ◌∷◌, ◌++◌, length, take, Some, None}
 use Rattle.spectra_lexer.specs.declared.token.Token.{Token}
 use Rattle.spectra_exprs.specs.declared.fault.SyntaxFault.{SyntaxFault}
 use Rattle.spectra_exprs.specs.declared.fault.SyntaxFault.TheVariants as faults
@@ -8,6 +8,7 @@ use Rattle.spectra_trees.specs.Classes.{same_class}
 use Rattle.spectra_trees.specs.Data.{TreeData}
 use Rattle.spectra_trees.specs.Lexemes.{Lexeme, lexemes}
 use Rattle.spectra_exprs.specs.Expressions.{levels_of_a_text}
+use Rattle.spectra_exprs.specs.Nesting.{open_levels}
 use Rattle.spectra_exprs.specs.Operators.{is_operator}
 use Rattle.spectra_exprs.specs.Phrases.{Phrase, ArePhrase}
 use Rattle.spectra_exprs.specs.Spellings.{AreSpelled}
@@ -39,20 +40,27 @@ pub record BeginText (left : ℕ) (ts : List Lexeme) : Type 0 where
 abbrev pub BeginNoText : ℕ → List Lexeme → Type 0
 BeginNoText left ts = (more : List Lexeme) → (tree : TreeData) → Text left (ts ++ more) tree → ⊥
 
--- a token of the list, by its number: up to it, and including it, the tokens begin no text, with no number of levels, and
--- those before it begin a text, with some number of levels
+-- nowhere before a token, by its number, more than 128 levels are open
+abbrev pub IsShallow : List Lexeme → ℕ → Type 0
+IsShallow ts at = (k : ℕ) → k ≤ at → open_levels (take k ts) ≤ levels_of_a_text
+
+-- a token of the list, by its number: up to it, and including it, the tokens begin no text, with no number of levels;
+-- those before it begin a text, and open at most 128 levels
 pub record IsRefused (ts : List Lexeme) (at : ℕ) : Type 0 where
   pub within : at < length ts
   pub refused : (left : ℕ) → BeginNoText left (take (at + 1) ts)
   pub begun : (left : ℕ) × BeginText left (take at ts)
+  pub shallow : IsShallow ts at
 
--- a token of the list, by its number: the tokens before it begin a text, and up to it, and including it, they do, but none
--- with at most 128 levels
+-- a token of the list, by its number: up to it, and including it, the tokens begin a text, but none with at most 128
+-- levels; those before it open at most 128 levels, and with it one level more is open
 pub record IsTooDeep (ts : List Lexeme) (at : ℕ) : Type 0 where
   pub within : at < length ts
   pub refused : BeginNoText levels_of_a_text (take (at + 1) ts)
   pub begun : (left : ℕ) × BeginText left (take at ts)
   pub deeper : (left : ℕ) × BeginText left (take (at + 1) ts)
+  pub shallow : IsShallow ts at
+  pub level : open_levels (take (at + 1) ts) ≡ levels_of_a_text + 1
 
 -- a token of the list, by its number: an operator behind a whole expression, or the whole bound of a range, in whose place
 -- each other one with as many levels may stand
@@ -77,6 +85,10 @@ Explains ts (faults.TooDeep at) = IsTooDeep ts at
 Explains ts (faults.Parentheses at) = IsRefused ts at × IsBehindPhrase ts at
 Explains ts (faults.Unsupported at) = ((tree : TreeData) × HasTree ts tree) × (first_unbuilt ts ≡ Some at)
 Explains ts faults.Memory = Unit {0}
+
+-- the same fault, unless memory ran out
+abbrev pub AreOne : SyntaxFault → SyntaxFault → Type 0
+AreOne first second = (first ≡ second) ⊎ (first ≡ faults.Memory) ⊎ (second ≡ faults.Memory)
 
 -- a tree of these tokens, none of whose forms is unbuilt
 pub record IsBuilt (ts : List Lexeme) (tree : TreeData) : Type 0 where

@@ -17,7 +17,7 @@ mod quotes;
 mod types;
 mod unbuilt;
 
-pub use laws::no_text_has_two_trees;
+pub use laws::{no_text_has_two_trees, one_fault_explains_a_text};
 pub use parsing::{imports, parse};
 pub use spectra_exprs::fault::SyntaxFault;
 pub use spectra_trees::tree;

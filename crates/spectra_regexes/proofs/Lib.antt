@@ -4,3 +4,4 @@ pub mod WholeRegexes
 pub mod StoppingRegexes
 pub mod OpeningRegexes
 pub mod ComparingRegexes
+pub mod CountingRegexes

@@ -1,11 +1,12 @@
 use Rattle.std.proofs.Common.{◌++◌, map, IfErr, subst, sym, arith}
 use Rattle.std.proofs.lemmas.Result.{err_from_is_err_and}
 use Rattle.regions.specs.Kept.{States}
+use Rattle.regions.specs.declared.types.When.TheVariants.{First, Later}
 use Rattle.gr1_law.specs.Layers.{goal_sets}
 use Rattle.gr1_sys.specs.Held.{all_regions}
 use Rattle.controller.specs.Owned.{MakesAll, region_items, aims_items, all_aims_items}
-use Rattle.controller.specs.Made.{TellsHalt, move_meanings}
-use Rattle.controller.proofs.Makings.{each_stays, of_layers_stay, makes_both, still_all, made_and_spent, some_goal, told_after, told_still, moves_stay_told, counted_regions, all_goals_named}
+use Rattle.controller.specs.Made.{TellsHalt, move_meanings, regions_for, first_layers}
+use Rattle.controller.proofs.Makings.{each_stays, first_each, targets_stay, makes_both, still_all, made_and_spent, some_goal, told_after, told_still, moves_stay_told, counted_regions, all_goals_made}
 use Rattle.controller.proofs.equipping.equip.Goals as goal
 
 pub goal_regions-requires-clause-count : goal.goal_regions-requires-clause-count
@@ -31,7 +32,7 @@ returns-in-Ok-clause-made g c =
     let new = kept c.moves_of.new.g in
     let layers = c.args.layers.now in
     let made = c.in_ok-holds.ensures.made in
-    let stays = moves_stay_told first k (g.met.G.Regions.exact _) (λ w. omega (arith, made.held w)) layers c.goal_regions.ensures.same c.requires.layers in
+    let stays = moves_stay_told first k (g.met.G.Regions.exact _) (λ w. omega (arith, made.held w)) layers c.requires.layers in
     makes_both first k new (region_items c.in_ok-holds.holds.items) (aims_items c.in-Ok.first.items ++ all_aims_items c.in-Ok.goals.items) (map States (goal_sets first.game)) (move_meanings first layers) made
     (subst (MakesAll k new (aims_items c.in-Ok.first.items ++ all_aims_items c.in-Ok.goals.items)) stays c.in-Ok.ensures.made)
 
@@ -49,7 +50,7 @@ returns-in-Err-clause-halted g c =
     made_and_spent (kept c.args.g.now) (kept c.goal_regions.new.g) (kept c.moves_of.new.g) (kept c.spend_regions.new.g) (region_items c.in_ok-holds.holds.items) _ (g.met.G.Regions.exact _) c.in_ok-holds.ensures.made c.in-Err.ensures.halted c.spend_regions.ensures.spends
 
 pub returns-in-Err-clause-told : goal.returns-in-Err-clause-told
-returns-in-Err-clause-told g c = λ l all.
+returns-in-Err-clause-told g c = λ l all later.
     let kept = g.G.Regions.kept in
     let first = kept c.args.g.now in
     let k = kept c.goal_regions.new.g in
@@ -58,11 +59,13 @@ returns-in-Err-clause-told g c = λ l all.
     let made = c.in_ok-holds.ensures.made in
     told_still first new (kept c.spend_regions.new.g) l c.in-Err.halt c.spend_regions.ensures.spends.jam
     (told_after first k new l (region_items c.in_ok-holds.holds.items) (map States (goal_sets first.game)) c.in-Err.halt made c.goal_regions.ensures.same
-    (all_goals_named first.game l)
-    (c.in-Err.ensures.told l (of_layers_stay first k (g.met.G.Regions.exact _) (λ w. omega (arith, made.held w)) l (all_regions layers) c.requires.layers all)))
+    (all_goals_made first.game l)
+    (c.in-Err.ensures.told l
+    (targets_stay first k (g.met.G.Regions.exact _) (λ w. omega (arith, made.held w)) l First (regions_for First (first_layers layers)) (first_each first layers c.requires.layers) all)
+    (targets_stay first k (g.met.G.Regions.exact _) (λ w. omega (arith, made.held w)) l Later (all_regions layers) c.requires.layers later)))
 
 pub returns-in_err-holds-clause-told : goal.returns-in_err-holds-clause-told
-returns-in_err-holds-clause-told g c = λ l all.
+returns-in_err-holds-clause-told g c = λ l all later.
     let kept = g.G.Regions.kept in
     let k = kept c.args.g.now in
     let p = err_from_is_err_and c.from_residual.result c.from_residual.ensures.1 in

@@ -1,4 +1,4 @@
-use Rattle.std.proofs.Common.{◌∙◌, [], subst, sym}
+use Rattle.std.proofs.Common.{◌∙◌, [], refl, subst, sym}
 use Rattle.std.proofs.lemmas.Result.{IfOk-weaker, IfErr-weaker}
 use Rattle.regions.specs.Kept.{All, Holding, MakesRegion}
 use Rattle.gr1_sys.proofs.Givings.{goal_alone, goal_there}
@@ -24,10 +24,10 @@ pub returns-then-is_empty-clause-told : goal.returns-then-is_empty-clause-told
 returns-then-is_empty-clause-told g c = λ l.
     let kept = g.G.Regions.kept in
     let k = kept c.args.g.now in
-    IfErr-weaker c.all.result _ _ (λ halt halts. told k k (kept c.all.new.self) l [] [] All [] halt (nothing_made k c.requires.free) halts tt tt) c.all.ensures.halted
+    IfErr-weaker c.all.result _ _ (λ halt halts. told k k (kept c.all.new.self) l [] [] All [] halt (nothing_made k c.requires.free) halts tt refl) c.all.ensures.halted
 
 pub returns-else-is_empty-clause-told : goal.returns-else-is_empty-clause-told
 returns-else-is_empty-clause-told g c = λ l.
     let kept = g.G.Regions.kept in
     let k = kept c.args.g.now in
-    IfErr-weaker c.holding.result _ _ (λ halt halts. told k k (kept c.holding.new.self) l [] [] Holding [] halt (nothing_made k c.requires.free) halts tt tt) c.holding.ensures.halted
+    IfErr-weaker c.holding.result _ _ (λ halt halts. told k k (kept c.holding.new.self) l [] [] Holding [] halt (nothing_made k c.requires.free) halts tt refl) c.holding.ensures.halted

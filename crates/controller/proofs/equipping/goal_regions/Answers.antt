@@ -6,7 +6,7 @@ use Rattle.regions.specs.Kept.{Region, States, MakesRegion}
 use Rattle.gr1_law.specs.Layers.{goal_set, goal_sets}
 use Rattle.controller.specs.Owned.{MakesAll, region_items}
 use Rattle.controller.proofs.Holdings.{same_then}
-use Rattle.controller.proofs.Makings.{nothing_made, makes_one, makes_next, still_all, made_and_spent, named_goals, told_after, told_still}
+use Rattle.controller.proofs.Makings.{nothing_made, makes_one, makes_next, still_all, made_and_spent, made_goals, told_after, told_still}
 use Rattle.controller.proofs.equipping.goal_regions.Goals as goal
 
 pub loop-j-init : goal.loop-j-init
@@ -64,7 +64,7 @@ returns-in-Err-clause-told g c = λ l.
     let first = kept c.args.g.now in
     told_still first (kept c.goal_region.new.g) (kept c.spend_regions.new.g) l c.in-Err.halt c.spend_regions.ensures.spends.jam
     (told_after first (kept c.loop-j.g) (kept c.goal_region.new.g) l (region_items c.loop-j.holds.items) (map States (take c.loop-j.j (goal_sets first.game))) c.in-Err.halt c.loop-j.invariant.made c.loop-j.invariant.same
-    (named_goals first.game l c.loop-j.j) (c.in-Err.ensures.told l))
+    (made_goals first.game l c.loop-j.j) (c.in-Err.ensures.told l))
 
 pub returns-clause-made : goal.returns-clause-made
 returns-clause-made g c =

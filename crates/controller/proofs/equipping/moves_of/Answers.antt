@@ -1,18 +1,17 @@
 use Rattle.std.proofs.Common.{List, IfErr, subst, sym, arith}
 use Rattle.std.proofs.lemmas.Result.{err_from_is_err_and}
-use Rattle.regions.specs.Kept.{HasRegion}
 use Rattle.regions.specs.declared.types.When.TheVariants.{First, Later}
 use Rattle.gr1_sys.specs.Held.{HasEach, all_regions}
 use Rattle.controller.specs.Owned.{MakesAll, aims_items, all_aims_items}
-use Rattle.controller.specs.Made.{IsOfLayers, AreOfLayers, TellsHalt, AreLike, leadings, regions_for, first_layers}
-use Rattle.controller.proofs.Makings.{has_every, has_each, each_stays, of_layers_stay, leadings_stay, makes_both, still_all, made_and_spent, named, told_after, told_still, every_first}
+use Rattle.controller.specs.Made.{AreTargets, TellsHalt, AreLike, leadings, regions_for, first_layers}
+use Rattle.controller.proofs.Makings.{first_each, each_stays, targets_stay, leadings_stay, makes_both, still_all, made_and_spent, made_moves, told_after, told_still}
 use Rattle.controller.proofs.equipping.moves_of.Goals as goal
 
 pub aims_into-requires-clause-layers : goal.aims_into-requires-clause-layers
 aims_into-requires-clause-layers g c =
     let k = g.G.Regions.kept c.args.g.now in
     subst (λ (ls : List _). HasEach k (regions_for First ls)) (sym c.layers_of_first.ensures)
-    (has_each k (regions_for First (first_layers c.args.layers.now)) (every_first (HasRegion k) c.args.layers.now (has_every k (all_regions c.args.layers.now) c.requires.layers)))
+    (first_each k c.args.layers.now c.requires.layers)
 
 pub later_aims-requires-clause-free : goal.later_aims-requires-clause-free
 later_aims-requires-clause-free g c = c.in_ok-first.ensures.made.jam
@@ -31,7 +30,7 @@ returns-in-Ok-clause-made g c =
     let new = kept c.later_aims.new.g in
     let layers = c.args.layers.now in
     let made = c.in_ok-first.ensures.made in
-    let stays = leadings_stay first k (g.met.G.Regions.exact _) (λ w. omega (arith, made.held w)) Later (all_regions layers) c.aims_into.ensures.same c.requires.layers in
+    let stays = leadings_stay first k (g.met.G.Regions.exact _) (λ w. omega (arith, made.held w)) Later (all_regions layers) c.requires.layers in
     makes_both first k new (aims_items c.in_ok-first.first.items) (all_aims_items c.in-Ok.goals.items) (leadings first First (regions_for First (first_layers layers))) (leadings first Later (all_regions layers))
     (subst (λ (ls : List _). MakesAll first k (aims_items c.in_ok-first.first.items) (leadings first First (regions_for First ls))) c.layers_of_first.ensures made)
     (subst (MakesAll k new (all_aims_items c.in-Ok.goals.items)) stays c.in-Ok.ensures.made)
@@ -50,7 +49,7 @@ returns-in-Err-clause-halted g c =
     made_and_spent (kept c.args.g.now) (kept c.aims_into.new.g) (kept c.later_aims.new.g) (kept c.spend_aims.new.g) (aims_items c.in_ok-first.first.items) _ (g.met.G.Regions.exact _) c.in_ok-first.ensures.made c.in-Err.ensures.halted c.spend_aims.ensures.spends
 
 pub returns-in-Err-clause-told : goal.returns-in-Err-clause-told
-returns-in-Err-clause-told g c = λ l all.
+returns-in-Err-clause-told g c = λ l all later.
     let kept = g.G.Regions.kept in
     let first = kept c.args.g.now in
     let k = kept c.aims_into.new.g in
@@ -60,13 +59,13 @@ returns-in-Err-clause-told g c = λ l all.
     let own = subst (λ (ls : List _). MakesAll first k (aims_items c.in_ok-first.first.items) (leadings first First (regions_for First ls))) c.layers_of_first.ensures made in
     told_still first new (kept c.spend_aims.new.g) l c.in-Err.halt c.spend_aims.ensures.spends.jam
     (told_after first k new l (aims_items c.in_ok-first.first.items) (leadings first First (regions_for First (first_layers layers))) c.in-Err.halt own c.aims_into.ensures.same
-    (named first First l (regions_for First (first_layers layers)) (every_first (λ r. IsOfLayers l (first.set r)) layers all))
-    (c.in-Err.ensures.told l (of_layers_stay first k (g.met.G.Regions.exact _) (λ w. omega (arith, made.held w)) l (all_regions layers) c.requires.layers all)))
+    (made_moves first l First (regions_for First (first_layers layers)) all)
+    (c.in-Err.ensures.told l (targets_stay first k (g.met.G.Regions.exact _) (λ w. omega (arith, made.held w)) l Later (all_regions layers) c.requires.layers later)))
 
 pub returns-in_err-first-clause-told : goal.returns-in_err-first-clause-told
-returns-in_err-first-clause-told g c = λ l all.
+returns-in_err-first-clause-told g c = λ l all later.
     let kept = g.G.Regions.kept in
     let k = kept c.args.g.now in
     let p = err_from_is_err_and c.from_residual.result c.from_residual.ensures.1 in
-    let of = subst (λ (ls : List _). AreOfLayers l k (regions_for First ls)) (sym c.layers_of_first.ensures) (every_first (λ r. IsOfLayers l (k.set r)) c.args.layers.now all) in
+    let of = subst (λ (ls : List _). AreTargets l First k (regions_for First ls)) (sym c.layers_of_first.ensures) all in
     subst (λ r. IfErr r (TellsHalt k (kept c.aims_into.new.g) l)) (sym p.1) (subst (TellsHalt k (kept c.aims_into.new.g) l) (sym p.2) (c.in_err-first.ensures.told l of))

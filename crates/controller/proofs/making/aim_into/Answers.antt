@@ -1,9 +1,9 @@
 use Rattle.std.proofs.Common.{◌∷◌, [], IfErr, ap, subst, sym, arith}
 use Rattle.std.proofs.lemmas.Result.{err_from_is_err_and}
-use Rattle.regions.specs.Kept.{Move, Meaning, States, OutMoves}
+use Rattle.regions.specs.Kept.{Move, Meaning, States, Outputs, OutMoves}
 use Rattle.controller.specs.Owned.{MakesAll, move_items}
-use Rattle.controller.specs.Made.{the_set, TellsHalt, leadings}
-use Rattle.controller.proofs.Makings.{region_stays, set_stays, leading_stays, makes_before, still_all, made_and_spent, named, told, told_still}
+use Rattle.controller.specs.Made.{TellsHalt, leadings}
+use Rattle.controller.proofs.Makings.{region_stays, set_stays, makes_before, still_all, made_and_spent, made_moves, told, told_still}
 use Rattle.controller.proofs.making.aim_into.Goals as goal
 
 pub out_moves-requires-clause-free : goal.out_moves-requires-clause-free
@@ -22,7 +22,7 @@ returns-in-Ok-clause-made g c =
     let k = kept c.moves_into.new.g in
     let new = kept c.out_moves.new.self in
     let made = c.in_ok-parts.ensures.made in
-    let stays = leading_stays first k (g.met.G.Regions.exact _) (λ w. omega (arith, made.held w)) c.args.when c.args.layer.now c.moves_into.ensures.same c.requires.regions.0 in
+    let stays = ap (Outputs c.args.when) (set_stays first k (g.met.G.Regions.exact _) (λ w. omega (arith, made.held w)) c.args.layer.now c.requires.regions.0) in
     subst (λ (n : Meaning). MakesAll first new (Move c.in-Ok.layer ∷ move_items c.in_ok-parts.parts.items) (n ∷ leadings first c.args.when c.args.parts.now)) stays
     (makes_before first k new (Move c.in-Ok.layer) (move_items c.in_ok-parts.parts.items) _ (leadings first c.args.when c.args.parts.now) made c.in-Ok.ensures.made)
 
@@ -45,8 +45,8 @@ returns-in-Err-clause-told g c = λ l all.
     let made = c.in_ok-parts.ensures.made in
     let set_is = set_stays first k (g.met.G.Regions.exact _) (λ w. omega (arith, made.held w)) c.args.layer.now c.requires.regions.0 in
     told_still first new (kept c.spend_moves.new.g) l c.in-Err.halt c.spend_moves.ensures.spends.jam
-    (told first k new l (move_items c.in_ok-parts.parts.items) (leadings first c.args.when c.args.parts.now) OutMoves (States (k.set c.args.layer.now) ∷ []) c.in-Err.halt made c.in-Err.ensures.halted
-    (named first c.args.when l c.args.parts.now all.1) (the_set (first.set c.args.layer.now) all.0 (ap States set_is), tt))
+    (told first k new l (move_items c.in_ok-parts.parts.items) (leadings first c.args.when c.args.parts.now) (OutMoves c.args.when) (States (k.set c.args.layer.now) ∷ []) c.in-Err.halt made c.in-Err.ensures.halted
+    (made_moves first l c.args.when c.args.parts.now all.1) (first.set c.args.layer.now, all.0, ap (λ s. States s ∷ []) set_is))
 
 pub returns-in_err-parts-clause-told : goal.returns-in_err-parts-clause-told
 returns-in_err-parts-clause-told g c = λ l all.

@@ -1,13 +1,13 @@
 use Rattle.std.proofs.Common.{◌∙◌, ◌+◌, ◌++◌, ◌∷◌, [], List, map, take, ap, subst, sym, refl, arith}
 use Rattle.std.proofs.lemmas.List.{map-append, take_all}
-use Rattle.regions.specs.Kept.{Meaning, HasRegion}
+use Rattle.regions.specs.Kept.{Meaning, HasRegion, Outputs}
 use Rattle.gr1_sys.specs.Held.{HasEach}
-use Rattle.controller.specs.Aims.{leading}
+
 use Rattle.controller.specs.Owned.{MakesAll, aim_items, aims_items}
-use Rattle.controller.specs.Made.{IsOfLayers, AreOfLayers, AreLike, leadings, parts_for, regions_for}
+use Rattle.controller.specs.Made.{IsIn, AreTargets, AreLike, leadings, parts_for, regions_for}
 use Rattle.controller.proofs.Holdings.{same_then}
 use Rattle.controller.proofs.Owning.{aims_items-push}
-use Rattle.controller.proofs.Makings.{every_layer, every_layers_take, take_next, has_every, has_each, each_stays, of_layers_stay, leadings_stay, nothing_made, makes_next, still_all, made_and_spent, named, told_after, told_still, regions_for-push, like_push, as_many}
+use Rattle.controller.proofs.Makings.{every_layer, every_layers_take, take_next, has_every, has_each, each_stays, targets_stay, leadings_stay, nothing_made, makes_next, still_all, made_and_spent, made_moves, told_after, told_still, regions_for-push, like_push, as_many}
 use Rattle.controller.proofs.making.aims_into.Goals as goal
 
 pub loop-layer-init : goal.loop-layer-init
@@ -49,12 +49,12 @@ loop-layer-preserved g c =
     let i = c.loop-layer.layer-index in
     let rs = item.y ∷ parts_for when item in
     let each = has_each first rs (every_layer (HasRegion first) when layers i item (has_every first (regions_for when layers) c.requires.layers) c.loop-layer-test.true c.layer-item.is) in
-    let stays = leadings_stay first k (g.met.G.Regions.exact _) (λ w. omega (arith, made.held w)) when rs inv.same each in
+    let stays = leadings_stay first k (g.met.G.Regions.exact _) (λ w. omega (arith, made.held w)) when rs each in
     let own : MakesAll k new (aim_items aim) (leadings k when rs) = subst (λ (ps : List _). MakesAll k new (aim_items aim) (leadings k when (item.y ∷ ps))) c.parts_for.ensures c.in-Ok-aim_into.ensures.made in
     let part : MakesAll k new (aim_items aim) (leadings first when rs) = subst (MakesAll k new (aim_items aim)) stays own in
     let many = as_many k k new aim when item.y (parts_for when item) own in
     let taken = take_next layers i item c.loop-layer-test.true c.layer-item.is in
-    let f : _ → Meaning = λ r. leading first.game when (first.set r) in
+    let f : _ → Meaning = λ r. Outputs when (first.set r) in
     record {
       made = makes_next first k new (aims_items c.loop-layer.aims.items) (aim_items aim) _ (leadings first when (regions_for when (take i layers))) (leadings first when rs) _
           (ap aims_items c.push_reserved.ensures.items ∙ aims_items-push c.loop-layer.aims.items aim)
@@ -88,11 +88,11 @@ returns-in-Err-clause-told g c = λ l all.
     let i = c.loop-layer.layer-index in
     let rs = item.y ∷ parts_for when item in
     let each = has_each first rs (every_layer (HasRegion first) when layers i item (has_every first (regions_for when layers) c.requires.layers) c.loop-layer-test.true c.layer-item.is) in
-    let of = of_layers_stay first k (g.met.G.Regions.exact _) (λ w. omega (arith, made.held w)) l rs each (every_layer (λ r. IsOfLayers l (first.set r)) when layers i item all c.loop-layer-test.true c.layer-item.is) in
+    let of = targets_stay first k (g.met.G.Regions.exact _) (λ w. omega (arith, made.held w)) l when rs each (every_layer (λ r. IsIn (first.set r) (l when)) when layers i item all c.loop-layer-test.true c.layer-item.is) in
     told_still first new (kept c.spend_aims.new.g) l c.in-Err.halt c.spend_aims.ensures.spends.jam
     (told_after first k new l (aims_items c.loop-layer.aims.items) (leadings first when (regions_for when (take i layers))) c.in-Err.halt made c.loop-layer.invariant.same
-    (named first when l (regions_for when (take i layers)) (every_layers_take (λ r. IsOfLayers l (first.set r)) when i layers all))
-    (c.in-Err.ensures.told l (subst (λ (ps : List _). AreOfLayers l k (item.y ∷ ps)) (sym c.parts_for.ensures) of)))
+    (made_moves first l when (regions_for when (take i layers)) (every_layers_take (λ r. IsIn (first.set r) (l when)) when i layers all))
+    (c.in-Err.ensures.told l (subst (λ (ps : List _). AreTargets l when k (item.y ∷ ps)) (sym c.parts_for.ensures) of)))
 
 pub returns-clause-made : goal.returns-clause-made
 returns-clause-made g c =

@@ -1,14 +1,14 @@
 use Rattle.std.proofs.Common.{◌∙◌, ◌+◌, ◌++◌, ◌∷◌, [], List, map, take, ap, subst, sym, refl, arith}
 use Rattle.std.proofs.lemmas.List.{map-append, take_all}
-use Rattle.regions.specs.Kept.{Meaning, HasRegion}
+use Rattle.regions.specs.Kept.{Meaning, HasRegion, Outputs}
 use Rattle.regions.specs.declared.types.When.TheVariants.{Later}
 use Rattle.gr1_sys.specs.Held.{HasEach, goal_regions, all_regions}
-use Rattle.controller.specs.Aims.{leading}
+
 use Rattle.controller.specs.Owned.{MakesAll, aims_items, all_aims_items}
-use Rattle.controller.specs.Made.{IsOfLayers, AreOfLayers, AreLike, AreAllLike, leadings, regions_for}
+use Rattle.controller.specs.Made.{IsIn, AreTargets, AreLike, AreAllLike, leadings, regions_for}
 use Rattle.controller.proofs.Holdings.{same_then}
 use Rattle.controller.proofs.Owning.{all_aims_items-push}
-use Rattle.controller.proofs.Makings.{every_goal, every_goals_take, take_next, has_every, has_each, each_stays, of_layers_stay, leadings_stay, nothing_made, makes_next, still_all, made_and_spent, named, told_after, told_still, all_regions-push, later_regions, all_like_push}
+use Rattle.controller.proofs.Makings.{every_goal, every_goals_take, take_next, has_every, has_each, each_stays, targets_stay, leadings_stay, nothing_made, makes_next, still_all, made_and_spent, made_moves, told_after, told_still, all_regions-push, later_regions, all_like_push}
 use Rattle.controller.proofs.making.later_aims.Goals as goal
 
 pub loop-goal-init : goal.loop-goal-init
@@ -50,12 +50,12 @@ loop-goal-preserved g c =
     let i = c.loop-goal.goal-index in
     let rs = goal_regions item.items in
     let each = has_each first rs (every_goal (HasRegion first) layers i item (has_every first (all_regions layers) c.requires.layers) c.loop-goal-test.true c.goal-item.is) in
-    let stays = leadings_stay first k (g.met.G.Regions.exact _) (λ w. omega (arith, made.held w)) Later rs inv.same each in
+    let stays = leadings_stay first k (g.met.G.Regions.exact _) (λ w. omega (arith, made.held w)) Later rs each in
     let are = ap (regions_for Later) c.deref.ensures.value ∙ later_regions item.items in
     let own : MakesAll k new (aims_items aims.items) (leadings k Later rs) = subst (λ (qs : List _). MakesAll k new (aims_items aims.items) (leadings k Later qs)) are c.in-Ok-aims_into.ensures.made in
     let part : MakesAll k new (aims_items aims.items) (leadings first Later rs) = subst (MakesAll k new (aims_items aims.items)) stays own in
     let taken = take_next layers i item c.loop-goal-test.true c.goal-item.is in
-    let f : _ → Meaning = λ r. leading first.game Later (first.set r) in
+    let f : _ → Meaning = λ r. Outputs Later (first.set r) in
     record {
       made = makes_next first k new (all_aims_items c.loop-goal.goals.items) (aims_items aims.items) _ (leadings first Later (all_regions (take i layers))) (leadings first Later rs) _
           (ap all_aims_items c.push_reserved.ensures.items ∙ all_aims_items-push c.loop-goal.goals.items aims)
@@ -88,11 +88,11 @@ returns-in-Err-clause-told g c = λ l all.
     let i = c.loop-goal.goal-index in
     let rs = goal_regions item.items in
     let each = has_each first rs (every_goal (HasRegion first) layers i item (has_every first (all_regions layers) c.requires.layers) c.loop-goal-test.true c.goal-item.is) in
-    let of = of_layers_stay first k (g.met.G.Regions.exact _) (λ w. omega (arith, made.held w)) l rs each (every_goal (λ r. IsOfLayers l (first.set r)) layers i item all c.loop-goal-test.true c.goal-item.is) in
+    let of = targets_stay first k (g.met.G.Regions.exact _) (λ w. omega (arith, made.held w)) l Later rs each (every_goal (λ r. IsIn (first.set r) (l Later)) layers i item all c.loop-goal-test.true c.goal-item.is) in
     told_still first new (kept c.spend_all_aims.new.g) l c.in-Err.halt c.spend_all_aims.ensures.spends.jam
     (told_after first k new l (all_aims_items c.loop-goal.goals.items) (leadings first Later (all_regions (take i layers))) c.in-Err.halt made c.loop-goal.invariant.same
-    (named first Later l (all_regions (take i layers)) (every_goals_take (λ r. IsOfLayers l (first.set r)) i layers all))
-    (c.in-Err.ensures.told l (subst (AreOfLayers l k) (sym (later_regions item.items) ∙ ap (regions_for Later) (sym c.deref.ensures.value)) of)))
+    (made_moves first l Later (all_regions (take i layers)) (every_goals_take (λ r. IsIn (first.set r) (l Later)) i layers all))
+    (c.in-Err.ensures.told l (subst (AreTargets l Later k) (sym (later_regions item.items) ∙ ap (regions_for Later) (sym c.deref.ensures.value)) of)))
 
 pub returns-clause-made : goal.returns-clause-made
 returns-clause-made g c =

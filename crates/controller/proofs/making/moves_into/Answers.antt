@@ -1,11 +1,11 @@
 use Rattle.std.proofs.Common.{◌∙◌, ◌+◌, ◌∷◌, [], List, map, take, ap, subst, sym, refl, arith}
 use Rattle.std.proofs.lemmas.List.{map-append, take_all}
-use Rattle.regions.specs.Kept.{Move, Meaning, States, OutMoves, HasRegion}
-use Rattle.controller.specs.Aims.{leading}
+use Rattle.regions.specs.Kept.{Move, Meaning, States, OutMoves, HasRegion, Outputs}
+
 use Rattle.controller.specs.Owned.{MakesAll, move_items}
-use Rattle.controller.specs.Made.{IsOfLayers, the_set, leadings}
+use Rattle.controller.specs.Made.{IsIn, leadings}
 use Rattle.controller.proofs.Holdings.{same_then}
-use Rattle.controller.proofs.Makings.{every_at, every_take, take_next, has_every, region_stays, set_stays, leading_stays, nothing_made, makes_one, makes_next, still_all, made_and_spent, named, told, told_still}
+use Rattle.controller.proofs.Makings.{every_at, every_take, take_next, has_every, region_stays, set_stays, nothing_made, makes_one, makes_next, still_all, made_and_spent, made_moves, told, told_still}
 use Rattle.controller.proofs.making.moves_into.Goals as goal
 
 pub loop-r-init : goal.loop-r-init
@@ -42,12 +42,12 @@ loop-r-preserved g c =
     let when = c.args.when in
     let regions = c.args.regions.now in
     let here = every_at (HasRegion first) regions c.loop-r.r-index r (has_every first regions c.requires.regions) c.loop-r-test.true c.r-item.is in
-    let stays = leading_stays first k (g.met.G.Regions.exact _) (λ w. omega (arith, made.held w)) when r inv.same here in
-    let part : MakesAll k new (Move m ∷ []) (leading first.game when (first.set r) ∷ []) =
-    subst (λ (n : Meaning). MakesAll k new (Move m ∷ []) (n ∷ [])) stays (makes_one k new (Move m) (leading k.game when (k.set r)) c.in-Ok-out_moves.ensures.made) in
-    let f : _ → Meaning = λ r. leading first.game when (first.set r) in
+    let stays = ap (Outputs when) (set_stays first k (g.met.G.Regions.exact _) (λ w. omega (arith, made.held w)) r here) in
+    let part : MakesAll k new (Move m ∷ []) (Outputs when (first.set r) ∷ []) =
+    subst (λ (n : Meaning). MakesAll k new (Move m ∷ []) (n ∷ [])) stays (makes_one k new (Move m) (Outputs when (k.set r)) c.in-Ok-out_moves.ensures.made) in
+    let f : _ → Meaning = λ r. Outputs when (first.set r) in
     record {
-      made = makes_next first k new (move_items c.loop-r.moves.items) (Move m ∷ []) _ (leadings first when (take c.loop-r.r-index regions)) (leading first.game when (first.set r) ∷ []) _
+      made = makes_next first k new (move_items c.loop-r.moves.items) (Move m ∷ []) _ (leadings first when (take c.loop-r.r-index regions)) (Outputs when (first.set r) ∷ []) _
           (ap move_items c.push_reserved.ensures.items ∙ map-append Move c.loop-r.moves.items (m ∷ []))
           (ap (map f) (take_next regions c.loop-r.r-index r c.loop-r-test.true c.r-item.is) ∙ map-append f (take c.loop-r.r-index regions) (r ∷ [])) made part;
       counted = c.push_reserved.ensures.len ∙ ap (λ n. n + 1) inv.counted;
@@ -76,10 +76,10 @@ returns-in-Err-clause-told g c = λ l all.
     let regions = c.args.regions.now in
     let here = every_at (HasRegion first) regions c.loop-r.r-index r (has_every first regions c.requires.regions) c.loop-r-test.true c.r-item.is in
     let set_is = set_stays first k (g.met.G.Regions.exact _) (λ w. omega (arith, made.held w)) r here in
-    let of = every_at (λ r. IsOfLayers l (first.set r)) regions c.loop-r.r-index r all c.loop-r-test.true c.r-item.is in
+    let of = every_at (λ r. IsIn (first.set r) (l c.args.when)) regions c.loop-r.r-index r all c.loop-r-test.true c.r-item.is in
     told_still first new (kept c.spend_moves.new.g) l c.in-Err.halt c.spend_moves.ensures.spends.jam
-    (told first k new l (move_items c.loop-r.moves.items) (leadings first c.args.when (take c.loop-r.r-index regions)) OutMoves (States (k.set r) ∷ []) c.in-Err.halt made c.in-Err.ensures.halted
-    (named first c.args.when l (take c.loop-r.r-index regions) (every_take (λ r. IsOfLayers l (first.set r)) c.loop-r.r-index regions all)) (the_set (first.set r) of (ap States set_is), tt))
+    (told first k new l (move_items c.loop-r.moves.items) (leadings first c.args.when (take c.loop-r.r-index regions)) (OutMoves c.args.when) (States (k.set r) ∷ []) c.in-Err.halt made c.in-Err.ensures.halted
+    (made_moves first l c.args.when (take c.loop-r.r-index regions) (every_take (λ r. IsIn (first.set r) (l c.args.when)) c.loop-r.r-index regions all)) (first.set r, of, ap (λ s. States s ∷ []) set_is))
 
 pub returns-clause-made : goal.returns-clause-made
 returns-clause-made g c =

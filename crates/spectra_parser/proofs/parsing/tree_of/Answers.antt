@@ -9,26 +9,29 @@ use Rattle.spectra_trees.specs.Lexemes.{Lexeme, lexemes_of}
 use Rattle.spectra_exprs.specs.Read.{Fails}
 use Rattle.spectra_parser.specs.Items.{text_of}
 use Rattle.spectra_parser.specs.Unbuilt.{first_unbuilt}
-use Rattle.spectra_parser.specs.Texts.{HasTree, IsWholeFrom, BeginText, IsRefused, IsTooDeep, IsBuilt, Explains, refusal}
+use Rattle.spectra_parser.specs.Texts.{HasTree, IsWholeFrom, BeginText, IsShallow, IsRefused, IsTooDeep, IsBuilt, Explains, refusal}
 use Rattle.spectra_parser.proofs.WholeText.{text_got}
 use Rattle.spectra_parser.proofs.Places.{Refused, unexpected_refused, deep_refused, parentheses_refused, never_unsupported}
 use Rattle.spectra_parser.proofs.OpeningItems.{wide}
 use Rattle.spectra_parser.proofs.SoundItems.{n}
 use Rattle.spectra_parser.proofs.Beginnings.{unexpected_begun, deep_begun, deeper_begun, parentheses_begun, behind_phrase}
+use Rattle.spectra_parser.proofs.CountingTexts.{unexpected_shallow, parentheses_shallow, deep_shallow, deep_level}
 use Rattle.spectra_parser.proofs.NoPhrase.{no_phrase_behind}
 use Rattle.spectra_parser.proofs.parsing.tree_of.Goals as goal
 
 -- a token at which reading stops is refused, and what stands before it begins a text
-is_refused : (ts : List Lexeme) (at : ℕ) → ((left : ℕ) → Refused left ts at) → BeginText wide (take at ts) → IsRefused ts at
-is_refused ts at r b = record { within = (r 0).within; refused = λ left. (r left).refused; begun = (wide, b) }
+is_refused : (ts : List Lexeme) (at : ℕ) → ((left : ℕ) → Refused left ts at) → BeginText wide (take at ts) → IsShallow ts at → IsRefused ts at
+is_refused ts at r b s = record { within = (r 0).within; refused = λ left. (r left).refused; begun = (wide, b); shallow = s }
 
-is_too_deep : (ts : List Lexeme) (at : ℕ) → Refused n ts at → BeginText wide (take at ts) → BeginText wide (take (at + 1) ts) → IsTooDeep ts at
-is_too_deep ts at r b d = record { within = r.within; refused = r.refused; begun = (wide, b); deeper = (wide, d) }
+is_too_deep : (ts : List Lexeme) (at : ℕ) → IsWholeFrom 0 ts → text_of ts ≡ Err (faults.TooDeep at) → IsTooDeep ts at
+is_too_deep ts at w h =
+    let r = deep_refused ts at w h in
+    record { within = r.within; refused = r.refused; begun = (wide, deep_begun ts at w h); deeper = (wide, deeper_begun ts at w h); shallow = deep_shallow ts at w h; level = deep_level ts at w h }
 
 explained : (ts : List Lexeme) (f : SyntaxFault) → IsWholeFrom 0 ts → Fails f (text_of ts) → Explains ts (refusal f)
-explained ts (faults.Unexpected at) w h = (is_refused ts at (unexpected_refused ts at w h) (unexpected_begun ts at w h), no_phrase_behind ts at w h)
-explained ts (faults.TooDeep at) w h = is_too_deep ts at (deep_refused ts at w h) (deep_begun ts at w h) (deeper_begun ts at w h)
-explained ts (faults.Parentheses at) w h = (is_refused ts at (parentheses_refused ts at w h) (parentheses_begun ts at w h), behind_phrase ts at h)
+explained ts (faults.Unexpected at) w h = (is_refused ts at (unexpected_refused ts at w h) (unexpected_begun ts at w h) (unexpected_shallow ts at w h), no_phrase_behind ts at w h)
+explained ts (faults.TooDeep at) w h = is_too_deep ts at w h
+explained ts (faults.Parentheses at) w h = (is_refused ts at (parentheses_refused ts at w h) (parentheses_begun ts at w h) (parentheses_shallow ts at w h), behind_phrase ts at h)
 explained ts (faults.Unsupported at) w h = absurd (never_unsupported ts at w h)
 explained ts faults.Memory w h = tt
 

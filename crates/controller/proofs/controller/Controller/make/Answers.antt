@@ -1,16 +1,16 @@
 use Rattle.std.proofs.Common.{◌∙◌, ◌∷◌, List, None, refl, sym, subst}
 use Rattle.spec_model.specs.Games.{GameData}
 use Rattle.hidden_game.specs.Judged.{IsJudgeOf}
-use Rattle.regions.specs.declared.types.When.TheVariants.{First}
+use Rattle.regions.specs.declared.types.When.TheVariants.{First, Later}
 use Rattle.gr1_law.specs.Choice.{first_memory, ChosenPlay}
 use Rattle.gr1_sys.specs.Held.{HasEach, all_regions}
 use Rattle.controller.specs.Owned.{MakesAll, made_items}
-use Rattle.controller.specs.Made.{AreOfLayers, AreLike, AreAllLike, first_layers, made_meanings}
+use Rattle.controller.specs.Made.{AreTargets, targets_of, AreLike, AreAllLike, regions_for, first_layers, made_meanings}
 use Rattle.controller.specs.Places.{IsAt}
 use Rattle.controller.proofs.Holdings.{same_then}
 use Rattle.controller.proofs.Owning.{regions_still, regions_gone}
-use Rattle.controller.proofs.Makings.{told_still}
-use Rattle.controller.proofs.Begun.{none_yet, layers_each, layers_of, sound, owned}
+use Rattle.controller.proofs.Makings.{told_still, every_in}
+use Rattle.controller.proofs.Begun.{none_yet, layers_each, sound, owned}
 use Rattle.controller.proofs.controller.Controller.make.Goals as goal
 
 pub equip-requires-clause-layers : goal.equip-requires-clause-layers
@@ -66,9 +66,13 @@ returns-in-Err-clause-refused g c = λ l own.
     let k1 = kept c.equip.new.g in
     let k2 = kept c.spend_all-in-Err.new.g in
     let all = c.args.layers in
+    let layers = all.goals.items in
+    let targets = targets_of k layers in
     record {
       held = regions_gone k k1 k2 (all.z ∷ all_regions all.goals.items) (g.met.G.Regions.exact _) own.held c.in-Err.ensures.halted c.spend_all-in-Err.ensures.spends;
-      told = told_still k k1 k2 l c.in-Err.halt c.spend_all-in-Err.ensures.spends.jam
-          (c.in-Err.ensures.told l (subst (λ (list : List _). AreOfLayers l k (all_regions list)) (sym c.deref.ensures.value) (layers_of k all.z all.goals.items l own)));
+      told = told_still k k1 k2 targets c.in-Err.halt c.spend_all-in-Err.ensures.spends.jam
+          (c.in-Err.ensures.told targets
+          (subst (λ (list : List _). AreTargets targets First k (regions_for First (first_layers list))) (sym c.deref.ensures.value) (every_in k.set (regions_for First (first_layers layers))))
+          (subst (λ (list : List _). AreTargets targets Later k (all_regions list)) (sym c.deref.ensures.value) (every_in k.set (all_regions layers))));
       game = same_then k k1 k2 c.equip.ensures.same c.spend_all-in-Err.ensures.same;
     }

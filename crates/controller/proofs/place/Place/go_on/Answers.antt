@@ -30,6 +30,8 @@ returns c = λ b m here closed.
     record {
       started = refl;
       listed = lists;
+      read = c.write_next.ensures.cells (reached g b x y) closed.state (lists ∙ sym c.deref-2.ensures.value);
+      cells = c.write_next.ensures.tables;
       next = c.write_next.ensures.value (reached g b x y) closed.state (lists ∙ sym c.deref-2.ensures.value);
       tables = c.write_next.ensures.room;
       room = ap (λ (vs : List Value). length vs) (sym lists) ∙ room_next g c.args.self.now b m here x y closed;

@@ -22,6 +22,8 @@ returns c =
     record {
       started = refl;
       listed = refl;
+      read = tt;
+      cells = omega (arith, many, c.in_ok-vec-2.ensures.len, length-map c.args.game.now.hidden.items hidden_data);
       next = c.write_first.ensures.value;
       tables = c.write_first.ensures.room;
       room = omega (arith, many, ins, outs, sized, length-map c.args.game.now.hidden.items hidden_data);

@@ -1,0 +1,101 @@
+-- The levels of nesting that are open behind some tokens, counted by the tokens' classes alone.
+use Rattle.std.specs.Prelude.{ℕ, suc, ◌||◌, Bool, true, false, List, [], ◌∷◌, if◌then◌else◌}
+use Rattle.spectra_trees.specs.declared.class.Class.{Class}
+use Rattle.spectra_trees.specs.declared.class.Class.TheVariants as classes
+use Rattle.spectra_trees.specs.Classes.{same_class}
+use Rattle.spectra_trees.specs.Lexemes.{Lexeme}
+
+-- what is open: an operator before an operand that isn't complete, a bracket that is a level, and a bracket that is none
+pub data Opening : Type 0 where
+  Prefix : Opening
+  Level : Opening
+  Plain : Opening
+
+-- what is open, the last first, and whether "(" would open no level here
+pub record Nesting : Type 0 where
+  pub stack : List Opening
+  pub plain : Bool
+
+-- what a token is to nesting: an operator before its operand, "(", "[", ")" or "]", a name, what else is of an operand
+-- outside its brackets, a colon, a word that makes a bracket behind it plain, and anything else
+pub data Part : Type 0 where
+  Prefix : Part
+  Open : Part
+  Square : Part
+  Close : Part
+  Name : Part
+  Operand : Part
+  Colon : Part
+  Head : Part
+  Other : Part
+
+unfoldable pub part_of : Class → Part
+part_of c =
+    if same_class c classes.Not || same_class c classes.Prev || same_class c classes.Once || same_class c classes.Historically then Part.Prefix
+    else if same_class c classes.Open then Part.Open
+    else if same_class c classes.OpenBracket then Part.Square
+    else if same_class c classes.Close || same_class c classes.CloseBracket then Part.Close
+    else if same_class c classes.Name then Part.Name
+    else if same_class c classes.True || same_class c classes.False || same_class c classes.Number || same_class c classes.Minus || same_class c classes.Next then Part.Operand
+    else if same_class c classes.Colon then Part.Colon
+    else if same_class c classes.Int || same_class c classes.Predicate || same_class c classes.Pattern || same_class c classes.Asm || same_class c classes.Gar then Part.Head
+    else Part.Other
+
+-- what is left open where an operand is complete
+abbrev pub completed : List Opening → List Opening
+completed [] = []
+completed (Opening.Prefix ∷ stack) = completed stack
+completed (Opening.Level ∷ stack) = Opening.Level ∷ stack
+completed (Opening.Plain ∷ stack) = Opening.Plain ∷ stack
+
+-- what is left open where the last bracket is closed
+abbrev pub without_last : List Opening → List Opening
+without_last [] = []
+without_last (opening ∷ stack) = stack
+
+-- what is open behind one more token; an operand is complete where a token comes that is of none
+abbrev pub stacked : Part → Bool → List Opening → List Opening
+stacked Part.Prefix plain stack = Opening.Prefix ∷ stack
+stacked Part.Open true stack = Opening.Plain ∷ stack
+stacked Part.Open false stack = Opening.Level ∷ stack
+stacked Part.Square plain stack = Opening.Level ∷ stack
+stacked Part.Close plain stack = without_last (completed stack)
+stacked Part.Name plain stack = stack
+stacked Part.Operand plain stack = stack
+stacked Part.Colon plain stack = completed stack
+stacked Part.Head plain stack = completed stack
+stacked Part.Other plain stack = completed stack
+
+-- the bracket is plain behind `Int`, `predicate`, `pattern`, ASM and GAR, also where names and colons stand between
+abbrev pub plain_behind : Part → Bool → Bool
+plain_behind Part.Prefix plain = false
+plain_behind Part.Open plain = false
+plain_behind Part.Square plain = false
+plain_behind Part.Close plain = false
+plain_behind Part.Name plain = plain
+plain_behind Part.Operand plain = false
+plain_behind Part.Colon plain = plain
+plain_behind Part.Head plain = true
+plain_behind Part.Other plain = false
+
+abbrev pub nested : Part → Nesting → Nesting
+nested part n = record { stack = stacked part n.plain n.stack; plain = plain_behind part n.plain }
+
+abbrev pub behind : Nesting → List Lexeme → Nesting
+behind n [] = n
+behind n (t ∷ ts) = behind (nested (part_of t.class) n) ts
+
+-- an operator and a bracket are one level each, and a plain bracket is none
+abbrev pub levels_of : List Opening → ℕ
+levels_of [] = 0
+levels_of (Opening.Prefix ∷ stack) = suc (levels_of stack)
+levels_of (Opening.Level ∷ stack) = suc (levels_of stack)
+levels_of (Opening.Plain ∷ stack) = levels_of stack
+
+-- before the first token nothing is open
+abbrev pub unopened : Nesting
+unopened = record { stack = []; plain = false }
+
+-- the levels that are open behind these tokens, which are the first ones of a text
+abbrev pub open_levels : List Lexeme → ℕ
+open_levels ts = levels_of (behind unopened ts).stack
