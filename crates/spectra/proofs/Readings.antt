@@ -1,6 +1,7 @@
 -- What follows for a whole text from what its tokens, its tree and its specification are.
-use Rattle.std.proofs.Common.{◌≡◌, ℕ, true, List, [], ◌∷◌, map, refl, sym, ap, subst, ◌∙◌}
+use Rattle.std.proofs.Common.{◌≡◌, ℕ, List, [], ◌∷◌, sym, ap, subst, ◌∙◌}
 use Rattle.spec_model.specs.Syntax.{Specification}
+use Rattle.spec_model.specs.WellTyped.{WellTyped}
 use Rattle.spectra_lexer.specs.declared.token.Token.{Token}
 use Rattle.spectra_lexer.specs.Tokens.{AreTokens}
 use Rattle.spectra_trees.specs.Data.{TreeData}
@@ -9,6 +10,7 @@ use Rattle.spectra_parser.specs.Texts.{IsText, IsBuilt}
 use Rattle.spectra_lexer.proofs.Unique.{one_list_of_tokens}
 use Rattle.spectra_parser.proofs.WholeText.{one_tree}
 use Rattle.spectra_types.specs.Meanings.{meaning_of}
+use Rattle.spectra_types.proofs.Answered.{means_typed}
 use Rattle.spectra.specs.Reading.{Reads}
 use Rattle.spectra.proofs.SpelledTokens.{named_tokens}
 use Rattle.spectra.proofs.BuiltTexts.{BuiltTree, built_texts}
@@ -26,3 +28,9 @@ pub only_built : (text : List ℕ) (tokens : List Token) (tree other : TreeData)
 only_built text tokens tree other lexed built same =
     let is : tree ≡ other = cc in
     subst BuiltTree is (built_texts _ (lexemes text tokens) tree built.grammar built.built (named_tokens text tokens lexed))
+
+-- what a text means is well typed
+pub typed_meaning : (text : List ℕ) (s : Specification) → Reads text s → WellTyped s
+typed_meaning text s reads =
+    let built = built_texts _ (lexemes text reads.tokens) reads.tree reads.parsed.grammar reads.parsed.built (named_tokens text reads.tokens reads.lexed) in
+    means_typed reads.tree s built.shaped built.built built.spelled reads.means

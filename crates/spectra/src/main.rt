@@ -17,6 +17,7 @@ mod saying;
 mod serving;
 mod status;
 mod top;
+mod typed_laws;
 
 use sp_outside::{OutOfMemory, RealShelf, RealSink, RealSource};
 use status::Status;
