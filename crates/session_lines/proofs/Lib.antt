@@ -9,3 +9,4 @@ mod ShownIsRead
 mod Slices
 mod Values
 mod Words
+mod TypedNames

@@ -15,6 +15,7 @@ mod print;
 mod read;
 mod reader;
 mod row;
+pub mod typed_laws;
 mod value;
 mod word;
 

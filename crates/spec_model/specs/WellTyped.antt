@@ -1,5 +1,5 @@
 -- Which specifications are well typed: each formula has its kind and stands where it may, and no limit is passed.
-use Rattle.std.specs.Prelude.{ℕ, suc, ◌+◌, ◌*◌, ◌≤◌, length, Bool, true, false, not, ◌&&◌, ◌||◌, ◌==◌, nat_lt, nat_le, List, [], ◌∷◌, ◌++◌, Some, None, map, replicate, count_by, option_map, unwrap_or, slice_get, sum_by, IsTrue}
+use Rattle.std.specs.Prelude.{ℕ, suc, ◌+◌, ◌*◌, ◌≤◌, length, Bool, true, false, not, ◌&&◌, ◌||◌, ◌==◌, nat_lt, nat_le, List, [], ◌∷◌, ◌++◌, Some, None, map, replicate, count_by, option_map, unwrap_or, slice_get, sum_by, All, IsTrue}
 use Rattle.std.specs.List.{list_all}
 use Rattle.spec_model.specs.declared.value.Value.TheVariants as value
 use Rattle.spec_model.specs.Values.{Assignment, DomainData, TruthValues, WholeNumbers, Enumeration, assignments_of}
@@ -12,6 +12,7 @@ use Rattle.spec_model.specs.Sizes.{atoms_of, past_trees, domain_size, formulas_o
 use Rattle.spec_model.specs.Steps.{is_output_variable}
 use Rattle.spec_model.specs.Typing.{Scope, kind_of, is_truth, same_names}
 use Rattle.spec_model.specs.WellMade.{all_differ, is_domain}
+use Rattle.spec_model.specs.Names.{IsName}
 use Rattle.spec_model.specs.FormulaSizes.{nodes_in, levels_in}
 use Rattle.spec_model.specs.TriggerStates.{trigger_atoms, trigger_states}
 
@@ -243,8 +244,10 @@ all_hidden s = length (past_operators s) + count_by (λ l. is_hidden l.content) 
 pub record WellTyped (s : Specification) : Type 0 where
   pub few_names : length s.names ≤ 65_535
   pub different_names : IsTrue (all_differ same_names s.names)
+  pub spelled_names : All IsName s.names
   pub few_variables : length s.variables ≤ 1024
   pub different_variables : IsTrue (all_differ same_names (map (λ v. v.name) s.variables))
+  pub spelled_variables : All (λ v. IsName v.name) s.variables
   pub domains : IsTrue (list_all (λ v. is_domain_of (length s.names) v.domain) s.variables)
   pub patterns : IsTrue (list_all (is_typed_pattern (length s.names)) s.patterns)
   pub triggers : IsTrue (list_all (is_typed_trigger s) s.triggers)

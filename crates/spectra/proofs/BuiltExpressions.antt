@@ -1,5 +1,5 @@
 -- Expressions of clean tokens are built.
-use Rattle.std.proofs.Common.{◌≡◌, ℕ, zero, suc, Bool, true, false, ◌&&◌, ◌||◌, List, [], ◌∷◌, ◌++◌, Option, Some, None, if◌then◌else◌, refl, sym, ap, subst, ◌∙◌}
+use Rattle.std.proofs.Common.{◌≡◌, ℕ, zero, suc, Bool, true, false, List, [], ◌∷◌, ◌++◌, Option, Some, None, if◌then◌else◌, refl, sym, subst, ◌∙◌}
 use Rattle.std.proofs.lemmas.Bool.{and_parts, and_from, or_parts, false≢true}
 use Rattle.spectra_exprs.specs.declared.operators.Level.{Level}
 use Rattle.spectra_exprs.specs.declared.operators.Level.TheVariants as levels
@@ -11,15 +11,15 @@ use Rattle.spectra_trees.specs.declared.tree.PrefixWord.TheVariants as prefixes
 use Rattle.spectra_trees.specs.declared.tree.BinaryWord.{BinaryWord}
 use Rattle.spectra_trees.specs.declared.tree.BinaryWord.TheVariants as binaries
 use Rattle.spectra_trees.specs.Classes.{same_class}
-use Rattle.spectra_trees.specs.Data.{Expression, Form, expression, Expressions, expressions, first_of}
+use Rattle.spectra_trees.specs.Data.{Expression, Form, expression, expressions, first_of}
 use Rattle.spectra_trees.specs.Lexemes.{Lexeme, name_of}
 use Rattle.spectra_exprs.specs.Operators.{prefix_word, operator_word, arrow_word, past_word, relation_word, sum_word}
 use Rattle.spectra_exprs.specs.Expressions.{leaf, between, opened, Term, Chain}
-use Rattle.spectra_exprs.specs.Forms.{Grammar, Gives, Token, ◌▸◌, ◌∣◌, Steps}
-use Rattle.spectra_exprs.specs.Grammar.{Operator, Prefix, OrSign, Deeper, Literal, Prim, Prefixed, Operand, Times, Prod, Plus, Modulo, Alone, Sum, Side, Cmp, Conjunct, Conj, Disjunct, Disj, ExprOf, Argument, Arguments, Nothing, Levels}
+use Rattle.spectra_exprs.specs.Forms.{Gives, Token, ◌▸◌, ◌∣◌}
+use Rattle.spectra_exprs.specs.Grammar.{Operator, Prefix, OrSign, Deeper, Literal, Prim, Prefixed, Operand, Times, Prod, Plus, Modulo, Alone, Sum, Side, Cmp, Conjunct, Conj, Disjunct, Disj, ExprOf, Argument, Arguments, Levels}
 use Rattle.spectra_parser.specs.Unbuilt.{unbuilt_operator}
-use Rattle.spectra_types.specs.Built.{is_built_prefix, is_built_binary, is_built, is_built_form, are_built}
-use Rattle.spectra.proofs.Clean.{IsClean, AreClean, Makes, makes_gives, makes_either, makes_steps, makes_then, IsToken, makes_token}
+use Rattle.spectra_types.specs.Built.{is_built_prefix, is_built_binary, is_built, are_built}
+use Rattle.spectra.proofs.Clean.{AreClean, Makes, makes_gives, makes_either, makes_steps, makes_then, IsToken, makes_token}
 
 abbrev pub Built : Expression → Type 0
 Built e = is_built e ≡ true

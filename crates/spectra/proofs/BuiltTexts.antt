@@ -1,26 +1,30 @@
--- Texts without unbuilt tokens have built trees, whose enums have names.
-use Rattle.std.proofs.Common.{◌≡◌, ℕ, suc, nat_lt, map, Bool, true, false, ◌&&◌, ◌||◌, List, [], ◌∷◌, ◌++◌, length, ◌==◌, Option, Some, None, ◌⊎◌, inl, inr, if◌then◌else◌, refl, sym, ap, subst, ◌∙◌, arith, append_assoc}
+-- Texts without unbuilt tokens have built trees, whose enums have names, and whose names are spelled as names.
+use Rattle.std.proofs.Common.{◌≡◌, ℕ, suc, nat_lt, map, flat_map, All, Bool, true, List, [], ◌∷◌, ◌++◌, length, ◌==◌, Option, Some, None, inl, inr, refl, sym, ap, subst, ◌∙◌, arith, append_assoc}
 use Rattle.std.specs.List.{list_all}
-use Rattle.std.proofs.lemmas.Bool.{and_parts, and_from, or_parts, false≢true}
+use Rattle.std.proofs.lemmas.Bool.{and_parts, and_from}
 use Rattle.std.proofs.lemmas.Bool.Decides.{Decides-ltb}
+use Rattle.std.proofs.lemmas.List.Elements.{All-nil, All-cons, All-push, All-append, All-same}
+use Rattle.std.proofs.lemmas.List.Concat.{flat_map-append}
 use Rattle.spec_model.specs.declared.spec.Role.{Role}
-use Rattle.spec_model.specs.declared.spec.Role.TheVariants.{Assumption, Guarantee}
+use Rattle.spec_model.specs.Names.{IsName}
 use Rattle.spectra_trees.specs.declared.class.Class.{Class}
 use Rattle.spectra_trees.specs.declared.class.Class.TheVariants as classes
 use Rattle.spectra_trees.specs.declared.tree.Place.{Place}
 use Rattle.spectra_trees.specs.declared.tree.OwnerWord.{OwnerWord}
 use Rattle.spectra_trees.specs.Classes.{same_class}
-use Rattle.spectra_trees.specs.Data.{NameData, Expression, TypeData, TypeShape, BodyData, ItemData, TreeData}
+use Rattle.spectra_trees.specs.Data.{NameData, Expression, TypeData, TypeShape, VarData, BodyData, ItemData, TreeData}
 use Rattle.spectra_trees.specs.Lexemes.{Lexeme, name_of}
-use Rattle.spectra_exprs.specs.Read.{starts}
 use Rattle.spectra_exprs.specs.Forms.{Grammar, Gives, Token, ◌▸◌, ◌∣◌, Steps, done, one_more}
-use Rattle.spectra_exprs.specs.Grammar.{Sum, ExprOf, Levels}
-use Rattle.spectra_parser.specs.Unbuilt.{unbuilt_item, unbuilt_operator, begins_body, begins_unbuilt, unbuilt_from, first_unbuilt}
-use Rattle.spectra_parser.specs.Items.{role_word, Said}
-use Rattle.spectra_parser.specs.ItemGrammar.{Names, NameAfter, Bound, TypeIn, Owner, RoleOf, VardeclIn, TypedeclIn, DefinitionIn, DefinitionAfter, DefineIn, ParameterIn, ParameterAfter, ParametersIn, PredicateIn, PatternIn, MonitorIn, UseIn, BodyIn, SaidIn, LineOf, ItemIn, ItemAfter, ImportAfter, TextIn, Text}
+use Rattle.spectra_exprs.specs.Grammar.{ExprOf, Levels}
+use Rattle.spectra_parser.specs.Unbuilt.{begins_body, first_unbuilt}
+use Rattle.spectra_parser.specs.Items.{Said}
+use Rattle.spectra_parser.specs.ItemGrammar.{Names, NameAfter, Bound, TypeIn, Owner, VardeclIn, TypedeclIn, DefinitionIn, DefinitionAfter, DefineIn, ParameterIn, ParameterAfter, ParametersIn, PredicateIn, UseIn, BodyIn, SaidIn, LineOf, ItemIn, ItemAfter, ImportAfter, TextIn, Text}
+use Rattle.spectra_names.specs.Walks.{enum_names}
+use Rattle.spectra_names.specs.Spaces.{enum_names_of, variables_in}
 use Rattle.spectra_types.specs.Built.{is_built, is_built_type, is_built_body, is_built_item, is_built_tree}
-use Rattle.spectra_types.specs.Shapes.{has_names, types_of, has_shape}
-use Rattle.spectra.proofs.Clean.{IsClean, AreClean, clean_parts, Makes, makes_gives, makes_either, makes_steps, makes_then, IsToken, makes_token}
+use Rattle.spectra_types.specs.Shapes.{has_names, types_of, is_written_role, has_written_role, has_shape, IsSpelledTree}
+use Rattle.spectra.proofs.Clean.{AreNamed, AreClean, clean_parts, Makes, makes_gives, makes_either, makes_steps, makes_then, IsToken, makes_token}
+use Rattle.spectra.proofs.TextTokens.{no_item, neither_is, NoneFrom, one_less, front_clean, behind, no_use, colon_begins, role_begins, role_written}
 use Rattle.spectra.proofs.BuiltExpressions.{Built, BuiltTerm, MakesDeeper, makes_sum, makes_expr, makes_levels}
 
 -- ---- lists
@@ -29,101 +33,46 @@ joined_all : {X : Type 0} (test : X → Bool) (xs : List X) (x : X) → list_all
 joined_all test [] x all is = and_from (test x) true is refl
 joined_all test (y ∷ ys) x all is = let parts = and_parts (test y) (list_all test ys) all in and_from (test y) _ parts.0 (joined_all test ys x parts.1 is)
 
--- ---- classes
+abbrev IsSpelled : NameData → Type 0
+IsSpelled n = IsName n.text
 
--- the words that begin unbuilt items
-record IsNoItem (c : Class) : Type 0 where
-  imports : same_class c classes.Import ≡ false
-  monitor : same_class c classes.Monitor ≡ false
-  pattern : same_class c classes.Pattern ≡ false
-  trigger : same_class c classes.Trig ≡ false
+abbrev IsSpelledVariable : VarData → Type 0
+IsSpelledVariable v = IsName v.name.text
 
-no_item : (c : Class) → unbuilt_item c ≡ false → IsNoItem c
-unfolding unbuilt_item
-no_item c none =
-    let a = or_parts _ (same_class c classes.Trig) none in
-    let b = or_parts _ (same_class c classes.Pattern) a.0 in
-    let d = or_parts (same_class c classes.Import) (same_class c classes.Monitor) b.0 in
-    record { imports = d.0; monitor = d.1; pattern = b.1; trigger = a.1 }
+-- a list of names with those of one more element behind it
+pushed_enums : {X : Type 0} (f : X → List NameData) (xs : List X) (x : X) → All IsSpelled (flat_map f xs) → All IsSpelled (f x) → All IsSpelled (flat_map f (xs ++ x ∷ []))
+pushed_enums f xs x all more =
+    All-same IsSpelled _ _ (flat_map-append f xs (x ∷ [])) (All-append IsSpelled (flat_map f xs) (f x ++ []) all (All-append IsSpelled (f x) [] more (All-nil IsSpelled)))
 
-neither_is : {P : Type 0} (b : Bool) → b ≡ false → b ≡ true → P
-neither_is b out is = absurd (false≢true (sym out ∙ is))
+variables_joined : (is js : List ItemData) → variables_in (is ++ js) ≡ variables_in is ++ variables_in js
+variables_joined [] js = refl
+variables_joined (ItemData.Variable x ∷ is) js = ap (λ vs. x ∷ vs) (variables_joined is js)
+variables_joined (ItemData.Alias x ∷ is) js = variables_joined is js
+variables_joined (ItemData.Define x ∷ is) js = variables_joined is js
+variables_joined (ItemData.Predicate x ∷ is) js = variables_joined is js
+variables_joined (ItemData.Pattern x ∷ is) js = variables_joined is js
+variables_joined (ItemData.Monitor x ∷ is) js = variables_joined is js
+variables_joined (ItemData.Statement x ∷ is) js = variables_joined is js
 
--- ---- the tokens of a text
+pushed_variables : (is : List ItemData) (i : ItemData) → All IsSpelledVariable (variables_in is) → All IsSpelledVariable (variables_in (i ∷ [])) → All IsSpelledVariable (variables_in (is ++ i ∷ []))
+pushed_variables is i all one = All-same IsSpelledVariable _ _ (variables_joined is (i ∷ [])) (All-append IsSpelledVariable (variables_in is) (variables_in (i ∷ [])) all one)
 
--- among these tokens none begins an unbuilt form, behind two tokens of these classes
-abbrev NoneFrom : (two one : Class) → List Lexeme → Type 0
-NoneFrom two one ts = unbuilt_from two one ts ≡ None
-
-first_of_two : {X : Type 0} (b : Bool) (x : X) (rest : Option X) → (if b then Some x else rest) ≡ None → (b ≡ false) × (rest ≡ None)
-first_of_two true x rest e = absurd (cc)
-first_of_two false x rest e = (refl, e)
-
-one_less : (two one : Class) (t : Lexeme) (ts : List Lexeme) → NoneFrom two one (t ∷ ts) → (begins_unbuilt two one t ts ≡ false) × NoneFrom one t.class ts
-unfolding unbuilt_from
-one_less two one t ts none = first_of_two (begins_unbuilt two one t ts) t.number (unbuilt_from one t.class ts) none
-
-first_clean : (two one : Class) (t : Lexeme) (ts : List Lexeme) → begins_unbuilt two one t ts ≡ false → IsClean t
-unfolding begins_unbuilt
-first_clean two one t ts none =
-    let a = or_parts (unbuilt_item t.class || unbuilt_operator t.class) _ none in
-    let b = or_parts (unbuilt_item t.class) (unbuilt_operator t.class) a.0 in
-    record { item = b.0; operator = b.1 }
-
-all_clean : (two one : Class) (ts : List Lexeme) → NoneFrom two one ts → AreClean ts
-all_clean two one [] none = tt
-all_clean two one (t ∷ ts) none = let parts = one_less two one t ts none in (first_clean two one t ts parts.0, all_clean one t.class ts parts.1)
-
-front_clean : (two one : Class) (front back : List Lexeme) → NoneFrom two one (front ++ back) → AreClean front
-front_clean two one front back none = (clean_parts front back (all_clean two one (front ++ back) none)).0
-
--- what is behind a front
-record Behind (back : List Lexeme) : Type 0 where
-  two : Class
-  one : Class
-  none : NoneFrom two one back
-
-behind : (two one : Class) (front back : List Lexeme) → NoneFrom two one (front ++ back) → Behind back
-behind two one [] back none = record { two = two; one = one; none = none }
-behind two one (t ∷ front) back none = behind one t.class front back (one_less two one t (front ++ back) none).1
-
--- a name and a parenthesis where a body begins are a pattern's use
-no_use : (two one : Class) (n o : Lexeme) (rest : List Lexeme) → begins_body two one ≡ true → same_class n.class classes.Name ≡ true → same_class o.class classes.Open ≡ true →
-    NoneFrom two one (n ∷ o ∷ rest) → ⊥
-unfolding begins_unbuilt starts
-no_use two one n o rest begins is_name is_open none =
-    let a = or_parts (unbuilt_item n.class || unbuilt_operator n.class) _ (one_less two one n (o ∷ rest) none).0 in
-    false≢true (sym a.1 ∙ and_from (begins_body two one && same_class n.class classes.Name) (same_class o.class classes.Open) (and_from (begins_body two one) _ begins is_name) is_open)
-
-or_right : (a b : Bool) → b ≡ true → (a || b) ≡ true
-or_right true b is = refl
-or_right false b is = is
-
--- behind a line's name and its colon a body begins, and behind the line's first word
-colon_begins : (two one : Class) → same_class one classes.Colon ≡ true → same_class two classes.Name ≡ true → begins_body two one ≡ true
-unfolding begins_body
-colon_begins two one colon name = or_right (same_class one classes.Asm || same_class one classes.Gar) _ (and_from (same_class one classes.Colon) _ colon name)
-
-role_begins : (two one : Class) (role : Role) → role_word one ≡ Some role → begins_body two one ≡ true
-unfolding begins_body role_word
-role_begins two one role word = by_word (same_class one classes.Asm) (same_class one classes.Gar) (same_class one classes.Colon && same_class two classes.Name) word
-  where
-    by_word : (a g c : Bool) → (if a then Some Assumption else if g then Some Guarantee else None) ≡ Some role → ((a || g) || c) ≡ true
-    by_word true g c e = refl
-    by_word false true c e = refl
-    by_word false false c e = absurd (cc)
-
--- a tree whose forms are built, and whose enums have names
+-- a tree whose forms are built, with the grammar's shape, and whose names are spelled as names
 pub record BuiltTree (tree : TreeData) : Type 0 where
   pub built : is_built_tree tree ≡ true
   pub shaped : has_shape tree ≡ true
+  pub spelled : IsSpelledTree tree
 
 -- ---- types and declarations
 
--- it is built, and where it is an enum it has a name
+token_spelled : (t : Lexeme) → IsToken classes.Name t → IsSpelled (name_of t)
+token_spelled t is = is.clean.named is.is
+
+-- it is built, and where it is an enum it has a name, and its names are spelled as names
 record BuiltType (t : TypeData) : Type 0 where
   built : is_built_type t.form ≡ true
   named : has_names t.form ≡ true
+  enums : All IsSpelled (enum_names t)
 
 abbrev has_named_types : ItemData → Bool
 has_named_types i = list_all (λ (t : TypeData). has_names t.form) (types_of i)
@@ -131,20 +80,31 @@ has_named_types i = list_all (λ (t : TypeData). has_names t.form) (types_of i)
 record BuiltItem (i : ItemData) : Type 0 where
   built : is_built_item i ≡ true
   named : has_named_types i ≡ true
+  written : has_written_role i ≡ true
+  enums : All IsSpelled (enum_names_of i)
+  variables : All IsSpelledVariable (variables_in (i ∷ []))
 
-abbrev SomeNames : List NameData → Type 0
-SomeNames all = nat_lt 0 (length all) ≡ true
+-- at least one name, each spelled as one
+record SomeNames (all : List NameData) : Type 0 where
+  some : nat_lt 0 (length all) ≡ true
+  spelled : All IsSpelled all
 
-some_more : (all : List NameData) (n : NameData) → SomeNames (all ++ n ∷ [])
+some_more : (all : List NameData) (n : NameData) → nat_lt 0 (length (all ++ n ∷ [])) ≡ true
 some_more [] n = refl
 some_more (m ∷ all) n = (Decides-ltb 0 (suc (length (all ++ n ∷ [])))).1 (omega arith)
+
+one_name : (t : Lexeme) → IsToken classes.Name t → SomeNames (name_of t ∷ [])
+one_name t is = record { some = refl; spelled = All-cons IsSpelled (name_of t) [] (token_spelled t is) (All-nil IsSpelled) }
+
+more_names : (all : List NameData) (t : Lexeme) → SomeNames all → IsToken classes.Name t → SomeNames (all ++ name_of t ∷ [])
+more_names all t so_far is = record { some = some_more all (name_of t); spelled = All-push IsSpelled all (name_of t) so_far.spelled (token_spelled t is) }
 
 makes_names : Makes Names SomeNames
 makes_names =
     makes_then (IsToken classes.Name) SomeNames _ _ (makes_token classes.Name) (λ n is. makes_steps SomeNames NameAfter
     (λ all some. makes_then (IsToken classes.Comma) SomeNames _ _ (makes_token classes.Comma) (λ c of. makes_then (IsToken classes.Name) SomeNames _ _ (makes_token classes.Name)
-    (λ m by. makes_gives SomeNames (all ++ name_of m ∷ []) (some_more all (name_of m)))))
-    (name_of n ∷ []) refl)
+    (λ m by. makes_gives SomeNames (all ++ name_of m ∷ []) (more_names all m some by))))
+    (name_of n ∷ []) (one_name n is))
 
 abbrev Any : {A : Type 0} → A → Type 0
 Any a = Unit {0}
@@ -164,25 +124,33 @@ module _ (left : ℕ) where
 
   makes_type : Makes (TypeIn left) BuiltType
   makes_type =
-      makes_either BuiltType _ _ (makes_then (IsToken classes.Boolean) BuiltType _ _ (makes_token classes.Boolean) (λ t is. makes_gives BuiltType (record { at = t.at; form = TypeShape.Boolean }) (record { built = refl; named = refl })))
+      makes_either BuiltType _ _ (makes_then (IsToken classes.Boolean) BuiltType _ _ (makes_token classes.Boolean) (λ t is. makes_gives BuiltType (record { at = t.at; form = TypeShape.Boolean }) (record { built = refl; named = refl; enums = All-nil IsSpelled })))
       (makes_either BuiltType _ _ (makes_then (IsToken classes.Int) BuiltType _ _ (makes_token classes.Int) (λ t is. makes_then (IsToken classes.Open) BuiltType _ _ (makes_token classes.Open)
       (λ o of. makes_then Built BuiltType _ _ makes_bound (λ low first. makes_then (IsToken classes.UpTo) BuiltType _ _ (makes_token classes.UpTo)
       (λ u by. makes_then Built BuiltType _ _ makes_bound (λ high second. makes_then (IsToken classes.Close) BuiltType _ _ (makes_token classes.Close)
-      (λ c to. makes_gives BuiltType (record { at = t.at; form = TypeShape.Range low high }) (record { built = and_from (is_built low) _ first second; named = refl }))))))))
+      (λ c to. makes_gives BuiltType (record { at = t.at; form = TypeShape.Range low high }) (record { built = and_from (is_built low) _ first second; named = refl; enums = All-nil IsSpelled }))))))))
       (makes_either BuiltType _ _ (makes_then (IsToken classes.OpenBrace) BuiltType _ _ (makes_token classes.OpenBrace) (λ t is. makes_then SomeNames BuiltType _ _ makes_names
-      (λ all some. makes_then (IsToken classes.CloseBrace) BuiltType _ _ (makes_token classes.CloseBrace) (λ c by. makes_gives BuiltType (record { at = t.at; form = TypeShape.Names all }) (record { built = refl; named = some })))))
-      (makes_then (IsToken classes.Name) BuiltType _ _ (makes_token classes.Name) (λ t is. makes_gives BuiltType (record { at = t.at; form = TypeShape.Named (name_of t) }) (record { built = refl; named = refl })))))
+      (λ all some. makes_then (IsToken classes.CloseBrace) BuiltType _ _ (makes_token classes.CloseBrace) (λ c by. makes_gives BuiltType (record { at = t.at; form = TypeShape.Names all }) (record { built = refl; named = some.some; enums = some.spelled })))))
+      (makes_then (IsToken classes.Name) BuiltType _ _ (makes_token classes.Name) (λ t is. makes_gives BuiltType (record { at = t.at; form = TypeShape.Named (name_of t) }) (record { built = refl; named = refl; enums = All-nil IsSpelled })))))
 
   makes_vardecl : (at : Place) (owner : OwnerWord) → Makes (VardeclIn left at owner) BuiltItem
   makes_vardecl at owner =
       makes_then BuiltType BuiltItem _ _ makes_type (λ d built. makes_then (IsToken classes.Name) BuiltItem _ _ (makes_token classes.Name) (λ n is.
-      makes_then (IsToken classes.Semicolon) BuiltItem _ _ (makes_token classes.Semicolon) (λ s of. makes_gives BuiltItem (ItemData.Variable (record { at = at; owner = owner; domain = d; name = name_of n })) (record { built = built.built; named = and_from (has_names d.form) true built.named refl }))))
+      makes_then (IsToken classes.Semicolon) BuiltItem _ _ (makes_token classes.Semicolon) (λ s of. makes_gives BuiltItem (ItemData.Variable (record { at = at; owner = owner; domain = d; name = name_of n }))
+      (record {
+        built = built.built;
+        named = and_from (has_names d.form) true built.named refl;
+        written = refl;
+        enums = built.enums;
+        variables = All-cons IsSpelledVariable (record { at = at; owner = owner; domain = d; name = name_of n }) [] (token_spelled n is) (All-nil IsSpelledVariable);
+      }))))
 
   makes_typedecl : (at : Place) → Makes (TypedeclIn left at) BuiltItem
   makes_typedecl at =
       makes_then (IsToken classes.Name) BuiltItem _ _ (makes_token classes.Name) (λ n is. makes_then (IsToken classes.Equal) BuiltItem _ _ (makes_token classes.Equal) (λ e of.
       makes_then BuiltType BuiltItem _ _ makes_type (λ d built. makes_then (IsToken classes.Semicolon) BuiltItem _ _ (makes_token classes.Semicolon)
-      (λ s by. makes_gives BuiltItem (ItemData.Alias (record { at = at; name = name_of n; body = d })) (record { built = built.built; named = and_from (has_names d.form) true built.named refl })))))
+      (λ s by. makes_gives BuiltItem (ItemData.Alias (record { at = at; name = name_of n; body = d }))
+      (record { built = built.built; named = and_from (has_names d.form) true built.named refl; written = refl; enums = built.enums; variables = All-nil IsSpelledVariable })))))
 
   abbrev BuiltPair : NameData × Expression → Type 0
   BuiltPair b = Built b.1
@@ -200,17 +168,21 @@ module _ (left : ℕ) where
       makes_then BuiltPair BuiltItem _ _ makes_definition (λ d built. makes_then BuiltPairs BuiltItem _ _ (makes_steps BuiltPairs (DefinitionAfter left)
       (λ all so_far. makes_then BuiltPair BuiltPairs _ _ makes_definition (λ e more. makes_gives BuiltPairs (all ++ e ∷ []) (joined_all _ all e so_far more)))
       (d ∷ []) (and_from (is_built d.1) true built refl))
-      (λ all each. makes_gives BuiltItem (ItemData.Define (record { at = at; bodies = all })) (record { built = each; named = refl })))
+      (λ all each. makes_gives BuiltItem (ItemData.Define (record { at = at; bodies = all })) (record { built = each; named = refl; written = refl; enums = All-nil IsSpelled; variables = All-nil IsSpelledVariable })))
 
   abbrev BuiltParameter : TypeData × NameData → Type 0
   BuiltParameter p = BuiltType p.0
 
+  abbrev enums_of : TypeData × NameData → List NameData
+  enums_of a = enum_names a.0
+
   record BuiltParameters (ps : List (TypeData × NameData)) : Type 0 where
     built : list_all (λ (a : TypeData × NameData). is_built_type a.0.form) ps ≡ true
     named : list_all (λ (t : TypeData). has_names t.form) (map (λ (a : TypeData × NameData). a.0) ps) ≡ true
+    enums : All IsSpelled (flat_map enums_of ps)
 
   one_parameter : (p : TypeData × NameData) → BuiltParameter p → BuiltParameters (p ∷ [])
-  one_parameter p is = record { built = and_from (is_built_type p.0.form) true is.built refl; named = and_from (has_names p.0.form) true is.named refl }
+  one_parameter p is = record { built = and_from (is_built_type p.0.form) true is.built refl; named = and_from (has_names p.0.form) true is.named refl; enums = All-append IsSpelled (enums_of p) [] is.enums (All-nil IsSpelled) }
 
   more_named : (ps : List (TypeData × NameData)) (q : TypeData × NameData) → list_all (λ (t : TypeData). has_names t.form) (map (λ (a : TypeData × NameData). a.0) ps) ≡ true → has_names q.0.form ≡ true →
       list_all (λ (t : TypeData). has_names t.form) (map (λ (a : TypeData × NameData). a.0) (ps ++ q ∷ [])) ≡ true
@@ -218,7 +190,12 @@ module _ (left : ℕ) where
   more_named (p ∷ ps) q all is = let parts = and_parts (has_names p.0.form) _ all in and_from (has_names p.0.form) _ parts.0 (more_named ps q parts.1 is)
 
   more_parameters : (ps : List (TypeData × NameData)) (q : TypeData × NameData) → BuiltParameters ps → BuiltParameter q → BuiltParameters (ps ++ q ∷ [])
-  more_parameters ps q all is = record { built = joined_all _ ps q all.built is.built; named = more_named ps q all.named is.named }
+  more_parameters ps q all is =
+      record {
+        built = joined_all _ ps q all.built is.built;
+        named = more_named ps q all.named is.named;
+        enums = pushed_enums enums_of ps q all.enums is.enums;
+      }
 
   makes_parameter : Makes (ParameterIn left) BuiltParameter
   makes_parameter =
@@ -226,7 +203,7 @@ module _ (left : ℕ) where
 
   makes_parameters : Makes (ParametersIn left) BuiltParameters
   makes_parameters =
-      makes_either BuiltParameters _ _ (makes_then (IsToken classes.Close) BuiltParameters _ _ (makes_token classes.Close) (λ c is. makes_gives BuiltParameters [] (record { built = refl; named = refl })))
+      makes_either BuiltParameters _ _ (makes_then (IsToken classes.Close) BuiltParameters _ _ (makes_token classes.Close) (λ c is. makes_gives BuiltParameters [] (record { built = refl; named = refl; enums = All-nil IsSpelled })))
       (makes_then BuiltParameter BuiltParameters _ _ makes_parameter (λ p built. makes_then BuiltParameters BuiltParameters _ _ (makes_steps BuiltParameters (ParameterAfter left)
       (λ all so_far. makes_then (IsToken classes.Comma) BuiltParameters _ _ (makes_token classes.Comma) (λ c is. makes_then BuiltParameter BuiltParameters _ _ makes_parameter
       (λ q more. makes_gives BuiltParameters (all ++ q ∷ []) (more_parameters all q so_far more))))
@@ -239,7 +216,7 @@ module _ (left : ℕ) where
       makes_then BuiltParameters BuiltItem _ _ makes_parameters (λ ps each. makes_then (IsToken classes.Colon) BuiltItem _ _ (makes_token classes.Colon) (λ c by.
       makes_then Built BuiltItem _ _ whole (λ e built. makes_then (IsToken classes.Semicolon) BuiltItem _ _ (makes_token classes.Semicolon)
       (λ s to. makes_gives BuiltItem (ItemData.Predicate (record { at = at; name = name_of n; params = ps; body = e }))
-      (record { built = and_from (list_all (λ (a : TypeData × NameData). is_built_type a.0.form) ps) (is_built e) each.built built; named = each.named })))))))
+      (record { built = and_from (list_all (λ (a : TypeData × NameData). is_built_type a.0.form) ps) (is_built e) each.built built; named = each.named; written = refl; enums = each.enums; variables = All-nil IsSpelledVariable })))))))
 
   -- ---- lines
 
@@ -302,11 +279,11 @@ module _ (left : ℕ) where
       named_built two one p.value p.back after s begins p.before.is (subst (λ u. NoneFrom two one (u ++ after)) same none) p.after
   said_built two one used after s begins none (inr p) = body_said two one used after None s begins none p
 
-  line_built : (two one : Class) (used after : List Lexeme) (at : Place) (role : Role) (i : ItemData) → begins_body two one ≡ true → NoneFrom two one (used ++ after) → LineOf left at role used i → BuiltItem i
-  line_built two one used after at role i begins none p =
+  line_built : (two one : Class) (used after : List Lexeme) (at : Place) (role : Role) (i : ItemData) → begins_body two one ≡ true → is_written_role role ≡ true → NoneFrom two one (used ++ after) → LineOf left at role used i → BuiltItem i
+  line_built two one used after at role i begins written none p =
       let apart : NoneFrom two one (p.front ++ (p.back ++ after)) = subst (λ u. NoneFrom two one u) (ap (λ u. u ++ after) p.parts ∙ append_assoc p.front p.back after) none in
       let said = said_built two one p.front (p.back ++ after) p.value begins apart p.before in
-      subst BuiltItem (sym p.after.after.same) (record { built = said; named = refl })
+      subst BuiltItem (sym p.after.after.same) (record { built = said; named = refl; written = written; enums = All-nil IsSpelled; variables = All-nil IsSpelledVariable })
 
   -- ---- items
 
@@ -316,7 +293,7 @@ module _ (left : ℕ) where
   item_built two one used after i none (inr (inl p)) =
       let same : used ≡ p.value.0 ∷ p.back = p.parts ∙ ap (λ ts. ts ++ p.back) p.before.alone in
       let here : NoneFrom two one (p.value.0 ∷ (p.back ++ after)) = subst (λ u. NoneFrom two one (u ++ after)) same none in
-      line_built one p.value.0.class p.back after p.value.0.at p.value.1 i (role_begins one p.value.0.class p.value.1 p.before.word) (one_less two one p.value.0 (p.back ++ after) here).1 p.after
+      line_built one p.value.0.class p.back after p.value.0.at p.value.1 i (role_begins one p.value.0.class p.value.1 p.before.word) (role_written p.value.0.class p.value.1 p.before.word) (one_less two one p.value.0 (p.back ++ after) here).1 p.after
   item_built two one used after i none (inr (inr (inl p))) =
       makes_then (IsToken classes.TypeWord) BuiltItem _ _ (makes_token classes.TypeWord) (λ t is. makes_typedecl t.at) used i (front_clean two one used after none) p
   item_built two one used after i none (inr (inr (inr (inl p)))) =
@@ -335,9 +312,19 @@ module _ (left : ℕ) where
   record BuiltItems (is : List ItemData) : Type 0 where
     built : list_all is_built_item is ≡ true
     named : list_all has_named_types is ≡ true
+    written : list_all has_written_role is ≡ true
+    enums : All IsSpelled (flat_map enum_names_of is)
+    variables : All IsSpelledVariable (variables_in is)
 
   more_items : (is : List ItemData) (i : ItemData) → BuiltItems is → BuiltItem i → BuiltItems (is ++ i ∷ [])
-  more_items is i all one = record { built = joined_all is_built_item is i all.built one.built; named = joined_all has_named_types is i all.named one.named }
+  more_items is i all one =
+      record {
+        built = joined_all is_built_item is i all.built one.built;
+        named = joined_all has_named_types is i all.named one.named;
+        written = joined_all has_written_role is i all.written one.written;
+        enums = pushed_enums enum_names_of is i all.enums one.enums;
+        variables = pushed_variables is i all.variables one.variables;
+      }
 
   items_built : (two one : Class) (all : List ItemData) (used after : List Lexeme) (items : List ItemData) → BuiltItems all → NoneFrom two one (used ++ after) → Steps (ItemAfter left) all used items → BuiltItems items
   items_built two one all used after items so_far none (done _) = so_far
@@ -371,12 +358,17 @@ module _ (left : ℕ) where
       let c = behind b.two b.one n.front (n.back ++ after) of_name in
       let m = n.after in
       let of_items : NoneFrom c.two c.one (m.front ++ (m.back ++ after)) = subst (λ u. NoneFrom c.two c.one u) (ap (λ u. u ++ after) m.parts ∙ append_assoc m.front m.back after) c.none in
-      let items = items_built c.two c.one [] m.front (m.back ++ after) m.value (record { built = refl; named = refl }) of_items m.before in
+      let items = items_built c.two c.one [] m.front (m.back ++ after) m.value (record { built = refl; named = refl; written = refl; enums = All-nil IsSpelled; variables = All-nil IsSpelledVariable }) of_items m.before in
       let none_imported : (length p.value == 0) ≡ true = ap (λ (is : List NameData). length is == 0) imports in
-      subst BuiltTree (sym m.after.same) (record { built = and_from (length p.value == 0) _ none_imported items.built; shaped = items.named })
+      subst BuiltTree (sym m.after.same)
+      (record {
+        built = and_from (length p.value == 0) _ none_imported items.built;
+        shaped = and_from _ _ items.named items.written;
+        spelled = record { enums = items.enums; variables = items.variables };
+      })
 
--- a text whose tokens have no unbuilt form has a built tree
-pub built_texts : (left : ℕ) (ts : List Lexeme) (tree : TreeData) → Text left ts tree → first_unbuilt ts ≡ None → BuiltTree tree
+-- a text whose tokens have no unbuilt form, and whose names are spelled as names, has a built tree
+pub built_texts : (left : ℕ) (ts : List Lexeme) (tree : TreeData) → Text left ts tree → first_unbuilt ts ≡ None → AreNamed ts → BuiltTree tree
 unfolding first_unbuilt
-built_texts left ts tree text none =
-    text_built left classes.Finish classes.Finish text.used (text.end ∷ []) tree (subst (λ u. NoneFrom classes.Finish classes.Finish u) text.whole none) text.derives
+built_texts left ts tree text none named =
+    text_built left classes.Finish classes.Finish text.used (text.end ∷ []) tree (subst (λ u. NoneFrom classes.Finish classes.Finish u) text.whole (none, named)) text.derives

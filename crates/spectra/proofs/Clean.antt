@@ -1,16 +1,26 @@
 -- Tokens none of which begins an unbuilt form by its class alone, and productions over them.
-use Rattle.std.proofs.Common.{◌≡◌, Bool, true, false, List, [], ◌∷◌, ◌++◌, ◌⊎◌, inl, inr, refl, sym, subst, ◌∙◌}
-use Rattle.std.proofs.lemmas.Bool.{or_parts}
+use Rattle.std.proofs.Common.{◌≡◌, true, false, List, [], ◌∷◌, ◌++◌, inl, inr, sym, subst}
+use Rattle.spec_model.specs.Names.{IsName}
 use Rattle.spectra_trees.specs.declared.class.Class.{Class}
+use Rattle.spectra_trees.specs.declared.class.Class.TheVariants as classes
 use Rattle.spectra_trees.specs.Classes.{same_class}
 use Rattle.spectra_trees.specs.Lexemes.{Lexeme}
-use Rattle.spectra_exprs.specs.Forms.{Grammar, Gives, Token, Then, ◌▸◌, ◌∣◌, Steps, done, one_more}
+use Rattle.spectra_exprs.specs.Forms.{Grammar, Gives, Token, ◌▸◌, ◌∣◌, Steps, done, one_more}
 use Rattle.spectra_parser.specs.Unbuilt.{unbuilt_item, unbuilt_operator}
 
--- the class of a token neither begins an unbuilt item nor is an unbuilt operator
+-- where a token is a name, it is spelled as one
+abbrev pub IsNamed : Lexeme → Type 0
+IsNamed t = same_class t.class classes.Name ≡ true → IsName t.text
+
+abbrev pub AreNamed : List Lexeme → Type 0
+AreNamed [] = Unit {0}
+AreNamed (t ∷ ts) = IsNamed t × AreNamed ts
+
+-- the class of a token neither begins an unbuilt item nor is an unbuilt operator, and a name is spelled as one
 pub record IsClean (t : Lexeme) : Type 0 where
   pub item : unbuilt_item t.class ≡ false
   pub operator : unbuilt_operator t.class ≡ false
+  pub named : IsNamed t
 
 abbrev pub AreClean : List Lexeme → Type 0
 AreClean [] = Unit {0}

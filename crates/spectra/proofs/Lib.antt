@@ -1,5 +1,7 @@
 mod Clean
 mod BuiltExpressions
+mod TextTokens
+mod SpelledTokens
 mod BuiltTexts
 mod FirstMoves
 mod Bounds

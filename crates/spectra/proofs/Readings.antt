@@ -2,6 +2,7 @@
 use Rattle.std.proofs.Common.{◌≡◌, ℕ, true, List, [], ◌∷◌, map, refl, sym, ap, subst, ◌∙◌}
 use Rattle.spec_model.specs.Syntax.{Specification}
 use Rattle.spectra_lexer.specs.declared.token.Token.{Token}
+use Rattle.spectra_lexer.specs.Tokens.{AreTokens}
 use Rattle.spectra_trees.specs.Data.{TreeData}
 use Rattle.spectra_trees.specs.Lexemes.{lexemes}
 use Rattle.spectra_parser.specs.Texts.{IsText, IsBuilt}
@@ -9,6 +10,7 @@ use Rattle.spectra_lexer.proofs.Unique.{one_list_of_tokens}
 use Rattle.spectra_parser.proofs.WholeText.{one_tree}
 use Rattle.spectra_types.specs.Meanings.{meaning_of}
 use Rattle.spectra.specs.Reading.{Reads}
+use Rattle.spectra.proofs.SpelledTokens.{named_tokens}
 use Rattle.spectra.proofs.BuiltTexts.{BuiltTree, built_texts}
 
 -- no text means two specifications
@@ -20,5 +22,7 @@ one_meaning text s s' reads reads' =
     reads.means.meaning ∙ (ap meaning_of same_tree ∙ sym reads'.means.meaning)
 
 -- the one tree of a list is built, where it is this one
-pub only_built : (ts : List _) (tree other : TreeData) → IsBuilt ts tree → tree ∷ [] ≡ other ∷ [] → BuiltTree other
-only_built ts tree other built same = let is : tree ≡ other = cc in subst BuiltTree is (built_texts _ ts tree built.grammar built.built)
+pub only_built : (text : List ℕ) (tokens : List Token) (tree other : TreeData) → AreTokens text tokens → IsBuilt (lexemes text tokens) tree → tree ∷ [] ≡ other ∷ [] → BuiltTree other
+only_built text tokens tree other lexed built same =
+    let is : tree ≡ other = cc in
+    subst BuiltTree is (built_texts _ (lexemes text tokens) tree built.grammar built.built (named_tokens text tokens lexed))

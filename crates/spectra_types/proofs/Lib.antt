@@ -21,10 +21,10 @@ pub mod Fitting
 pub mod ContentBounds
 pub mod Bounding
 pub mod TypedLines
+pub mod Roles
+pub mod Spelled
 pub mod Faultless
 pub mod Examples
-pub mod Steps
-pub mod MadeGames
 pub mod Held
 pub mod Rooms
 pub mod Told

@@ -1,5 +1,5 @@
 -- The enum names of a text: none stands twice, each declared one has its number, and different names have different numbers.
-use Rattle.std.proofs.Common.{◌≡◌, ℕ, suc, ◌+◌, ◌<◌, ◌==◌, nat_lt, Bool, true, false, not, ◌&&◌, ◌||◌, if◌then◌else◌, cond, List, [], ◌∷◌, ◌++◌, Some, None, length, map, get_or, unwrap_or, refl, sym, ap, subst, ◌∙◌, arith}
+use Rattle.std.proofs.Common.{◌≡◌, ℕ, suc, ◌+◌, ◌<◌, ◌==◌, nat_lt, Bool, true, false, not, ◌||◌, if◌then◌else◌, cond, List, [], ◌∷◌, ◌++◌, Some, None, length, map, get_or, unwrap_or, refl, sym, ap, subst, ◌∙◌, arith}
 use Rattle.std.specs.Str.{bytes_eq}
 use Rattle.std.specs.List.{list_any, list_all, position_or_len, prefix_len}
 use Rattle.std.proofs.Math.Bool.{or-false}
@@ -8,7 +8,6 @@ use Rattle.std.proofs.lemmas.List.Sums.{prefix_len_stops}
 use Rattle.std.proofs.lemmas.Bool.{and_parts, and_from, or_parts, or_from, or_left, or_right, lt-ltb, not-true, not_from_false, false≢true, false_from_ne_true, not-false}
 use Rattle.std.proofs.lemmas.Bool.Decides.{Decides-eqb}
 use Rattle.std.proofs.lemmas.Slice.Eq.{bytes_eq-Decides}
-use Rattle.spec_model.specs.Typing.{same_names}
 use Rattle.spec_model.specs.WellMade.{all_differ}
 use Rattle.spec_model.proofs.AllStates.{Every}
 use Rattle.spectra_trees.specs.Data.{NameData}
@@ -22,20 +21,6 @@ eq-self a = (bytes_eq-Decides a a).1 refl
 
 pub eq-same : (a b : List ℕ) → bytes_eq a b ≡ true → a ≡ b
 eq-same a b = (bytes_eq-Decides a b).0
-
-pub same_names-bytes : (ms ns : List ℕ) → same_names ms ns ≡ bytes_eq ms ns
-same_names-bytes [] [] = refl
-same_names-bytes [] (n ∷ ns) = refl
-same_names-bytes (m ∷ ms) [] = refl
-same_names-bytes (m ∷ ms) (n ∷ ns) = ap (λ b. m == n && b) (same_names-bytes ms ns)
-
-any-same : {X : Type 0} (p q : X → Bool) → ((x : X) → p x ≡ q x) → (xs : List X) → list_any p xs ≡ list_any q xs
-any-same p q same [] = refl
-any-same p q same (x ∷ xs) = ap (λ b. b || list_any p xs) (same x) ∙ ap (λ b. q x || b) (any-same p q same xs)
-
-pub differ-bytes : (xs : List (List ℕ)) → all_differ same_names xs ≡ all_differ bytes_eq xs
-differ-bytes [] = refl
-differ-bytes (x ∷ xs) = ap (λ b. not b && all_differ same_names xs) (any-same (same_names x) (bytes_eq x) (same_names-bytes x) xs) ∙ ap (λ b. not (list_any (bytes_eq x) xs) && b) (differ-bytes xs)
 
 -- ---- a list of different names
 

@@ -9,6 +9,7 @@ use Rattle.spec_model.specs.Syntax.{Formula, Content, Initial, Safety, Recurring
 use Rattle.spec_model.specs.Sizes.{formulas_of, past_trees, past_operators, distinct}
 use Rattle.spec_model.specs.Typing.{same_names}
 use Rattle.spec_model.specs.WellMade.{all_differ}
+use Rattle.spec_model.proofs.SameNames.{differ-bytes}
 use Rattle.spectra_trees.specs.Data.{NameData, Expression, BodyData, LineData, VarData, ItemData, TreeData}
 use Rattle.spectra_names.specs.Spaces.{Scope, scope_of, values_from, variables_in, enum_names_of, definitions_in, types_from, no_names, no_parameters}
 use Rattle.spectra_names.specs.Declarations.{clashes_after, twice, line_name, name_faults, past, is_variable, is_line, names_past, limit_faults}
@@ -22,7 +23,7 @@ use Rattle.spectra_types.specs.Built.{is_built, is_built_body, is_built_item, is
 use Rattle.spectra_types.proofs.Past.{IsBuiltBody, formula_present, expanded_present, all_built}
 use Rattle.spectra_types.proofs.Empty.{empty_parts}
 use Rattle.spectra_types.proofs.Limits as limits
-use Rattle.spectra_types.proofs.Names.{differ-bytes, names_differ}
+use Rattle.spectra_types.proofs.Names.{names_differ}
 use Rattle.spectra_types.proofs.Declared.{variable_names, variables_differ, declared_variables}
 use Rattle.spectra_types.proofs.FormulaSizes.{Fit, lines_fit}
 

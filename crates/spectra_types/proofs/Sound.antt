@@ -15,7 +15,7 @@ use Rattle.spectra_contents.specs.Contents.{Note, Setting, unused, contents_of, 
 use Rattle.spectra_typing.specs.Typed.{kind_of}
 use Rattle.spectra_typing.specs.Notes.{predicate_faults, setting_of, setting_within, notes_of}
 use Rattle.spectra_types.specs.Meanings.{type_faults, types_faults, definition_faults}
-use Rattle.spectra_types.specs.Shapes.{has_names, types_of, has_shape}
+use Rattle.spectra_types.specs.Shapes.{has_names, types_of, has_named_enums}
 use Rattle.spectra_types.proofs.Empty.{empty_parts, every_empty, every_from, every_behind, every_both}
 use Rattle.spectra_types.proofs.Declared.{IsEnumName, enums_stand, StandForEnums, ItemEnums, item_enums}
 use Rattle.spectra_types.proofs.Outer.{text_setting, NoFaults}
@@ -92,7 +92,7 @@ module _ (scope : Scope) where
   written_variables (ItemData.Monitor x ∷ items) stand shape = written_variables items stand.1 shape
   written_variables (ItemData.Statement x ∷ items) stand shape = written_variables items stand.1 shape
 
-pub text_sound : (t : TreeData) → NoFaults t → has_shape t ≡ true → IsSound (scope_of t)
+pub text_sound : (t : TreeData) → NoFaults t → has_named_enums t ≡ true → IsSound (scope_of t)
 text_sound t none shape =
     let scope = scope_of t in
     let each = each_faultless (text_setting t) 0 scope.definitions none.definitions in

@@ -23,8 +23,5 @@ mod statements;
 mod tables;
 
 pub use fault::TypeFault;
-pub use laws::{
-    faultless_texts_are_well_typed, plain_lines_have_no_tables, typed_games_are_made,
-    typed_lines_rise,
-};
+pub use laws::faultless_texts_are_well_typed;
 pub use resolving::resolve;

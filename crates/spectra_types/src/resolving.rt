@@ -11,7 +11,7 @@ ghost use Rattle.spectra_names.specs.ScopeViews.{scope_data};
 ghost use Rattle.spectra_typing.specs.Notes.{setting_of, notes_of};
 ghost use Rattle.spec_model.specs.WellTyped.{WellTyped, all_hidden};
 ghost use Rattle.spectra_types.specs.Built.{is_built_tree};
-ghost use Rattle.spectra_types.specs.Shapes.{has_shape};
+ghost use Rattle.spectra_types.specs.Shapes.{has_shape, IsSpelledTree};
 ghost use Rattle.spectra_types.specs.FactsViews.{scope_in, setting_in, AreFacts};
 ghost use Rattle.spectra_types.specs.TableViews.{AreTables};
 ghost use Rattle.spectra_types.specs.Meanings.{text_faults, faults_of, meaning_of as meaning_of_lem};
@@ -161,6 +161,7 @@ pub fn resolve(alloc: Global, trees: &[Tree]) -> Result<Spec, TypeFault>
     requires one { length trees.now ≡ 1 }
     requires built { (tree : TreeData) → map tree_data trees.now ≡ tree ∷ [] → is_built_tree tree ≡ true }
     requires shaped { (tree : TreeData) → map tree_data trees.now ≡ tree ∷ [] → has_shape tree ≡ true }
+    requires spelled { (tree : TreeData) → map tree_data trees.now ≡ tree ∷ [] → IsSpelledTree tree }
     ensures means { IfOk result (λ s. (tree : TreeData) → map tree_data trees.now ≡ tree ∷ [] → Means tree (spec_data s)) }
     ensures typed { IfOk result (λ s. WellTyped (spec_data s)) }
     ensures plain { IfOk result (λ s. all_hidden (spec_data s) ≡ 0) }

@@ -4,10 +4,13 @@ use Rattle.spectra.proofs.Readings.{only_built}
 use Rattle.spectra.proofs.reading.meaning.Goals as goal
 
 pub resolve-requires-clause-built : goal.resolve-requires-clause-built
-resolve-requires-clause-built c = λ t same. (only_built _ (tree_data c.args.tree) t c.requires.built same).built
+resolve-requires-clause-built c = λ t same. (only_built c.args.text.now c.args.tokens.now (tree_data c.args.tree) t c.requires.lexed c.requires.built same).built
 
 pub resolve-requires-clause-shaped : goal.resolve-requires-clause-shaped
-resolve-requires-clause-shaped c = λ t same. (only_built _ (tree_data c.args.tree) t c.requires.built same).shaped
+resolve-requires-clause-shaped c = λ t same. (only_built c.args.text.now c.args.tokens.now (tree_data c.args.tree) t c.requires.lexed c.requires.built same).shaped
+
+pub resolve-requires-clause-spelled : goal.resolve-requires-clause-spelled
+resolve-requires-clause-spelled c = λ t same. (only_built c.args.text.now c.args.tokens.now (tree_data c.args.tree) t c.requires.lexed c.requires.built same).spelled
 
 pub returns-in-Ok-clause-reads : goal.returns-in-Ok-clause-reads
 returns-in-Ok-clause-reads c =

@@ -18,7 +18,7 @@ pub returns-clause-typed : goal.returns-clause-typed
 returns-clause-typed c =
     let one = the_one c.args.trees.now c.index-trees-0.result c.requires.one c.index-trees-0.is in
     let tree = tree_data c.index-trees-0.result in
-    IfOk-weaker c.resolve_tree.result _ _ (λ s means. means_typed tree (spec_data s) (c.requires.shaped tree one) (c.requires.built tree one) means) c.resolve_tree.ensures.means
+    IfOk-weaker c.resolve_tree.result _ _ (λ s means. means_typed tree (spec_data s) (c.requires.shaped tree one) (c.requires.built tree one) (c.requires.spelled tree one) means) c.resolve_tree.ensures.means
 
 pub returns-clause-plain : goal.returns-clause-plain
 returns-clause-plain c =
