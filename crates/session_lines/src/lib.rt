@@ -15,7 +15,12 @@ mod print;
 mod read;
 mod reader;
 mod row;
+<<<<<<< HEAD
 pub mod typed_laws;
+=======
+#[cfg(test)]
+mod tests;
+>>>>>>> 89fc495 (session: the system's strategy answers by the agreement of its game (wip))
 mod value;
 mod word;
 
