@@ -11,5 +11,5 @@ pub mod CallLemmas
 pub mod ListLemmas
 pub mod ListCallLemmas
 pub mod ShiftLemmas
-pub mod RisingLemmas
+pub mod TestLemmas
 pub mod PathLemmas

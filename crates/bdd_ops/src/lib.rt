@@ -29,8 +29,4 @@ pub use diagrams::Diagrams;
 pub use std::alloc::AllocError as OutOfMemory;
 
 #[cfg(test)]
-mod shift_tests;
-#[cfg(test)]
-mod table_tests;
-#[cfg(test)]
 mod tests;

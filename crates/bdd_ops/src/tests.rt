@@ -1,146 +1,213 @@
-ghost use Rattle.std.specs.Prelude.{◌≡◌, ◌<◌};
-ghost use Rattle.bdd_store.specs.State.{IsRoot, AddsRoot};
+//! Worked examples. A table of three levels has the value at the bits b0, b1 and b2 as its bit 4 * b0 + 2 * b1 + b2.
 
-use super::*;
+ghost use Rattle.std.specs.Prelude.{◌≡◌, ◌<◌, ◌≤◌, ℕ};
+ghost use Rattle.bdd_store.specs.State.{IsRoot, AddsRoot, SameRoots};
+
+use crate::*;
 use std::process::Abort;
 use std::test::Fail;
 
-/// True where the level's bit differs from `x`, which is given back.
-fn next(rt: &impl Abort, diagrams: &mut Diagrams, x: Root, level: u32) -> Root
-    requires kept { IsRoot diagrams.old.state x }
-    requires below { level < diagrams.old.state.table.levels }
-    ensures kept { IsRoot diagrams.new.state result }
-    ensures levels { diagrams.new.state.table.levels ≡ diagrams.old.state.table.levels }
-{
-    let bit = diagrams.var(level).expect(rt, "a level");
-    let other = diagrams.not(&x).expect(rt, "a negation");
-    let next = diagrams.ite(&bit, &other, &x).expect(rt, "a choice");
-    diagrams.release(bit);
-    diagrams.release(other);
-    diagrams.release(x);
-    next
-}
-
-/// The constant false.
-fn start(rt: &impl Abort, diagrams: &mut Diagrams) -> Root
-    ensures kept { IsRoot diagrams.new.state result }
-    ensures levels { diagrams.new.state.table.levels ≡ diagrams.old.state.table.levels }
-{
-    diagrams.constant(false).expect(rt, "a constant")
-}
-
-#[test]
-fn a_chain_over_64_levels(rt: HostRuntime) -> Result<(), Fail> {
-    let mut diagrams = Diagrams::make(rt.alloc(), 64, 4096)?;
-    let mut x = start(&rt, &mut diagrams);
-    for k in 0..64u32 {
-        x = next(&rt, &mut diagrams, x, 63 - k);
-    }
-    let mut bits = [false; 64];
-    assert_eq!(rt; diagrams.eval(&x, &bits), false);
-    bits[17] = true;
-    assert_eq!(rt; diagrams.eval(&x, &bits), true);
-    bits[63] = true;
-    assert_eq!(rt; diagrams.eval(&x, &bits), false);
-    diagrams.release(x);
-    diagrams.reclaim();
-    Ok(())
-}
-
-/// A level's bit.
-fn bit(rt: &impl Abort, diagrams: &mut Diagrams, level: u32) -> Root
-    requires { level < diagrams.old.state.table.levels }
-    ensures added { AddsRoot diagrams.old.state diagrams.new.state result }
-    ensures levels { diagrams.new.state.table.levels ≡ diagrams.old.state.table.levels }
-{
-    diagrams.var(level).expect(rt, "a level")
-}
-
-/// The choice between two diagrams by a third.
-pub(crate) fn choice(rt: &impl Abort, diagrams: &mut Diagrams, a: &Root, b: &Root, c: &Root) -> Root
-    requires a_kept { IsRoot diagrams.old.state a.now }
-    requires b_kept { IsRoot diagrams.old.state b.now }
-    requires c_kept { IsRoot diagrams.old.state c.now }
-    ensures added { AddsRoot diagrams.old.state diagrams.new.state result }
-    ensures levels { diagrams.new.state.table.levels ≡ diagrams.old.state.table.levels }
-{
-    diagrams.ite(a, b, c).expect(rt, "a choice")
-}
-
-/// The diagram of two parts at a level.
-pub(crate) fn branch_of(
-    rt: &impl Abort,
-    diagrams: &mut Diagrams,
-    level: u32,
-    low: &Root,
-    high: &Root,
-) -> Root
+/// The diagram that is `high` where the level's bit is true, and else `low`.
+fn branch(rt: &impl Abort, diagrams: &mut Diagrams, level: u32, low: &Root, high: &Root) -> Root
     requires low_kept { IsRoot diagrams.old.state low.now }
     requires high_kept { IsRoot diagrams.old.state high.now }
     requires below { level < diagrams.old.state.table.levels }
     ensures added { AddsRoot diagrams.old.state diagrams.new.state result }
     ensures levels { diagrams.new.state.table.levels ≡ diagrams.old.state.table.levels }
 {
-    let bit = bit(rt, diagrams, level);
-    let whole = choice(rt, diagrams, &bit, high, low);
+    let bit = diagrams.var(level).expect(rt, "a bit");
+    let whole = diagrams.ite(&bit, high, low).expect(rt, "a choice");
     diagrams.release(bit);
     whole
 }
 
-/// The third bit's choice: the fourth where it is true, and else the second.
-fn chosen(rt: &impl Abort, diagrams: &mut Diagrams) -> Root
-    requires levels { diagrams.old.state.table.levels ≡ 4 }
+/// The diagram of a table from this level on, where the levels before have these bits.
+fn of_table(rt: &impl Abort, diagrams: &mut Diagrams, table: u32, level: u32, bits: u32) -> Root
+    requires levels { diagrams.old.state.table.levels ≡ 3 }
+    requires within { level ≤ 3 }
     ensures added { AddsRoot diagrams.old.state diagrams.new.state result }
-    ensures levels { diagrams.new.state.table.levels ≡ 4 }
+    ensures levels { diagrams.new.state.table.levels ≡ 3 }
 {
-    let second = bit(rt, diagrams, 1);
-    let fourth = bit(rt, diagrams, 3);
-    let chosen = branch_of(rt, diagrams, 2, &second, &fourth);
-    diagrams.release(second);
-    diagrams.release(fourth);
-    chosen
+    if level == 3 {
+        let value = table >> (bits & 7) & 1 == 1;
+        return diagrams.constant(value).expect(rt, "a constant");
+    }
+    let low = of_table(rt, diagrams, table, level + 1, bits << 1);
+    let high = of_table(rt, diagrams, table, level + 1, bits << 1 | 1);
+    let whole = branch(rt, diagrams, level, &low, &high);
+    diagrams.release(low);
+    diagrams.release(high);
+    whole
 }
 
-/// The first bits, where there are any.
-fn found(diagrams: &Diagrams, a: &Root, fixed: [Option<bool>; 4]) -> Option<[bool; 4]>
-    requires kept { IsRoot diagrams.now.state a.now }
-    requires levels { diagrams.now.state.table.levels ≡ 4 }
+#[derive(Clone, Copy)]
+enum Operation {
+    Keep,
+    Not,
+    And,
+    Or,
+    Ite,
+    Exists,
+    Forall,
+    AndExists,
+    /// The last level is quantified first, and the others come one level later.
+    Shift,
+}
+
+fn shifted(rt: &impl Abort, diagrams: &mut Diagrams, a: &Root) -> Root
+    requires kept { IsRoot diagrams.old.state a.now }
+    requires levels { diagrams.old.state.table.levels ≡ 3 }
+    ensures added { AddsRoot diagrams.old.state diagrams.new.state result }
+    ensures levels { diagrams.new.state.table.levels ≡ 3 }
 {
-    let mut out = [true; 4];
-    if diagrams.first_path(a, &fixed, &mut out) {
-        Some(out)
-    } else {
-        None
+    let some = diagrams.exists(a, &[2]).expect(rt, "some");
+    let moved = diagrams.shift(&some, &[1, 2, 0]).expect(rt, "a shift");
+    diagrams.release(some);
+    moved
+}
+
+/// What the operation makes of three diagrams, of which it may need fewer.
+fn made(
+    rt: &impl Abort,
+    diagrams: &mut Diagrams,
+    operation: Operation,
+    levels: &[u32],
+    a: &Root,
+    b: &Root,
+    c: &Root,
+) -> Root
+    requires a_kept { IsRoot diagrams.old.state a.now }
+    requires b_kept { IsRoot diagrams.old.state b.now }
+    requires c_kept { IsRoot diagrams.old.state c.now }
+    requires levels { diagrams.old.state.table.levels ≡ 3 }
+    ensures added { AddsRoot diagrams.old.state diagrams.new.state result }
+    ensures levels { diagrams.new.state.table.levels ≡ 3 }
+{
+    match operation {
+        Operation::Keep => diagrams.keep(a).expect(rt, "a second root"),
+        Operation::Not => diagrams.not(a).expect(rt, "not"),
+        Operation::And => diagrams.and(a, b).expect(rt, "and"),
+        Operation::Or => diagrams.or(a, b).expect(rt, "or"),
+        Operation::Ite => diagrams.ite(a, b, c).expect(rt, "a choice"),
+        Operation::Exists => diagrams.exists(a, levels).expect(rt, "some"),
+        Operation::Forall => diagrams.forall(a, levels).expect(rt, "all"),
+        Operation::AndExists => diagrams.and_exists(a, b, levels).expect(rt, "both"),
+        Operation::Shift => shifted(rt, diagrams, a),
     }
 }
 
+/// The table of a diagram, which is given back.
+fn table_of(diagrams: &mut Diagrams, made: Root) -> u32
+    requires kept { IsRoot diagrams.old.state made }
+    requires levels { diagrams.old.state.table.levels ≡ 3 }
+    ensures released { AddsRoot diagrams.new.state diagrams.old.state made }
+    ensures levels { diagrams.new.state.table.levels ≡ 3 }
+{
+    let mut table = 0;
+    for place in 0..8u32 {
+        if diagrams.eval(&made, &[place & 4 == 4, place & 2 == 2, place & 1 == 1]) {
+            table |= 1 << place;
+        }
+    }
+    diagrams.release(made);
+    table
+}
+
 #[test]
-fn first_bits_of_a_choice(rt: HostRuntime) -> Result<(), Fail> {
-    let mut diagrams = Diagrams::make(rt.alloc(), 4, 64)?;
-    let x = chosen(&rt, &mut diagrams);
-    // The first bit isn't read; the second is free.
-    assert_eq!(rt;
-        found(&diagrams, &x, [None, None, None, None]),
-        Some([false, false, true, true])
-    );
-    // What is fixed later turns the second.
-    assert_eq!(rt;
-        found(&diagrams, &x, [None, None, Some(false), None]),
-        Some([false, true, false, false])
-    );
-    assert_eq!(rt;
-        found(&diagrams, &x, [None, None, None, Some(false)]),
-        Some([false, true, false, false])
-    );
-    // What is fixed stands, also where it isn't read.
-    assert_eq!(rt;
-        found(&diagrams, &x, [Some(true), Some(true), None, None]),
-        Some([true, true, false, false])
-    );
-    assert_eq!(rt;
-        found(&diagrams, &x, [None, Some(false), None, Some(false)]),
-        None
-    );
+fn tables_of_operations(rt: HostRuntime) -> Result<(), Fail> {
+    // (operation, its levels, its table)
+    let cases: [(Operation, &[u32], u32); 15] = [
+        (Operation::Keep, &[], 0xe8),
+        (Operation::Not, &[], 0x17),
+        (Operation::And, &[], 0x80),
+        (Operation::Or, &[], 0xfe),
+        (Operation::Ite, &[], 0x90),
+        (Operation::Exists, &[], 0xe8),
+        (Operation::Exists, &[0], 0xee),
+        (Operation::Exists, &[2, 0], 0xff),
+        (Operation::Forall, &[], 0xe8),
+        (Operation::Forall, &[0], 0x88),
+        (Operation::Forall, &[2, 0], 0x00),
+        (Operation::AndExists, &[], 0x80),
+        (Operation::AndExists, &[2], 0xc0),
+        (Operation::AndExists, &[0, 2], 0xcc),
+        (Operation::Shift, &[], 0xee),
+    ];
+    let mut diagrams = Diagrams::make(rt.alloc(), 3, 512)?;
+    // Two bits or three are true; one or three; the first.
+    let a = of_table(&rt, &mut diagrams, 0xe8, 0, 0);
+    let b = of_table(&rt, &mut diagrams, 0x96, 0, 0);
+    let c = of_table(&rt, &mut diagrams, 0xf0, 0, 0);
+    for (operation, levels, table) in cases {
+        let made = made(&rt, &mut diagrams, operation, levels, &a, &b, &c);
+        assert_eq!(rt;
+            table_of(&mut diagrams, made),
+            table,
+            "over {levels:?}, wanted {table:#x}"
+        );
+    }
+    diagrams.release(a);
+    diagrams.release(b);
+    diagrams.release(c);
+    Ok(())
+}
+
+/// The first bits, where there are any.
+fn first_bits(diagrams: &Diagrams, a: &Root, fixed: [Option<bool>; 3]) -> Option<[bool; 3]>
+    requires kept { IsRoot diagrams.now.state a.now }
+    requires levels { diagrams.now.state.table.levels ≡ 3 }
+{
+    let mut out = [true; 3];
+    diagrams.first_path(a, &fixed, &mut out).then_some(out)
+}
+
+#[test]
+fn first_bits_where_the_last_two_differ(rt: HostRuntime) -> Result<(), Fail> {
+    // (what is fixed, the first bits)
+    let cases = [
+        ([None, None, None], Some([false, false, true])),
+        ([None, None, Some(false)], Some([false, true, false])),
+        ([None, Some(true), None], Some([false, true, false])),
+        ([Some(true), None, None], Some([true, false, true])),
+        ([None, Some(false), Some(false)], None),
+    ];
+    let mut diagrams = Diagrams::make(rt.alloc(), 3, 64)?;
+    let a = of_table(&rt, &mut diagrams, 0x66, 0, 0);
+    for (fixed, bits) in cases {
+        assert_eq!(rt; first_bits(&diagrams, &a, fixed), bits, "{fixed:?} fixed");
+    }
+    diagrams.release(a);
+    Ok(())
+}
+
+/// True where the level's bit differs from `x`, which is given back.
+fn differs(rt: &impl Abort, diagrams: &mut Diagrams, x: Root, level: u32) -> Root
+    requires kept { IsRoot diagrams.old.state x }
+    requires below { level < diagrams.old.state.table.levels }
+    ensures kept { IsRoot diagrams.new.state result }
+    ensures levels { diagrams.new.state.table.levels ≡ diagrams.old.state.table.levels }
+{
+    let other = diagrams.not(&x).expect(rt, "a negation");
+    let differs = branch(rt, diagrams, level, &x, &other);
+    diagrams.release(other);
+    diagrams.release(x);
+    differs
+}
+
+#[test]
+fn a_parity_of_64_bits_has_127_nodes(rt: HostRuntime) -> Result<(), Fail> {
+    let mut diagrams = Diagrams::make(rt.alloc(), 64, 4096)?;
+    let mut x = diagrams.constant(false).expect(&rt, "a constant");
+    for k in 0..64u32 {
+        x = differs(&rt, &mut diagrams, x, 63 - k);
+    }
+    diagrams.reclaim();
+    assert_eq!(rt; diagrams.nodes(), 129);
+    let mut bits = [false; 64];
+    bits[17] = true;
+    assert_eq!(rt; diagrams.eval(&x, &bits), true);
+    bits[63] = true;
+    assert_eq!(rt; diagrams.eval(&x, &bits), false);
     diagrams.release(x);
     Ok(())
 }

@@ -14,7 +14,6 @@ use Rattle.gr1_law.specs.Layers.{or_all_states, goal_sets}
 use Rattle.gr1_sys.specs.declared.layers.SysLayer.{SysLayer}
 use Rattle.gr1_sys.specs.Held.{HasEach, layer_regions, goal_regions, all_regions}
 use Rattle.controller.specs.declared.aims.Aim.{Aim}
-
 use Rattle.controller.specs.Owned.{weight_as, HasAll, SpendsAll, MakesAll, region_items, move_items, aim_items}
 use Rattle.controller.specs.Made.{Every, IsIn, Targets, IsMade, AsksOfTargets, AreTargets, TellsHalt, leadings, parts_for, regions_for, AreLike, AreAllLike, first_layers, move_meanings}
 use Rattle.controller.proofs.Owning.{length_map, length_both, weight_as-append, weight_as-one, weight_as-none, weight_as-more, all_as, spent_as}

@@ -15,7 +15,6 @@ use Rattle.gr1_sys.specs.declared.layers.SysLayer.{SysLayer}
 use Rattle.gr1_sys.specs.Held.{HasTogether, HoldsWithoutAll, all_regions, ranks_of}
 use Rattle.controller.specs.declared.aims.Aim.{Aim}
 
-
 -- something holds of each of a list
 abbrev pub Every : {X : Type 0} → (X → Type 0) → List X → Type 0
 Every P [] = Unit {0}

@@ -113,8 +113,13 @@ impl<G: Regions> Controller<G> {
     {
         if self.place.started {
             let place = &self.place;
-            self.judge
-                .first_broken_after(self.g.game(), &place.state, &place.cells, &place.next, input)
+            self.judge.first_broken_after(
+                self.g.game(),
+                &place.state,
+                &place.cells,
+                &place.next,
+                input,
+            )
         } else {
             self.judge
                 .first_broken_at_start(self.g.game(), &self.place.next, input)

@@ -49,10 +49,22 @@ fn rounds(rt: &impl Abort, alloc: Global, game: Game) -> Option<u64>
 #[test]
 fn k_is_one_more_than_the_ranks_where_the_system_wins(rt: HostRuntime) -> Result<(), Fail> {
     let alloc = rt.alloc();
-    assert!(rt; rounds(&rt, alloc, granted(alloc)?) == Some(3), "g answers r");
-    assert!(rt; rounds(&rt, alloc, in_turns(alloc)?) == Some(5), "g and !g in turns");
-    assert!(rt; rounds(&rt, alloc, answered(alloc)?) == Some(3), "g only with r");
-    assert!(rt; rounds(&rt, alloc, stuck(alloc)?) == Some(2), "no next input");
+    assert!(rt;
+        rounds(&rt, alloc, granted(alloc)?) == Some(3),
+        "g answers r"
+    );
+    assert!(rt;
+        rounds(&rt, alloc, in_turns(alloc)?) == Some(5),
+        "g and !g in turns"
+    );
+    assert!(rt;
+        rounds(&rt, alloc, answered(alloc)?) == Some(3),
+        "g only with r"
+    );
+    assert!(rt;
+        rounds(&rt, alloc, stuck(alloc)?) == Some(2),
+        "no next input"
+    );
     assert!(rt; rounds(&rt, alloc, lost(alloc)?) == None, "g never");
     Ok(())
 }

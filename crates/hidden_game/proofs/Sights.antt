@@ -1,25 +1,18 @@
 -- The entries of the tables at their cells.
-use Rattle.std.proofs.Common.{◌≡◌, ℕ, zero, suc, ◌+◌, ◌*◌, ◌^◌, ◌<◌, ◌≤◌, pos, Bool, true, false, not, nat_lt, List, [], ◌∷◌, ◌++◌, length, map, take, drop, get_or, slice_set, slice_index, cond, count_by, refl, sym, ap, ◌∙◌, subst, arith}
+use Rattle.std.proofs.Common.{◌≡◌, ℕ, zero, suc, ◌+◌, ◌<◌, ◌≤◌, pos, Bool, true, false, not, nat_lt, List, [], ◌∷◌, ◌++◌, length, map, take, drop, get_or, slice_set, slice_index, cond, count_by, refl, sym, ap, ◌∙◌, arith}
 use Rattle.std.proofs.lemmas.Bool.{and_parts, false≢true}
-use borrow.Author.Tests.{ltb-true}
 use Rattle.spec_model.specs.declared.value.Value.{Value}
 use Rattle.spec_model.specs.declared.value.Value.TheVariants as value
 use Rattle.spec_model.specs.declared.game.Hidden.{Hidden}
 use Rattle.spec_model.specs.GameViews.{hidden_data}
-use Rattle.spec_model.specs.Games.{GameData, State, listed, HiddenData, Readout, entries_in, read_table, nothing_read, present_reading, letter_of, cell_of}
+use Rattle.spec_model.specs.Games.{GameData, State, listed, HiddenData, Readout, entries_in, read_table, nothing_read, present_reading}
 use Rattle.spec_model.specs.Values.{DomainData, Assignment, is_assignment}
 use Rattle.spec_model.specs.declared.value.Owner.{Owner}
 use Rattle.spec_model.specs.Moves.{is_env, domains_of, value_among}
-use Rattle.spec_model.specs.Syntax.{VariableData, formulas}
+use Rattle.spec_model.specs.Syntax.{VariableData}
 use Rattle.spec_model.specs.Rules.{Position}
-use Rattle.spec_model.specs.Typing.{Scope}
-use Rattle.spec_model.specs.Meaning.{holds_at}
-use Rattle.spec_model.specs.Views.{formula}
-use Rattle.spec_model.specs.WellMade.{is_table, are_tables}
-use Rattle.game_values.specs.Safety.{AreSafe}
 use Rattle.game_values.proofs.Safe.{IsTyped}
-use Rattle.game_values.proofs.Typed.{typed_among, states_safe, count-cons}
-use Rattle.game_values.proofs.TableSteps.{table_atoms}
+use Rattle.game_values.proofs.Typed.{typed_among, count-cons}
 use Rattle.std.proofs.lemmas.List.{length-map, length-append}
 use Rattle.spec_model.specs.Steps.{are_hidden_values, is_state}
 use Rattle.hidden_game.specs.Sights.{cell_in, entries_at, nexts_at, read_so_far, seen_reading}
@@ -49,15 +42,6 @@ module _ {X : Type 0} where
       at (a ∷ t) [] k v same below is = absurd (omega arith)
       at (a ∷ t) (b ∷ old) zero v same below is = ap (λ (w : X). w ∷ old) is
       at (a ∷ t) (b ∷ old) (suc k) v same below is = ap (λ (ws : List X). a ∷ ws) (at t old k v (omega arith) (omega arith) is)
-
-  -- what is not written yet is read as it was
-  pub read_one : (t old : List X) (k : ℕ) (d : X) → length t ≡ length old → get_or (take k t ++ drop k old) k d ≡ get_or old k d
-  read_one [] [] zero d same = refl
-  read_one [] [] (suc k) d same = refl
-  read_one [] (b ∷ old) k d same = absurd (omega arith)
-  read_one (a ∷ t) [] k d same = absurd (omega arith)
-  read_one (a ∷ t) (b ∷ old) zero d same = refl
-  read_one (a ∷ t) (b ∷ old) (suc k) d same = read_one t old k d (omega arith)
 
   pub all_written : (t old : List X) (k : ℕ) → length t ≡ length old → length t ≤ k → take k t ++ drop k old ≡ t
   all_written [] [] zero same over = refl
@@ -145,16 +129,6 @@ pub seen_typed : (vs : List VariableData) (p q : Position) (entries : List (List
     IsTyped (record { domains = map (λ v. v.domain) vs; tables = before }) (seen_reading vs p q entries)
 seen_typed vs p q entries before px py qx qy k zero = typed_among vs p.input p.output px py k
 seen_typed vs p q entries before px py qx qy k (suc t) = typed_among vs q.input q.output qx qy k
-
-module _ (vs : List VariableData) (p : Position) (entries : List (List Bool)) (before : List ℕ) where
-  abbrev sc : Scope
-  sc = record { domains = map (λ v. v.domain) vs; tables = before }
-
-  pub seen_safe : is_assignment (domains_of is_env vs) p.input ≡ true → is_assignment (domains_of (λ o. not (is_env o)) vs) p.output ≡ true → (h : Hidden) (hs : List HiddenData) → are_tables sc (hidden_data h ∷ hs) ≡ true →
-      AreSafe (seen_reading vs p p entries) (formulas (map formula h.atoms.items)) 0
-  seen_safe input output h hs tables =
-      states_safe sc (seen_reading vs p p entries) (seen_typed vs p p entries before input output input output) (map formula h.atoms.items)
-      (table_atoms sc (hidden_data h) (and_parts (is_table sc (hidden_data h)) _ tables).0)
 
 -- ---- the parts of a listed state
 

@@ -1,3 +1,4 @@
 mod Fitting
 pub mod Turns
 pub mod RunTalks
+mod Strategic

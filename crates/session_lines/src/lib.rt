@@ -4,7 +4,7 @@
 //! written exactly as it is printed. Input comes in pieces of any size. Each buffer is taken before the first line.
 //!
 //! Contract: `Lines::next_line` hands out the lines of the input in order; `Lines::read` reads a line exactly where it reads
-//! as an assignment; `Lines::write_shown` writes a whole line. The laws are in `laws`. Path: verdict → **lines**.
+//! as an assignment; `Lines::write_shown` writes a whole line. The laws are in `laws` and `typed_laws`. Path: verdict → **lines**.
 #![tactic(auto)]
 
 pub mod laws;
@@ -15,6 +15,8 @@ mod print;
 mod read;
 mod reader;
 mod row;
+#[cfg(test)]
+mod tests;
 pub mod typed_laws;
 mod value;
 mod word;

@@ -7,7 +7,7 @@ use Rattle.sp_outside.specs.Written.{AppendsFront}
 use Rattle.spec_model.specs.Syntax.{Specification}
 use Rattle.session.specs.declared.talking.End.{End}
 use Rattle.session.specs.Talks.{RunTalk}
-use Rattle.session.proofs.Turns.{weaker}
+use Rattle.session.proofs.RunTalks.{weaker}
 use Rattle.spectra.specs.declared.status.Status.{Status}
 use Rattle.spectra.specs.declared.status.Status.TheVariants.{OutputFault}
 use Rattle.spectra.specs.Sessions.{moment, Writes, IsSaid, realizable, most_positions, Closes, whole, cut, last_line, status_after, Holds, session}

@@ -10,7 +10,7 @@ ghost use Rattle.gr1_law.specs.Layers.{LayerSets, round_count};
 ghost use Rattle.gr1_sys.specs.Held.{ranks_of};
 ghost use Rattle.controller.specs.Made.{AreLayersOf};
 ghost use Rattle.controller.specs.Objects.{IsFresh, Stands};
-ghost use Rattle.session.specs.Views.{AreFor, pending_of};
+ghost use Rattle.session_lines.specs.Views.{AreFor, pending_of};
 ghost use Rattle.session.specs.Strategies.{rounds_of, IsOf};
 ghost use Rattle.spectra.specs.Sessions.{moment, Holds, WantsMemory, realizable};
 

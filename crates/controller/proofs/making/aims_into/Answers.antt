@@ -2,7 +2,6 @@ use Rattle.std.proofs.Common.{◌∙◌, ◌+◌, ◌++◌, ◌∷◌, [], List,
 use Rattle.std.proofs.lemmas.List.{map-append, take_all}
 use Rattle.regions.specs.Kept.{Meaning, HasRegion, Outputs}
 use Rattle.gr1_sys.specs.Held.{HasEach}
-
 use Rattle.controller.specs.Owned.{MakesAll, aim_items, aims_items}
 use Rattle.controller.specs.Made.{IsIn, AreTargets, AreLike, leadings, parts_for, regions_for}
 use Rattle.controller.proofs.Holdings.{same_then}

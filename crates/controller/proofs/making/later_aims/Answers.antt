@@ -3,7 +3,6 @@ use Rattle.std.proofs.lemmas.List.{map-append, take_all}
 use Rattle.regions.specs.Kept.{Meaning, HasRegion, Outputs}
 use Rattle.regions.specs.declared.types.When.TheVariants.{Later}
 use Rattle.gr1_sys.specs.Held.{HasEach, goal_regions, all_regions}
-
 use Rattle.controller.specs.Owned.{MakesAll, aims_items, all_aims_items}
 use Rattle.controller.specs.Made.{IsIn, AreTargets, AreLike, AreAllLike, leadings, regions_for}
 use Rattle.controller.proofs.Holdings.{same_then}

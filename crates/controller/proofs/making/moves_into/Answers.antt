@@ -1,7 +1,6 @@
 use Rattle.std.proofs.Common.{◌∙◌, ◌+◌, ◌∷◌, [], List, map, take, ap, subst, sym, refl, arith}
 use Rattle.std.proofs.lemmas.List.{map-append, take_all}
 use Rattle.regions.specs.Kept.{Move, Meaning, States, OutMoves, HasRegion, Outputs}
-
 use Rattle.controller.specs.Owned.{MakesAll, move_items}
 use Rattle.controller.specs.Made.{IsIn, leadings}
 use Rattle.controller.proofs.Holdings.{same_then}

@@ -1,4 +1,3 @@
-use Rattle.std.proofs.Common.{ap}
 use Rattle.controller.specs.Objects.{game_of}
 use Rattle.controller.proofs.ExampleMoves.{one_input}
 use Rattle.controller.proofs.tests.first_reply.Goals as goal

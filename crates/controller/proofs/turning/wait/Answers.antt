@@ -1,7 +1,6 @@
 use Rattle.regions.specs.Kept.{Outputs}
 use Rattle.regions.specs.declared.types.When.TheVariants.{Later}
 use Rattle.regions.proofs.Holding.{choice_is}
-
 use Rattle.controller.specs.Turns.{first_into}
 use Rattle.controller.proofs.Holdings.{move_at, has_move, gives}
 use Rattle.controller.proofs.Reaching.{found_only}

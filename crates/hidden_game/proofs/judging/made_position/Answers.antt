@@ -1,5 +1,4 @@
-use Rattle.std.proofs.Common.{◌≡◌, ◌∙◌, ℕ, [], List, map, not, length, refl, sym, ap, subst, true}
-use Rattle.spec_model.specs.declared.value.Value.{Value}
+use Rattle.std.proofs.Common.{◌∙◌, ℕ, [], List, map, not, length, refl, ap}
 use Rattle.spec_model.specs.declared.value.Var.{Var}
 use Rattle.spec_model.specs.declared.game.Hidden.{Hidden}
 use Rattle.spec_model.specs.Views.{variable_data}
@@ -7,7 +6,6 @@ use Rattle.spec_model.specs.GameViews.{game_data, hidden_data}
 use Rattle.spec_model.specs.Values.{Assignment, is_assignment}
 use Rattle.spec_model.specs.Moves.{is_env, domains_of}
 use Rattle.spec_model.specs.Games.{listed, present_reading, read_tables, nothing_read}
-use Rattle.spec_model.specs.Meaning.{Reading}
 use Rattle.spec_model.specs.Steps.{are_hidden_values}
 use Rattle.spec_model.specs.WellMade.{are_tables}
 use Rattle.hidden_game.specs.Sights.{cell_in, reading_at}

@@ -1,4 +1,4 @@
-use Rattle.std.proofs.Common.{◌≡◌, ◌∙◌, ◌+◌, ◌++◌, ◌∷◌, [], ℕ, map, take, drop, length, get_or, slice_set, false, sym, ap, subst, arith, ◌<◌}
+use Rattle.std.proofs.Common.{◌≡◌, ◌∙◌, ◌+◌, ◌++◌, ◌∷◌, [], ℕ, map, take, length, get_or, slice_set, false, sym, ap, subst, arith, ◌<◌}
 use Rattle.std.proofs.lemmas.Bool.{and_parts}
 use Rattle.std.proofs.lemmas.List.{get_or-map, length-map, length-set}
 use Rattle.spec_model.specs.declared.value.Value.TheVariants as value
@@ -10,9 +10,11 @@ use Rattle.spec_model.specs.Games.{read_tables, read_table}
 use Rattle.spec_model.specs.WellMade.{is_table, are_tables}
 use Rattle.game_values.proofs.Lists.{map_drop}
 use Rattle.game_values.proofs.TableSteps.{read_more, value_below, cell_is}
+use Rattle.game_values.specs.Safety.{AreSafe, formulas_in}
 use Rattle.hidden_game.specs.Sights.{cell_in, read_so_far, entries_at, seen_reading}
 use Rattle.game_values.proofs.WholeTables.{table_whole}
-use Rattle.hidden_game.proofs.Sights.{nothing_so_far, seen_once, seen_safe, more_read}
+use Rattle.hidden_game.proofs.Sights.{nothing_so_far, seen_once, more_read}
+use Rattle.hidden_game.proofs.Tables.{present_safe}
 use Rattle.hidden_game.proofs.reading.read_cells.Goals as goal
 
 pub loop-k-init : goal.loop-k-init
@@ -44,10 +46,12 @@ cell-at-requires c =
     let h = c.index-hidden-k.result in
     let list = map_drop hidden_data c.args.hidden.now c.loop-k.k h c.loop-k-test.true c.index-hidden-k.is in
     let tables = ap (λ hs. are_tables sc hs) (sym list) ∙ c.loop-k.invariant.tables.1 in
+    let here = and_parts (is_table sc (hidden_data h)) _ tables in
+    let entries = entries_at (map hidden_data c.args.hidden.now) (take c.loop-k.k c.loop-k.out) in
     record {
       below = c.number_of.ensures.below;
-      whole = table_whole sc h (and_parts (is_table sc (hidden_data h)) _ tables).0;
-      safe = seen_safe vs p (entries_at (map hidden_data c.args.hidden.now) (take c.loop-k.k c.loop-k.out)) c.loop-k.invariant.tables.0 c.requires.input c.requires.output h (map hidden_data (drop (c.loop-k.k + 1) c.args.hidden.now)) tables;
+      whole = table_whole sc h here.0;
+      safe = subst (λ r. AreSafe r (formulas_in h.atoms.items) 0) (sym (seen_once vs p entries)) (present_safe vs p entries c.loop-k.invariant.tables.0 c.requires.input c.requires.output h here.0);
     }
 
 pub loop-k-preserved : goal.loop-k-preserved

@@ -1,0 +1,104 @@
+//! The system's strategy as what answers the lines, and its talks.
+
+ghost use Rattle.std.specs.Prelude.{◌≡◌, ◌≤◌, [], length, is_none, IsTrue};
+ghost use Rattle.sp_outside.specs.Causes.{Rose};
+ghost use Rattle.spec_model.specs.Syntax.{Specification};
+ghost use Rattle.spec_model.specs.Steps.{is_input, legal_input};
+ghost use Rattle.spec_model.specs.FirstBroken.{first_broken};
+ghost use Rattle.gr1_law.specs.Choice.{Memory};
+ghost use Rattle.regions.specs.Rules.{output_count};
+ghost use Rattle.controller.specs.Objects.{IsFresh, game_of, Stands, InEachPlay, GoesOn, HoldsTheSame};
+ghost use Rattle.session_lines.specs.Views.{AreFor, KeepsTables, KeepsReader, pending_of, read_of, shown_of};
+ghost use Rattle.session.specs.Talks.{RunTalk};
+ghost use Rattle.session.specs.Strategies.{rounds_of, IsOf};
+
+use crate::protocol::Protocol;
+use crate::talking::{End, talk};
+use controller::Controller;
+use regions::Regions;
+use session_lines::Lines;
+use sp_outside::{Failed, Sink, Source};
+use spec_model::game::Label;
+
+// The first assumption that what was read breaks.
+fn broken_by<G: Regions>(play: &Controller<G>, lines: &Lines) -> Option<Label>
+    requires stands { Stands G.kept play.now }
+    requires input { IsTrue (is_input (game_of G.kept play.now) (read_of lines.now)) }
+    ensures first { InEachPlay G.kept play.now (λ z l h b m. result ≡ first_broken (game_of G.kept play.now) b (read_of lines.now)) }
+    ensures none { InEachPlay G.kept play.now (λ z l h b m. is_none result ≡ legal_input (game_of G.kept play.now) b (read_of lines.now)) }
+{
+    play.legal(&lines.wanted.values)
+}
+
+// Chooses the output that answers what was read, at the first position or later.
+fn choose<G: Regions>(play: &mut Controller<G>, lines: &mut Lines)
+    requires stands { Stands G.kept play.old }
+    requires input { IsTrue (is_input (game_of G.kept play.old) (read_of lines.old)) }
+    requires legal { InEachPlay G.kept play.old (λ z l h b m. IsTrue (legal_input (game_of G.kept play.old) b (read_of lines.old))) }
+    requires room { length (shown_of lines.old) ≡ output_count (game_of G.kept play.old) }
+    ensures chosen { InEachPlay G.kept play.old (λ z l h b m. (next : Memory) × GoesOn G.kept play.old play.new z l h b m (read_of lines.old) (shown_of lines.new) next) }
+    ensures same { HoldsTheSame G.kept play.old play.new }
+    ensures keeps { KeepsTables lines.old lines.new }
+    ensures reader { KeepsReader lines.old lines.new }
+{
+    if play.is_started() {
+        play.step(&lines.wanted.values, &mut lines.shown.values);
+    } else {
+        play.start(&lines.wanted.values, &mut lines.shown.values);
+    }
+}
+
+impl<G: Regions> Protocol for Controller<G> {
+    ghost use Rattle.session.specs.Talks.{RunState, run_terms};
+    ghost use Rattle.session.specs.Strategies.{PlaysFor};
+
+    ghost State = { RunState };
+
+    ghost terms = { run_terms };
+
+    ghost stands = { λ c s st. PlaysFor G.kept c s st.rounds st.play };
+
+    // The environment moves first.
+    fn open<O: Sink>(&mut self, lines: &mut Lines, output: &mut O) -> Result<(), Failed> {
+        let _ = lines;
+        let _ = output;
+        Ok(())
+    }
+
+    fn answer<O: Sink>(&mut self, lines: &mut Lines, output: &mut O) -> Option<End> {
+        if let Some(label) = broken_by(self, lines) {
+            return Some(End::Broken(label));
+        }
+        choose(self, lines);
+        match lines.write_shown(output) {
+            Ok(()) => None,
+            Err(_) => Some(End::WriteFault),
+        }
+    }
+}
+
+/// Answers the lines of the input by the system's strategy, at most `limit` of them, and says how the talk ended. It takes
+/// no memory.
+///
+/// Each line is answered before the input is read again. The order for one line: the input's fault, the line refused, the
+/// assumption broken.
+pub fn run_lines<G: Regions, I: Source, O: Sink>(
+    lines: &mut Lines,
+    play: &mut Controller<G>,
+    input: &mut I,
+    output: &mut O,
+    limit: u64,
+) -> End
+    requires nothing_taken { pending_of lines.old ≡ [] }
+    requires fresh { IsFresh play.old }
+    requires stands { Stands G.kept play.old }
+    requires one_specification { (s : Specification) × AreFor lines.old s × IsOf G.kept play.old s }
+    ensures talk { (s : Specification) → AreFor lines.old s → IsOf G.kept play.old s →
+        RunTalk s (rounds_of play.old) limit (I.left input.old) (I.left input.new) (O.written output.old) (O.written output.new)
+        (Rose (I.faults input.old) (I.faults input.new)) (Rose (O.faults output.old) (O.faults output.new)) result }
+    ensures stands { Stands G.kept play.new }
+    ensures later_in { I.faults input.old ≤ I.faults input.new }
+    ensures later_out { O.faults output.old ≤ O.faults output.new }
+{
+    talk(lines, play, input, output, limit)
+}
