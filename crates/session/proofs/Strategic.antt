@@ -106,7 +106,7 @@ plays_on kept old new s k h p same x y next goes =
     }
 
 -- the chosen output answers what was read
-pub answer_of : {G R M : Type 0} (kept : G → Kept R M) (old new : Controller G R M) (s : Specification) (st : RunState) (p : PlaysFor kept old s st.rounds st.play) → HoldsTheSame kept old new →
+abbrev pub answer_of : {G R M : Type 0} (kept : G → Kept R M) (old new : Controller G R M) (s : Specification) (st : RunState) (p : PlaysFor kept old s st.rounds st.play) → HoldsTheSame kept old new →
     (x : Assignment) → is_assignment (input_domains s) x ≡ true → first_broken_after s st.play x ≡ None → (y : Assignment) (next : Memory) → GoesOn kept old new p.z p.layers st.play p.before p.memory x y next →
     Answer (run_terms s) (λ st. PlaysFor kept new s st.rounds st.play) st x
 answer_of kept old new s st p same x fits unbroken y next goes =

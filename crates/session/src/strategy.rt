@@ -41,10 +41,12 @@ fn choose<G: Regions>(play: &mut Controller<G>, lines: &mut Lines)
     ensures keeps { KeepsTables lines.old lines.new }
     ensures reader { KeepsReader lines.old lines.new }
 {
+    let wanted = &lines.wanted;
+    let shown = &mut lines.shown;
     if play.is_started() {
-        play.step(&lines.wanted.values, &mut lines.shown.values);
+        play.step(&wanted.values, &mut shown.values);
     } else {
-        play.start(&lines.wanted.values, &mut lines.shown.values);
+        play.start(&wanted.values, &mut shown.values);
     }
 }
 
