@@ -24,7 +24,7 @@ pub behind-append : (n : Nesting) (u v : List Lexeme) → behind n (u ++ v) ≡ 
 behind-append n [] v = refl
 behind-append n (t ∷ u) v = behind-append (nested (part_of t.class) n) u v
 
-at_most_append : (k : ℕ) (n : Nesting) (u v : List Lexeme) → AtMost k n u → AtMost k (behind n u) v → AtMost k n (u ++ v)
+pub at_most_append : (k : ℕ) (n : Nesting) (u v : List Lexeme) → AtMost k n u → AtMost k (behind n u) v → AtMost k n (u ++ v)
 at_most_append k n [] v a b = b
 at_most_append k n (t ∷ u) v a b = (a.0, at_most_append k (nested (part_of t.class) n) u v a.1 b)
 

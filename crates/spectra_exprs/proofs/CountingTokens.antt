@@ -20,7 +20,7 @@ use Rattle.spectra_exprs.proofs.ClassSets.{among}
 use Rattle.spectra_exprs.proofs.WholeExpressions.{b_prefix, prefix_some, set_of, operator_some}
 use Rattle.spectra_exprs.proofs.Counting.{Counts, Exactly, Ends, Opens, Behind, Seen, behind_step, behind_level, counts_after, counts_same, counts_from, counts_if, counts_look}
 
-nested_same : (class : Class) (t : Lexeme) → same_class t.class class ≡ true → part_of t.class ≡ part_of class
+pub nested_same : (class : Class) (t : Lexeme) → same_class t.class class ≡ true → part_of t.class ≡ part_of class
 unfolding part_of same_class
 nested_same class t is = let place : place_of t.class ≡ place_of class = grind (arith, nat_tests) in rw place refl
 

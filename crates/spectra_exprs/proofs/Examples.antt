@@ -90,26 +90,6 @@ pub a_Equal : Example classes.Equal
 unfolding unicode_ident is_sign same_class class_of sign_class place_of
 a_Equal = sign_of classes.Equal (codes "=") refl refl refl refl
 
-pub a_Unequal : Example classes.Unequal
-unfolding unicode_ident is_sign same_class class_of sign_class place_of
-a_Unequal = sign_of classes.Unequal (codes "!=") refl refl refl refl
-
-pub a_Less : Example classes.Less
-unfolding unicode_ident is_sign same_class class_of sign_class place_of
-a_Less = sign_of classes.Less (codes "<") refl refl refl refl
-
-pub a_AtMost : Example classes.AtMost
-unfolding unicode_ident is_sign same_class class_of sign_class place_of
-a_AtMost = sign_of classes.AtMost (codes "<=") refl refl refl refl
-
-pub a_Greater : Example classes.Greater
-unfolding unicode_ident is_sign same_class class_of sign_class place_of
-a_Greater = sign_of classes.Greater (codes ">") refl refl refl refl
-
-pub a_AtLeast : Example classes.AtLeast
-unfolding unicode_ident is_sign same_class class_of sign_class place_of
-a_AtLeast = sign_of classes.AtLeast (codes ">=") refl refl refl refl
-
 pub a_Plus : Example classes.Plus
 unfolding unicode_ident is_sign same_class class_of sign_class place_of
 a_Plus = sign_of classes.Plus (codes "+") refl refl refl refl

@@ -8,6 +8,7 @@ pub mod WholeExpressions
 pub mod WholeLevels
 pub mod Stopping
 pub mod StoppingSteps
+pub mod Turns
 pub mod StoppingExpressions
 pub mod Opening
 pub mod OpeningSteps

@@ -82,9 +82,6 @@ sound_wider P wider s = record {
 pub sound_same : {A : Type 0} {P : List Lexeme → A → Type 0} {R S : Reader A} → ((ts : List Lexeme) → R ts ≡ S ts) → Sound P S → Sound P R
 sound_same same s = record { got = λ ts a rest e. s.got ts a rest (sym (same ts) ∙ e) }
 
-pub sound_left : {A : Type 0} {P Q : List Lexeme → A → Type 0} {R : Reader A} → Sound P R → Sound (P ∣ Q) R
-sound_left {P = P} s = sound_wider P (λ used a p. inl p) s
-
 pub sound_right : {A : Type 0} {P Q : List Lexeme → A → Type 0} {R : Reader A} → Sound Q R → Sound (P ∣ Q) R
 sound_right {Q = Q} s = sound_wider Q (λ used a q. inr q) s
 
@@ -187,9 +184,6 @@ grouped used c t =
       before = record { front = t.front; value = t.value; back = t.after.front; parts = refl; before = t.before; after = t.after.before };
       after = t.after.after;
     }
-
-pub sound_grouped : {A B C : Type 0} {P : List Lexeme → A → Type 0} {Q : A → List Lexeme → B → Type 0} {S : B → List Lexeme → C → Type 0} {R : Reader C} → Sound (P ▸ λ a. Q a ▸ S) R → Sound ((P ▸ Q) ▸ S) R
-sound_grouped {P = P} {Q = Q} {S = S} s = sound_wider (P ▸ λ a. Q a ▸ S) (grouped {P = P} {Q = Q} {S = S}) s
 
 pub sound_if_left : {A : Type 0} {P Q P' : List Lexeme → A → Type 0} {R : Reader A} → ((used : List Lexeme) (a : A) → P used a → P' used a) → Sound (P ∣ Q) R → Sound (P' ∣ Q) R
 sound_if_left {A = A} {P = P} {Q = Q} {P' = P'} wider s = sound_wider (P ∣ Q) turned s

@@ -218,7 +218,7 @@ module _ (r : Inside) (s : StableInside r) where
   unfolding times_of place_of
   stable_times a = stable_after classes.Star (record { checked = refl }) (times_behind a)
 
-  uses_times : (a : Term) → Uses (times_of r a)
+  pub uses_times : (a : Term) → Uses (times_of r a)
   unfolding times_of
   uses_times a = uses_then (uses_token classes.Star) (times_behind a)
 
@@ -233,7 +233,7 @@ module _ (r : Inside) (s : StableInside r) where
   unfolding plus_of
   stable_plus a = stable_look (operator_look levels.Sum) (plus_behind a) stable_unexpected
 
-  uses_plus : (a : Term) → Uses (plus_of r a)
+  pub uses_plus : (a : Term) → Uses (plus_of r a)
   unfolding plus_of
   uses_plus a = uses_look (operator_look levels.Sum) (plus_behind a) uses_unexpected
 
@@ -277,7 +277,7 @@ module _ (r : Inside) (s : StableInside r) where
   unfolding conjunct_of place_of
   stable_conjunct all = stable_after classes.And (record { checked = refl }) (conjunct_behind all)
 
-  uses_conjunct : (all : Chain) → Uses (conjunct_of r all)
+  pub uses_conjunct : (all : Chain) → Uses (conjunct_of r all)
   unfolding conjunct_of
   uses_conjunct all = uses_then (uses_token classes.And) (conjunct_behind all)
 
@@ -298,7 +298,7 @@ module _ (r : Inside) (s : StableInside r) where
   unfolding disjunct_of
   stable_disjunct all = stable_then stable_or_sign (disjunct_behind all)
 
-  uses_disjunct : (all : Chain) → Uses (disjunct_of r all)
+  pub uses_disjunct : (all : Chain) → Uses (disjunct_of r all)
   unfolding disjunct_of
   uses_disjunct all = uses_then uses_or_sign (disjunct_behind all)
 

@@ -8,29 +8,22 @@ ghost use Rattle.spectra_exprs.specs.Operators.{starts_or as starts_or_lem};
 ghost use Rattle.spectra_exprs.specs.ExprViews.{term_data, chain_data};
 ghost use Rattle.spectra_exprs.specs.Expressions.{inside, side_of, compared_of, comparison_of, cmp_of, conjunct_of, conjunction_of, conj_of, disjunct_of, disjunction_of, disj_of, arrow_of, past_of, alone_of, expr_of, whole_of};
 
-use crate::fault::SyntaxFault;
 use crate::operands::{prefixed, prim};
 use crate::operators::{
-    Level, begun, closed, expect, expect_or, first_number, starts, starts_or, starts_sum,
-    take_operator, take_prefix,
+    Level, Read, Tokens, begun, closed, expect, expect_or, starts, starts_or, take_operator,
+    take_prefix,
 };
 use crate::sums::sum;
 use crate::terms::{Chain, Term, between, joined, pair, together, tree};
 use spectra_trees::class::Class;
-use spectra_trees::lexeme::{Spelled, is, name};
-use spectra_trees::tree::{BinaryWord, ExprForm, ExprTree, Place, PrefixWord};
+use spectra_trees::tree::{BinaryWord, ExprForm, ExprTree, Place};
 use std::alloc::Global;
 
 /// sum | prefixed
 #[cycle(expr)]
 #[tactic(auto, unfolding(crate::specs::Expressions::side_of))]
-pub fn side<'a, 'b>(
-    alloc: Global,
-    tokens: &'b [Spelled<'a>],
-    left: u32,
-) -> Result<(ExprTree, &'b [Spelled<'a>]), SyntaxFault>
+pub fn side<'t>(alloc: Global, tokens: Tokens<'t>, left: u32) -> Read<'t, ExprTree>
     ensures read { Gives (λ x. (expr_data x.0, lexemes_of x.1.now)) result (side_of (inside left) (lexemes_of tokens.now)) }
-    ensures shorter { IfOk result (λ x. length x.1.now < length tokens.now) }
 {
     if let Some((token, word, rest)) = take_prefix(tokens) {
         return prefixed(alloc, token, word, rest, left);
@@ -42,16 +35,15 @@ pub fn side<'a, 'b>(
 /// ( sum | prefixed ) behind a sum and a comparison.
 #[cycle(expr)]
 #[tactic(auto, unfolding(crate::specs::Expressions::compared_of))]
-pub fn compared<'a, 'b>(
+pub fn compared<'t>(
     alloc: Global,
     first: ExprTree,
     at: Place,
     word: BinaryWord,
-    tokens: &'b [Spelled<'a>],
+    tokens: Tokens<'t>,
     left: u32,
-) -> Result<(Term, &'b [Spelled<'a>]), SyntaxFault>
+) -> Read<'t, Term>
     ensures read { Gives (λ x. (term_data x.0, lexemes_of x.1.now)) result (compared_of (inside left) (expr_data first) at word (lexemes_of tokens.now)) }
-    ensures shorter { IfOk result (λ x. length x.1.now < length tokens.now) }
 {
     let (second, rest) = side(alloc, tokens, left)?;
     let tree = between(alloc, at, word, first, second)?;
@@ -61,13 +53,8 @@ pub fn compared<'a, 'b>(
 /// sum [ ( "=" | "!=" | "<" | "<=" | ">" | ">=" ) ( sum | prefixed ) ]
 #[cycle(expr)]
 #[tactic(auto, unfolding(crate::specs::Expressions::comparison_of))]
-pub fn comparison<'a, 'b>(
-    alloc: Global,
-    tokens: &'b [Spelled<'a>],
-    left: u32,
-) -> Result<(Term, &'b [Spelled<'a>]), SyntaxFault>
+pub fn comparison<'t>(alloc: Global, tokens: Tokens<'t>, left: u32) -> Read<'t, Term>
     ensures read { Gives (λ x. (term_data x.0, lexemes_of x.1.now)) result (comparison_of (inside left) (lexemes_of tokens.now)) }
-    ensures shorter { IfOk result (λ x. length x.1.now < length tokens.now) }
 {
     let (first, rest) = sum(alloc, tokens, left)?;
     match take_operator(rest, Level::Relation) {
@@ -79,13 +66,8 @@ pub fn comparison<'a, 'b>(
 /// cmp = prefixed | sum [ ( "=" | "!=" | "<" | "<=" | ">" | ">=" ) ( sum | prefixed ) ]
 #[cycle(expr)]
 #[tactic(auto, unfolding(crate::specs::Expressions::cmp_of))]
-pub fn cmp<'a, 'b>(
-    alloc: Global,
-    tokens: &'b [Spelled<'a>],
-    left: u32,
-) -> Result<(Term, &'b [Spelled<'a>]), SyntaxFault>
+pub fn cmp<'t>(alloc: Global, tokens: Tokens<'t>, left: u32) -> Read<'t, Term>
     ensures read { Gives (λ x. (term_data x.0, lexemes_of x.1.now)) result (cmp_of (inside left) (lexemes_of tokens.now)) }
-    ensures shorter { IfOk result (λ x. length x.1.now < length tokens.now) }
 {
     let Some((token, word, rest)) = take_prefix(tokens) else {
         return comparison(alloc, tokens, left);
@@ -97,14 +79,8 @@ pub fn cmp<'a, 'b>(
 /// ( "&" | "and" ) cmp behind a chain so far.
 #[cycle(expr)]
 #[tactic(auto, unfolding(crate::specs::Expressions::conjunct_of))]
-pub fn conjunct<'a, 'b>(
-    alloc: Global,
-    chain: Chain,
-    tokens: &'b [Spelled<'a>],
-    left: u32,
-) -> Result<(Chain, &'b [Spelled<'a>]), SyntaxFault>
+pub fn conjunct<'t>(alloc: Global, chain: Chain, tokens: Tokens<'t>, left: u32) -> Read<'t, Chain>
     ensures read { Gives (λ x. (chain_data x.0, lexemes_of x.1.now)) result (conjunct_of (inside left) (chain_data chain) (lexemes_of tokens.now)) }
-    ensures shorter { IfOk result (λ x. length x.1.now < length tokens.now) }
 {
     let (operator, rest) = expect(tokens, Class::And)?;
     let (operand, rest) = cmp(alloc, rest, left)?;
@@ -114,14 +90,8 @@ pub fn conjunct<'a, 'b>(
 
 /// { ( "&" | "and" ) cmp } behind a first operand.
 #[cycle(expr)]
-pub fn conjuncts<'a, 'b>(
-    alloc: Global,
-    first: Chain,
-    tokens: &'b [Spelled<'a>],
-    left: u32,
-) -> Result<(Chain, &'b [Spelled<'a>]), SyntaxFault>
+pub fn conjuncts<'t>(alloc: Global, first: Chain, tokens: Tokens<'t>, left: u32) -> Read<'t, Chain>
     ensures read { Gives (λ x. (chain_data x.0, lexemes_of x.1.now)) result (all_of (starts_lem Class.And) (conjunct_of (inside left)) (chain_data first) (lexemes_of tokens.now)) }
-    ensures shorter { IfOk result (λ x. length x.1.now ≤ length tokens.now) }
 {
     let (mut chain, mut rest) = begun(first, tokens);
     while starts(rest, Class::And) {
@@ -135,14 +105,13 @@ pub fn conjuncts<'a, 'b>(
 /// { ( "&" | "and" ) cmp } behind a first operand, once at least.
 #[cycle(expr)]
 #[tactic(auto, unfolding(crate::specs::Expressions::conjunction_of))]
-pub fn conjunction<'a, 'b>(
+pub fn conjunction<'t>(
     alloc: Global,
     first: ExprTree,
-    tokens: &'b [Spelled<'a>],
+    tokens: Tokens<'t>,
     left: u32,
-) -> Result<(Term, &'b [Spelled<'a>]), SyntaxFault>
+) -> Read<'t, Term>
     ensures read { Gives (λ x. (term_data x.0, lexemes_of x.1.now)) result (conjunction_of (inside left) (expr_data first) (lexemes_of tokens.now)) }
-    ensures shorter { IfOk result (λ x. length x.1.now < length tokens.now) }
 {
     let (operator, rest) = expect(tokens, Class::And)?;
     let (second, rest) = cmp(alloc, rest, left)?;
@@ -156,14 +125,8 @@ pub fn conjunction<'a, 'b>(
 /// ( "|" | "or" ) conj behind a chain so far.
 #[cycle(expr)]
 #[tactic(auto, unfolding(crate::specs::Expressions::disjunct_of))]
-pub fn disjunct<'a, 'b>(
-    alloc: Global,
-    chain: Chain,
-    tokens: &'b [Spelled<'a>],
-    left: u32,
-) -> Result<(Chain, &'b [Spelled<'a>]), SyntaxFault>
+pub fn disjunct<'t>(alloc: Global, chain: Chain, tokens: Tokens<'t>, left: u32) -> Read<'t, Chain>
     ensures read { Gives (λ x. (chain_data x.0, lexemes_of x.1.now)) result (disjunct_of (inside left) (chain_data chain) (lexemes_of tokens.now)) }
-    ensures shorter { IfOk result (λ x. length x.1.now < length tokens.now) }
 {
     let (operator, rest) = expect_or(tokens)?;
     let (operand, rest) = conj(alloc, rest, left)?;
@@ -173,14 +136,8 @@ pub fn disjunct<'a, 'b>(
 
 /// { ( "|" | "or" ) conj } behind a first operand.
 #[cycle(expr)]
-pub fn disjuncts<'a, 'b>(
-    alloc: Global,
-    first: Chain,
-    tokens: &'b [Spelled<'a>],
-    left: u32,
-) -> Result<(Chain, &'b [Spelled<'a>]), SyntaxFault>
+pub fn disjuncts<'t>(alloc: Global, first: Chain, tokens: Tokens<'t>, left: u32) -> Read<'t, Chain>
     ensures read { Gives (λ x. (chain_data x.0, lexemes_of x.1.now)) result (all_of starts_or_lem (disjunct_of (inside left)) (chain_data first) (lexemes_of tokens.now)) }
-    ensures shorter { IfOk result (λ x. length x.1.now ≤ length tokens.now) }
 {
     let (mut chain, mut rest) = begun(first, tokens);
     while starts_or(rest) {
@@ -194,14 +151,13 @@ pub fn disjuncts<'a, 'b>(
 /// { ( "|" | "or" ) conj } behind a first operand, once at least.
 #[cycle(expr)]
 #[tactic(auto, unfolding(crate::specs::Expressions::disjunction_of))]
-pub fn disjunction<'a, 'b>(
+pub fn disjunction<'t>(
     alloc: Global,
     first: ExprTree,
-    tokens: &'b [Spelled<'a>],
+    tokens: Tokens<'t>,
     left: u32,
-) -> Result<(Term, &'b [Spelled<'a>]), SyntaxFault>
+) -> Read<'t, Term>
     ensures read { Gives (λ x. (term_data x.0, lexemes_of x.1.now)) result (disjunction_of (inside left) (expr_data first) (lexemes_of tokens.now)) }
-    ensures shorter { IfOk result (λ x. length x.1.now < length tokens.now) }
 {
     let (operator, rest) = expect_or(tokens)?;
     let (second, rest) = conj(alloc, rest, left)?;
@@ -215,13 +171,8 @@ pub fn disjunction<'a, 'b>(
 /// conj = cmp { ( "&" | "and" ) cmp }
 #[cycle(expr)]
 #[tactic(auto, unfolding(crate::specs::Expressions::conj_of))]
-pub fn conj<'a, 'b>(
-    alloc: Global,
-    tokens: &'b [Spelled<'a>],
-    left: u32,
-) -> Result<(Term, &'b [Spelled<'a>]), SyntaxFault>
+pub fn conj<'t>(alloc: Global, tokens: Tokens<'t>, left: u32) -> Read<'t, Term>
     ensures read { Gives (λ x. (term_data x.0, lexemes_of x.1.now)) result (conj_of (inside left) (lexemes_of tokens.now)) }
-    ensures shorter { IfOk result (λ x. length x.1.now < length tokens.now) }
 {
     let (first, rest) = cmp(alloc, tokens, left)?;
     if starts(rest, Class::And) {
@@ -233,13 +184,8 @@ pub fn conj<'a, 'b>(
 /// disj = conj { ( "|" | "or" ) conj }
 #[cycle(expr)]
 #[tactic(auto, unfolding(crate::specs::Expressions::disj_of))]
-pub fn disj<'a, 'b>(
-    alloc: Global,
-    tokens: &'b [Spelled<'a>],
-    left: u32,
-) -> Result<(Term, &'b [Spelled<'a>]), SyntaxFault>
+pub fn disj<'t>(alloc: Global, tokens: Tokens<'t>, left: u32) -> Read<'t, Term>
     ensures read { Gives (λ x. (term_data x.0, lexemes_of x.1.now)) result (disj_of (inside left) (lexemes_of tokens.now)) }
-    ensures shorter { IfOk result (λ x. length x.1.now < length tokens.now) }
 {
     let (first, rest) = conj(alloc, tokens, left)?;
     if starts_or(rest) {
@@ -251,16 +197,15 @@ pub fn disj<'a, 'b>(
 /// disj behind a first one and the operator between them.
 #[cycle(expr)]
 #[tactic(auto, unfolding(crate::specs::Expressions::arrow_of))]
-pub fn arrow<'a, 'b>(
+pub fn arrow<'t>(
     alloc: Global,
     first: ExprTree,
     at: Place,
     word: BinaryWord,
-    tokens: &'b [Spelled<'a>],
+    tokens: Tokens<'t>,
     left: u32,
-) -> Result<(ExprTree, &'b [Spelled<'a>]), SyntaxFault>
+) -> Read<'t, ExprTree>
     ensures read { Gives (λ x. (expr_data x.0, lexemes_of x.1.now)) result (arrow_of (inside left) (expr_data first) at word (lexemes_of tokens.now)) }
-    ensures shorter { IfOk result (λ x. length x.1.now < length tokens.now) }
 {
     let (second, rest) = disj(alloc, tokens, left)?;
     let tree = between(alloc, at, word, first, second.tree)?;
@@ -270,14 +215,8 @@ pub fn arrow<'a, 'b>(
 /// [ ( "SINCE" | "S" | "TRIGGERED" | "T" ) prim ] behind a prim.
 #[cycle(expr)]
 #[tactic(auto, unfolding(crate::specs::Expressions::past_of))]
-pub fn past<'a, 'b>(
-    alloc: Global,
-    first: ExprTree,
-    tokens: &'b [Spelled<'a>],
-    left: u32,
-) -> Result<(ExprTree, &'b [Spelled<'a>]), SyntaxFault>
+pub fn past<'t>(alloc: Global, first: ExprTree, tokens: Tokens<'t>, left: u32) -> Read<'t, ExprTree>
     ensures read { Gives (λ x. (expr_data x.0, lexemes_of x.1.now)) result (past_of (inside left) (expr_data first) (lexemes_of tokens.now)) }
-    ensures shorter { IfOk result (λ x. length x.1.now ≤ length tokens.now) }
 {
     let Some((at, word, rest)) = take_operator(tokens, Level::Past) else {
         return Ok((first, tokens));
@@ -290,14 +229,8 @@ pub fn past<'a, 'b>(
 /// What may follow a disj before which no arrow stands.
 #[cycle(expr)]
 #[tactic(auto, unfolding(crate::specs::Expressions::alone_of))]
-pub fn alone<'a, 'b>(
-    alloc: Global,
-    first: Term,
-    tokens: &'b [Spelled<'a>],
-    left: u32,
-) -> Result<(ExprTree, &'b [Spelled<'a>]), SyntaxFault>
+pub fn alone<'t>(alloc: Global, first: Term, tokens: Tokens<'t>, left: u32) -> Read<'t, ExprTree>
     ensures read { Gives (λ x. (expr_data x.0, lexemes_of x.1.now)) result (alone_of (inside left) (expr_data first.tree) first.alone (lexemes_of tokens.now)) }
-    ensures shorter { IfOk result (λ x. length x.1.now ≤ length tokens.now) }
 {
     if first.alone {
         return past(alloc, first.tree, tokens, left);
@@ -309,13 +242,8 @@ pub fn alone<'a, 'b>(
 /// | prim ( "SINCE" | "S" | "TRIGGERED" | "T" ) prim
 #[cycle(expr)]
 #[tactic(auto, unfolding(crate::specs::Expressions::expr_of))]
-pub fn expr<'a, 'b>(
-    alloc: Global,
-    tokens: &'b [Spelled<'a>],
-    left: u32,
-) -> Result<(ExprTree, &'b [Spelled<'a>]), SyntaxFault>
+pub fn expr<'t>(alloc: Global, tokens: Tokens<'t>, left: u32) -> Read<'t, ExprTree>
     ensures read { Gives (λ x. (expr_data x.0, lexemes_of x.1.now)) result (expr_of (inside left) (lexemes_of tokens.now)) }
-    ensures shorter { IfOk result (λ x. length x.1.now < length tokens.now) }
 {
     let (first, rest) = disj(alloc, tokens, left)?;
     match take_operator(rest, Level::Arrow) {
@@ -327,13 +255,8 @@ pub fn expr<'a, 'b>(
 /// expr, which no operator may follow.
 #[cycle(expr)]
 #[tactic(auto, unfolding(crate::specs::Expressions::whole_of))]
-pub fn whole<'a, 'b>(
-    alloc: Global,
-    tokens: &'b [Spelled<'a>],
-    left: u32,
-) -> Result<(ExprTree, &'b [Spelled<'a>]), SyntaxFault>
+pub fn whole<'t>(alloc: Global, tokens: Tokens<'t>, left: u32) -> Read<'t, ExprTree>
     ensures read { Gives (λ x. (expr_data x.0, lexemes_of x.1.now)) result (whole_of (inside left) (lexemes_of tokens.now)) }
-    ensures shorter { IfOk result (λ x. length x.1.now < length tokens.now) }
 {
     let (tree, rest) = expr(alloc, tokens, left)?;
     closed(tree, rest)

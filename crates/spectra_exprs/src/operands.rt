@@ -10,26 +10,22 @@ ghost use Rattle.spectra_exprs.specs.Expressions.{read_of, inside, next_of, pare
 
 use crate::fault::SyntaxFault;
 use crate::formulas::whole;
-use crate::operators::{
-    Level, begun, closed, expect, expect_or, first_number, starts, starts_or, starts_sum,
-    take_operator, take_prefix,
-};
+use crate::operators::{Read, Tokens, begun, expect, starts, take_prefix};
 use crate::terms::{leaf, literal, opened, read};
 use spectra_trees::class::Class;
 use spectra_trees::lexeme::{Spelled, is, name};
-use spectra_trees::tree::{BinaryWord, ExprForm, ExprTree, Place, PrefixWord};
+use spectra_trees::tree::{ExprForm, ExprTree, PrefixWord};
 use std::alloc::Global;
 
 /// An expression that a token opens a level for.
 #[cycle(expr)]
-pub fn deeper_whole<'a, 'b>(
+pub fn deeper_whole<'t>(
     alloc: Global,
-    token: &Spelled<'a>,
-    tokens: &'b [Spelled<'a>],
+    token: &Spelled<'t>,
+    tokens: Tokens<'t>,
     left: u32,
-) -> Result<(ExprTree, &'b [Spelled<'a>]), SyntaxFault>
+) -> Read<'t, ExprTree>
     ensures read { Gives (λ x. (expr_data x.0, lexemes_of x.1.now)) result ((inside left).whole (lexeme_of token.now) (lexemes_of tokens.now)) }
-    ensures shorter { IfOk result (λ x. length x.1.now < length tokens.now) }
 {
     if left == 0 {
         return Err(SyntaxFault::TooDeep(token.number));
@@ -39,14 +35,13 @@ pub fn deeper_whole<'a, 'b>(
 
 /// An operand that a prefix opens a level for.
 #[cycle(expr)]
-pub fn deeper_operand<'a, 'b>(
+pub fn deeper_operand<'t>(
     alloc: Global,
-    token: &Spelled<'a>,
-    tokens: &'b [Spelled<'a>],
+    token: &Spelled<'t>,
+    tokens: Tokens<'t>,
     left: u32,
-) -> Result<(ExprTree, &'b [Spelled<'a>]), SyntaxFault>
+) -> Read<'t, ExprTree>
     ensures read { Gives (λ x. (expr_data x.0, lexemes_of x.1.now)) result ((inside left).operand (lexeme_of token.now) (lexemes_of tokens.now)) }
-    ensures shorter { IfOk result (λ x. length x.1.now < length tokens.now) }
 {
     if left == 0 {
         return Err(SyntaxFault::TooDeep(token.number));
@@ -56,14 +51,13 @@ pub fn deeper_operand<'a, 'b>(
 
 /// Arguments that a parenthesis opens a level for.
 #[cycle(expr)]
-pub fn deeper_arguments<'a, 'b>(
+pub fn deeper_arguments<'t>(
     alloc: Global,
-    token: &Spelled<'a>,
-    tokens: &'b [Spelled<'a>],
+    token: &Spelled<'t>,
+    tokens: Tokens<'t>,
     left: u32,
-) -> Result<(Vec<ExprTree>, &'b [Spelled<'a>]), SyntaxFault>
+) -> Read<'t, Vec<ExprTree>>
     ensures read { Gives (λ x. (map expr_data x.0.items, lexemes_of x.1.now)) result ((inside left).arguments (lexeme_of token.now) (lexemes_of tokens.now)) }
-    ensures shorter { IfOk result (λ x. length x.1.now < length tokens.now) }
 {
     if left == 0 {
         return Err(SyntaxFault::TooDeep(token.number));
@@ -74,14 +68,13 @@ pub fn deeper_arguments<'a, 'b>(
 /// "(" expr ")" behind the word `next`.
 #[cycle(expr)]
 #[tactic(auto, unfolding(crate::specs::Expressions::next_of))]
-pub fn next<'a, 'b>(
+pub fn next<'t>(
     alloc: Global,
-    token: &Spelled<'a>,
-    tokens: &'b [Spelled<'a>],
+    token: &Spelled<'t>,
+    tokens: Tokens<'t>,
     left: u32,
-) -> Result<(ExprTree, &'b [Spelled<'a>]), SyntaxFault>
+) -> Read<'t, ExprTree>
     ensures read { Gives (λ x. (expr_data x.0, lexemes_of x.1.now)) result (next_of (inside left) (lexeme_of token.now) (lexemes_of tokens.now)) }
-    ensures shorter { IfOk result (λ x. length x.1.now < length tokens.now) }
 {
     let (open, inner) = expect(tokens, Class::Open)?;
     let (operand, rest) = deeper_whole(alloc, open, inner, left)?;
@@ -93,14 +86,13 @@ pub fn next<'a, 'b>(
 /// expr ")" behind "(".
 #[cycle(expr)]
 #[tactic(auto, unfolding(crate::specs::Expressions::parentheses_of))]
-pub fn parentheses<'a, 'b>(
+pub fn parentheses<'t>(
     alloc: Global,
-    token: &Spelled<'a>,
-    tokens: &'b [Spelled<'a>],
+    token: &Spelled<'t>,
+    tokens: Tokens<'t>,
     left: u32,
-) -> Result<(ExprTree, &'b [Spelled<'a>]), SyntaxFault>
+) -> Read<'t, ExprTree>
     ensures read { Gives (λ x. (expr_data x.0, lexemes_of x.1.now)) result (parentheses_of (inside left) (lexeme_of token.now) (lexemes_of tokens.now)) }
-    ensures shorter { IfOk result (λ x. length x.1.now < length tokens.now) }
 {
     let (inner, rest) = deeper_whole(alloc, token, tokens, left)?;
     let (_, rest) = expect(rest, Class::Close)?;
@@ -110,15 +102,14 @@ pub fn parentheses<'a, 'b>(
 /// "(" [ expr { "," expr } ] ")" behind a name.
 #[cycle(expr)]
 #[tactic(auto, unfolding(crate::specs::Expressions::call_of))]
-pub fn call<'a, 'b>(
+pub fn call<'t>(
     alloc: Global,
-    token: &Spelled<'a>,
-    opening: &Spelled<'a>,
-    tokens: &'b [Spelled<'a>],
+    token: &Spelled<'t>,
+    opening: &Spelled<'t>,
+    tokens: Tokens<'t>,
     left: u32,
-) -> Result<(ExprTree, &'b [Spelled<'a>]), SyntaxFault>
+) -> Read<'t, ExprTree>
     ensures read { Gives (λ x. (expr_data x.0, lexemes_of x.1.now)) result (call_of (inside left) (lexeme_of token.now) (lexeme_of opening.now) (lexemes_of tokens.now)) }
-    ensures shorter { IfOk result (λ x. length x.1.now < length tokens.now) }
 {
     let (arguments, rest) = deeper_arguments(alloc, opening, tokens, left)?;
     let name = name(alloc, token)?;
@@ -128,14 +119,13 @@ pub fn call<'a, 'b>(
 /// [ "(" [ expr { "," expr } ] ")" ] behind NAME.
 #[cycle(expr)]
 #[tactic(auto, unfolding(crate::specs::Expressions::named_of, crate::specs::Expressions::read_of))]
-pub fn named<'a, 'b>(
+pub fn named<'t>(
     alloc: Global,
-    token: &Spelled<'a>,
-    tokens: &'b [Spelled<'a>],
+    token: &Spelled<'t>,
+    tokens: Tokens<'t>,
     left: u32,
-) -> Result<(ExprTree, &'b [Spelled<'a>]), SyntaxFault>
+) -> Read<'t, ExprTree>
     ensures read { Gives (λ x. (expr_data x.0, lexemes_of x.1.now)) result (named_of (inside left) (lexeme_of token.now) (lexemes_of tokens.now)) }
-    ensures shorter { IfOk result (λ x. length x.1.now ≤ length tokens.now) }
 {
     match tokens.split_first() {
         Some((open, rest)) if is(open, Class::Open) => call(alloc, token, open, rest, left),
@@ -147,13 +137,8 @@ pub fn named<'a, 'b>(
 /// | "next" "(" expr ")" | "(" expr ")"
 #[cycle(expr)]
 #[tactic(auto, unfolding(crate::specs::Expressions::prim_of))]
-pub fn prim<'a, 'b>(
-    alloc: Global,
-    tokens: &'b [Spelled<'a>],
-    left: u32,
-) -> Result<(ExprTree, &'b [Spelled<'a>]), SyntaxFault>
+pub fn prim<'t>(alloc: Global, tokens: Tokens<'t>, left: u32) -> Read<'t, ExprTree>
     ensures read { Gives (λ x. (expr_data x.0, lexemes_of x.1.now)) result (prim_of (inside left) (lexemes_of tokens.now)) }
-    ensures shorter { IfOk result (λ x. length x.1.now < length tokens.now) }
 {
     let Some((token, rest)) = tokens.split_first() else {
         return Err(SyntaxFault::Unexpected(0));
@@ -173,15 +158,14 @@ pub fn prim<'a, 'b>(
 /// prefixed = PREFIX { PREFIX } prim, behind the first PREFIX.
 #[cycle(expr)]
 #[tactic(auto, unfolding(crate::specs::Expressions::prefixed_of))]
-pub fn prefixed<'a, 'b>(
+pub fn prefixed<'t>(
     alloc: Global,
-    token: &Spelled<'a>,
+    token: &Spelled<'t>,
     word: PrefixWord,
-    tokens: &'b [Spelled<'a>],
+    tokens: Tokens<'t>,
     left: u32,
-) -> Result<(ExprTree, &'b [Spelled<'a>]), SyntaxFault>
+) -> Read<'t, ExprTree>
     ensures read { Gives (λ x. (expr_data x.0, lexemes_of x.1.now)) result (prefixed_of (inside left) (lexeme_of token.now) word (lexemes_of tokens.now)) }
-    ensures shorter { IfOk result (λ x. length x.1.now < length tokens.now) }
 {
     let (operand, rest) = deeper_operand(alloc, token, tokens, left)?;
     let form = ExprForm::Prefix(word, Box::new(alloc, operand)?);
@@ -191,13 +175,8 @@ pub fn prefixed<'a, 'b>(
 /// prefixed | prim
 #[cycle(expr)]
 #[tactic(auto, unfolding(crate::specs::Expressions::operand_of))]
-pub fn operand<'a, 'b>(
-    alloc: Global,
-    tokens: &'b [Spelled<'a>],
-    left: u32,
-) -> Result<(ExprTree, &'b [Spelled<'a>]), SyntaxFault>
+pub fn operand<'t>(alloc: Global, tokens: Tokens<'t>, left: u32) -> Read<'t, ExprTree>
     ensures read { Gives (λ x. (expr_data x.0, lexemes_of x.1.now)) result (operand_of (inside left) (lexemes_of tokens.now)) }
-    ensures shorter { IfOk result (λ x. length x.1.now < length tokens.now) }
 {
     match take_prefix(tokens) {
         Some((token, word, rest)) => prefixed(alloc, token, word, rest, left),
@@ -208,14 +187,13 @@ pub fn operand<'a, 'b>(
 /// "," expr behind the arguments so far.
 #[cycle(expr)]
 #[tactic(auto, unfolding(crate::specs::Expressions::argument_of))]
-pub fn argument<'a, 'b>(
+pub fn argument<'t>(
     alloc: Global,
     arguments: Vec<ExprTree>,
-    tokens: &'b [Spelled<'a>],
+    tokens: Tokens<'t>,
     left: u32,
-) -> Result<(Vec<ExprTree>, &'b [Spelled<'a>]), SyntaxFault>
+) -> Read<'t, Vec<ExprTree>>
     ensures read { Gives (λ x. (map expr_data x.0.items, lexemes_of x.1.now)) result (argument_of (inside left) (map expr_data arguments.items) (lexemes_of tokens.now)) }
-    ensures shorter { IfOk result (λ x. length x.1.now < length tokens.now) }
 {
     let (_, rest) = expect(tokens, Class::Comma)?;
     let (next, rest) = whole(alloc, rest, left)?;
@@ -226,14 +204,13 @@ pub fn argument<'a, 'b>(
 
 /// { "," expr } behind a first argument.
 #[cycle(expr)]
-pub fn more_arguments<'a, 'b>(
+pub fn more_arguments<'t>(
     alloc: Global,
     first: Vec<ExprTree>,
-    tokens: &'b [Spelled<'a>],
+    tokens: Tokens<'t>,
     left: u32,
-) -> Result<(Vec<ExprTree>, &'b [Spelled<'a>]), SyntaxFault>
+) -> Read<'t, Vec<ExprTree>>
     ensures read { Gives (λ x. (map expr_data x.0.items, lexemes_of x.1.now)) result (all_of (starts_lem Class.Comma) (argument_of (inside left)) (map expr_data first.items) (lexemes_of tokens.now)) }
-    ensures shorter { IfOk result (λ x. length x.1.now ≤ length tokens.now) }
 {
     let (mut arguments, mut rest) = begun(first, tokens);
     while starts(rest, Class::Comma) {
@@ -247,13 +224,8 @@ pub fn more_arguments<'a, 'b>(
 /// expr { "," expr } ")"
 #[cycle(expr)]
 #[tactic(auto, unfolding(crate::specs::Expressions::some_arguments_of))]
-pub fn some_arguments<'a, 'b>(
-    alloc: Global,
-    tokens: &'b [Spelled<'a>],
-    left: u32,
-) -> Result<(Vec<ExprTree>, &'b [Spelled<'a>]), SyntaxFault>
+pub fn some_arguments<'t>(alloc: Global, tokens: Tokens<'t>, left: u32) -> Read<'t, Vec<ExprTree>>
     ensures read { Gives (λ x. (map expr_data x.0.items, lexemes_of x.1.now)) result (some_arguments_of (inside left) (lexemes_of tokens.now)) }
-    ensures shorter { IfOk result (λ x. length x.1.now < length tokens.now) }
 {
     let (first, rest) = whole(alloc, tokens, left)?;
     let mut arguments = Vec::new(alloc);
@@ -266,13 +238,8 @@ pub fn some_arguments<'a, 'b>(
 /// [ expr { "," expr } ] ")"
 #[cycle(expr)]
 #[tactic(auto, unfolding(crate::specs::Expressions::arguments_of))]
-pub fn arguments<'a, 'b>(
-    alloc: Global,
-    tokens: &'b [Spelled<'a>],
-    left: u32,
-) -> Result<(Vec<ExprTree>, &'b [Spelled<'a>]), SyntaxFault>
+pub fn arguments<'t>(alloc: Global, tokens: Tokens<'t>, left: u32) -> Read<'t, Vec<ExprTree>>
     ensures read { Gives (λ x. (map expr_data x.0.items, lexemes_of x.1.now)) result (arguments_of (inside left) (lexemes_of tokens.now)) }
-    ensures shorter { IfOk result (λ x. length x.1.now < length tokens.now) }
 {
     if !starts(tokens, Class::Close) {
         return some_arguments(alloc, tokens, left);

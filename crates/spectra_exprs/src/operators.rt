@@ -11,6 +11,12 @@ use spectra_trees::class::{Class, is_same};
 use spectra_trees::lexeme::{Spelled, is};
 use spectra_trees::tree::{BinaryWord, ExprTree, Place, PrefixWord};
 
+/// What is left to read.
+pub type Tokens<'t> = &'t [Spelled<'t>];
+
+/// What was read at the front, and what is left behind it; or the fault at which reading stops.
+pub type Read<'t, T> = Result<(T, Tokens<'t>), SyntaxFault>;
+
 /// Between what an operator stands.
 #[derive(Clone, Copy, Debug)]
 pub enum Level {
@@ -48,12 +54,8 @@ pub fn starts(tokens: &[Spelled<'_>], class: Class) -> bool
 
 /// One token of a class.
 #[tactic(auto, unfolding(crate::specs::Read::expect))]
-pub fn expect<'a, 'b>(
-    tokens: &'b [Spelled<'a>],
-    class: Class,
-) -> Result<(&'b Spelled<'a>, &'b [Spelled<'a>]), SyntaxFault>
+pub fn expect<'t>(tokens: Tokens<'t>, class: Class) -> Read<'t, &'t Spelled<'t>>
     ensures read { Gives (λ x. (lexeme_of x.0.now, lexemes_of x.1.now)) result (expect_lem class (lexemes_of tokens.now)) }
-    ensures shorter { IfOk result (λ x. length x.1.now < length tokens.now) }
 {
     match tokens.split_first() {
         Some((token, rest)) => {
@@ -163,12 +165,11 @@ fn operator_word(level: Level, class: Class) -> Option<BinaryWord>
 
 /// An operator of a level at the front, with its place, and what is behind it.
 #[tactic(auto, unfolding(crate::specs::Operators::operator_at))]
-pub fn take_operator<'a, 'b>(
-    tokens: &'b [Spelled<'a>],
+pub fn take_operator<'t>(
+    tokens: Tokens<'t>,
     level: Level,
-) -> Option<(Place, BinaryWord, &'b [Spelled<'a>])>
+) -> Option<(Place, BinaryWord, &'t [Spelled<'t>])>
     ensures read { option_map (λ x. ((x.0, x.1), lexemes_of x.2.now)) result ≡ operator_at level (lexemes_of tokens.now) }
-    ensures shorter { IfSome result (λ x. length x.2.now < length tokens.now) }
 {
     let (token, rest) = tokens.split_first()?;
     let word = operator_word(level, token.class)?;
@@ -177,11 +178,10 @@ pub fn take_operator<'a, 'b>(
 
 /// PREFIX at the front, and what is behind it.
 #[tactic(auto, unfolding(crate::specs::Operators::prefix_at))]
-pub fn take_prefix<'a, 'b>(
-    tokens: &'b [Spelled<'a>],
-) -> Option<(&'b Spelled<'a>, PrefixWord, &'b [Spelled<'a>])>
+pub fn take_prefix<'t>(
+    tokens: Tokens<'t>,
+) -> Option<(&'t Spelled<'t>, PrefixWord, &'t [Spelled<'t>])>
     ensures read { option_map (λ x. ((lexeme_of x.0.now, x.1), lexemes_of x.2.now)) result ≡ prefix_at (lexemes_of tokens.now) }
-    ensures shorter { IfSome result (λ x. length x.2.now < length tokens.now) }
 {
     let (token, rest) = tokens.split_first()?;
     let word = prefix_word(token.class)?;
@@ -189,7 +189,7 @@ pub fn take_prefix<'a, 'b>(
 }
 
 /// What a loop begins with: what was read so far, and the tokens behind it.
-pub fn begun<'a, 'b, T>(first: T, tokens: &'b [Spelled<'a>]) -> (T, &'b [Spelled<'a>])
+pub fn begun<'t, T>(first: T, tokens: Tokens<'t>) -> (T, &'t [Spelled<'t>])
     ensures first { result.0 ≡ first }
     ensures rest { result.1.now ≡ tokens.now }
 {
@@ -214,11 +214,8 @@ pub fn starts_or(tokens: &[Spelled<'_>]) -> bool
 
 /// "|" | "or"
 #[tactic(auto, unfolding(crate::specs::Operators::expect_or))]
-pub fn expect_or<'a, 'b>(
-    tokens: &'b [Spelled<'a>],
-) -> Result<(&'b Spelled<'a>, &'b [Spelled<'a>]), SyntaxFault>
+pub fn expect_or<'t>(tokens: Tokens<'t>) -> Read<'t, &'t Spelled<'t>>
     ensures read { Gives (λ x. (lexeme_of x.0.now, lexemes_of x.1.now)) result (expect_or_lem (lexemes_of tokens.now)) }
-    ensures shorter { IfOk result (λ x. length x.1.now < length tokens.now) }
 {
     if starts(tokens, Class::Bar) {
         return expect(tokens, Class::Bar);
@@ -252,12 +249,8 @@ pub fn is_operator(class: Class) -> bool
 
 /// What was read, where no operator follows. An operator behind a whole expression wants parentheses.
 #[tactic(auto, unfolding(crate::specs::Operators::closed))]
-pub fn closed<'a, 'b>(
-    tree: ExprTree,
-    tokens: &'b [Spelled<'a>],
-) -> Result<(ExprTree, &'b [Spelled<'a>]), SyntaxFault>
+pub fn closed<'t>(tree: ExprTree, tokens: Tokens<'t>) -> Read<'t, ExprTree>
     ensures read { Gives (λ x. (expr_data x.0, lexemes_of x.1.now)) result (closed_lem (expr_data tree) (lexemes_of tokens.now)) }
-    ensures shorter { IfOk result (λ x. length x.1.now ≤ length tokens.now) }
 {
     match tokens.split_first() {
         Some((token, _)) if is_operator(token.class) => Err(SyntaxFault::Parentheses(token.number)),

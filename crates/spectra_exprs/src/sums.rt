@@ -11,26 +11,18 @@ ghost use Rattle.spectra_exprs.specs.Expressions.{inside, times_of, prod_of, plu
 use crate::fault::SyntaxFault;
 use crate::operands::prim;
 use crate::operators::{
-    Level, begun, closed, expect, expect_or, first_number, starts, starts_or, starts_sum,
-    take_operator, take_prefix,
+    Level, Read, Tokens, begun, closed, expect, first_number, starts, starts_sum, take_operator,
 };
 use crate::terms::{Term, between, modulo, sole, together};
 use spectra_trees::class::Class;
-use spectra_trees::lexeme::{Spelled, is, name};
-use spectra_trees::tree::{BinaryWord, ExprForm, ExprTree, Place, PrefixWord};
+use spectra_trees::tree::{BinaryWord, ExprTree};
 use std::alloc::Global;
 
 /// "*" prim behind a product so far.
 #[cycle(expr)]
 #[tactic(auto, unfolding(crate::specs::Expressions::times_of))]
-pub fn times<'a, 'b>(
-    alloc: Global,
-    product: Term,
-    tokens: &'b [Spelled<'a>],
-    left: u32,
-) -> Result<(Term, &'b [Spelled<'a>]), SyntaxFault>
+pub fn times<'t>(alloc: Global, product: Term, tokens: Tokens<'t>, left: u32) -> Read<'t, Term>
     ensures read { Gives (λ x. (term_data x.0, lexemes_of x.1.now)) result (times_of (inside left) (term_data product) (lexemes_of tokens.now)) }
-    ensures shorter { IfOk result (λ x. length x.1.now < length tokens.now) }
 {
     let (operator, rest) = expect(tokens, Class::Star)?;
     let (factor, rest) = prim(alloc, rest, left)?;
@@ -40,14 +32,8 @@ pub fn times<'a, 'b>(
 
 /// { "*" prim } behind a first prim.
 #[cycle(expr)]
-pub fn products<'a, 'b>(
-    alloc: Global,
-    first: Term,
-    tokens: &'b [Spelled<'a>],
-    left: u32,
-) -> Result<(Term, &'b [Spelled<'a>]), SyntaxFault>
+pub fn products<'t>(alloc: Global, first: Term, tokens: Tokens<'t>, left: u32) -> Read<'t, Term>
     ensures read { Gives (λ x. (term_data x.0, lexemes_of x.1.now)) result (all_of (starts_lem Class.Star) (times_of (inside left)) (term_data first) (lexemes_of tokens.now)) }
-    ensures shorter { IfOk result (λ x. length x.1.now ≤ length tokens.now) }
 {
     let (mut product, mut rest) = begun(first, tokens);
     while starts(rest, Class::Star) {
@@ -61,13 +47,8 @@ pub fn products<'a, 'b>(
 /// prod = prim { "*" prim }
 #[cycle(expr)]
 #[tactic(auto, unfolding(crate::specs::Expressions::prod_of))]
-pub fn prod<'a, 'b>(
-    alloc: Global,
-    tokens: &'b [Spelled<'a>],
-    left: u32,
-) -> Result<(Term, &'b [Spelled<'a>]), SyntaxFault>
+pub fn prod<'t>(alloc: Global, tokens: Tokens<'t>, left: u32) -> Read<'t, Term>
     ensures read { Gives (λ x. (term_data x.0, lexemes_of x.1.now)) result (prod_of (inside left) (lexemes_of tokens.now)) }
-    ensures shorter { IfOk result (λ x. length x.1.now < length tokens.now) }
 {
     let (first, rest) = prim(alloc, tokens, left)?;
     products(alloc, sole(first), rest, left)
@@ -76,14 +57,8 @@ pub fn prod<'a, 'b>(
 /// ( "+" | "-" ) prod behind a sum so far.
 #[cycle(expr)]
 #[tactic(auto, unfolding(crate::specs::Expressions::plus_of, crate::specs::Read::unexpected))]
-pub fn plus<'a, 'b>(
-    alloc: Global,
-    sum: Term,
-    tokens: &'b [Spelled<'a>],
-    left: u32,
-) -> Result<(Term, &'b [Spelled<'a>]), SyntaxFault>
+pub fn plus<'t>(alloc: Global, sum: Term, tokens: Tokens<'t>, left: u32) -> Read<'t, Term>
     ensures read { Gives (λ x. (term_data x.0, lexemes_of x.1.now)) result (plus_of (inside left) (term_data sum) (lexemes_of tokens.now)) }
-    ensures shorter { IfOk result (λ x. length x.1.now < length tokens.now) }
 {
     let Some((at, word, rest)) = take_operator(tokens, Level::Sum) else {
         return Err(SyntaxFault::Unexpected(first_number(tokens)));
@@ -95,14 +70,8 @@ pub fn plus<'a, 'b>(
 
 /// { ( "+" | "-" ) prod } behind a first prod.
 #[cycle(expr)]
-pub fn sums<'a, 'b>(
-    alloc: Global,
-    first: Term,
-    tokens: &'b [Spelled<'a>],
-    left: u32,
-) -> Result<(Term, &'b [Spelled<'a>]), SyntaxFault>
+pub fn sums<'t>(alloc: Global, first: Term, tokens: Tokens<'t>, left: u32) -> Read<'t, Term>
     ensures read { Gives (λ x. (term_data x.0, lexemes_of x.1.now)) result (all_of starts_sum_lem (plus_of (inside left)) (term_data first) (lexemes_of tokens.now)) }
-    ensures shorter { IfOk result (λ x. length x.1.now ≤ length tokens.now) }
 {
     let (mut sum, mut rest) = begun(first, tokens);
     while starts_sum(rest) {
@@ -116,13 +85,8 @@ pub fn sums<'a, 'b>(
 /// sum = prod { ( "+" | "-" ) prod } | prim "mod" NUMBER
 #[cycle(expr)]
 #[tactic(auto, unfolding(crate::specs::Expressions::sum_of))]
-pub fn sum<'a, 'b>(
-    alloc: Global,
-    tokens: &'b [Spelled<'a>],
-    left: u32,
-) -> Result<(Term, &'b [Spelled<'a>]), SyntaxFault>
+pub fn sum<'t>(alloc: Global, tokens: Tokens<'t>, left: u32) -> Read<'t, Term>
     ensures read { Gives (λ x. (term_data x.0, lexemes_of x.1.now)) result (sum_of (inside left) (lexemes_of tokens.now)) }
-    ensures shorter { IfOk result (λ x. length x.1.now < length tokens.now) }
 {
     let (first, rest) = prod(alloc, tokens, left)?;
     if first.alone && starts(rest, Class::Mod) {
@@ -133,13 +97,8 @@ pub fn sum<'a, 'b>(
 
 /// sum, which no operator may follow.
 #[tactic(auto, unfolding(crate::specs::Expressions::bound_of))]
-pub fn bound<'a, 'b>(
-    alloc: Global,
-    tokens: &'b [Spelled<'a>],
-    left: u32,
-) -> Result<(ExprTree, &'b [Spelled<'a>]), SyntaxFault>
+pub fn bound<'t>(alloc: Global, tokens: Tokens<'t>, left: u32) -> Read<'t, ExprTree>
     ensures read { Gives (λ x. (expr_data x.0, lexemes_of x.1.now)) result (bound_of (inside left) (lexemes_of tokens.now)) }
-    ensures shorter { IfOk result (λ x. length x.1.now < length tokens.now) }
 {
     let (operand, rest) = sum(alloc, tokens, left)?;
     closed(operand.tree, rest)

@@ -9,13 +9,10 @@ ghost use Rattle.spectra_exprs.specs.ExprViews.{term_data, chain_data};
 ghost use Rattle.spectra_exprs.specs.Expressions.{leaf as leaf_lem, between as between_lem, opened as opened_lem, negative as negative_lem, number_of, literal as literal_lem, modulo as modulo_lem, read_of};
 
 use crate::fault::SyntaxFault;
-use crate::operators::{
-    Level, begun, closed, expect, expect_or, first_number, starts, starts_or, starts_sum,
-    take_operator, take_prefix,
-};
+use crate::operators::{Read, Tokens, expect};
 use spectra_trees::class::Class;
 use spectra_trees::lexeme::{Spelled, is, name};
-use spectra_trees::tree::{BinaryWord, ExprForm, ExprTree, Place, PrefixWord};
+use spectra_trees::tree::{BinaryWord, ExprForm, ExprTree, Place};
 use std::alloc::Global;
 
 /// A tree by its parts.
@@ -80,13 +77,8 @@ pub fn together(tree: ExprTree) -> Term
 }
 /// NUMBER behind "-".
 #[tactic(auto, unfolding(crate::specs::Expressions::negative))]
-pub fn negative<'a, 'b>(
-    alloc: Global,
-    minus: &Spelled<'a>,
-    tokens: &'b [Spelled<'a>],
-) -> Result<(ExprTree, &'b [Spelled<'a>]), SyntaxFault>
+pub fn negative<'t>(alloc: Global, minus: &Spelled<'t>, tokens: Tokens<'t>) -> Read<'t, ExprTree>
     ensures read { Gives (λ x. (expr_data x.0, lexemes_of x.1.now)) result (negative_lem (lexeme_of minus.now) (lexemes_of tokens.now)) }
-    ensures shorter { IfOk result (λ x. length x.1.now < length tokens.now) }
 {
     let (number, rest) = expect(tokens, Class::Number)?;
     let digits = String::from_str(alloc, number.text)?;
@@ -97,25 +89,16 @@ pub fn negative<'a, 'b>(
 }
 /// NUMBER
 #[tactic(auto, unfolding(crate::specs::Expressions::number_of))]
-pub fn number<'a, 'b>(
-    alloc: Global,
-    token: &Spelled<'a>,
-    tokens: &'b [Spelled<'a>],
-) -> Result<(ExprTree, &'b [Spelled<'a>]), SyntaxFault>
+pub fn number<'t>(alloc: Global, token: &Spelled<'t>, tokens: Tokens<'t>) -> Read<'t, ExprTree>
     ensures read { Gives (λ x. (expr_data x.0, lexemes_of x.1.now)) result (number_of (lexeme_of token.now) (lexemes_of tokens.now)) }
-    ensures shorter { IfOk result (λ x. length x.1.now ≤ length tokens.now) }
 {
     let digits = String::from_str(alloc, token.text)?;
     Ok((leaf(token, ExprForm::Number(false, digits)), tokens))
 }
 /// "true" | "false" | [ "-" ] NUMBER
 #[tactic(auto, unfolding(crate::specs::Expressions::literal))]
-pub fn literal<'a, 'b>(
-    alloc: Global,
-    tokens: &'b [Spelled<'a>],
-) -> Result<(ExprTree, &'b [Spelled<'a>]), SyntaxFault>
+pub fn literal<'t>(alloc: Global, tokens: Tokens<'t>) -> Read<'t, ExprTree>
     ensures read { Gives (λ x. (expr_data x.0, lexemes_of x.1.now)) result (literal_lem (lexemes_of tokens.now)) }
-    ensures shorter { IfOk result (λ x. length x.1.now < length tokens.now) }
 {
     let Some((token, rest)) = tokens.split_first() else {
         return Err(SyntaxFault::Unexpected(0));
@@ -136,13 +119,8 @@ pub fn literal<'a, 'b>(
 }
 /// "mod" NUMBER behind a prim.
 #[tactic(auto, unfolding(crate::specs::Expressions::modulo))]
-pub fn modulo<'a, 'b>(
-    alloc: Global,
-    operand: ExprTree,
-    tokens: &'b [Spelled<'a>],
-) -> Result<(Term, &'b [Spelled<'a>]), SyntaxFault>
+pub fn modulo<'t>(alloc: Global, operand: ExprTree, tokens: Tokens<'t>) -> Read<'t, Term>
     ensures read { Gives (λ x. (term_data x.0, lexemes_of x.1.now)) result (modulo_lem (expr_data operand) (lexemes_of tokens.now)) }
-    ensures shorter { IfOk result (λ x. length x.1.now < length tokens.now) }
 {
     let (operator, rest) = expect(tokens, Class::Mod)?;
     let (number, rest) = expect(rest, Class::Number)?;
@@ -153,13 +131,8 @@ pub fn modulo<'a, 'b>(
 }
 /// NAME alone.
 #[tactic(auto, unfolding(crate::specs::Expressions::read_of))]
-pub fn read<'a, 'b>(
-    alloc: Global,
-    token: &Spelled<'a>,
-    tokens: &'b [Spelled<'a>],
-) -> Result<(ExprTree, &'b [Spelled<'a>]), SyntaxFault>
+pub fn read<'t>(alloc: Global, token: &Spelled<'t>, tokens: Tokens<'t>) -> Read<'t, ExprTree>
     ensures read { Gives (λ x. (expr_data x.0, lexemes_of x.1.now)) result (read_of (lexeme_of token.now) (lexemes_of tokens.now)) }
-    ensures shorter { IfOk result (λ x. length x.1.now ≤ length tokens.now) }
 {
     let name = name(alloc, token)?;
     Ok((leaf(token, ExprForm::Read(name)), tokens))

@@ -1,5 +1,5 @@
 -- How many levels are open where reading a line, an item or a text goes on, and where it stops.
-use Rattle.std.proofs.Common.{◌≡◌, ℕ, zero, suc, ◌+◌, ◌<◌, ◌≤◌, Bool, true, false, not, List, [], ◌∷◌, ◌++◌, length, take, Some, None, Ok, Err, refl, sym, ap, subst, ◌∙◌, append_assoc, arith, length-append}
+use Rattle.std.proofs.Common.{◌≡◌, ℕ, zero, suc, ◌+◌, ◌<◌, ◌≤◌, Bool, true, false, not, List, [], ◌∷◌, ◌++◌, length, take, Some, None, Ok, Err, refl, sym, ap, subst, ◌∙◌, append_assoc, append-nil, arith, length-append}
 use Rattle.std.proofs.lemmas.List.{take_at}
 use Rattle.spec_model.specs.declared.spec.Role.{Role}
 use Rattle.spectra_exprs.specs.declared.fault.SyntaxFault.{SyntaxFault}
@@ -16,17 +16,18 @@ use Rattle.spectra_exprs.specs.Nesting.{Opening, Nesting, Part, part_of, complet
 use Rattle.spectra_exprs.proofs.Soundness.{Got}
 use Rattle.spectra_exprs.proofs.WholeExpressions.{keys, lookup_some}
 use Rattle.spectra_exprs.proofs.Opening.{IsNext}
-use Rattle.spectra_exprs.proofs.Counting.{AtMost, behind-append, Counts, Exactly, Ends, Seen, OpensLevel, Stopped, counts_gives, counts_unexpected, counts_same, counts_from, counts_to, counts_then, counts_if, counts_steps, behind_step, counts_look}
-use Rattle.spectra_exprs.proofs.CountingTokens.{ends_exactly, counts_name, counts_plain, other_step, head_step, counts_other, counts_mark, counts_head, counts_colon, All, part_among, IsOther}
+use Rattle.spectra_exprs.proofs.Counting.{AtMost, behind-append, at_most_append, Counts, Exactly, Ends, Seen, OpensLevel, Stopped, counts_gives, counts_unexpected, counts_same, counts_from, counts_to, counts_then, counts_if, counts_steps, behind_step, counts_look}
+use Rattle.spectra_exprs.proofs.CountingTokens.{nested_same, ends_exactly, counts_name, counts_plain, other_step, head_step, counts_other, counts_mark, counts_head, counts_colon, All, part_among, IsOther}
 use Rattle.spectra_exprs.proofs.CountingExpressions.{counts_inside, counts_arguments}
 use Rattle.spectra_regexes.specs.Regexes.{inside_regex}
 use Rattle.spectra_regexes.proofs.CountingRegexes.{counts_inside_regex, counts_regex}
 use Rattle.spectra_parser.specs.Items.{body_formula, trigger, use_behind, pattern_use, body_of, Said, labelled, unlabelled, named, said, line, owner_word, role_word, declaration, item_of, item_after, before_end, semicolon, imported, import_after, text_of}
 use Rattle.spectra_parser.specs.ItemGrammar.{Owner, RoleOf}
-use Rattle.spectra_parser.specs.Texts.{IsWholeFrom, IsShallow}
+use Rattle.spectra_parser.specs.Texts.{HasTree, IsWholeFrom, IsShallow}
 use Rattle.spectra_parser.proofs.SoundItems.{n}
 use Rattle.spectra_parser.proofs.SoundTexts.{body_at, trigger_at, body_same, owner_at, role_at, owner_looks, role_looks, declaration_same, item_same}
 use Rattle.spectra_parser.proofs.WholeTexts.{owner_table, role_table, in_owners, in_roles}
+use Rattle.spectra_parser.proofs.WholeText.{text_read}
 use Rattle.spectra_parser.proofs.Places.{Numbered, whole_numbered, number_at}
 use Rattle.spectra_parser.proofs.CountingItems.{counts_formula, counts_vardecl, counts_typedecl, counts_define, counts_predicate, counts_pattern, counts_monitor}
 
@@ -209,3 +210,13 @@ deep_level ts at w read =
     let taken : take (at + 1) ts ≡ q.used ++ q.token ∷ [] = ap (take (at + 1)) parts ∙ take_at (q.used ++ q.token ∷ []) q.more (at + 1) size in
     let last : open_levels (take (at + 1) ts) ≡ suc n = ap open_levels taken ∙ ap (λ (m : Nesting). levels_of m.stack) (behind-append unopened q.used (q.token ∷ [])) ∙ q.level in
     omega (arith, last)
+
+-- ---- where a text has a tree, no level too many is open
+
+pub tree_shallow : (ts : List Lexeme) (tree : TreeData) → HasTree ts tree → (k : ℕ) → k ≤ length ts → open_levels (take k ts) ≤ n
+unfolding part_of same_class place_of
+tree_shallow ts tree t k le =
+    let g = counts_text.goes unopened (record { is = refl }) ts tree (t.end ∷ []) (text_read ts tree t) in
+    let end = other_step [] refl few (part_of t.end.class) (nested_same classes.Finish t.end t.finish) (behind unopened g.used) (ends_exactly false [] (behind unopened g.used) g.after) in
+    let within : AtMost n unopened (g.used ++ t.end ∷ []) = at_most_append n unopened g.used (t.end ∷ []) g.within (end.0, tt) in
+    shallow_front ts (g.used ++ t.end ∷ []) [] (length ts) (g.front ∙ sym (append-nil (g.used ++ t.end ∷ []))) within (omega (arith, ap length g.front)) k le

@@ -5,8 +5,9 @@ use Rattle.spectra_exprs.specs.declared.fault.SyntaxFault.TheVariants as faults
 use Rattle.spectra_trees.specs.Data.{TreeData}
 use Rattle.spectra_trees.specs.Lexemes.{Lexeme}
 use Rattle.spectra_parser.specs.ItemGrammar.{Text}
-use Rattle.spectra_parser.specs.Texts.{HasTree, BeginText, BeginNoText, IsRefused, IsTooDeep, IsBehindPhrase, IsBuilt, Explains, AreOne}
+use Rattle.spectra_parser.specs.Texts.{HasTree, BeginText, BeginNoText, IsRefused, OpensLevelTooMany, IsTooDeep, IsBehindPhrase, IsBuilt, Explains, AreOne}
 use Rattle.spectra_parser.specs.Unbuilt.{first_unbuilt}
+use Rattle.spectra_parser.proofs.CountingTexts.{tree_shallow}
 
 -- ---- places
 
@@ -64,7 +65,7 @@ module _ (ts : List Lexeme) where
       by (Order.here e) = e
       by (Order.after lt) = absurd (no_more p.begun.0 (take (b + 1) ts) (take a ts) (q.refused p.begun.0) (longer ts b a lt) p.begun.1)
 
-  deep_once : (a b : ℕ) → IsTooDeep ts a → IsTooDeep ts b → a ≡ b
+  deep_once : (a b : ℕ) → OpensLevelTooMany ts a → OpensLevelTooMany ts b → a ≡ b
   deep_once a b p q = by (order a b)
     where
       by : Order a b → a ≡ b
@@ -72,7 +73,7 @@ module _ (ts : List Lexeme) where
       by (Order.here e) = e
       by (Order.after lt) = let level = q.level in let few = p.shallow (b + 1) (omega (arith, lt)) in absurd (omega (arith, level, few))
 
-  never_both : (a b : ℕ) → IsRefused ts a → IsTooDeep ts b → ⊥
+  never_both : (a b : ℕ) → IsRefused ts a → OpensLevelTooMany ts b → ⊥
   never_both a b p q = by (order a b)
     where
       by : Order a b → ⊥
@@ -86,27 +87,27 @@ module _ (ts : List Lexeme) where
   refused_whole : (a : ℕ) (tree : TreeData) → IsRefused ts a → HasTree ts tree → ⊥
   refused_whole a tree p t = no_tree (a + 1) ts tree (p.refused 128) t
 
-  deep_whole : (a : ℕ) (tree : TreeData) → IsTooDeep ts a → HasTree ts tree → ⊥
-  deep_whole a tree p t = no_tree (a + 1) ts tree p.refused t
+  deep_whole : (a : ℕ) (tree : TreeData) → OpensLevelTooMany ts a → HasTree ts tree → ⊥
+  deep_whole a tree p t = let few = tree_shallow ts tree t (a + 1) (omega (arith, p.within)) in let level = p.level in omega (arith, few, level)
 
   one_number : (a b : ℕ) → first_unbuilt ts ≡ Some a → first_unbuilt ts ≡ Some b → a ≡ b
   one_number a b e g = let same : ◌≡◌ {A = Option ℕ} (Some a) (Some b) = sym e ∙ g in cc
 
   pub one_fault : (first second : SyntaxFault) → Explains ts first → Explains ts second → AreOne first second
   one_fault (faults.Unexpected a) (faults.Unexpected b) p q = inl (ap (λ (k : ℕ). faults.Unexpected k) (refused_once a b p.0 q.0))
-  one_fault (faults.Unexpected a) (faults.TooDeep b) p q = absurd (never_both a b p.0 q)
+  one_fault (faults.Unexpected a) (faults.TooDeep b) p q = absurd (never_both a b p.0 q.opens)
   one_fault (faults.Unexpected a) (faults.Parentheses b) p q = absurd (p.1 (subst (λ (k : ℕ). IsBehindPhrase ts k) (sym (refused_once a b p.0 q.0)) q.1))
   one_fault (faults.Unexpected a) (faults.Unsupported b) p q = absurd (refused_whole a q.0.0 p.0 q.0.1)
-  one_fault (faults.TooDeep a) (faults.Unexpected b) p q = absurd (never_both b a q.0 p)
-  one_fault (faults.TooDeep a) (faults.TooDeep b) p q = inl (ap (λ (k : ℕ). faults.TooDeep k) (deep_once a b p q))
-  one_fault (faults.TooDeep a) (faults.Parentheses b) p q = absurd (never_both b a q.0 p)
-  one_fault (faults.TooDeep a) (faults.Unsupported b) p q = absurd (deep_whole a q.0.0 p q.0.1)
+  one_fault (faults.TooDeep a) (faults.Unexpected b) p q = absurd (never_both b a q.0 p.opens)
+  one_fault (faults.TooDeep a) (faults.TooDeep b) p q = inl (ap (λ (k : ℕ). faults.TooDeep k) (deep_once a b p.opens q.opens))
+  one_fault (faults.TooDeep a) (faults.Parentheses b) p q = absurd (never_both b a q.0 p.opens)
+  one_fault (faults.TooDeep a) (faults.Unsupported b) p q = absurd (deep_whole a q.0.0 p.opens q.0.1)
   one_fault (faults.Parentheses a) (faults.Unexpected b) p q = absurd (q.1 (subst (λ (k : ℕ). IsBehindPhrase ts k) (refused_once a b p.0 q.0) p.1))
-  one_fault (faults.Parentheses a) (faults.TooDeep b) p q = absurd (never_both a b p.0 q)
+  one_fault (faults.Parentheses a) (faults.TooDeep b) p q = absurd (never_both a b p.0 q.opens)
   one_fault (faults.Parentheses a) (faults.Parentheses b) p q = inl (ap (λ (k : ℕ). faults.Parentheses k) (refused_once a b p.0 q.0))
   one_fault (faults.Parentheses a) (faults.Unsupported b) p q = absurd (refused_whole a q.0.0 p.0 q.0.1)
   one_fault (faults.Unsupported a) (faults.Unexpected b) p q = absurd (refused_whole b p.0.0 q.0 p.0.1)
-  one_fault (faults.Unsupported a) (faults.TooDeep b) p q = absurd (deep_whole b p.0.0 q p.0.1)
+  one_fault (faults.Unsupported a) (faults.TooDeep b) p q = absurd (deep_whole b p.0.0 q.opens p.0.1)
   one_fault (faults.Unsupported a) (faults.Parentheses b) p q = absurd (refused_whole b p.0.0 q.0 p.0.1)
   one_fault (faults.Unsupported a) (faults.Unsupported b) p q = inl (ap (λ (k : ℕ). faults.Unsupported k) (one_number a b p.1 q.1))
   one_fault faults.Memory second p q = inr (inl refl)
@@ -120,7 +121,15 @@ module _ (ts : List Lexeme) where
 
   pub no_fault : (tree : TreeData) (f : SyntaxFault) → IsBuilt ts tree → Explains ts f → f ≡ faults.Memory
   no_fault tree (faults.Unexpected a) t p = absurd (refused_whole a tree p.0 t.grammar)
-  no_fault tree (faults.TooDeep a) t p = absurd (deep_whole a tree p t.grammar)
+  no_fault tree (faults.TooDeep a) t p = absurd (deep_whole a tree p.opens t.grammar)
   no_fault tree (faults.Parentheses a) t p = absurd (refused_whole a tree p.0 t.grammar)
   no_fault tree (faults.Unsupported a) t p = absurd (never_some a t.built p.1)
   no_fault tree faults.Memory t p = refl
+
+  -- a level too many is told where one is opened
+  pub deep_fault : (a : ℕ) (f : SyntaxFault) → OpensLevelTooMany ts a → Explains ts f → AreOne f (faults.TooDeep a)
+  deep_fault a (faults.Unexpected b) q p = absurd (never_both b a p.0 q)
+  deep_fault a (faults.TooDeep b) q p = inl (ap (λ (k : ℕ). faults.TooDeep k) (deep_once b a p.opens q))
+  deep_fault a (faults.Parentheses b) q p = absurd (never_both b a p.0 q)
+  deep_fault a (faults.Unsupported b) q p = absurd (deep_whole a p.0.0 q p.0.1)
+  deep_fault a faults.Memory q p = inr (inl refl)

@@ -135,9 +135,6 @@ begun_line =
       };
     }
 
-begun_part : Begun (PitemIn wide) []
-begun_part = begun_right begun_line
-
 begun_monitored : Begun (MitemIn wide) []
 unfolding begun_line
 begun_monitored =

@@ -52,15 +52,19 @@ pub record IsRefused (ts : List Lexeme) (at : ℕ) : Type 0 where
   pub begun : (left : ℕ) × BeginText left (take at ts)
   pub shallow : IsShallow ts at
 
--- a token of the list, by its number: up to it, and including it, the tokens begin a text, but none with at most 128
--- levels; those before it open at most 128 levels, and with it one level more is open
-pub record IsTooDeep (ts : List Lexeme) (at : ℕ) : Type 0 where
+-- a token of the list, by its number, that opens level 129 of a text: up to it, and including it, the tokens begin a text,
+-- and those before it open at most 128 levels
+pub record OpensLevelTooMany (ts : List Lexeme) (at : ℕ) : Type 0 where
   pub within : at < length ts
-  pub refused : BeginNoText levels_of_a_text (take (at + 1) ts)
   pub begun : (left : ℕ) × BeginText left (take at ts)
   pub deeper : (left : ℕ) × BeginText left (take (at + 1) ts)
   pub shallow : IsShallow ts at
   pub level : open_levels (take (at + 1) ts) ≡ levels_of_a_text + 1
+
+-- such a token; up to it, and including it, the tokens begin no text with at most 128 levels
+pub record IsTooDeep (ts : List Lexeme) (at : ℕ) : Type 0 where
+  pub opens : OpensLevelTooMany ts at
+  pub refused : BeginNoText levels_of_a_text (take (at + 1) ts)
 
 -- a token of the list, by its number: an operator behind a whole expression, or the whole bound of a range, in whose place
 -- each other one with as many levels may stand

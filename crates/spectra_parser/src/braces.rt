@@ -10,7 +10,7 @@ use crate::limits::LEVELS;
 use crate::types::{names, type_tree};
 use spectra_exprs::fault::SyntaxFault;
 use spectra_exprs::formulas::whole;
-use spectra_exprs::operators::{begun, expect, first_number, starts};
+use spectra_exprs::operators::{Read, Tokens, begun, expect, first_number, starts};
 use spectra_trees::class::Class;
 use spectra_trees::lexeme::{Spelled, is, name};
 use spectra_trees::tree::{Item, MonitorItem, Name, Part, PartForm, PatternItem, Place};
@@ -18,13 +18,8 @@ use std::alloc::Global;
 
 /// type NAME ";" behind `var`.
 #[tactic(auto, unfolding(crate::specs::Items::own))]
-fn own<'a, 'b>(
-    alloc: Global,
-    at: Place,
-    tokens: &'b [Spelled<'a>],
-) -> Result<(Part, &'b [Spelled<'a>]), SyntaxFault>
+fn own<'t>(alloc: Global, at: Place, tokens: Tokens<'t>) -> Read<'t, Part>
     ensures read { Gives (λ x. (part_data x.0, lexemes_of x.1.now)) result (own_lem at (lexemes_of tokens.now)) }
-    ensures shorter { IfOk result (λ x. length x.1.now < length tokens.now) }
 {
     let (domain, rest) = type_tree(alloc, tokens)?;
     let (token, rest) = expect(rest, Class::Name)?;
@@ -35,12 +30,8 @@ fn own<'a, 'b>(
 
 /// ( INI | ALW | ALWEV ) expr
 #[tactic(auto, unfolding(crate::specs::Items::part_shape, crate::specs::Items::part_formula))]
-fn part_form<'a, 'b>(
-    alloc: Global,
-    tokens: &'b [Spelled<'a>],
-) -> Result<(PartForm, &'b [Spelled<'a>]), SyntaxFault>
+fn part_form<'t>(alloc: Global, tokens: Tokens<'t>) -> Read<'t, PartForm>
     ensures read { Gives (λ x. (part_shape x.0, lexemes_of x.1.now)) result (part_shape_lem (lexemes_of tokens.now)) }
-    ensures shorter { IfOk result (λ x. length x.1.now < length tokens.now) }
 {
     let Some((token, rest)) = tokens.split_first() else {
         return Err(SyntaxFault::Unexpected(0));
@@ -62,13 +53,8 @@ fn part_form<'a, 'b>(
 
 /// ( INI | ALW | ALWEV ) expr ";"
 #[tactic(auto, unfolding(crate::specs::Items::part_line))]
-fn part_line<'a, 'b>(
-    alloc: Global,
-    at: Place,
-    tokens: &'b [Spelled<'a>],
-) -> Result<(Part, &'b [Spelled<'a>]), SyntaxFault>
+fn part_line<'t>(alloc: Global, at: Place, tokens: Tokens<'t>) -> Read<'t, Part>
     ensures read { Gives (λ x. (part_data x.0, lexemes_of x.1.now)) result (part_line_lem at (lexemes_of tokens.now)) }
-    ensures shorter { IfOk result (λ x. length x.1.now < length tokens.now) }
 {
     let (form, rest) = part_form(alloc, tokens)?;
     let (_, rest) = expect(rest, Class::Semicolon)?;
@@ -77,12 +63,8 @@ fn part_line<'a, 'b>(
 
 /// pitem = "var" type NAME ";" | ( INI | ALW | ALWEV ) expr ";"
 #[tactic(auto, unfolding(crate::specs::Items::pitem))]
-fn pitem<'a, 'b>(
-    alloc: Global,
-    tokens: &'b [Spelled<'a>],
-) -> Result<(Part, &'b [Spelled<'a>]), SyntaxFault>
+fn pitem<'t>(alloc: Global, tokens: Tokens<'t>) -> Read<'t, Part>
     ensures read { Gives (λ x. (part_data x.0, lexemes_of x.1.now)) result (pitem_lem (lexemes_of tokens.now)) }
-    ensures shorter { IfOk result (λ x. length x.1.now < length tokens.now) }
 {
     let Some((token, rest)) = tokens.split_first() else {
         return Err(SyntaxFault::Unexpected(0));
@@ -95,27 +77,13 @@ fn pitem<'a, 'b>(
 
 /// ( INI | ALW ) expr ";"
 #[tactic(auto, unfolding(crate::specs::Items::mitem, spectra_exprs::specs::Read::unexpected))]
-fn mitem<'a, 'b>(
-    alloc: Global,
-    tokens: &'b [Spelled<'a>],
-) -> Result<(Part, &'b [Spelled<'a>]), SyntaxFault>
+fn mitem<'t>(alloc: Global, tokens: Tokens<'t>) -> Read<'t, Part>
     ensures read { Gives (λ x. (part_data x.0, lexemes_of x.1.now)) result (mitem_lem (lexemes_of tokens.now)) }
-    ensures shorter { IfOk result (λ x. length x.1.now < length tokens.now) }
 {
     if starts(tokens, Class::Ini) || starts(tokens, Class::Alw) {
         return pitem(alloc, tokens);
     }
     Err(SyntaxFault::Unexpected(first_number(tokens)))
-}
-
-/// One more.
-fn with_part(all: Vec<Part>, next: Part) -> Result<Vec<Part>, SyntaxFault>
-    ensures read { IfOk result (λ more. map part_data more.items ≡ map part_data all.items ++ part_data next ∷ []) }
-    ensures memory { IfErr result (λ e. e ≡ SyntaxFault.Memory) }
-{
-    let mut all = all;
-    all.push(next)?;
-    Ok(all)
 }
 
 /// Whether no brace closes.
@@ -128,27 +96,18 @@ fn is_inside_braces(tokens: &[Spelled<'_>]) -> bool
 
 /// pitem behind the parts so far.
 #[tactic(auto, unfolding(crate::specs::Items::pitem_after))]
-fn pitem_after<'a, 'b>(
-    alloc: Global,
-    parts: Vec<Part>,
-    tokens: &'b [Spelled<'a>],
-) -> Result<(Vec<Part>, &'b [Spelled<'a>]), SyntaxFault>
+fn pitem_after<'t>(alloc: Global, parts: Vec<Part>, tokens: Tokens<'t>) -> Read<'t, Vec<Part>>
     ensures read { Gives (λ x. (map part_data x.0.items, lexemes_of x.1.now)) result (pitem_after_lem (map part_data parts.items) (lexemes_of tokens.now)) }
-    ensures shorter { IfOk result (λ x. length x.1.now < length tokens.now) }
 {
     let (next, rest) = pitem(alloc, tokens)?;
-    let parts = with_part(parts, next)?;
+    let mut parts = parts;
+    parts.push(next)?;
     Ok((parts, rest))
 }
 
 /// { pitem } behind the parts so far.
-fn more_pitems<'a, 'b>(
-    alloc: Global,
-    first: Vec<Part>,
-    tokens: &'b [Spelled<'a>],
-) -> Result<(Vec<Part>, &'b [Spelled<'a>]), SyntaxFault>
+fn more_pitems<'t>(alloc: Global, first: Vec<Part>, tokens: Tokens<'t>) -> Read<'t, Vec<Part>>
     ensures read { Gives (λ x. (map part_data x.0.items, lexemes_of x.1.now)) result (all_of inside_braces pitem_after_lem (map part_data first.items) (lexemes_of tokens.now)) }
-    ensures shorter { IfOk result (λ x. length x.1.now ≤ length tokens.now) }
 {
     let (mut parts, mut rest) = begun(first, tokens);
     while is_inside_braces(rest) {
@@ -161,12 +120,8 @@ fn more_pitems<'a, 'b>(
 
 /// { pitem } "}"
 #[tactic(auto, unfolding(crate::specs::Items::pitems))]
-fn pitems<'a, 'b>(
-    alloc: Global,
-    tokens: &'b [Spelled<'a>],
-) -> Result<(Vec<Part>, &'b [Spelled<'a>]), SyntaxFault>
+fn pitems<'t>(alloc: Global, tokens: Tokens<'t>) -> Read<'t, Vec<Part>>
     ensures read { Gives (λ x. (map part_data x.0.items, lexemes_of x.1.now)) result (pitems_lem (lexemes_of tokens.now)) }
-    ensures shorter { IfOk result (λ x. length x.1.now < length tokens.now) }
 {
     let (parts, rest) = more_pitems(alloc, Vec::new(alloc), tokens)?;
     let (_, rest) = expect(rest, Class::CloseBrace)?;
@@ -175,27 +130,18 @@ fn pitems<'a, 'b>(
 
 /// ( INI | ALW ) expr ";" behind the parts so far.
 #[tactic(auto, unfolding(crate::specs::Items::mitem_after))]
-fn mitem_after<'a, 'b>(
-    alloc: Global,
-    parts: Vec<Part>,
-    tokens: &'b [Spelled<'a>],
-) -> Result<(Vec<Part>, &'b [Spelled<'a>]), SyntaxFault>
+fn mitem_after<'t>(alloc: Global, parts: Vec<Part>, tokens: Tokens<'t>) -> Read<'t, Vec<Part>>
     ensures read { Gives (λ x. (map part_data x.0.items, lexemes_of x.1.now)) result (mitem_after_lem (map part_data parts.items) (lexemes_of tokens.now)) }
-    ensures shorter { IfOk result (λ x. length x.1.now < length tokens.now) }
 {
     let (next, rest) = mitem(alloc, tokens)?;
-    let parts = with_part(parts, next)?;
+    let mut parts = parts;
+    parts.push(next)?;
     Ok((parts, rest))
 }
 
 /// { ( INI | ALW ) expr ";" } behind the parts so far.
-fn more_mitems<'a, 'b>(
-    alloc: Global,
-    first: Vec<Part>,
-    tokens: &'b [Spelled<'a>],
-) -> Result<(Vec<Part>, &'b [Spelled<'a>]), SyntaxFault>
+fn more_mitems<'t>(alloc: Global, first: Vec<Part>, tokens: Tokens<'t>) -> Read<'t, Vec<Part>>
     ensures read { Gives (λ x. (map part_data x.0.items, lexemes_of x.1.now)) result (all_of inside_braces mitem_after_lem (map part_data first.items) (lexemes_of tokens.now)) }
-    ensures shorter { IfOk result (λ x. length x.1.now ≤ length tokens.now) }
 {
     let (mut parts, mut rest) = begun(first, tokens);
     while is_inside_braces(rest) {
@@ -208,12 +154,8 @@ fn more_mitems<'a, 'b>(
 
 /// { ( INI | ALW ) expr ";" } "}"
 #[tactic(auto, unfolding(crate::specs::Items::mitems))]
-fn mitems<'a, 'b>(
-    alloc: Global,
-    tokens: &'b [Spelled<'a>],
-) -> Result<(Vec<Part>, &'b [Spelled<'a>]), SyntaxFault>
+fn mitems<'t>(alloc: Global, tokens: Tokens<'t>) -> Read<'t, Vec<Part>>
     ensures read { Gives (λ x. (map part_data x.0.items, lexemes_of x.1.now)) result (mitems_lem (lexemes_of tokens.now)) }
-    ensures shorter { IfOk result (λ x. length x.1.now < length tokens.now) }
 {
     let (parts, rest) = more_mitems(alloc, Vec::new(alloc), tokens)?;
     let (_, rest) = expect(rest, Class::CloseBrace)?;
@@ -222,12 +164,8 @@ fn mitems<'a, 'b>(
 
 /// [ NAME { "," NAME } ] ")"
 #[tactic(auto, unfolding(crate::specs::Items::name_parameters))]
-fn name_parameters<'a, 'b>(
-    alloc: Global,
-    tokens: &'b [Spelled<'a>],
-) -> Result<(Vec<Name>, &'b [Spelled<'a>]), SyntaxFault>
+fn name_parameters<'t>(alloc: Global, tokens: Tokens<'t>) -> Read<'t, Vec<Name>>
     ensures read { Gives (λ x. (map name_data x.0.items, lexemes_of x.1.now)) result (name_parameters_lem (lexemes_of tokens.now)) }
-    ensures shorter { IfOk result (λ x. length x.1.now < length tokens.now) }
 {
     if starts(tokens, Class::Close) {
         let (_, rest) = expect(tokens, Class::Close)?;
@@ -240,13 +178,8 @@ fn name_parameters<'a, 'b>(
 
 /// pattern = "pattern" NAME "(" [ NAME { "," NAME } ] ")" "{" { pitem } "}", behind its first word.
 #[tactic(auto, unfolding(crate::specs::Items::pattern))]
-pub fn pattern<'a, 'b>(
-    alloc: Global,
-    at: Place,
-    tokens: &'b [Spelled<'a>],
-) -> Result<(Item, &'b [Spelled<'a>]), SyntaxFault>
+pub fn pattern<'t>(alloc: Global, at: Place, tokens: Tokens<'t>) -> Read<'t, Item>
     ensures read { Gives (λ x. (item_data x.0, lexemes_of x.1.now)) result (pattern_lem at (lexemes_of tokens.now)) }
-    ensures shorter { IfOk result (λ x. length x.1.now < length tokens.now) }
 {
     let (token, rest) = expect(tokens, Class::Name)?;
     let (_, rest) = expect(rest, Class::Open)?;
@@ -265,13 +198,8 @@ pub fn pattern<'a, 'b>(
 
 /// monitor = "monitor" type NAME "{" { ( INI | ALW ) expr ";" } "}", behind its first word.
 #[tactic(auto, unfolding(crate::specs::Items::monitor))]
-pub fn monitor<'a, 'b>(
-    alloc: Global,
-    at: Place,
-    tokens: &'b [Spelled<'a>],
-) -> Result<(Item, &'b [Spelled<'a>]), SyntaxFault>
+pub fn monitor<'t>(alloc: Global, at: Place, tokens: Tokens<'t>) -> Read<'t, Item>
     ensures read { Gives (λ x. (item_data x.0, lexemes_of x.1.now)) result (monitor_lem at (lexemes_of tokens.now)) }
-    ensures shorter { IfOk result (λ x. length x.1.now < length tokens.now) }
 {
     let (domain, rest) = type_tree(alloc, tokens)?;
     let (token, rest) = expect(rest, Class::Name)?;

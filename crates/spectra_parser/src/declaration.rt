@@ -9,11 +9,10 @@ ghost use Rattle.spectra_parser.specs.Items.{define as define_lem, definition as
 
 use crate::limits::LEVELS;
 use crate::types::type_tree;
-use spectra_exprs::fault::SyntaxFault;
 use spectra_exprs::formulas::whole;
-use spectra_exprs::operators::{begun, expect, starts};
+use spectra_exprs::operators::{Read, Tokens, begun, expect, starts};
 use spectra_trees::class::Class;
-use spectra_trees::lexeme::{Spelled, name};
+use spectra_trees::lexeme::name;
 use spectra_trees::tree::{
     DefineItem, ExprTree, Item, Name, OwnerWord, Place, PredicateItem, TypeItem, TypeTree, VarItem,
 };
@@ -21,14 +20,8 @@ use std::alloc::Global;
 
 /// vardecl = ( "env" | "sys" | "aux" ) type NAME ";", behind its first word.
 #[tactic(auto, unfolding(crate::specs::Items::vardecl))]
-pub fn vardecl<'a, 'b>(
-    alloc: Global,
-    at: Place,
-    owner: OwnerWord,
-    tokens: &'b [Spelled<'a>],
-) -> Result<(Item, &'b [Spelled<'a>]), SyntaxFault>
+pub fn vardecl<'t>(alloc: Global, at: Place, owner: OwnerWord, tokens: Tokens<'t>) -> Read<'t, Item>
     ensures read { Gives (λ x. (item_data x.0, lexemes_of x.1.now)) result (vardecl_lem at owner (lexemes_of tokens.now)) }
-    ensures shorter { IfOk result (λ x. length x.1.now < length tokens.now) }
 {
     let (domain, rest) = type_tree(alloc, tokens)?;
     let (token, rest) = expect(rest, Class::Name)?;
@@ -45,13 +38,8 @@ pub fn vardecl<'a, 'b>(
 
 /// typedecl = "type" NAME "=" type ";", behind its first word.
 #[tactic(auto, unfolding(crate::specs::Items::typedecl))]
-pub fn typedecl<'a, 'b>(
-    alloc: Global,
-    at: Place,
-    tokens: &'b [Spelled<'a>],
-) -> Result<(Item, &'b [Spelled<'a>]), SyntaxFault>
+pub fn typedecl<'t>(alloc: Global, at: Place, tokens: Tokens<'t>) -> Read<'t, Item>
     ensures read { Gives (λ x. (item_data x.0, lexemes_of x.1.now)) result (typedecl_lem at (lexemes_of tokens.now)) }
-    ensures shorter { IfOk result (λ x. length x.1.now < length tokens.now) }
 {
     let (token, rest) = expect(tokens, Class::Name)?;
     let (_, rest) = expect(rest, Class::Equal)?;
@@ -63,12 +51,8 @@ pub fn typedecl<'a, 'b>(
 
 /// NAME ":=" expr ";"
 #[tactic(auto, unfolding(crate::specs::Items::definition))]
-fn definition<'a, 'b>(
-    alloc: Global,
-    tokens: &'b [Spelled<'a>],
-) -> Result<((Name, ExprTree), &'b [Spelled<'a>]), SyntaxFault>
+fn definition<'t>(alloc: Global, tokens: Tokens<'t>) -> Read<'t, (Name, ExprTree)>
     ensures read { Gives (λ x. (body_pair x.0, lexemes_of x.1.now)) result (definition_lem (lexemes_of tokens.now)) }
-    ensures shorter { IfOk result (λ x. length x.1.now < length tokens.now) }
 {
     let (token, rest) = expect(tokens, Class::Name)?;
     let (_, rest) = expect(rest, Class::Becomes)?;
@@ -78,55 +62,28 @@ fn definition<'a, 'b>(
     Ok(((name, body), rest))
 }
 
-/// One more.
-fn with_definition(
-    all: Vec<(Name, ExprTree)>,
-    next: (Name, ExprTree),
-) -> Result<Vec<(Name, ExprTree)>, SyntaxFault>
-    ensures read { IfOk result (λ more. map body_pair more.items ≡ map body_pair all.items ++ body_pair next ∷ []) }
-    ensures memory { IfErr result (λ e. e ≡ SyntaxFault.Memory) }
-{
-    let mut all = all;
-    all.push(next)?;
-    Ok(all)
-}
-
-/// A first one.
-fn first_definition(
-    alloc: Global,
-    one: (Name, ExprTree),
-) -> Result<Vec<(Name, ExprTree)>, SyntaxFault>
-    ensures read { IfOk result (λ all. map body_pair all.items ≡ body_pair one ∷ []) }
-    ensures memory { IfErr result (λ e. e ≡ SyntaxFault.Memory) }
-{
-    let mut all = Vec::new(alloc);
-    all.push(one)?;
-    Ok(all)
-}
-
 /// NAME ":=" expr ";" behind the definitions so far.
 #[tactic(auto, unfolding(crate::specs::Items::definition_after))]
-fn definition_after<'a, 'b>(
+fn definition_after<'t>(
     alloc: Global,
     all: Vec<(Name, ExprTree)>,
-    tokens: &'b [Spelled<'a>],
-) -> Result<(Vec<(Name, ExprTree)>, &'b [Spelled<'a>]), SyntaxFault>
+    tokens: Tokens<'t>,
+) -> Read<'t, Vec<(Name, ExprTree)>>
     ensures read { Gives (λ x. (map body_pair x.0.items, lexemes_of x.1.now)) result (definition_after_lem (map body_pair all.items) (lexemes_of tokens.now)) }
-    ensures shorter { IfOk result (λ x. length x.1.now < length tokens.now) }
 {
     let (next, rest) = definition(alloc, tokens)?;
-    let all = with_definition(all, next)?;
+    let mut all = all;
+    all.push(next)?;
     Ok((all, rest))
 }
 
 /// { NAME ":=" expr ";" } behind a first one.
-fn more_definitions<'a, 'b>(
+fn more_definitions<'t>(
     alloc: Global,
     first: Vec<(Name, ExprTree)>,
-    tokens: &'b [Spelled<'a>],
-) -> Result<(Vec<(Name, ExprTree)>, &'b [Spelled<'a>]), SyntaxFault>
+    tokens: Tokens<'t>,
+) -> Read<'t, Vec<(Name, ExprTree)>>
     ensures read { Gives (λ x. (map body_pair x.0.items, lexemes_of x.1.now)) result (all_of (starts_lem Class.Name) definition_after_lem (map body_pair first.items) (lexemes_of tokens.now)) }
-    ensures shorter { IfOk result (λ x. length x.1.now ≤ length tokens.now) }
 {
     let (mut all, mut rest) = begun(first, tokens);
     while starts(rest, Class::Name) {
@@ -139,28 +96,20 @@ fn more_definitions<'a, 'b>(
 
 /// define = "define" NAME ":=" expr ";" { NAME ":=" expr ";" }, behind its first word.
 #[tactic(auto, unfolding(crate::specs::Items::define))]
-pub fn define<'a, 'b>(
-    alloc: Global,
-    at: Place,
-    tokens: &'b [Spelled<'a>],
-) -> Result<(Item, &'b [Spelled<'a>]), SyntaxFault>
+pub fn define<'t>(alloc: Global, at: Place, tokens: Tokens<'t>) -> Read<'t, Item>
     ensures read { Gives (λ x. (item_data x.0, lexemes_of x.1.now)) result (define_lem at (lexemes_of tokens.now)) }
-    ensures shorter { IfOk result (λ x. length x.1.now < length tokens.now) }
 {
     let (first, rest) = definition(alloc, tokens)?;
-    let first = first_definition(alloc, first)?;
-    let (bodies, rest) = more_definitions(alloc, first, rest)?;
+    let mut bodies = Vec::new(alloc);
+    bodies.push(first)?;
+    let (bodies, rest) = more_definitions(alloc, bodies, rest)?;
     Ok((Item::Define(DefineItem { at, bodies }), rest))
 }
 
 /// type NAME
 #[tactic(auto, unfolding(crate::specs::Items::parameter))]
-fn parameter<'a, 'b>(
-    alloc: Global,
-    tokens: &'b [Spelled<'a>],
-) -> Result<((TypeTree, Name), &'b [Spelled<'a>]), SyntaxFault>
+fn parameter<'t>(alloc: Global, tokens: Tokens<'t>) -> Read<'t, (TypeTree, Name)>
     ensures read { Gives (λ x. (parameter_pair x.0, lexemes_of x.1.now)) result (parameter_lem (lexemes_of tokens.now)) }
-    ensures shorter { IfOk result (λ x. length x.1.now < length tokens.now) }
 {
     let (domain, rest) = type_tree(alloc, tokens)?;
     let (token, rest) = expect(rest, Class::Name)?;
@@ -168,56 +117,29 @@ fn parameter<'a, 'b>(
     Ok(((domain, name), rest))
 }
 
-/// One more.
-fn with_parameter(
-    all: Vec<(TypeTree, Name)>,
-    next: (TypeTree, Name),
-) -> Result<Vec<(TypeTree, Name)>, SyntaxFault>
-    ensures read { IfOk result (λ more. map parameter_pair more.items ≡ map parameter_pair all.items ++ parameter_pair next ∷ []) }
-    ensures memory { IfErr result (λ e. e ≡ SyntaxFault.Memory) }
-{
-    let mut all = all;
-    all.push(next)?;
-    Ok(all)
-}
-
-/// A first one.
-fn first_parameter(
-    alloc: Global,
-    one: (TypeTree, Name),
-) -> Result<Vec<(TypeTree, Name)>, SyntaxFault>
-    ensures read { IfOk result (λ all. map parameter_pair all.items ≡ parameter_pair one ∷ []) }
-    ensures memory { IfErr result (λ e. e ≡ SyntaxFault.Memory) }
-{
-    let mut all = Vec::new(alloc);
-    all.push(one)?;
-    Ok(all)
-}
-
 /// "," type NAME behind the parameters so far.
 #[tactic(auto, unfolding(crate::specs::Items::parameter_after))]
-fn parameter_after<'a, 'b>(
+fn parameter_after<'t>(
     alloc: Global,
     all: Vec<(TypeTree, Name)>,
-    tokens: &'b [Spelled<'a>],
-) -> Result<(Vec<(TypeTree, Name)>, &'b [Spelled<'a>]), SyntaxFault>
+    tokens: Tokens<'t>,
+) -> Read<'t, Vec<(TypeTree, Name)>>
     ensures read { Gives (λ x. (map parameter_pair x.0.items, lexemes_of x.1.now)) result (parameter_after_lem (map parameter_pair all.items) (lexemes_of tokens.now)) }
-    ensures shorter { IfOk result (λ x. length x.1.now < length tokens.now) }
 {
     let (_, rest) = expect(tokens, Class::Comma)?;
     let (next, rest) = parameter(alloc, rest)?;
-    let all = with_parameter(all, next)?;
+    let mut all = all;
+    all.push(next)?;
     Ok((all, rest))
 }
 
 /// { "," type NAME } behind a first one.
-fn more_parameters<'a, 'b>(
+fn more_parameters<'t>(
     alloc: Global,
     first: Vec<(TypeTree, Name)>,
-    tokens: &'b [Spelled<'a>],
-) -> Result<(Vec<(TypeTree, Name)>, &'b [Spelled<'a>]), SyntaxFault>
+    tokens: Tokens<'t>,
+) -> Read<'t, Vec<(TypeTree, Name)>>
     ensures read { Gives (λ x. (map parameter_pair x.0.items, lexemes_of x.1.now)) result (all_of (starts_lem Class.Comma) parameter_after_lem (map parameter_pair first.items) (lexemes_of tokens.now)) }
-    ensures shorter { IfOk result (λ x. length x.1.now ≤ length tokens.now) }
 {
     let (mut all, mut rest) = begun(first, tokens);
     while starts(rest, Class::Comma) {
@@ -230,28 +152,21 @@ fn more_parameters<'a, 'b>(
 
 /// type NAME { "," type NAME } ")"
 #[tactic(auto, unfolding(crate::specs::Items::some_parameters))]
-fn some_parameters<'a, 'b>(
-    alloc: Global,
-    tokens: &'b [Spelled<'a>],
-) -> Result<(Vec<(TypeTree, Name)>, &'b [Spelled<'a>]), SyntaxFault>
+fn some_parameters<'t>(alloc: Global, tokens: Tokens<'t>) -> Read<'t, Vec<(TypeTree, Name)>>
     ensures read { Gives (λ x. (map parameter_pair x.0.items, lexemes_of x.1.now)) result (some_parameters_lem (lexemes_of tokens.now)) }
-    ensures shorter { IfOk result (λ x. length x.1.now < length tokens.now) }
 {
     let (first, rest) = parameter(alloc, tokens)?;
-    let first = first_parameter(alloc, first)?;
-    let (all, rest) = more_parameters(alloc, first, rest)?;
+    let mut all = Vec::new(alloc);
+    all.push(first)?;
+    let (all, rest) = more_parameters(alloc, all, rest)?;
     let (_, rest) = expect(rest, Class::Close)?;
     Ok((all, rest))
 }
 
 /// [ type NAME { "," type NAME } ] ")"
 #[tactic(auto, unfolding(crate::specs::Items::parameters))]
-fn parameters<'a, 'b>(
-    alloc: Global,
-    tokens: &'b [Spelled<'a>],
-) -> Result<(Vec<(TypeTree, Name)>, &'b [Spelled<'a>]), SyntaxFault>
+fn parameters<'t>(alloc: Global, tokens: Tokens<'t>) -> Read<'t, Vec<(TypeTree, Name)>>
     ensures read { Gives (λ x. (map parameter_pair x.0.items, lexemes_of x.1.now)) result (parameters_lem (lexemes_of tokens.now)) }
-    ensures shorter { IfOk result (λ x. length x.1.now < length tokens.now) }
 {
     if !starts(tokens, Class::Close) {
         return some_parameters(alloc, tokens);
@@ -262,13 +177,8 @@ fn parameters<'a, 'b>(
 
 /// predicate = "predicate" NAME "(" [ type NAME { "," type NAME } ] ")" ":" expr ";", behind its first word.
 #[tactic(auto, unfolding(crate::specs::Items::predicate))]
-pub fn predicate<'a, 'b>(
-    alloc: Global,
-    at: Place,
-    tokens: &'b [Spelled<'a>],
-) -> Result<(Item, &'b [Spelled<'a>]), SyntaxFault>
+pub fn predicate<'t>(alloc: Global, at: Place, tokens: Tokens<'t>) -> Read<'t, Item>
     ensures read { Gives (λ x. (item_data x.0, lexemes_of x.1.now)) result (predicate_lem at (lexemes_of tokens.now)) }
-    ensures shorter { IfOk result (λ x. length x.1.now < length tokens.now) }
 {
     let (token, rest) = expect(tokens, Class::Name)?;
     let (_, rest) = expect(rest, Class::Open)?;

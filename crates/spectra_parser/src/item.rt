@@ -12,7 +12,7 @@ use crate::lines::line;
 use crate::quotes::unquoted;
 use spec_model::spec::Role;
 use spectra_exprs::fault::SyntaxFault;
-use spectra_exprs::operators::{begun, expect, starts};
+use spectra_exprs::operators::{Read, Tokens, begun, expect, starts};
 use spectra_trees::class::{Class, is_same};
 use spectra_trees::lexeme::{Spelled, is, name};
 use spectra_trees::tree::{Item, Name, OwnerWord, Tree};
@@ -50,12 +50,8 @@ fn role_word(class: Class) -> Option<Role>
 
 /// typedecl | define | predicate | pattern | monitor
 #[tactic(auto, unfolding(crate::specs::Items::declaration))]
-fn declaration<'a, 'b>(
-    alloc: Global,
-    tokens: &'b [Spelled<'a>],
-) -> Result<(Item, &'b [Spelled<'a>]), SyntaxFault>
+fn declaration<'t>(alloc: Global, tokens: Tokens<'t>) -> Read<'t, Item>
     ensures read { Gives (λ x. (item_data x.0, lexemes_of x.1.now)) result (declaration_lem (lexemes_of tokens.now)) }
-    ensures shorter { IfOk result (λ x. length x.1.now < length tokens.now) }
 {
     let Some((token, rest)) = tokens.split_first() else {
         return Err(SyntaxFault::Unexpected(0));
@@ -80,12 +76,8 @@ fn declaration<'a, 'b>(
 
 /// item = vardecl | typedecl | define | predicate | pattern | monitor | line
 #[tactic(auto, unfolding(crate::specs::Items::item_of))]
-fn item<'a, 'b>(
-    alloc: Global,
-    tokens: &'b [Spelled<'a>],
-) -> Result<(Item, &'b [Spelled<'a>]), SyntaxFault>
+fn item<'t>(alloc: Global, tokens: Tokens<'t>) -> Read<'t, Item>
     ensures read { Gives (λ x. (item_data x.0, lexemes_of x.1.now)) result (item_of (lexemes_of tokens.now)) }
-    ensures shorter { IfOk result (λ x. length x.1.now < length tokens.now) }
 {
     let Some((token, rest)) = tokens.split_first() else {
         return Err(SyntaxFault::Unexpected(0));
@@ -99,28 +91,14 @@ fn item<'a, 'b>(
     }
 }
 
-/// One more.
-fn with_item(all: Vec<Item>, next: Item) -> Result<Vec<Item>, SyntaxFault>
-    ensures read { IfOk result (λ more. map item_data more.items ≡ map item_data all.items ++ item_data next ∷ []) }
-    ensures memory { IfErr result (λ e. e ≡ SyntaxFault.Memory) }
-{
-    let mut all = all;
-    all.push(next)?;
-    Ok(all)
-}
-
 /// item behind the items so far.
 #[tactic(auto, unfolding(crate::specs::Items::item_after))]
-fn item_after<'a, 'b>(
-    alloc: Global,
-    items: Vec<Item>,
-    tokens: &'b [Spelled<'a>],
-) -> Result<(Vec<Item>, &'b [Spelled<'a>]), SyntaxFault>
+fn item_after<'t>(alloc: Global, items: Vec<Item>, tokens: Tokens<'t>) -> Read<'t, Vec<Item>>
     ensures read { Gives (λ x. (map item_data x.0.items, lexemes_of x.1.now)) result (item_after_lem (map item_data items.items) (lexemes_of tokens.now)) }
-    ensures shorter { IfOk result (λ x. length x.1.now < length tokens.now) }
 {
     let (next, rest) = item(alloc, tokens)?;
-    let items = with_item(items, next)?;
+    let mut items = items;
+    items.push(next)?;
     Ok((items, rest))
 }
 
@@ -136,13 +114,8 @@ fn is_before_end(tokens: &[Spelled<'_>]) -> bool
 }
 
 /// { item } behind the items so far, up to the end of the text.
-fn more_items<'a, 'b>(
-    alloc: Global,
-    first: Vec<Item>,
-    tokens: &'b [Spelled<'a>],
-) -> Result<(Vec<Item>, &'b [Spelled<'a>]), SyntaxFault>
+fn more_items<'t>(alloc: Global, first: Vec<Item>, tokens: Tokens<'t>) -> Read<'t, Vec<Item>>
     ensures read { Gives (λ x. (map item_data x.0.items, lexemes_of x.1.now)) result (all_of before_end item_after_lem (map item_data first.items) (lexemes_of tokens.now)) }
-    ensures shorter { IfOk result (λ x. length x.1.now ≤ length tokens.now) }
 {
     let (mut items, mut rest) = begun(first, tokens);
     while is_before_end(rest) {
@@ -167,12 +140,8 @@ fn imported(alloc: Global, word: &Spelled<'_>, quoted: &Spelled<'_>) -> Result<N
 
 /// [ ";" ]
 #[tactic(auto, unfolding(crate::specs::Items::semicolon))]
-fn semicolon<'a, 'b>(
-    names: Vec<Name>,
-    tokens: &'b [Spelled<'a>],
-) -> Result<(Vec<Name>, &'b [Spelled<'a>]), SyntaxFault>
+fn semicolon<'t>(names: Vec<Name>, tokens: Tokens<'t>) -> Read<'t, Vec<Name>>
     ensures read { Gives (λ x. (map name_data x.0.items, lexemes_of x.1.now)) result (semicolon_lem (map name_data names.items) (lexemes_of tokens.now)) }
-    ensures shorter { IfOk result (λ x. length x.1.now ≤ length tokens.now) }
 {
     if !starts(tokens, Class::Semicolon) {
         return Ok((names, tokens));
@@ -181,41 +150,22 @@ fn semicolon<'a, 'b>(
     Ok((names, rest))
 }
 
-/// One more.
-fn with_import(all: Vec<Name>, next: Name) -> Result<Vec<Name>, SyntaxFault>
-    ensures read { IfOk result (λ more. map name_data more.items ≡ map name_data all.items ++ name_data next ∷ []) }
-    ensures memory { IfErr result (λ e. e ≡ SyntaxFault.Memory) }
-{
-    let mut all = all;
-    all.push(next)?;
-    Ok(all)
-}
-
 /// import = "import" TEXT [ ";" ], behind the imports so far.
 #[tactic(auto, unfolding(crate::specs::Items::import_after))]
-fn import_after<'a, 'b>(
-    alloc: Global,
-    imports: Vec<Name>,
-    tokens: &'b [Spelled<'a>],
-) -> Result<(Vec<Name>, &'b [Spelled<'a>]), SyntaxFault>
+fn import_after<'t>(alloc: Global, imports: Vec<Name>, tokens: Tokens<'t>) -> Read<'t, Vec<Name>>
     ensures read { Gives (λ x. (map name_data x.0.items, lexemes_of x.1.now)) result (import_after_lem (map name_data imports.items) (lexemes_of tokens.now)) }
-    ensures shorter { IfOk result (λ x. length x.1.now < length tokens.now) }
 {
     let (word, rest) = expect(tokens, Class::Import)?;
     let (quoted, rest) = expect(rest, Class::Text)?;
     let next = imported(alloc, word, quoted)?;
-    let imports = with_import(imports, next)?;
+    let mut imports = imports;
+    imports.push(next)?;
     semicolon(imports, rest)
 }
 
 /// { import } behind the imports so far.
-fn more_imports<'a, 'b>(
-    alloc: Global,
-    first: Vec<Name>,
-    tokens: &'b [Spelled<'a>],
-) -> Result<(Vec<Name>, &'b [Spelled<'a>]), SyntaxFault>
+fn more_imports<'t>(alloc: Global, first: Vec<Name>, tokens: Tokens<'t>) -> Read<'t, Vec<Name>>
     ensures read { Gives (λ x. (map name_data x.0.items, lexemes_of x.1.now)) result (all_of (starts_lem Class.Import) import_after_lem (map name_data first.items) (lexemes_of tokens.now)) }
-    ensures shorter { IfOk result (λ x. length x.1.now ≤ length tokens.now) }
 {
     let (mut imports, mut rest) = begun(first, tokens);
     while starts(rest, Class::Import) {
@@ -228,12 +178,8 @@ fn more_imports<'a, 'b>(
 
 /// text = { import } ( "spec" | "module" ) NAME { item }
 #[tactic(auto, unfolding(crate::specs::Items::text_of))]
-pub fn text<'a, 'b>(
-    alloc: Global,
-    tokens: &'b [Spelled<'a>],
-) -> Result<(Tree, &'b [Spelled<'a>]), SyntaxFault>
+pub fn text<'t>(alloc: Global, tokens: Tokens<'t>) -> Read<'t, Tree>
     ensures read { Gives (λ x. (tree_data x.0, lexemes_of x.1.now)) result (text_of (lexemes_of tokens.now)) }
-    ensures shorter { IfOk result (λ x. length x.1.now < length tokens.now) }
 {
     let (imports, rest) = more_imports(alloc, Vec::new(alloc), tokens)?;
     let (_, rest) = expect(rest, Class::Head)?;

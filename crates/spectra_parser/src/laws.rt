@@ -1,11 +1,11 @@
 //! What holds of the trees and the faults of every text.
 
-ghost use Rattle.std.specs.Prelude.{◌≡◌};
+ghost use Rattle.std.specs.Prelude.{ℕ, ◌≡◌};
 ghost use Rattle.spectra_trees.specs.Data.{TreeData};
 ghost use Rattle.spectra_trees.specs.Lexemes.{lexemes};
 ghost use Rattle.spectra_exprs.specs.declared.fault.SyntaxFault.{SyntaxFault as Fault};
-ghost use Rattle.spectra_exprs.specs.declared.fault.SyntaxFault.TheVariants.{Memory};
-ghost use Rattle.spectra_parser.specs.Texts.{IsText, IsBuilt, Explains, AreOne};
+ghost use Rattle.spectra_exprs.specs.declared.fault.SyntaxFault.TheVariants.{TooDeep, Memory};
+ghost use Rattle.spectra_parser.specs.Texts.{IsText, OpensLevelTooMany, IsBuilt, Explains, AreOne};
 
 use spectra_lexer::Token;
 
@@ -16,10 +16,12 @@ pub fn no_text_has_two_trees(text: &[u8], tokens: &[Token])
 {}
 
 /// Two faults that explain the tokens of one text are the same, with the same place, and none explains those of a tree
-/// whose forms are built.
+/// whose forms are built. A token that opens level 129 is told as `TooDeep`.
 pub fn one_fault_explains_a_text(text: &[u8], tokens: &[Token])
     ensures one { (first second : Fault) → Explains (lexemes text.now tokens.now) first
         → Explains (lexemes text.now tokens.now) second → AreOne first second }
+    ensures deep { (at : ℕ) (fault : Fault) → OpensLevelTooMany (lexemes text.now tokens.now) at
+        → Explains (lexemes text.now tokens.now) fault → AreOne fault (TooDeep at) }
     ensures none { (tree : TreeData) (fault : Fault) → IsBuilt (lexemes text.now tokens.now) tree
         → Explains (lexemes text.now tokens.now) fault → fault ≡ Memory }
 {}

@@ -12,7 +12,7 @@ use spec_model::spec::Role;
 use spectra_exprs::fault::SyntaxFault;
 use spectra_exprs::formulas::whole;
 use spectra_exprs::operands::arguments;
-use spectra_exprs::operators::{expect, starts};
+use spectra_exprs::operators::{Read, Tokens, expect, starts};
 use spectra_regexes::regex::regex;
 use spectra_trees::class::Class;
 use spectra_trees::lexeme::{Spelled, is, name};
@@ -21,13 +21,8 @@ use std::alloc::Global;
 
 /// regex "|=>" regex behind `trig`.
 #[tactic(auto, unfolding(crate::specs::Items::trigger))]
-fn trigger<'a, 'b>(
-    alloc: Global,
-    at: Place,
-    tokens: &'b [Spelled<'a>],
-) -> Result<(BodyTree, &'b [Spelled<'a>]), SyntaxFault>
+fn trigger<'t>(alloc: Global, at: Place, tokens: Tokens<'t>) -> Read<'t, BodyTree>
     ensures read { Gives (λ x. (body_data x.0, lexemes_of x.1.now)) result (trigger_lem at (lexemes_of tokens.now)) }
-    ensures shorter { IfOk result (λ x. length x.1.now < length tokens.now) }
 {
     let (cause, rest) = regex(alloc, tokens, LEVELS)?;
     let (_, rest) = expect(rest, Class::Then)?;
@@ -37,13 +32,8 @@ fn trigger<'a, 'b>(
 
 /// "(" [ expr { "," expr } ] ")" behind NAME.
 #[tactic(auto, unfolding(crate::specs::Items::use_behind))]
-fn use_behind<'a, 'b>(
-    alloc: Global,
-    token: &Spelled<'a>,
-    tokens: &'b [Spelled<'a>],
-) -> Result<(BodyTree, &'b [Spelled<'a>]), SyntaxFault>
+fn use_behind<'t>(alloc: Global, token: &Spelled<'t>, tokens: Tokens<'t>) -> Read<'t, BodyTree>
     ensures read { Gives (λ x. (body_data x.0, lexemes_of x.1.now)) result (use_behind_lem (lexeme_of token.now) (lexemes_of tokens.now)) }
-    ensures shorter { IfOk result (λ x. length x.1.now < length tokens.now) }
 {
     let (_, rest) = expect(tokens, Class::Open)?;
     let (arguments, rest) = arguments(alloc, rest, LEVELS)?;
@@ -53,12 +43,8 @@ fn use_behind<'a, 'b>(
 
 /// NAME "(" [ expr { "," expr } ] ")"
 #[tactic(auto, unfolding(crate::specs::Items::pattern_use))]
-fn pattern_use<'a, 'b>(
-    alloc: Global,
-    tokens: &'b [Spelled<'a>],
-) -> Result<(BodyTree, &'b [Spelled<'a>]), SyntaxFault>
+fn pattern_use<'t>(alloc: Global, tokens: Tokens<'t>) -> Read<'t, BodyTree>
     ensures read { Gives (λ x. (body_data x.0, lexemes_of x.1.now)) result (pattern_use_lem (lexemes_of tokens.now)) }
-    ensures shorter { IfOk result (λ x. length x.1.now < length tokens.now) }
 {
     let (token, rest) = expect(tokens, Class::Name)?;
     use_behind(alloc, token, rest)
@@ -66,12 +52,8 @@ fn pattern_use<'a, 'b>(
 
 /// body = INI expr | ALW expr | ALWEV expr | "trig" regex "|=>" regex | NAME "(" [ expr { "," expr } ] ")"
 #[tactic(auto, unfolding(crate::specs::Items::body_of, crate::specs::Items::body_formula))]
-fn body<'a, 'b>(
-    alloc: Global,
-    tokens: &'b [Spelled<'a>],
-) -> Result<(BodyTree, &'b [Spelled<'a>]), SyntaxFault>
+fn body<'t>(alloc: Global, tokens: Tokens<'t>) -> Read<'t, BodyTree>
     ensures read { Gives (λ x. (body_data x.0, lexemes_of x.1.now)) result (body_of (lexemes_of tokens.now)) }
-    ensures shorter { IfOk result (λ x. length x.1.now < length tokens.now) }
 {
     let Some((token, rest)) = tokens.split_first() else {
         return Err(SyntaxFault::Unexpected(0));
@@ -103,13 +85,8 @@ pub struct Said {
 
 /// ":" body behind NAME.
 #[tactic(auto, unfolding(crate::specs::Items::labelled))]
-fn labelled<'a, 'b>(
-    alloc: Global,
-    token: &Spelled<'a>,
-    tokens: &'b [Spelled<'a>],
-) -> Result<(Said, &'b [Spelled<'a>]), SyntaxFault>
+fn labelled<'t>(alloc: Global, token: &Spelled<'t>, tokens: Tokens<'t>) -> Read<'t, Said>
     ensures read { Gives (λ x. (said_data x.0, lexemes_of x.1.now)) result (labelled_lem (lexeme_of token.now) (lexemes_of tokens.now)) }
-    ensures shorter { IfOk result (λ x. length x.1.now < length tokens.now) }
 {
     let (_, rest) = expect(tokens, Class::Colon)?;
     let (body, rest) = body(alloc, rest)?;
@@ -119,13 +96,8 @@ fn labelled<'a, 'b>(
 
 /// "(" [ expr { "," expr } ] ")" behind the NAME of a pattern.
 #[tactic(auto, unfolding(crate::specs::Items::unlabelled))]
-fn unlabelled<'a, 'b>(
-    alloc: Global,
-    token: &Spelled<'a>,
-    tokens: &'b [Spelled<'a>],
-) -> Result<(Said, &'b [Spelled<'a>]), SyntaxFault>
+fn unlabelled<'t>(alloc: Global, token: &Spelled<'t>, tokens: Tokens<'t>) -> Read<'t, Said>
     ensures read { Gives (λ x. (said_data x.0, lexemes_of x.1.now)) result (unlabelled_lem (lexeme_of token.now) (lexemes_of tokens.now)) }
-    ensures shorter { IfOk result (λ x. length x.1.now < length tokens.now) }
 {
     let (body, rest) = use_behind(alloc, token, tokens)?;
     Ok((Said { name: None, body }, rest))
@@ -133,12 +105,8 @@ fn unlabelled<'a, 'b>(
 
 /// What begins with a NAME: that of the line or that of a pattern.
 #[tactic(auto, unfolding(crate::specs::Items::named))]
-fn named<'a, 'b>(
-    alloc: Global,
-    tokens: &'b [Spelled<'a>],
-) -> Result<(Said, &'b [Spelled<'a>]), SyntaxFault>
+fn named<'t>(alloc: Global, tokens: Tokens<'t>) -> Read<'t, Said>
     ensures read { Gives (λ x. (said_data x.0, lexemes_of x.1.now)) result (named_lem (lexemes_of tokens.now)) }
-    ensures shorter { IfOk result (λ x. length x.1.now < length tokens.now) }
 {
     let (token, rest) = expect(tokens, Class::Name)?;
     if starts(rest, Class::Colon) {
@@ -149,12 +117,8 @@ fn named<'a, 'b>(
 
 /// [ NAME ":" ] body
 #[tactic(auto, unfolding(crate::specs::Items::said))]
-fn saying<'a, 'b>(
-    alloc: Global,
-    tokens: &'b [Spelled<'a>],
-) -> Result<(Said, &'b [Spelled<'a>]), SyntaxFault>
+fn saying<'t>(alloc: Global, tokens: Tokens<'t>) -> Read<'t, Said>
     ensures read { Gives (λ x. (said_data x.0, lexemes_of x.1.now)) result (said_lem (lexemes_of tokens.now)) }
-    ensures shorter { IfOk result (λ x. length x.1.now < length tokens.now) }
 {
     if starts(tokens, Class::Name) {
         return named(alloc, tokens);
@@ -165,14 +129,8 @@ fn saying<'a, 'b>(
 
 /// line = ( ASM | GAR ) [ NAME ":" ] body ";", behind its first word.
 #[tactic(auto, unfolding(crate::specs::Items::line))]
-pub fn line<'a, 'b>(
-    alloc: Global,
-    at: Place,
-    role: Role,
-    tokens: &'b [Spelled<'a>],
-) -> Result<(Item, &'b [Spelled<'a>]), SyntaxFault>
+pub fn line<'t>(alloc: Global, at: Place, role: Role, tokens: Tokens<'t>) -> Read<'t, Item>
     ensures read { Gives (λ x. (item_data x.0, lexemes_of x.1.now)) result (line_lem at role (lexemes_of tokens.now)) }
-    ensures shorter { IfOk result (λ x. length x.1.now < length tokens.now) }
 {
     let (said, rest) = saying(alloc, tokens)?;
     let (_, rest) = expect(rest, Class::Semicolon)?;

@@ -52,9 +52,9 @@ pub fn tree_of(alloc: Global, tokens: &[Spelled<'_>]) -> Result<Tree, SyntaxFaul
 }
 
 /// The tree of a text's tokens. `Unsupported`: they are a text of the grammar, and this is the first token of its least
-/// form that isn't built. `Unexpected`, `TooDeep`, `Parentheses`: the tokens before this one begin a text of the grammar,
-/// and with it they begin none, at `TooDeep` none with at most 128 levels but one of more. At `Parentheses` it is an
-/// operator behind a whole expression, and at `Unexpected` it is none. `Memory`: none was given.
+/// form that isn't built. `Unexpected`, `Parentheses`: the tokens before this one begin a text of the grammar, with at
+/// most 128 levels open, and with it they begin none; at `Parentheses` it is an operator behind a whole expression, and
+/// at `Unexpected` it is none. `TooDeep`: the same, but it opens level 129 of a text. `Memory`: none was given.
 pub fn parse(alloc: Global, text: &[u8], tokens: &[Token]) -> Result<Tree, SyntaxFault>
     requires lexed { AreTokens text.now tokens.now }
     ensures tree { IfOk result (λ tree. IsBuilt (lexemes text.now tokens.now) (tree_data tree)) }

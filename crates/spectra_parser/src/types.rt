@@ -8,48 +8,29 @@ ghost use Rattle.spectra_parser.specs.Items.{name_after as name_after_lem, name_
 
 use crate::limits::LEVELS;
 use spectra_exprs::fault::SyntaxFault;
-use spectra_exprs::operators::{begun, expect, starts};
+use spectra_exprs::operators::{Read, Tokens, begun, expect, starts};
 use spectra_exprs::sums::bound;
 use spectra_trees::class::Class;
 use spectra_trees::lexeme::{Spelled, is, name};
 use spectra_trees::tree::{Name, Place, TypeForm, TypeTree};
 use std::alloc::Global;
 
-/// One more.
-fn with_name(all: Vec<Name>, next: Name) -> Result<Vec<Name>, SyntaxFault>
-    ensures read { IfOk result (λ more. map name_data more.items ≡ map name_data all.items ++ name_data next ∷ []) }
-    ensures memory { IfErr result (λ e. e ≡ SyntaxFault.Memory) }
-{
-    let mut all = all;
-    all.push(next)?;
-    Ok(all)
-}
-
 /// "," NAME behind the names so far.
 #[tactic(auto, unfolding(crate::specs::Items::name_after))]
-fn name_after<'a, 'b>(
-    alloc: Global,
-    names: Vec<Name>,
-    tokens: &'b [Spelled<'a>],
-) -> Result<(Vec<Name>, &'b [Spelled<'a>]), SyntaxFault>
+fn name_after<'t>(alloc: Global, names: Vec<Name>, tokens: Tokens<'t>) -> Read<'t, Vec<Name>>
     ensures read { Gives (λ x. (map name_data x.0.items, lexemes_of x.1.now)) result (name_after_lem (map name_data names.items) (lexemes_of tokens.now)) }
-    ensures shorter { IfOk result (λ x. length x.1.now < length tokens.now) }
 {
     let (_, rest) = expect(tokens, Class::Comma)?;
     let (token, rest) = expect(rest, Class::Name)?;
     let next = name(alloc, token)?;
-    let names = with_name(names, next)?;
+    let mut names = names;
+    names.push(next)?;
     Ok((names, rest))
 }
 
 /// { "," NAME } behind a first name.
-fn more_names<'a, 'b>(
-    alloc: Global,
-    first: Vec<Name>,
-    tokens: &'b [Spelled<'a>],
-) -> Result<(Vec<Name>, &'b [Spelled<'a>]), SyntaxFault>
+fn more_names<'t>(alloc: Global, first: Vec<Name>, tokens: Tokens<'t>) -> Read<'t, Vec<Name>>
     ensures read { Gives (λ x. (map name_data x.0.items, lexemes_of x.1.now)) result (all_of (starts_lem Class.Comma) name_after_lem (map name_data first.items) (lexemes_of tokens.now)) }
-    ensures shorter { IfOk result (λ x. length x.1.now ≤ length tokens.now) }
 {
     let (mut names, mut rest) = begun(first, tokens);
     while starts(rest, Class::Comma) {
@@ -60,40 +41,22 @@ fn more_names<'a, 'b>(
     Ok((names, rest))
 }
 
-/// A first one.
-fn first_name(alloc: Global, one: Name) -> Result<Vec<Name>, SyntaxFault>
-    ensures read { IfOk result (λ all. map name_data all.items ≡ name_data one ∷ []) }
-    ensures memory { IfErr result (λ e. e ≡ SyntaxFault.Memory) }
-{
-    let mut all = Vec::new(alloc);
-    all.push(one)?;
-    Ok(all)
-}
-
 /// NAME { "," NAME }
 #[tactic(auto, unfolding(crate::specs::Items::names))]
-pub fn names<'a, 'b>(
-    alloc: Global,
-    tokens: &'b [Spelled<'a>],
-) -> Result<(Vec<Name>, &'b [Spelled<'a>]), SyntaxFault>
+pub fn names<'t>(alloc: Global, tokens: Tokens<'t>) -> Read<'t, Vec<Name>>
     ensures read { Gives (λ x. (map name_data x.0.items, lexemes_of x.1.now)) result (names_lem (lexemes_of tokens.now)) }
-    ensures shorter { IfOk result (λ x. length x.1.now < length tokens.now) }
 {
     let (token, rest) = expect(tokens, Class::Name)?;
     let first = name(alloc, token)?;
-    let first = first_name(alloc, first)?;
-    more_names(alloc, first, rest)
+    let mut names = Vec::new(alloc);
+    names.push(first)?;
+    more_names(alloc, names, rest)
 }
 
 /// NAME { "," NAME } "}" behind "{".
 #[tactic(auto, unfolding(crate::specs::Items::name_type))]
-fn name_type<'a, 'b>(
-    alloc: Global,
-    at: Place,
-    tokens: &'b [Spelled<'a>],
-) -> Result<(TypeTree, &'b [Spelled<'a>]), SyntaxFault>
+fn name_type<'t>(alloc: Global, at: Place, tokens: Tokens<'t>) -> Read<'t, TypeTree>
     ensures read { Gives (λ x. (type_data x.0, lexemes_of x.1.now)) result (name_type_lem at (lexemes_of tokens.now)) }
-    ensures shorter { IfOk result (λ x. length x.1.now < length tokens.now) }
 {
     let (names, rest) = names(alloc, tokens)?;
     let (_, rest) = expect(rest, Class::CloseBrace)?;
@@ -103,13 +66,8 @@ fn name_type<'a, 'b>(
 
 /// "(" sum ".." sum ")" behind `Int`.
 #[tactic(auto, unfolding(crate::specs::Items::range_type))]
-fn range_type<'a, 'b>(
-    alloc: Global,
-    at: Place,
-    tokens: &'b [Spelled<'a>],
-) -> Result<(TypeTree, &'b [Spelled<'a>]), SyntaxFault>
+fn range_type<'t>(alloc: Global, at: Place, tokens: Tokens<'t>) -> Read<'t, TypeTree>
     ensures read { Gives (λ x. (type_data x.0, lexemes_of x.1.now)) result (range_type_lem at (lexemes_of tokens.now)) }
-    ensures shorter { IfOk result (λ x. length x.1.now < length tokens.now) }
 {
     let (_, rest) = expect(tokens, Class::Open)?;
     let (low, rest) = bound(alloc, rest, LEVELS)?;
@@ -122,13 +80,8 @@ fn range_type<'a, 'b>(
 
 /// NAME as a type.
 #[tactic(auto, unfolding(crate::specs::Items::named_type))]
-fn named_type<'a, 'b>(
-    alloc: Global,
-    token: &Spelled<'a>,
-    tokens: &'b [Spelled<'a>],
-) -> Result<(TypeTree, &'b [Spelled<'a>]), SyntaxFault>
+fn named_type<'t>(alloc: Global, token: &Spelled<'t>, tokens: Tokens<'t>) -> Read<'t, TypeTree>
     ensures read { Gives (λ x. (type_data x.0, lexemes_of x.1.now)) result (named_type_lem (lexeme_of token.now) (lexemes_of tokens.now)) }
-    ensures shorter { IfOk result (λ x. length x.1.now ≤ length tokens.now) }
 {
     let form = TypeForm::Named(name(alloc, token)?);
     Ok((TypeTree { at: token.at, form }, tokens))
@@ -136,12 +89,8 @@ fn named_type<'a, 'b>(
 
 /// type = "boolean" | "Int" "(" sum ".." sum ")" | "{" NAME { "," NAME } "}" | NAME
 #[tactic(auto, unfolding(crate::specs::Items::type_of))]
-pub fn type_tree<'a, 'b>(
-    alloc: Global,
-    tokens: &'b [Spelled<'a>],
-) -> Result<(TypeTree, &'b [Spelled<'a>]), SyntaxFault>
+pub fn type_tree<'t>(alloc: Global, tokens: Tokens<'t>) -> Read<'t, TypeTree>
     ensures read { Gives (λ x. (type_data x.0, lexemes_of x.1.now)) result (type_of (lexemes_of tokens.now)) }
-    ensures shorter { IfOk result (λ x. length x.1.now < length tokens.now) }
 {
     let Some((token, rest)) = tokens.split_first() else {
         return Err(SyntaxFault::Unexpected(0));

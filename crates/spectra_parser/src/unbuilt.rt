@@ -4,7 +4,7 @@ ghost use Rattle.std.specs.Prelude.{◌≡◌};
 ghost use Rattle.spectra_trees.specs.Lexemes.{lexeme_of, lexemes_of};
 ghost use Rattle.spectra_parser.specs.Unbuilt.{unbuilt_item as unbuilt_item_lem, unbuilt_operator as unbuilt_operator_lem, begins_body as begins_body_lem, begins_unbuilt as begins_unbuilt_lem, first_unbuilt as first_unbuilt_lem};
 
-use spectra_exprs::operators::{begun, starts};
+use spectra_exprs::operators::{Tokens, begun, starts};
 use spectra_trees::class::{Class, is_same};
 use spectra_trees::lexeme::Spelled;
 
@@ -52,7 +52,7 @@ fn begins_unbuilt(two: Class, one: Class, token: &Spelled<'_>, rest: &[Spelled<'
 }
 
 /// The number of the least token that begins an unbuilt form of a text of the grammar.
-pub fn first_unbuilt(tokens: &[Spelled<'_>]) -> Option<u32>
+pub fn first_unbuilt<'t>(tokens: Tokens<'t>) -> Option<u32>
     ensures { result ≡ first_unbuilt_lem (lexemes_of tokens.now) }
 {
     let (mut two, mut rest) = begun(Class::Finish, tokens);

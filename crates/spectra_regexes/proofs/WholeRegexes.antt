@@ -160,9 +160,6 @@ module _ {E : Type 0} (d : DeeperRegex) (r : InsideRegex) (s : WholeRegex E d r)
       whole_then whole_cat (λ (x : RegexData). follows_or (follows_begins (classes.Bar ∷ []) (record { checked = refl }) (begins_then (begins_token classes.Bar))) (follows_gives x (record { checked = refl })))
       (λ (x : RegexData). whole_choice classes.Bar (begins_then (begins_token classes.Bar)) (follows_gives x (record { checked = refl })) (whole_branched x) (whole_gives c_regex x))
 
-  pub begins_regex : Begins b_ratom (RegexOf d)
-  begins_regex = begins_then (begins_then begins_post)
-
 pub whole_inside_regex : {E : Type 0} (left n : ℕ) → (n < left → E) → WholeRegex E (RegexLevels left) (inside_regex n)
 unfolding inside_regex
 whole_inside_regex zero n deep = record { inner = λ t. whole_nothing; atom = λ t. whole_nothing }

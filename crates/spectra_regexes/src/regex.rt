@@ -9,10 +9,10 @@ ghost use Rattle.spectra_regexes.specs.Regexes.{atom_of, group_of, ratom_of, pos
 use crate::repeats::repeats;
 use spectra_exprs::fault::SyntaxFault;
 use spectra_exprs::formulas::whole;
-use spectra_exprs::operators::{begun, expect, starts};
+use spectra_exprs::operators::{Read, Tokens, begun, expect, starts};
 use spectra_trees::class::Class;
-use spectra_trees::lexeme::{Spelled, is};
-use spectra_trees::tree::{ExprTree, RegexTree, RepeatTree};
+use spectra_trees::lexeme::Spelled;
+use spectra_trees::tree::{ExprTree, RegexTree};
 use std::alloc::Global;
 
 /// Whether a part begins.
@@ -24,14 +24,13 @@ fn starts_ratom(tokens: &[Spelled<'_>]) -> bool
 }
 
 /// An expression that a bracket opens a level for.
-fn deeper_atom<'a, 'b>(
+fn deeper_atom<'t>(
     alloc: Global,
-    token: &Spelled<'a>,
-    tokens: &'b [Spelled<'a>],
+    token: &Spelled<'t>,
+    tokens: Tokens<'t>,
     left: u32,
-) -> Result<(ExprTree, &'b [Spelled<'a>]), SyntaxFault>
+) -> Read<'t, ExprTree>
     ensures read { Gives (λ x. (expr_data x.0, lexemes_of x.1.now)) result ((inside_regex left).atom (lexeme_of token.now) (lexemes_of tokens.now)) }
-    ensures shorter { IfOk result (λ x. length x.1.now < length tokens.now) }
 {
     if left == 0 {
         return Err(SyntaxFault::TooDeep(token.number));
@@ -41,13 +40,8 @@ fn deeper_atom<'a, 'b>(
 
 /// "[" expr "]"
 #[tactic(auto, unfolding(crate::specs::Regexes::atom_of))]
-fn atom<'a, 'b>(
-    alloc: Global,
-    tokens: &'b [Spelled<'a>],
-    left: u32,
-) -> Result<(RegexTree, &'b [Spelled<'a>]), SyntaxFault>
+fn atom<'t>(alloc: Global, tokens: Tokens<'t>, left: u32) -> Read<'t, RegexTree>
     ensures read { Gives (λ x. (regex_data x.0, lexemes_of x.1.now)) result (atom_of (inside_regex left) (lexemes_of tokens.now)) }
-    ensures shorter { IfOk result (λ x. length x.1.now < length tokens.now) }
 {
     let (opening, rest) = expect(tokens, Class::OpenBracket)?;
     let (formula, rest) = deeper_atom(alloc, opening, rest, left)?;
@@ -58,14 +52,13 @@ fn atom<'a, 'b>(
 
 /// A regular expression that a parenthesis opens a level for.
 #[cycle(regex)]
-fn deeper_regex<'a, 'b>(
+fn deeper_regex<'t>(
     alloc: Global,
-    token: &Spelled<'a>,
-    tokens: &'b [Spelled<'a>],
+    token: &Spelled<'t>,
+    tokens: Tokens<'t>,
     left: u32,
-) -> Result<(RegexTree, &'b [Spelled<'a>]), SyntaxFault>
+) -> Read<'t, RegexTree>
     ensures read { Gives (λ x. (regex_data x.0, lexemes_of x.1.now)) result ((inside_regex left).regex (lexeme_of token.now) (lexemes_of tokens.now)) }
-    ensures shorter { IfOk result (λ x. length x.1.now < length tokens.now) }
 {
     if left == 0 {
         return Err(SyntaxFault::TooDeep(token.number));
@@ -76,13 +69,8 @@ fn deeper_regex<'a, 'b>(
 /// "(" regex ")"
 #[cycle(regex)]
 #[tactic(auto, unfolding(crate::specs::Regexes::group_of))]
-fn group<'a, 'b>(
-    alloc: Global,
-    tokens: &'b [Spelled<'a>],
-    left: u32,
-) -> Result<(RegexTree, &'b [Spelled<'a>]), SyntaxFault>
+fn group<'t>(alloc: Global, tokens: Tokens<'t>, left: u32) -> Read<'t, RegexTree>
     ensures read { Gives (λ x. (regex_data x.0, lexemes_of x.1.now)) result (group_of (inside_regex left) (lexemes_of tokens.now)) }
-    ensures shorter { IfOk result (λ x. length x.1.now < length tokens.now) }
 {
     let (opening, rest) = expect(tokens, Class::Open)?;
     let (inner, rest) = deeper_regex(alloc, opening, rest, left)?;
@@ -93,13 +81,8 @@ fn group<'a, 'b>(
 /// ratom = "[" expr "]" | "(" regex ")"
 #[cycle(regex)]
 #[tactic(auto, unfolding(crate::specs::Regexes::ratom_of))]
-fn ratom<'a, 'b>(
-    alloc: Global,
-    tokens: &'b [Spelled<'a>],
-    left: u32,
-) -> Result<(RegexTree, &'b [Spelled<'a>]), SyntaxFault>
+fn ratom<'t>(alloc: Global, tokens: Tokens<'t>, left: u32) -> Read<'t, RegexTree>
     ensures read { Gives (λ x. (regex_data x.0, lexemes_of x.1.now)) result (ratom_of (inside_regex left) (lexemes_of tokens.now)) }
-    ensures shorter { IfOk result (λ x. length x.1.now < length tokens.now) }
 {
     if starts(tokens, Class::OpenBracket) {
         return atom(alloc, tokens, left);
@@ -110,66 +93,39 @@ fn ratom<'a, 'b>(
 /// post = ratom { "*" | "+" | "?" | "{" NUMBER [ "," NUMBER ] "}" }
 #[cycle(regex)]
 #[tactic(auto, unfolding(crate::specs::Regexes::post_of))]
-fn post<'a, 'b>(
-    alloc: Global,
-    tokens: &'b [Spelled<'a>],
-    left: u32,
-) -> Result<(RegexTree, &'b [Spelled<'a>]), SyntaxFault>
+fn post<'t>(alloc: Global, tokens: Tokens<'t>, left: u32) -> Read<'t, RegexTree>
     ensures read { Gives (λ x. (regex_data x.0, lexemes_of x.1.now)) result (post_of (inside_regex left) (lexemes_of tokens.now)) }
-    ensures shorter { IfOk result (λ x. length x.1.now < length tokens.now) }
 {
     let (first, rest) = ratom(alloc, tokens, left)?;
     repeats(alloc, first, rest)
 }
 
-/// One part more.
-fn with_part(parts: Vec<RegexTree>, next: RegexTree) -> Result<Vec<RegexTree>, SyntaxFault>
-    ensures read { IfOk result (λ all. map regex_data all.items ≡ map regex_data parts.items ++ regex_data next ∷ []) }
-    ensures memory { IfErr result (λ e. e ≡ SyntaxFault.Memory) }
-{
-    let mut parts = parts;
-    parts.push(next)?;
-    Ok(parts)
-}
-
-/// Two parts.
-fn two_parts(alloc: Global, one: RegexTree, other: RegexTree) -> Result<Vec<RegexTree>, SyntaxFault>
-    ensures read { IfOk result (λ all. map regex_data all.items ≡ regex_data one ∷ regex_data other ∷ []) }
-    ensures memory { IfErr result (λ e. e ≡ SyntaxFault.Memory) }
-{
-    let mut parts = Vec::new(alloc);
-    parts.push(one)?;
-    parts.push(other)?;
-    Ok(parts)
-}
-
 /// post behind the parts so far.
 #[cycle(regex)]
 #[tactic(auto, unfolding(crate::specs::Regexes::follower_of))]
-fn follower<'a, 'b>(
+fn follower<'t>(
     alloc: Global,
     parts: Vec<RegexTree>,
-    tokens: &'b [Spelled<'a>],
+    tokens: Tokens<'t>,
     left: u32,
-) -> Result<(Vec<RegexTree>, &'b [Spelled<'a>]), SyntaxFault>
+) -> Read<'t, Vec<RegexTree>>
     ensures read { Gives (λ x. (map regex_data x.0.items, lexemes_of x.1.now)) result (follower_of (inside_regex left) (map regex_data parts.items) (lexemes_of tokens.now)) }
-    ensures shorter { IfOk result (λ x. length x.1.now < length tokens.now) }
 {
     let (next, rest) = post(alloc, tokens, left)?;
-    let parts = with_part(parts, next)?;
+    let mut parts = parts;
+    parts.push(next)?;
     Ok((parts, rest))
 }
 
 /// { post } behind a first part.
 #[cycle(regex)]
-fn followers<'a, 'b>(
+fn followers<'t>(
     alloc: Global,
     first: Vec<RegexTree>,
-    tokens: &'b [Spelled<'a>],
+    tokens: Tokens<'t>,
     left: u32,
-) -> Result<(Vec<RegexTree>, &'b [Spelled<'a>]), SyntaxFault>
+) -> Read<'t, Vec<RegexTree>>
     ensures read { Gives (λ x. (map regex_data x.0.items, lexemes_of x.1.now)) result (all_of starts_ratom_lem (follower_of (inside_regex left)) (map regex_data first.items) (lexemes_of tokens.now)) }
-    ensures shorter { IfOk result (λ x. length x.1.now ≤ length tokens.now) }
 {
     let (mut parts, mut rest) = begun(first, tokens);
     while starts_ratom(rest) {
@@ -183,17 +139,18 @@ fn followers<'a, 'b>(
 /// { post } behind a first part, once at least, as one tree.
 #[cycle(regex)]
 #[tactic(auto, unfolding(crate::specs::Regexes::followed_of))]
-fn followed<'a, 'b>(
+fn followed<'t>(
     alloc: Global,
     first: RegexTree,
-    tokens: &'b [Spelled<'a>],
+    tokens: Tokens<'t>,
     left: u32,
-) -> Result<(RegexTree, &'b [Spelled<'a>]), SyntaxFault>
+) -> Read<'t, RegexTree>
     ensures read { Gives (λ x. (regex_data x.0, lexemes_of x.1.now)) result (followed_of (inside_regex left) (regex_data first) (lexemes_of tokens.now)) }
-    ensures shorter { IfOk result (λ x. length x.1.now < length tokens.now) }
 {
     let (second, rest) = post(alloc, tokens, left)?;
-    let parts = two_parts(alloc, first, second)?;
+    let mut parts = Vec::new(alloc);
+    parts.push(first)?;
+    parts.push(second)?;
     let (parts, rest) = followers(alloc, parts, rest, left)?;
     Ok((RegexTree::Cat(parts), rest))
 }
@@ -201,13 +158,8 @@ fn followed<'a, 'b>(
 /// cat = post { post }
 #[cycle(regex)]
 #[tactic(auto, unfolding(crate::specs::Regexes::cat_of))]
-fn cat<'a, 'b>(
-    alloc: Global,
-    tokens: &'b [Spelled<'a>],
-    left: u32,
-) -> Result<(RegexTree, &'b [Spelled<'a>]), SyntaxFault>
+fn cat<'t>(alloc: Global, tokens: Tokens<'t>, left: u32) -> Read<'t, RegexTree>
     ensures read { Gives (λ x. (regex_data x.0, lexemes_of x.1.now)) result (cat_of (inside_regex left) (lexemes_of tokens.now)) }
-    ensures shorter { IfOk result (λ x. length x.1.now < length tokens.now) }
 {
     let (first, rest) = post(alloc, tokens, left)?;
     if starts_ratom(rest) {
@@ -219,31 +171,30 @@ fn cat<'a, 'b>(
 /// "|" cat behind the parts so far.
 #[cycle(regex)]
 #[tactic(auto, unfolding(crate::specs::Regexes::branch_of))]
-fn branch<'a, 'b>(
+fn branch<'t>(
     alloc: Global,
     parts: Vec<RegexTree>,
-    tokens: &'b [Spelled<'a>],
+    tokens: Tokens<'t>,
     left: u32,
-) -> Result<(Vec<RegexTree>, &'b [Spelled<'a>]), SyntaxFault>
+) -> Read<'t, Vec<RegexTree>>
     ensures read { Gives (λ x. (map regex_data x.0.items, lexemes_of x.1.now)) result (branch_of (inside_regex left) (map regex_data parts.items) (lexemes_of tokens.now)) }
-    ensures shorter { IfOk result (λ x. length x.1.now < length tokens.now) }
 {
     let (_, rest) = expect(tokens, Class::Bar)?;
     let (next, rest) = cat(alloc, rest, left)?;
-    let parts = with_part(parts, next)?;
+    let mut parts = parts;
+    parts.push(next)?;
     Ok((parts, rest))
 }
 
 /// { "|" cat } behind a first part.
 #[cycle(regex)]
-fn branches<'a, 'b>(
+fn branches<'t>(
     alloc: Global,
     first: Vec<RegexTree>,
-    tokens: &'b [Spelled<'a>],
+    tokens: Tokens<'t>,
     left: u32,
-) -> Result<(Vec<RegexTree>, &'b [Spelled<'a>]), SyntaxFault>
+) -> Read<'t, Vec<RegexTree>>
     ensures read { Gives (λ x. (map regex_data x.0.items, lexemes_of x.1.now)) result (all_of (starts_lem Class.Bar) (branch_of (inside_regex left)) (map regex_data first.items) (lexemes_of tokens.now)) }
-    ensures shorter { IfOk result (λ x. length x.1.now ≤ length tokens.now) }
 {
     let (mut parts, mut rest) = begun(first, tokens);
     while starts(rest, Class::Bar) {
@@ -257,18 +208,19 @@ fn branches<'a, 'b>(
 /// { "|" cat } behind a first part, once at least, as one tree.
 #[cycle(regex)]
 #[tactic(auto, unfolding(crate::specs::Regexes::branched_of))]
-fn branched<'a, 'b>(
+fn branched<'t>(
     alloc: Global,
     first: RegexTree,
-    tokens: &'b [Spelled<'a>],
+    tokens: Tokens<'t>,
     left: u32,
-) -> Result<(RegexTree, &'b [Spelled<'a>]), SyntaxFault>
+) -> Read<'t, RegexTree>
     ensures read { Gives (λ x. (regex_data x.0, lexemes_of x.1.now)) result (branched_of (inside_regex left) (regex_data first) (lexemes_of tokens.now)) }
-    ensures shorter { IfOk result (λ x. length x.1.now < length tokens.now) }
 {
     let (_, rest) = expect(tokens, Class::Bar)?;
     let (second, rest) = cat(alloc, rest, left)?;
-    let parts = two_parts(alloc, first, second)?;
+    let mut parts = Vec::new(alloc);
+    parts.push(first)?;
+    parts.push(second)?;
     let (parts, rest) = branches(alloc, parts, rest, left)?;
     Ok((RegexTree::Alt(parts), rest))
 }
@@ -276,13 +228,8 @@ fn branched<'a, 'b>(
 /// regex = cat { "|" cat }
 #[cycle(regex)]
 #[tactic(auto, unfolding(crate::specs::Regexes::regex_of))]
-pub fn regex<'a, 'b>(
-    alloc: Global,
-    tokens: &'b [Spelled<'a>],
-    left: u32,
-) -> Result<(RegexTree, &'b [Spelled<'a>]), SyntaxFault>
+pub fn regex<'t>(alloc: Global, tokens: Tokens<'t>, left: u32) -> Read<'t, RegexTree>
     ensures read { Gives (λ x. (regex_data x.0, lexemes_of x.1.now)) result (regex_of (inside_regex left) (lexemes_of tokens.now)) }
-    ensures shorter { IfOk result (λ x. length x.1.now < length tokens.now) }
 {
     let (first, rest) = cat(alloc, tokens, left)?;
     if starts(rest, Class::Bar) {

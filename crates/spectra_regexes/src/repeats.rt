@@ -7,22 +7,16 @@ ghost use Rattle.spectra_exprs.specs.Read.{Gives, all_of};
 ghost use Rattle.spectra_regexes.specs.Regexes.{between_of, exactly_of, counted as counted_lem, repeat as repeat_lem, starts_repeat as starts_repeat_lem, repeated as repeated_lem};
 
 use spectra_exprs::fault::SyntaxFault;
-use spectra_exprs::formulas::whole;
-use spectra_exprs::operators::{begun, expect, starts};
+use spectra_exprs::operators::{Read, Tokens, begun, expect, starts};
 use spectra_trees::class::Class;
 use spectra_trees::lexeme::{Spelled, is};
-use spectra_trees::tree::{ExprTree, RegexTree, RepeatTree};
+use spectra_trees::tree::{RegexTree, RepeatTree};
 use std::alloc::Global;
 
 /// "," NUMBER "}" behind "{" NUMBER.
 #[tactic(auto, unfolding(crate::specs::Regexes::between_of))]
-pub fn between<'a, 'b>(
-    alloc: Global,
-    low: String,
-    tokens: &'b [Spelled<'a>],
-) -> Result<(RepeatTree, &'b [Spelled<'a>]), SyntaxFault>
+pub fn between<'t>(alloc: Global, low: String, tokens: Tokens<'t>) -> Read<'t, RepeatTree>
     ensures read { Gives (λ x. (repeat_data x.0, lexemes_of x.1.now)) result (between_of (string_bytes low) (lexemes_of tokens.now)) }
-    ensures shorter { IfOk result (λ x. length x.1.now < length tokens.now) }
 {
     let (_, rest) = expect(tokens, Class::Comma)?;
     let (high, rest) = expect(rest, Class::Number)?;
@@ -33,12 +27,8 @@ pub fn between<'a, 'b>(
 
 /// "}" behind "{" NUMBER.
 #[tactic(auto, unfolding(crate::specs::Regexes::exactly_of))]
-pub fn exactly<'a, 'b>(
-    low: String,
-    tokens: &'b [Spelled<'a>],
-) -> Result<(RepeatTree, &'b [Spelled<'a>]), SyntaxFault>
+pub fn exactly<'t>(low: String, tokens: Tokens<'t>) -> Read<'t, RepeatTree>
     ensures read { Gives (λ x. (repeat_data x.0, lexemes_of x.1.now)) result (exactly_of (string_bytes low) (lexemes_of tokens.now)) }
-    ensures shorter { IfOk result (λ x. length x.1.now < length tokens.now) }
 {
     let (_, rest) = expect(tokens, Class::CloseBrace)?;
     Ok((RepeatTree::Exactly(low), rest))
@@ -46,12 +36,8 @@ pub fn exactly<'a, 'b>(
 
 /// "{" NUMBER [ "," NUMBER ] "}"
 #[tactic(auto, unfolding(crate::specs::Regexes::counted))]
-pub fn counted<'a, 'b>(
-    alloc: Global,
-    tokens: &'b [Spelled<'a>],
-) -> Result<(RepeatTree, &'b [Spelled<'a>]), SyntaxFault>
+pub fn counted<'t>(alloc: Global, tokens: Tokens<'t>) -> Read<'t, RepeatTree>
     ensures read { Gives (λ x. (repeat_data x.0, lexemes_of x.1.now)) result (counted_lem (lexemes_of tokens.now)) }
-    ensures shorter { IfOk result (λ x. length x.1.now < length tokens.now) }
 {
     let (_, rest) = expect(tokens, Class::OpenBrace)?;
     let (low, rest) = expect(rest, Class::Number)?;
@@ -64,12 +50,8 @@ pub fn counted<'a, 'b>(
 
 /// "*" | "+" | "?" | "{" NUMBER [ "," NUMBER ] "}"
 #[tactic(auto, unfolding(crate::specs::Regexes::repeat))]
-pub fn repeat<'a, 'b>(
-    alloc: Global,
-    tokens: &'b [Spelled<'a>],
-) -> Result<(RepeatTree, &'b [Spelled<'a>]), SyntaxFault>
+pub fn repeat<'t>(alloc: Global, tokens: Tokens<'t>) -> Read<'t, RepeatTree>
     ensures read { Gives (λ x. (repeat_data x.0, lexemes_of x.1.now)) result (repeat_lem (lexemes_of tokens.now)) }
-    ensures shorter { IfOk result (λ x. length x.1.now < length tokens.now) }
 {
     let Some((token, rest)) = tokens.split_first() else {
         return Err(SyntaxFault::Unexpected(0));
@@ -99,13 +81,8 @@ pub fn starts_repeat(tokens: &[Spelled<'_>]) -> bool
 
 /// One more repeat of a part.
 #[tactic(auto, unfolding(crate::specs::Regexes::repeated))]
-pub fn repeated<'a, 'b>(
-    alloc: Global,
-    part: RegexTree,
-    tokens: &'b [Spelled<'a>],
-) -> Result<(RegexTree, &'b [Spelled<'a>]), SyntaxFault>
+pub fn repeated<'t>(alloc: Global, part: RegexTree, tokens: Tokens<'t>) -> Read<'t, RegexTree>
     ensures read { Gives (λ x. (regex_data x.0, lexemes_of x.1.now)) result (repeated_lem (regex_data part) (lexemes_of tokens.now)) }
-    ensures shorter { IfOk result (λ x. length x.1.now < length tokens.now) }
 {
     let (times, rest) = repeat(alloc, tokens)?;
     let part = RegexTree::Repeat(Box::new(alloc, part)?, times);
@@ -113,13 +90,8 @@ pub fn repeated<'a, 'b>(
 }
 
 /// { "*" | "+" | "?" | "{" NUMBER [ "," NUMBER ] "}" } behind a part.
-pub fn repeats<'a, 'b>(
-    alloc: Global,
-    first: RegexTree,
-    tokens: &'b [Spelled<'a>],
-) -> Result<(RegexTree, &'b [Spelled<'a>]), SyntaxFault>
+pub fn repeats<'t>(alloc: Global, first: RegexTree, tokens: Tokens<'t>) -> Read<'t, RegexTree>
     ensures read { Gives (λ x. (regex_data x.0, lexemes_of x.1.now)) result (all_of starts_repeat_lem repeated_lem (regex_data first) (lexemes_of tokens.now)) }
-    ensures shorter { IfOk result (λ x. length x.1.now ≤ length tokens.now) }
 {
     let (mut part, mut rest) = begun(first, tokens);
     while starts_repeat(rest) {

@@ -89,84 +89,63 @@ fn shown(alloc: Global, text: &str) -> Result<String, Fail> {
     Ok(out)
 }
 
-/// Each text has one line, with that tree. Each expression begins at column 16, and the columns are counted by hand
-/// from there.
-fn are_shown(rt: &impl Abort, alloc: Global, cases: &[(&str, &str)]) -> Result<(), Fail> {
-    for &(text, expected) in cases {
-        let found = shown(alloc, text)?;
+/// Lines with their trees. Each expression begins at column 16, and the columns are counted by hand from there.
+const TREES: [(&str, &str); 12] = [
+    (
+        "spec X gar alw ! a | ( b ) & true ;",
+        "(16@20 Or 20 (16@16 Not (18@18 a))(22@28 And 28 (22@24 b)(30@30 true)))",
+    ),
+    (
+        "spec X gar alw a & b & c ;",
+        "(16@18 And 18 22 (16@16 a)(20@20 b)(24@24 c))",
+    ),
+    (
+        "spec X gar alw a -> b or c ;",
+        "(16@18 Implies (16@16 a)(21@23 Or 23 (21@21 b)(26@26 c)))",
+    ),
+    (
+        "spec X gar alw a | b & c | d ;",
+        "(16@18 Or 18 26 (16@16 a)(20@22 And 22 (20@20 b)(24@24 c))(28@28 d))",
+    ),
+    (
+        "spec X gar alw a + b - c * d * e ;",
+        "(16@22 Sub (16@18 Add (16@16 a)(20@20 b))(24@30 Mul (24@26 Mul (24@24 c)(28@28 d))(32@32 e)))",
+    ),
+    (
+        "spec X gar alw - 1 < ( a ) ;",
+        "(16@20 Lt (16@18 -1)(22@24 a))",
+    ),
+    (
+        "spec X gar alw a mod 2 = 0 ;",
+        "(16@24 Eq (16@18 Mod 22 2(16@16 a))(26@26 0))",
+    ),
+    (
+        "spec X gar alw a >= b & c ;",
+        "(16@23 And 23 (16@18 Ge (16@16 a)(21@21 b))(25@25 c))",
+    ),
+    (
+        "spec X gar alw a != ! b ;",
+        "(16@18 Ne (16@16 a)(21@21 Not (23@23 b)))",
+    ),
+    (
+        "spec X gar alw ( ( a ) ) = 1 ;",
+        "(16@26 Eq (16@20 a)(28@28 1))",
+    ),
+    (
+        "spec X gar alw p ( a , ! b ) ;",
+        "(16@16 p() (20@20 a)(24@24 Not (26@26 b)))",
+    ),
+    (
+        "spec X gar alw next ( a iff b ) ;",
+        "(16@16 next (23@25 Iff (23@23 a)(29@29 b)))",
+    ),
+];
+
+#[test]
+fn lines_have_their_trees(rt: HostRuntime) -> Result<(), Fail> {
+    for (text, expected) in TREES {
+        let found = shown(rt.alloc(), text)?;
         assert_eq!(rt; found.as_str(), expected, "{text:?}");
     }
     Ok(())
-}
-
-#[test]
-fn conjunctions_and_disjunctions_have_their_trees(rt: HostRuntime) -> Result<(), Fail> {
-    // (text, its tree)
-    let cases: [(&str, &str); 4] = [
-        (
-            "spec X gar alw ! a | ( b ) & true ;",
-            "(16@20 Or 20 (16@16 Not (18@18 a))(22@28 And 28 (22@24 b)(30@30 true)))",
-        ),
-        (
-            "spec X gar alw a & b & c ;",
-            "(16@18 And 18 22 (16@16 a)(20@20 b)(24@24 c))",
-        ),
-        (
-            "spec X gar alw a -> b or c ;",
-            "(16@18 Implies (16@16 a)(21@23 Or 23 (21@21 b)(26@26 c)))",
-        ),
-        (
-            "spec X gar alw a | b & c | d ;",
-            "(16@18 Or 18 26 (16@16 a)(20@22 And 22 (20@20 b)(24@24 c))(28@28 d))",
-        ),
-    ];
-    are_shown(&rt, rt.alloc(), &cases)
-}
-
-#[test]
-fn sums_and_comparisons_have_their_trees(rt: HostRuntime) -> Result<(), Fail> {
-    // (text, its tree)
-    let cases: [(&str, &str); 6] = [
-        (
-            "spec X gar alw a + b - c * d * e ;",
-            "(16@22 Sub (16@18 Add (16@16 a)(20@20 b))(24@30 Mul (24@26 Mul (24@24 c)(28@28 d))(32@32 e)))",
-        ),
-        (
-            "spec X gar alw - 1 < ( a ) ;",
-            "(16@20 Lt (16@18 -1)(22@24 a))",
-        ),
-        (
-            "spec X gar alw a mod 2 = 0 ;",
-            "(16@24 Eq (16@18 Mod 22 2(16@16 a))(26@26 0))",
-        ),
-        (
-            "spec X gar alw a >= b & c ;",
-            "(16@23 And 23 (16@18 Ge (16@16 a)(21@21 b))(25@25 c))",
-        ),
-        (
-            "spec X gar alw a != ! b ;",
-            "(16@18 Ne (16@16 a)(21@21 Not (23@23 b)))",
-        ),
-        (
-            "spec X gar alw ( ( a ) ) = 1 ;",
-            "(16@26 Eq (16@20 a)(28@28 1))",
-        ),
-    ];
-    are_shown(&rt, rt.alloc(), &cases)
-}
-
-#[test]
-fn calls_have_their_trees(rt: HostRuntime) -> Result<(), Fail> {
-    // (text, its tree)
-    let cases: [(&str, &str); 2] = [
-        (
-            "spec X gar alw p ( a , ! b ) ;",
-            "(16@16 p() (20@20 a)(24@24 Not (26@26 b)))",
-        ),
-        (
-            "spec X gar alw next ( a iff b ) ;",
-            "(16@16 next (23@25 Iff (23@23 a)(29@29 b)))",
-        ),
-    ];
-    are_shown(&rt, rt.alloc(), &cases)
 }

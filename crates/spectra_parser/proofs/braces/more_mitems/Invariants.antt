@@ -8,7 +8,6 @@ use Rattle.spectra_parser.proofs.braces.more_mitems.Given as goal
 
 abbrev pub invariant-loop-alloc : goal.invariant-loop-alloc
 invariant-loop-alloc l = record {
-  behind : length l.rest ≤ length l.tokens;
   grown : Grown inside_braces mitem_after (map part_data l.parts.items) (lexemes_of l.rest) (all_of inside_braces mitem_after (map part_data l.fn.first.items) (lexemes_of l.tokens));
 }
 

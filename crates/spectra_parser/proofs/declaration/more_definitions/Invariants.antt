@@ -9,7 +9,6 @@ use Rattle.spectra_parser.proofs.declaration.more_definitions.Given as goal
 
 abbrev pub invariant-loop-alloc : goal.invariant-loop-alloc
 invariant-loop-alloc l = record {
-  behind : length l.rest ≤ length l.tokens;
   grown : Grown (starts Class.Name) definition_after (map body_pair l.all.items) (lexemes_of l.rest) (all_of (starts Class.Name) definition_after (map body_pair l.fn.first.items) (lexemes_of l.tokens));
 }
 

@@ -9,7 +9,6 @@ use Rattle.spectra_parser.proofs.item.more_imports.Given as goal
 
 abbrev pub invariant-loop-alloc : goal.invariant-loop-alloc
 invariant-loop-alloc l = record {
-  behind : length l.rest ≤ length l.tokens;
   grown : Grown (starts Class.Import) import_after (map name_data l.imports.items) (lexemes_of l.rest) (all_of (starts Class.Import) import_after (map name_data l.fn.first.items) (lexemes_of l.tokens));
 }
 

@@ -1,30 +1,26 @@
-use Rattle.std.proofs.Common.{◌<◌, length, map, sym, ap, arith}
+use Rattle.std.proofs.Common.{map}
 use Rattle.std.proofs.lemmas.Result.{err_from_is_err_and}
 use Rattle.spectra_trees.specs.Views.{item_data}
 use Rattle.spectra_trees.specs.Lexemes.{lexemes_of}
-use Rattle.spectra_exprs.specs.Read.{all_of}
 use Rattle.spectra_parser.specs.Items.{before_end, item_after}
-use Rattle.spectra_exprs.proofs.Loops.{grown_first, grown_next, grown_last, grown_fails, length-lexemes}
+use Rattle.spectra_exprs.proofs.Loops.{grown_first}
+use Rattle.spectra_exprs.proofs.Turns.{fewer, turned, failed, ended}
+use Rattle.spectra_parser.proofs.StoppingTexts.{uses_item_after}
 use Rattle.spectra_parser.proofs.item.more_items.Goals as goal
 
 pub loop-alloc-init : goal.loop-alloc-init
-loop-alloc-init c = record {
-  behind = omega (arith, ap length c.begun-items.ensures.rest);
-  grown = rw (c.begun-items.ensures.first, c.begun-items.ensures.rest) (grown_first before_end item_after (map item_data c.args.first.items) (lexemes_of c.args.tokens.now));
-}
+loop-alloc-init c = record { grown = rw (c.begun-items.ensures.first, c.begun-items.ensures.rest) (grown_first before_end item_after (map item_data c.args.first.items) (lexemes_of c.args.tokens.now)) }
 
 pub loop-alloc-preserved : goal.loop-alloc-preserved
-loop-alloc-preserved c =
-    let shorter : length (lexemes_of c.in_ok-next.behind.now) < length (lexemes_of c.loop-alloc.rest.now) = omega (arith, length-lexemes c.in_ok-next.behind.now, length-lexemes c.loop-alloc.rest.now, c.in_ok-next.ensures.shorter) in
-    record {
-      behind = omega (arith, c.in_ok-next.ensures.shorter);
-      grown = grown_next before_end item_after (map item_data c.loop-alloc.items.items) (lexemes_of c.loop-alloc.rest.now) (all_of before_end item_after (map item_data c.args.first.items) (lexemes_of c.args.tokens.now)) (map item_data c.in_ok-next.next.items) (lexemes_of c.in_ok-next.behind.now) c.loop-alloc.invariant.grown (sym c.loop-alloc-test.ensures) c.in_ok-next.ensures.read shorter;
-    }
+loop-alloc-preserved c = record { grown = turned uses_item_after c.loop-alloc.invariant.grown c.loop-alloc-test.ensures c.in_ok-next.ensures.read }
 
-pub returns-in_err-next-clause-read : goal.returns-in_err-next-clause-read
-returns-in_err-next-clause-read c =
+pub loop-alloc-smaller : goal.loop-alloc-smaller
+loop-alloc-smaller c = fewer uses_item_after (map item_data c.loop-alloc.items.items) c.loop-alloc.rest.now c.in_ok-next.behind.now (map item_data c.in_ok-next.next.items) c.in_ok-next.ensures.read
+
+pub returns-in_err-next : goal.returns-in_err-next
+returns-in_err-next c =
     let p = err_from_is_err_and c.from_residual.result c.from_residual.ensures.1 in
-    rw (p.1, p.2) (grown_fails before_end item_after (map item_data c.loop-alloc.items.items) (lexemes_of c.loop-alloc.rest.now) (all_of before_end item_after (map item_data c.args.first.items) (lexemes_of c.args.tokens.now)) c.loop-alloc.invariant.grown (sym c.loop-alloc-test.ensures) c.in_err-next.field-0.0 c.in_err-next.ensures.read)
+    record { read = rw (p.1, p.2) (failed c.loop-alloc.invariant.grown c.loop-alloc-test.ensures c.in_err-next.field-0.0 c.in_err-next.ensures.read) }
 
-pub returns-clause-read : goal.returns-clause-read
-returns-clause-read c = grown_last before_end item_after (map item_data c.loop-alloc.items.items) (lexemes_of c.loop-alloc.rest.now) (all_of before_end item_after (map item_data c.args.first.items) (lexemes_of c.args.tokens.now)) c.loop-alloc.invariant.grown (sym c.loop-alloc-test.ensures)
+pub returns : goal.returns
+returns c = record { read = ended c.loop-alloc.invariant.grown c.loop-alloc-test.ensures }

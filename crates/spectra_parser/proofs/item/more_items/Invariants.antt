@@ -8,7 +8,6 @@ use Rattle.spectra_parser.proofs.item.more_items.Given as goal
 
 abbrev pub invariant-loop-alloc : goal.invariant-loop-alloc
 invariant-loop-alloc l = record {
-  behind : length l.rest ≤ length l.tokens;
   grown : Grown before_end item_after (map item_data l.items.items) (lexemes_of l.rest) (all_of before_end item_after (map item_data l.fn.first.items) (lexemes_of l.tokens));
 }
 

@@ -26,7 +26,10 @@ is_refused ts at r b s = record { within = (r 0).within; refused = λ left. (r l
 is_too_deep : (ts : List Lexeme) (at : ℕ) → IsWholeFrom 0 ts → text_of ts ≡ Err (faults.TooDeep at) → IsTooDeep ts at
 is_too_deep ts at w h =
     let r = deep_refused ts at w h in
-    record { within = r.within; refused = r.refused; begun = (wide, deep_begun ts at w h); deeper = (wide, deeper_begun ts at w h); shallow = deep_shallow ts at w h; level = deep_level ts at w h }
+    record {
+      opens = record { within = r.within; begun = (wide, deep_begun ts at w h); deeper = (wide, deeper_begun ts at w h); shallow = deep_shallow ts at w h; level = deep_level ts at w h };
+      refused = r.refused;
+    }
 
 explained : (ts : List Lexeme) (f : SyntaxFault) → IsWholeFrom 0 ts → Fails f (text_of ts) → Explains ts (refusal f)
 explained ts (faults.Unexpected at) w h = (is_refused ts at (unexpected_refused ts at w h) (unexpected_begun ts at w h) (unexpected_shallow ts at w h), no_phrase_behind ts at w h)

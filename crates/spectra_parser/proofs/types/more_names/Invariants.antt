@@ -9,7 +9,6 @@ use Rattle.spectra_parser.proofs.types.more_names.Given as goal
 
 abbrev pub invariant-loop-alloc : goal.invariant-loop-alloc
 invariant-loop-alloc l = record {
-  behind : length l.rest ≤ length l.tokens;
   grown : Grown (starts Class.Comma) name_after (map name_data l.names.items) (lexemes_of l.rest) (all_of (starts Class.Comma) name_after (map name_data l.fn.first.items) (lexemes_of l.tokens));
 }
 

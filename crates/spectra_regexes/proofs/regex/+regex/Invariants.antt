@@ -8,44 +8,43 @@ use Rattle.spectra_exprs.proofs.Loops.{Grown}
 use Rattle.spectra_regexes.proofs.regex.+regex.Given as goal
 
 abbrev pub decreases-group : goal.decreases-group
-decreases-group l = 16 * length l.tokens.now + 1
+decreases-group l = 16 * l.left + 1
 
 abbrev pub decreases-ratom : goal.decreases-ratom
-decreases-ratom l = 16 * length l.tokens.now + 2
+decreases-ratom l = 16 * l.left + 2
 
 abbrev pub decreases-post : goal.decreases-post
-decreases-post l = 16 * length l.tokens.now + 3
+decreases-post l = 16 * l.left + 3
 
 abbrev pub decreases-follower : goal.decreases-follower
-decreases-follower l = 16 * length l.tokens.now + 4
+decreases-follower l = 16 * l.left + 4
 
 abbrev pub decreases-followers : goal.decreases-followers
-decreases-followers l = 16 * length l.tokens.now + 5
+decreases-followers l = 16 * l.left + 5
 
 abbrev pub decreases-followed : goal.decreases-followed
-decreases-followed l = 16 * length l.tokens.now + 6
+decreases-followed l = 16 * l.left + 6
 
 abbrev pub decreases-cat : goal.decreases-cat
-decreases-cat l = 16 * length l.tokens.now + 7
+decreases-cat l = 16 * l.left + 7
 
 abbrev pub decreases-branch : goal.decreases-branch
-decreases-branch l = 16 * length l.tokens.now + 1
+decreases-branch l = 16 * l.left + 8
 
 abbrev pub decreases-branches : goal.decreases-branches
-decreases-branches l = 16 * length l.tokens.now + 2
+decreases-branches l = 16 * l.left + 9
 
 abbrev pub decreases-branched : goal.decreases-branched
-decreases-branched l = 16 * length l.tokens.now + 3
+decreases-branched l = 16 * l.left + 10
 
 abbrev pub decreases-regex : goal.decreases-regex
-decreases-regex l = 16 * length l.tokens.now + 8
+decreases-regex l = 16 * l.left + 11
 
 abbrev pub decreases-deeper_regex : goal.decreases-deeper_regex
-decreases-deeper_regex l = 16 * length l.tokens.now + 9
+decreases-deeper_regex l = 16 * l.left + 0
 
 abbrev pub invariant-followers-loop-alloc : goal.invariant-followers-loop-alloc
 invariant-followers-loop-alloc l = record {
-  behind : length l.rest ≤ length l.tokens;
   grown : Grown starts_ratom (follower_of (inside_regex l.left)) (map regex_data l.parts.items) (lexemes_of l.rest) (all_of starts_ratom (follower_of (inside_regex l.left)) (map regex_data l.fn.first.items) (lexemes_of l.tokens));
 }
 
@@ -54,7 +53,6 @@ decreases-followers-loop-alloc l = length l.rest
 
 abbrev pub invariant-branches-loop-alloc : goal.invariant-branches-loop-alloc
 invariant-branches-loop-alloc l = record {
-  behind : length l.rest ≤ length l.tokens;
   grown : Grown (starts Class.Bar) (branch_of (inside_regex l.left)) (map regex_data l.parts.items) (lexemes_of l.rest) (all_of (starts Class.Bar) (branch_of (inside_regex l.left)) (map regex_data l.fn.first.items) (lexemes_of l.tokens));
 }
 

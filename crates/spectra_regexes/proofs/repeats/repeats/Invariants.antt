@@ -8,7 +8,6 @@ use Rattle.spectra_regexes.proofs.repeats.repeats.Given as goal
 
 abbrev pub invariant-loop-alloc : goal.invariant-loop-alloc
 invariant-loop-alloc l = record {
-  behind : length l.rest ≤ length l.tokens;
   grown : Grown starts_repeat repeated (regex_data l.part) (lexemes_of l.rest) (all_of starts_repeat repeated (regex_data l.fn.first) (lexemes_of l.tokens));
 }
 
