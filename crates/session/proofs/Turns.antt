@@ -293,6 +293,6 @@ ended_since t Stands first left0 left1 written0 written1 limit in0 in1 in2 out0 
       few = talk.few;
       wrote = talk.wrote;
       ends = ends_weaker (ReadsAs t) (t.first_broken talk.last) limit talk.given left1 talk.handed (length talk.handed) (Rose in1 in2) (Rose out1 out2) (Rose in0 in2) (Rose out0 out2)
-      (rose_earlier in0 in1 in2 later_in) (rose_earlier out0 out1 out2 later_out) end talk.ends;
+          (rose_earlier in0 in1 in2 later_in) (rose_earlier out0 out1 out2 later_out) end talk.ends;
     } in
     record { talk = since; state = ended.state; stands = ended.stands }

@@ -90,7 +90,11 @@ fn a_line_reads_as_its_items_say(rt: HostRuntime) -> Result<(), Fail> {
         assert_eq!(rt; lines.read(), want.is_some(), "at {line}");
         if let Some((x, n, c)) = want {
             let values = [Value::Bool(x), Value::Int(n), Value::Name(c)];
-            assert_eq!(rt; lines.wanted.values.as_slice(), values.as_slice(), "at {line}");
+            assert_eq!(rt;
+                lines.wanted.values.as_slice(),
+                values.as_slice(),
+                "at {line}"
+            );
         }
     }
     Ok(())
@@ -160,9 +164,17 @@ fn whole_lines_come_before_the_next_read(rt: HostRuntime) -> Result<(), Fail> {
         let mut source = SlowSource { inner, most };
         let mut lines = Lines::make(alloc, &spec)?;
         for _ in 0..whole {
-            assert_eq!(rt; lines.next_line(&mut source), Taken::Line, "at {most}, {fails}");
+            assert_eq!(rt;
+                lines.next_line(&mut source),
+                Taken::Line,
+                "at {most}, {fails}"
+            );
         }
-        assert_eq!(rt; lines.next_line(&mut source), Taken::Failed, "at {most}, {fails}");
+        assert_eq!(rt;
+            lines.next_line(&mut source),
+            Taken::Failed,
+            "at {most}, {fails}"
+        );
     }
     Ok(())
 }

@@ -8,8 +8,8 @@ ghost use Rattle.session_lines.specs.Reading.{IsWritten};
 ghost use Rattle.session_lines.specs.Room.{domains};
 
 use crate::number::number_in;
-use spec_model::variables::has_value;
 use spec_model::value::{Domain, Value, Var};
+use spec_model::variables::has_value;
 
 /// The text of an enum name; of one that isn't there, the empty text.
 pub fn name_text(names: &[String], n: u16) -> &[u8]
