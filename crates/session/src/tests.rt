@@ -61,7 +61,8 @@ fn talk_over(
     reads: &[u64],
     writes: &[u64],
 ) -> Result<(End, MemorySink), Fail> {
-    let mut lines = Lines::make(alloc, &asked(alloc)?)?;
+    let spec = asked(alloc)?;
+    let mut lines = Lines::make(alloc, &spec)?;
     let mut source = MemorySource::make(alloc, input, reads)?;
     let mut sink = MemorySink::make(alloc, 64, writes)?;
     let end = talk(&mut lines, &mut Parrot, &mut source, &mut sink, limit);
