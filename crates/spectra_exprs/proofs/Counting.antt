@@ -1,15 +1,14 @@
 -- How many levels are open where reading goes on, and where it stops: one lemma for each form.
-use Rattle.std.proofs.Common.{◌≡◌, ℕ, zero, suc, ◌<◌, ◌≤◌, Bool, true, false, cond, List, [], ◌∷◌, ◌++◌, length, Option, Some, None, Ok, Err, refl, sym, ap, subst, ◌∙◌, append_assoc, append-nil, arith}
-use Rattle.std.proofs.lemmas.Bool.Decides.{nat_tests}
+use Rattle.std.proofs.Common.{◌≡◌, ℕ, zero, suc, ◌<◌, ◌≤◌, Bool, true, false, cond, List, [], ◌∷◌, ◌++◌, length, Option, Some, None, Ok, Err, refl, sym, ap, subst, ◌∙◌, append_assoc, arith}
 use Rattle.std.specs.Option.{option_map_or}
 use Rattle.spectra_exprs.specs.declared.fault.SyntaxFault.{SyntaxFault}
 use Rattle.spectra_exprs.specs.declared.fault.SyntaxFault.TheVariants as faults
 use Rattle.spectra_trees.specs.declared.class.Class.{Class}
-use Rattle.spectra_trees.specs.Classes.{place_of, same_class}
+use Rattle.spectra_trees.specs.Classes.{same_class}
 use Rattle.spectra_trees.specs.Lexemes.{Lexeme}
 use Rattle.spectra_exprs.specs.Read.{Read, Reader, ◌>>=◌, unexpected, first_number, expect, grow, all_of}
 use Rattle.spectra_exprs.specs.Operators.{is_operator, closed}
-use Rattle.spectra_exprs.specs.Nesting.{Opening, Nesting, Part, part_of, completed, stacked, plain_behind, nested, behind, levels_of}
+use Rattle.spectra_exprs.specs.Nesting.{Opening, Nesting, sort_of, completed, nested, behind, levels_of}
 use Rattle.spectra_exprs.proofs.Soundness.{sound_token, ok_value}
 use Rattle.spectra_exprs.proofs.Stopping.{err_is, ok_no_err, err_no_ok}
 use Rattle.spectra_exprs.proofs.Opening.{IsNext, next_number}
@@ -18,15 +17,15 @@ use Rattle.spectra_exprs.proofs.Awaiting.{expect_first}
 -- behind each of these tokens at most so many levels are open
 abbrev pub AtMost : ℕ → Nesting → List Lexeme → Type 0
 AtMost k n [] = Unit {0}
-AtMost k n (t ∷ ts) = (levels_of (nested (part_of t.class) n).stack ≤ k) × AtMost k (nested (part_of t.class) n) ts
+AtMost k n (t ∷ ts) = (levels_of (nested (sort_of t.class) n).stack ≤ k) × AtMost k (nested (sort_of t.class) n) ts
 
 pub behind-append : (n : Nesting) (u v : List Lexeme) → behind n (u ++ v) ≡ behind (behind n u) v
 behind-append n [] v = refl
-behind-append n (t ∷ u) v = behind-append (nested (part_of t.class) n) u v
+behind-append n (t ∷ u) v = behind-append (nested (sort_of t.class) n) u v
 
 pub at_most_append : (k : ℕ) (n : Nesting) (u v : List Lexeme) → AtMost k n u → AtMost k (behind n u) v → AtMost k n (u ++ v)
 at_most_append k n [] v a b = b
-at_most_append k n (t ∷ u) v a b = (a.0, at_most_append k (nested (part_of t.class) n) u v a.1 b)
+at_most_append k n (t ∷ u) v a b = (a.0, at_most_append k (nested (sort_of t.class) n) u v a.1 b)
 
 -- the token that comes opens one level more than there may be
 pub record OpensLevel (k at : ℕ) (n : Nesting) (rest : List Lexeme) : Type 0 where
@@ -34,7 +33,7 @@ pub record OpensLevel (k at : ℕ) (n : Nesting) (rest : List Lexeme) : Type 0 w
   pub more : List Lexeme
   pub parts : rest ≡ token ∷ more
   pub number : token.number ≡ at
-  pub level : levels_of (nested (part_of token.class) n).stack ≡ suc k
+  pub level : levels_of (nested (sort_of token.class) n).stack ≡ suc k
 
 abbrev pub IsStop : ℕ → SyntaxFault → Nesting → List Lexeme → Type 0
 IsStop k (faults.Unexpected at) n rest = IsNext at rest
@@ -205,10 +204,10 @@ pub record Behind {A : Type 0} (k : ℕ) (P Q : Nesting → Type 0) (t : Lexeme)
   pub stops : (n : Nesting) → P n → (ts : List Lexeme) (f : SyntaxFault) → R ts ≡ Err f → Stopped k n (t ∷ ts) f
 
 -- a token that opens no level too many
-pub behind_step : {A : Type 0} {k : ℕ} {P M Q : Nesting → Type 0} {t : Lexeme} {R : Reader A} → ((n : Nesting) → P n → (levels_of (nested (part_of t.class) n).stack ≤ k) × M (nested (part_of t.class) n)) → Counts k M Q R → Behind k P Q t R
+pub behind_step : {A : Type 0} {k : ℕ} {P M Q : Nesting → Type 0} {t : Lexeme} {R : Reader A} → ((n : Nesting) → P n → (levels_of (nested (sort_of t.class) n).stack ≤ k) × M (nested (sort_of t.class) n)) → Counts k M Q R → Behind k P Q t R
 behind_step {t = t} step c = record {
-  goes = λ n p ts a rest e. let s = step n p in goes_behind (t ∷ []) (t ∷ ts) ts refl (s.0, tt) rest (c.goes (nested (part_of t.class) n) s.1 ts a rest e);
-  stops = λ n p ts f e. let s = step n p in stops_behind (t ∷ []) (t ∷ ts) ts refl (s.0, tt) f (c.stops (nested (part_of t.class) n) s.1 ts f e);
+  goes = λ n p ts a rest e. let s = step n p in goes_behind (t ∷ []) (t ∷ ts) ts refl (s.0, tt) rest (c.goes (nested (sort_of t.class) n) s.1 ts a rest e);
+  stops = λ n p ts f e. let s = step n p in stops_behind (t ∷ []) (t ∷ ts) ts refl (s.0, tt) f (c.stops (nested (sort_of t.class) n) s.1 ts f e);
 }
 
 -- what is read behind a token that opens a level: no level is left, or some are
@@ -221,12 +220,12 @@ opens_then {S = S} (Opens.deep none full) second = Opens.deep (λ ts. ap (λ (r 
 opens_then (Opens.some left first) second = Opens.some left (counts_then first second)
 
 pub behind_level : {A : Type 0} {k : ℕ} {t : Lexeme} (opening : Opening) (stack : List Opening) {Q : Nesting → Type 0} {R : Reader A} → levels_of (opening ∷ stack) ≡ suc (levels_of stack)
-    → ((n : Nesting) → Exactly false stack n → nested (part_of t.class) n ≡ record { stack = opening ∷ stack; plain = false }) → Opens k t opening stack Q R → Behind k (Exactly false stack) Q t R
+    → ((n : Nesting) → Exactly false stack n → nested (sort_of t.class) n ≡ record { stack = opening ∷ stack; plain = false }) → Opens k t opening stack Q R → Behind k (Exactly false stack) Q t R
 behind_level {A = A} {k = k} {t = t} opening stack {R = R} one opened (Opens.deep none full) = record {
   goes = λ n p ts a rest e. absurd (err_no_ok (faults.TooDeep t.number) (a, rest) (sym (none ts) ∙ e));
   stops = λ n p ts f e.
       let same = opened n p in
-      let level : levels_of (nested (part_of t.class) n).stack ≡ suc k = ap (λ (m : Nesting). levels_of m.stack) same ∙ one ∙ ap suc full in
+      let level : levels_of (nested (sort_of t.class) n).stack ≡ suc k = ap (λ (m : Nesting). levels_of m.stack) same ∙ one ∙ ap suc full in
       record {
         used = [];
         rest = t ∷ ts;
@@ -237,10 +236,10 @@ behind_level {A = A} {k = k} {t = t} opening stack {R = R} one opened (Opens.dee
 }
 behind_level {k = k} {t = t} opening stack one opened (Opens.some left c) = behind_step step c
   where
-    step : (n : Nesting) → Exactly false stack n → (levels_of (nested (part_of t.class) n).stack ≤ k) × Exactly false (opening ∷ stack) (nested (part_of t.class) n)
+    step : (n : Nesting) → Exactly false stack n → (levels_of (nested (sort_of t.class) n).stack ≤ k) × Exactly false (opening ∷ stack) (nested (sort_of t.class) n)
     step n p =
         let same = opened n p in
-        let size : levels_of (nested (part_of t.class) n).stack ≡ suc (levels_of stack) = ap (λ (m : Nesting). levels_of m.stack) same ∙ one in
+        let size : levels_of (nested (sort_of t.class) n).stack ≡ suc (levels_of stack) = ap (λ (m : Nesting). levels_of m.stack) same ∙ one in
         (omega (arith, size, left), record { is = same })
 
 -- a token of a class, and what is read behind it

@@ -1,5 +1,5 @@
 -- How many levels are open where reading an expression goes on, and where it stops: one lemma for each production.
-use Rattle.std.proofs.Common.{◌≡◌, ℕ, zero, suc, ◌+◌, ◌<◌, ◌≤◌, Bool, true, false, cond, ◌&&◌, List, [], ◌∷◌, ◌++◌, Ok, refl, sym, ap, ◌∙◌, arith}
+use Rattle.std.proofs.Common.{◌≡◌, ℕ, zero, suc, ◌+◌, ◌≤◌, Bool, true, false, cond, ◌&&◌, List, [], ◌∷◌, ◌++◌, Ok, refl, ap, arith}
 use Rattle.spectra_exprs.specs.declared.operators.Level.TheVariants as levels
 use Rattle.spectra_trees.specs.declared.class.Class.TheVariants as classes
 use Rattle.spectra_trees.specs.declared.tree.Place.{Place}
@@ -12,7 +12,7 @@ use Rattle.spectra_trees.specs.Lexemes.{Lexeme, name_of}
 use Rattle.spectra_exprs.specs.Read.{Reader, ◌>>=◌, starts, expect, all_of}
 use Rattle.spectra_exprs.specs.Operators.{starts_sum, starts_or}
 use Rattle.spectra_exprs.specs.Expressions.{leaf, between, opened, Term, Chain, Inside, negative, number_of, literal, next_of, parentheses_of, call_of, read_of, named_of, prim_of, prefixed_of, operand_of, times_of, prod_of, plus_of, modulo, sum_of, side_of, compared_of, comparison_of, cmp_of, conjunct_of, conjunction_of, conj_of, disjunct_of, disjunction_of, disj_of, arrow_of, past_of, alone_of, expr_of, whole_of, bound_of, argument_of, some_arguments_of, arguments_of, inside}
-use Rattle.spectra_exprs.specs.Nesting.{Opening, Nesting, Part, part_of, completed, nested, levels_of}
+use Rattle.spectra_exprs.specs.Nesting.{Opening, Nesting, sort_of, completed, levels_of}
 use Rattle.spectra_exprs.proofs.SoundExpressions.{literal_same, named_same, prim_same}
 use Rattle.spectra_exprs.proofs.WholeExpressions.{set_of}
 use Rattle.spectra_exprs.proofs.Counting.{Counts, Exactly, Ends, Opens, counts_gives, counts_unexpected, counts_same, counts_from, counts_to, counts_then, counts_if, counts_closed, counts_steps, opens_then}
@@ -21,19 +21,19 @@ use Rattle.spectra_exprs.proofs.CountingTokens.{ends_exactly, counts_name, count
 -- ---- what the operators are to nesting
 
 arrows_other : All IsOther (set_of levels.Arrow)
-unfolding part_of same_class place_of
+unfolding sort_of same_class place_of
 arrows_other = (refl, (refl, tt))
 
 pasts_other : All IsOther (set_of levels.Past)
-unfolding part_of same_class place_of
+unfolding sort_of same_class place_of
 pasts_other = (refl, (refl, tt))
 
 relations_other : All IsOther (set_of levels.Relation)
-unfolding part_of same_class place_of
+unfolding sort_of same_class place_of
 relations_other = (refl, (refl, (refl, (refl, (refl, (refl, tt))))))
 
 signs_even : (stack : List Opening) → completed stack ≡ stack → All (IsEven stack) (set_of levels.Sum)
-unfolding part_of same_class place_of
+unfolding sort_of same_class place_of
 signs_even stack flat = (ap (λ (s : List Opening). record { stack = s; plain = false }) flat, (refl, tt))
 
 -- ---- over what reads one level deeper
@@ -48,11 +48,11 @@ module _ (left : ℕ) (r : Inside) (h : CountsInside left r) (k : ℕ) (stack : 
   few = omega (arith, size)
 
   counts_negative : (t : Lexeme) → Counts k (Exactly false stack) (Exactly false stack) (negative t)
-  unfolding negative part_of same_class place_of
+  unfolding negative sort_of same_class place_of
   counts_negative t = counts_operand stack classes.Number refl few (λ (n : Lexeme). counts_gives (expression t.at n.at (Form.Number true n.text)))
 
   counts_literal : Counts k (Exactly false stack) (Exactly false stack) literal
-  unfolding number_of part_of same_class place_of
+  unfolding number_of sort_of same_class place_of
   counts_literal =
       counts_same literal_same
       (counts_if (counts_operand stack classes.True refl few (λ (t : Lexeme). counts_gives (leaf t Form.True)))
@@ -65,15 +65,15 @@ module _ (left : ℕ) (r : Inside) (h : CountsInside left r) (k : ℕ) (stack : 
   counts_call t u = opens_then (h.arguments k stack size u) (λ (es : List Expression). counts_gives (leaf t (Form.Call (name_of t) (expressions es))))
 
   counts_named : (t : Lexeme) → Counts k (Exactly false stack) (Exactly false stack) (named_of r t)
-  unfolding read_of part_of same_class place_of
+  unfolding read_of sort_of same_class place_of
   counts_named t = counts_same (named_same r t) (counts_if (counts_level stack classes.Open refl (counts_call t)) (counts_gives (leaf t (Form.Read (name_of t)))) (starts classes.Open))
 
   counts_bracket : {B : Type 0} (t : Lexeme) (f : Expression → B) → Opens k t Opening.Level stack (Exactly false stack) (λ ts. r.whole t ts >>= λ e rest. expect classes.Close rest >>= λ c rest. Ok (f e, rest))
-  unfolding part_of same_class place_of
+  unfolding sort_of same_class place_of
   counts_bracket t f = opens_then (h.whole k stack size t) (λ (e : Expression). counts_close stack Opening.Level refl classes.Close refl few (λ (c : Lexeme). counts_gives (f e)))
 
   counts_next : (t : Lexeme) → Counts k (Exactly false stack) (Exactly false stack) (next_of r t)
-  unfolding next_of part_of same_class place_of
+  unfolding next_of sort_of same_class place_of
   counts_next t = counts_level stack classes.Open refl (λ (o : Lexeme). counts_bracket o (λ (e : Expression). leaf t (Form.Next e)))
 
   counts_parentheses : (t : Lexeme) → Opens k t Opening.Level stack (Exactly false stack) (parentheses_of r t)
@@ -81,7 +81,7 @@ module _ (left : ℕ) (r : Inside) (h : CountsInside left r) (k : ℕ) (stack : 
   counts_parentheses t = counts_bracket t (λ (e : Expression). opened t e)
 
   counts_prim : Counts k (Exactly false stack) (Exactly false stack) (prim_of r)
-  unfolding part_of same_class place_of
+  unfolding sort_of same_class place_of
   counts_prim =
       counts_same (prim_same r)
       (counts_if (counts_name stack false classes.Name refl few counts_named)
@@ -108,7 +108,7 @@ module _ (left : ℕ) (r : Inside) (h : CountsInside left r) (k : ℕ) (stack : 
   prim = counts_prim left r h k stack size
 
   counts_times : (a : Term) → Counts k (Exactly false stack) (Exactly false stack) (times_of r a)
-  unfolding times_of part_of same_class place_of
+  unfolding times_of sort_of same_class place_of
   counts_times a =
       counts_mark stack flat small classes.Star false refl (λ (t : Lexeme). counts_then prim (λ (b : Expression). counts_gives (between t.at binaries.Mul a.0 b, false)))
 
@@ -122,7 +122,7 @@ module _ (left : ℕ) (r : Inside) (h : CountsInside left r) (k : ℕ) (stack : 
       counts_sign stack levels.Sum (signs_even stack flat) small (λ (o : Place × BinaryWord). counts_then counts_prod (λ (b : Term). counts_gives (between o.0 o.1 a.0 b.0, false))) counts_unexpected
 
   counts_modulo : (e : Expression) → Counts k (Exactly false stack) (Exactly false stack) (modulo e)
-  unfolding modulo part_of same_class place_of
+  unfolding modulo sort_of same_class place_of
   counts_modulo e =
       counts_mark stack flat small classes.Mod false refl (λ (t : Lexeme). counts_operand stack classes.Number refl small
       (λ (n : Lexeme). counts_gives (expression (first_of e) t.at (Form.Mod e n.at n.text), false)))
@@ -162,11 +162,11 @@ module _ (left : ℕ) (r : Inside) (h : CountsInside left r) (k : ℕ) (stack : 
   counts_cmp = counts_prefix stack (λ (p : Lexeme × PrefixWord). opens_then (prefixed p) (λ (e : Expression). counts_gives (e, false))) counts_comparison
 
   counts_conjunct : (all : Chain) → Counts k (Ends stack) (Ends stack) (conjunct_of r all)
-  unfolding conjunct_of part_of same_class place_of
+  unfolding conjunct_of sort_of same_class place_of
   counts_conjunct all = counts_other stack flat small classes.And refl (λ (t : Lexeme). (counts_then counts_cmp (λ (p : Term). counts_gives (all.0 ++ p.0 ∷ [], all.1 ++ t.at ∷ []))))
 
   counts_conjunction : (a : Expression) → Counts k (Ends stack) (Ends stack) (conjunction_of r a)
-  unfolding conjunction_of part_of same_class place_of
+  unfolding conjunction_of sort_of same_class place_of
   counts_conjunction a =
       counts_other stack flat small classes.And refl (λ (t : Lexeme). (counts_then counts_cmp (λ (b : Term). counts_then (counts_steps (starts classes.And) counts_conjunct (a ∷ b.0 ∷ [], t.at ∷ []))
       (λ (all : Chain). counts_gives (expression (first_of a) t.at (Form.And (expressions all.0) all.1), false)))))
@@ -211,19 +211,19 @@ module _ (left : ℕ) (r : Inside) (h : CountsInside left r) (k : ℕ) (stack : 
   counts_whole = counts_then counts_expr (λ (e : Expression). counts_closed e)
 
   counts_argument : (all : List Expression) → Counts k (Ends stack) (Ends stack) (argument_of r all)
-  unfolding argument_of part_of same_class place_of
+  unfolding argument_of sort_of same_class place_of
   counts_argument all = counts_other stack flat small classes.Comma refl (λ (t : Lexeme). (counts_then counts_whole (λ (e : Expression). counts_gives (all ++ e ∷ []))))
 
 -- inside a bracket, and behind it
 module _ (left : ℕ) (r : Inside) (h : CountsInside left r) (k : ℕ) (opening : Opening) (stack : List Opening) (flat : completed (opening ∷ stack) ≡ opening ∷ stack) (size : levels_of (opening ∷ stack) + left ≡ k) (room : levels_of stack ≤ k) where
   counts_some_arguments : Counts k (Exactly false (opening ∷ stack)) (Exactly false stack) (some_arguments_of r)
-  unfolding some_arguments_of part_of same_class place_of
+  unfolding some_arguments_of sort_of same_class place_of
   counts_some_arguments =
       counts_then (counts_whole left r h k (opening ∷ stack) flat size) (λ (e : Expression). counts_then (counts_steps (starts classes.Comma) (counts_argument left r h k (opening ∷ stack) flat size) (e ∷ []))
       (λ (es : List Expression). counts_close stack opening flat classes.Close refl room (λ (t : Lexeme). counts_gives es)))
 
   pub counts_arguments : Counts k (Exactly false (opening ∷ stack)) (Exactly false stack) (arguments_of r)
-  unfolding arguments_of part_of same_class place_of
+  unfolding arguments_of sort_of same_class place_of
   counts_arguments =
       counts_if (counts_from (ends_exactly false (opening ∷ stack)) (counts_close stack opening flat classes.Close refl room (λ (t : Lexeme). counts_gives []))) counts_some_arguments (starts classes.Close)
 

@@ -18,28 +18,28 @@ pub record Nesting : Type 0 where
 
 -- what a token is to nesting: an operator before its operand, "(", "[", ")" or "]", a name, what else is of an operand
 -- outside its brackets, a colon, a word that makes a bracket behind it plain, and anything else
-pub data Part : Type 0 where
-  Prefix : Part
-  Open : Part
-  Square : Part
-  Close : Part
-  Name : Part
-  Operand : Part
-  Colon : Part
-  Head : Part
-  Other : Part
+pub data TokenSort : Type 0 where
+  Prefix : TokenSort
+  Open : TokenSort
+  Square : TokenSort
+  Close : TokenSort
+  Name : TokenSort
+  Operand : TokenSort
+  Colon : TokenSort
+  Head : TokenSort
+  Other : TokenSort
 
-unfoldable pub part_of : Class → Part
-part_of c =
-    if same_class c classes.Not || same_class c classes.Prev || same_class c classes.Once || same_class c classes.Historically then Part.Prefix
-    else if same_class c classes.Open then Part.Open
-    else if same_class c classes.OpenBracket then Part.Square
-    else if same_class c classes.Close || same_class c classes.CloseBracket then Part.Close
-    else if same_class c classes.Name then Part.Name
-    else if same_class c classes.True || same_class c classes.False || same_class c classes.Number || same_class c classes.Minus || same_class c classes.Next then Part.Operand
-    else if same_class c classes.Colon then Part.Colon
-    else if same_class c classes.Int || same_class c classes.Predicate || same_class c classes.Pattern || same_class c classes.Asm || same_class c classes.Gar then Part.Head
-    else Part.Other
+unfoldable pub sort_of : Class → TokenSort
+sort_of c =
+    if same_class c classes.Not || same_class c classes.Prev || same_class c classes.Once || same_class c classes.Historically then TokenSort.Prefix
+    else if same_class c classes.Open then TokenSort.Open
+    else if same_class c classes.OpenBracket then TokenSort.Square
+    else if same_class c classes.Close || same_class c classes.CloseBracket then TokenSort.Close
+    else if same_class c classes.Name then TokenSort.Name
+    else if same_class c classes.True || same_class c classes.False || same_class c classes.Number || same_class c classes.Minus || same_class c classes.Next then TokenSort.Operand
+    else if same_class c classes.Colon then TokenSort.Colon
+    else if same_class c classes.Int || same_class c classes.Predicate || same_class c classes.Pattern || same_class c classes.Asm || same_class c classes.Gar then TokenSort.Head
+    else TokenSort.Other
 
 -- what is left open where an operand is complete
 abbrev pub completed : List Opening → List Opening
@@ -54,36 +54,36 @@ without_last [] = []
 without_last (opening ∷ stack) = stack
 
 -- what is open behind one more token; an operand is complete where a token comes that is of none
-abbrev pub stacked : Part → Bool → List Opening → List Opening
-stacked Part.Prefix plain stack = Opening.Prefix ∷ stack
-stacked Part.Open true stack = Opening.Plain ∷ stack
-stacked Part.Open false stack = Opening.Level ∷ stack
-stacked Part.Square plain stack = Opening.Level ∷ stack
-stacked Part.Close plain stack = without_last (completed stack)
-stacked Part.Name plain stack = stack
-stacked Part.Operand plain stack = stack
-stacked Part.Colon plain stack = completed stack
-stacked Part.Head plain stack = completed stack
-stacked Part.Other plain stack = completed stack
+abbrev pub stacked : TokenSort → Bool → List Opening → List Opening
+stacked TokenSort.Prefix plain stack = Opening.Prefix ∷ stack
+stacked TokenSort.Open true stack = Opening.Plain ∷ stack
+stacked TokenSort.Open false stack = Opening.Level ∷ stack
+stacked TokenSort.Square plain stack = Opening.Level ∷ stack
+stacked TokenSort.Close plain stack = without_last (completed stack)
+stacked TokenSort.Name plain stack = stack
+stacked TokenSort.Operand plain stack = stack
+stacked TokenSort.Colon plain stack = completed stack
+stacked TokenSort.Head plain stack = completed stack
+stacked TokenSort.Other plain stack = completed stack
 
 -- the bracket is plain behind `Int`, `predicate`, `pattern`, ASM and GAR, also where names and colons stand between
-abbrev pub plain_behind : Part → Bool → Bool
-plain_behind Part.Prefix plain = false
-plain_behind Part.Open plain = false
-plain_behind Part.Square plain = false
-plain_behind Part.Close plain = false
-plain_behind Part.Name plain = plain
-plain_behind Part.Operand plain = false
-plain_behind Part.Colon plain = plain
-plain_behind Part.Head plain = true
-plain_behind Part.Other plain = false
+abbrev pub plain_behind : TokenSort → Bool → Bool
+plain_behind TokenSort.Prefix plain = false
+plain_behind TokenSort.Open plain = false
+plain_behind TokenSort.Square plain = false
+plain_behind TokenSort.Close plain = false
+plain_behind TokenSort.Name plain = plain
+plain_behind TokenSort.Operand plain = false
+plain_behind TokenSort.Colon plain = plain
+plain_behind TokenSort.Head plain = true
+plain_behind TokenSort.Other plain = false
 
-abbrev pub nested : Part → Nesting → Nesting
+abbrev pub nested : TokenSort → Nesting → Nesting
 nested part n = record { stack = stacked part n.plain n.stack; plain = plain_behind part n.plain }
 
 abbrev pub behind : Nesting → List Lexeme → Nesting
 behind n [] = n
-behind n (t ∷ ts) = behind (nested (part_of t.class) n) ts
+behind n (t ∷ ts) = behind (nested (sort_of t.class) n) ts
 
 -- an operator and a bracket are one level each, and a plain bracket is none
 abbrev pub levels_of : List Opening → ℕ

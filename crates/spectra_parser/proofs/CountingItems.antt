@@ -1,5 +1,5 @@
 -- How many levels are open where reading a declaration goes on, and where it stops: one lemma for each production.
-use Rattle.std.proofs.Common.{◌≡◌, ℕ, ◌+◌, ◌≤◌, Bool, true, false, cond, ◌||◌, List, [], ◌∷◌, ◌++◌, Ok, refl, arith}
+use Rattle.std.proofs.Common.{◌≡◌, ◌+◌, ◌≤◌, true, false, ◌||◌, List, [], ◌∷◌, ◌++◌, refl, arith}
 use Rattle.spectra_trees.specs.declared.class.Class.TheVariants as classes
 use Rattle.spectra_trees.specs.declared.tree.Place.{Place}
 use Rattle.spectra_trees.specs.declared.tree.OwnerWord.{OwnerWord}
@@ -8,7 +8,7 @@ use Rattle.spectra_trees.specs.Data.{NameData, Expression, TypeData, TypeShape, 
 use Rattle.spectra_trees.specs.Lexemes.{Lexeme, name_of}
 use Rattle.spectra_exprs.specs.Read.{starts}
 use Rattle.spectra_exprs.specs.Expressions.{inside, bound_of}
-use Rattle.spectra_exprs.specs.Nesting.{Opening, Part, part_of, completed, levels_of}
+use Rattle.spectra_exprs.specs.Nesting.{Opening, sort_of, completed, levels_of}
 use Rattle.spectra_exprs.proofs.Counting.{Counts, Exactly, Ends, counts_gives, counts_unexpected, counts_same, counts_from, counts_then, counts_if, counts_told, counts_steps}
 use Rattle.spectra_exprs.proofs.CountingTokens.{ends_exactly, counts_name, counts_plain, counts_close, counts_other, counts_mark, counts_head, counts_colon}
 use Rattle.spectra_exprs.proofs.CountingExpressions.{counts_inside, counts_bound, counts_whole}
@@ -23,11 +23,11 @@ module _ (stack : List Opening) (flat : completed stack ≡ stack) (size : level
   -- ---- names and types
 
   counts_name_after : (all : List NameData) → Counts n (Exactly false stack) (Exactly false stack) (name_after all)
-  unfolding name_after part_of same_class place_of
+  unfolding name_after sort_of same_class place_of
   counts_name_after all = counts_mark stack flat few classes.Comma false refl (λ (c : Lexeme). counts_name stack false classes.Name refl few (λ (m : Lexeme). counts_gives (all ++ name_of m ∷ [])))
 
   pub counts_names : Counts n (Exactly false stack) (Exactly false stack) names
-  unfolding names part_of same_class place_of
+  unfolding names sort_of same_class place_of
   counts_names = counts_name stack false classes.Name refl few (λ (m : Lexeme). counts_steps (starts classes.Comma) counts_name_after (name_of m ∷ []))
 
   counts_bounds : Counts n (Exactly false (Opening.Plain ∷ stack)) (Exactly false (Opening.Plain ∷ stack)) (λ ts. bound_of (inside n) ts)
@@ -37,11 +37,11 @@ module _ (stack : List Opening) (flat : completed stack ≡ stack) (size : level
   counts_formula = counts_whole n (inside n) (counts_inside n) n stack flat size
 
   counts_name_type : (at : Place) → Counts n (Exactly false stack) (Exactly false stack) (name_type at)
-  unfolding name_type part_of same_class place_of
+  unfolding name_type sort_of same_class place_of
   counts_name_type at = counts_then counts_names (λ (all : List NameData). counts_mark stack flat few classes.CloseBrace false refl (λ (c : Lexeme). counts_gives (record { at = at; form = TypeShape.Names all })))
 
   counts_range_type : (at : Place) → Counts n (Exactly true stack) (Exactly false stack) (range_type at)
-  unfolding range_type part_of same_class place_of
+  unfolding range_type sort_of same_class place_of
   counts_range_type at =
       counts_plain stack classes.Open refl few (λ (o : Lexeme). counts_then counts_bounds (λ (low : Expression). counts_mark (Opening.Plain ∷ stack) refl few classes.UpTo false refl (λ (u : Lexeme). counts_then counts_bounds
       (λ (high : Expression). counts_from (ends_exactly false (Opening.Plain ∷ stack)) (counts_close stack Opening.Plain refl classes.Close refl few
@@ -52,7 +52,7 @@ module _ (stack : List Opening) (flat : completed stack ≡ stack) (size : level
   counts_named_type t = counts_gives (record { at = t.at; form = TypeShape.Named (name_of t) })
 
   pub counts_type : Counts n (Exactly false stack) (Exactly false stack) type_of
-  unfolding part_of same_class place_of
+  unfolding sort_of same_class place_of
   counts_type =
       counts_same type_same
       (counts_if (counts_mark stack flat few classes.Boolean false refl (λ (t : Lexeme). counts_gives (record { at = t.at; form = TypeShape.Boolean })))
@@ -63,19 +63,19 @@ module _ (stack : List Opening) (flat : completed stack ≡ stack) (size : level
   -- ---- declarations
 
   pub counts_vardecl : (at : Place) (owner : OwnerWord) → Counts n (Exactly false stack) (Exactly false stack) (vardecl at owner)
-  unfolding vardecl part_of same_class place_of
+  unfolding vardecl sort_of same_class place_of
   counts_vardecl at owner =
       counts_then counts_type (λ (d : TypeData). counts_name stack false classes.Name refl few (λ (m : Lexeme). counts_mark stack flat few classes.Semicolon false refl
       (λ (s : Lexeme). counts_gives (ItemData.Variable (record { at = at; owner = owner; domain = d; name = name_of m })))))
 
   pub counts_typedecl : (at : Place) → Counts n (Exactly false stack) (Exactly false stack) (typedecl at)
-  unfolding typedecl part_of same_class place_of
+  unfolding typedecl sort_of same_class place_of
   counts_typedecl at =
       counts_name stack false classes.Name refl few (λ (m : Lexeme). counts_mark stack flat few classes.Equal false refl (λ (e : Lexeme). counts_then counts_type (λ (d : TypeData).
       counts_mark stack flat few classes.Semicolon false refl (λ (s : Lexeme). counts_gives (ItemData.Alias (record { at = at; name = name_of m; body = d }))))))
 
   counts_definition : Counts n (Exactly false stack) (Exactly false stack) definition
-  unfolding definition part_of same_class place_of
+  unfolding definition sort_of same_class place_of
   counts_definition =
       counts_name stack false classes.Name refl few (λ (m : Lexeme). counts_mark stack flat few classes.Becomes false refl (λ (b : Lexeme). counts_then counts_formula (λ (e : Expression).
       counts_other stack flat few classes.Semicolon refl (λ (s : Lexeme). counts_gives (name_of m, e)))))
@@ -91,17 +91,17 @@ module _ (stack : List Opening) (flat : completed stack ≡ stack) (size : level
       (λ (all : List (NameData × Expression)). counts_gives (ItemData.Define (record { at = at; bodies = all }))))
 
   counts_parameter : Counts n (Exactly false stack) (Exactly false stack) parameter
-  unfolding parameter part_of same_class place_of
+  unfolding parameter sort_of same_class place_of
   counts_parameter = counts_then counts_type (λ (d : TypeData). counts_name stack false classes.Name refl few (λ (m : Lexeme). counts_gives (d, name_of m)))
 
   counts_parameter_after : (all : List (TypeData × NameData)) → Counts n (Exactly false stack) (Exactly false stack) (parameter_after all)
-  unfolding parameter_after part_of same_class place_of
+  unfolding parameter_after sort_of same_class place_of
   counts_parameter_after all = counts_mark stack flat few classes.Comma false refl (λ (c : Lexeme). counts_then counts_parameter (λ (p : TypeData × NameData). counts_gives (all ++ p ∷ [])))
 
   -- ---- patterns and monitors
 
   counts_own : (t : Lexeme) → Counts n (Exactly false stack) (Exactly false stack) (own_at t)
-  unfolding own part_of same_class place_of
+  unfolding own sort_of same_class place_of
   counts_own t =
       counts_then counts_type (λ (d : TypeData). counts_name stack false classes.Name refl few (λ (m : Lexeme). counts_mark stack flat few classes.Semicolon false refl
       (λ (s : Lexeme). counts_gives (record { at = t.at; form = PartShape.Own d (name_of m) }))))
@@ -111,7 +111,7 @@ module _ (stack : List Opening) (flat : completed stack ≡ stack) (size : level
   counts_shape_at shape t = counts_then counts_formula (λ (e : Expression). counts_gives (shape e))
 
   counts_shape : Counts n (Exactly false stack) (Ends stack) part_shape
-  unfolding part_of same_class place_of
+  unfolding sort_of same_class place_of
   counts_shape =
       counts_same shape_same
       (counts_if (counts_mark stack flat few classes.Ini false refl (counts_shape_at PartShape.Initial))
@@ -119,7 +119,7 @@ module _ (stack : List Opening) (flat : completed stack ≡ stack) (size : level
       (counts_if (counts_mark stack flat few classes.AlwEv false refl (counts_shape_at PartShape.Recurring)) counts_unexpected (starts classes.AlwEv)) (starts classes.Alw)) (starts classes.Ini))
 
   counts_part_line : (t : Lexeme) → Counts n (Exactly false stack) (Exactly false stack) (part_line t.at)
-  unfolding part_line part_of same_class place_of
+  unfolding part_line sort_of same_class place_of
   counts_part_line t = counts_then counts_shape (λ (f : PartShape). counts_other stack flat few classes.Semicolon refl (λ (s : Lexeme). counts_gives (record { at = t.at; form = f })))
 
   counts_line_part : Counts n (Exactly false stack) (Exactly false stack) line_part
@@ -127,7 +127,7 @@ module _ (stack : List Opening) (flat : completed stack ≡ stack) (size : level
   counts_line_part = counts_told line_part (λ (t : Lexeme) (ts : List Lexeme). part_line t.at ts) refl (λ (t : Lexeme) (ts : List Lexeme). refl) counts_part_line
 
   counts_pitem : Counts n (Exactly false stack) (Exactly false stack) pitem
-  unfolding part_of same_class place_of
+  unfolding sort_of same_class place_of
   counts_pitem = counts_same pitem_same (counts_if (counts_mark stack flat few classes.Var false refl counts_own) counts_line_part (starts classes.Var))
 
   counts_mitem : Counts n (Exactly false stack) (Exactly false stack) mitem
@@ -143,15 +143,15 @@ module _ (stack : List Opening) (flat : completed stack ≡ stack) (size : level
   counts_mitem_after all = counts_then counts_mitem (λ (p : PartData). counts_gives (all ++ p ∷ []))
 
   pub counts_pitems : Counts n (Exactly false stack) (Exactly false stack) pitems
-  unfolding pitems part_of same_class place_of
+  unfolding pitems sort_of same_class place_of
   counts_pitems = counts_then (counts_steps inside_braces counts_pitem_after []) (λ (parts : List PartData). counts_mark stack flat few classes.CloseBrace false refl (λ (c : Lexeme). counts_gives parts))
 
   counts_mitems : Counts n (Exactly false stack) (Exactly false stack) mitems
-  unfolding mitems part_of same_class place_of
+  unfolding mitems sort_of same_class place_of
   counts_mitems = counts_then (counts_steps inside_braces counts_mitem_after []) (λ (parts : List PartData). counts_mark stack flat few classes.CloseBrace false refl (λ (c : Lexeme). counts_gives parts))
 
   pub counts_monitor : (at : Place) → Counts n (Exactly false stack) (Exactly false stack) (monitor at)
-  unfolding monitor part_of same_class place_of
+  unfolding monitor sort_of same_class place_of
   counts_monitor at =
       counts_then counts_type (λ (d : TypeData). counts_name stack false classes.Name refl few (λ (m : Lexeme). counts_mark stack flat few classes.OpenBrace false refl (λ (b : Lexeme). counts_then counts_mitems
       (λ (parts : List PartData). counts_gives (ItemData.Monitor (record { at = at; domain = d; name = name_of m; parts = parts }))))))
@@ -163,32 +163,32 @@ module _ (stack : List Opening) (flat : completed stack ≡ stack) (size : level
   room = omega (arith, size)
 
   counts_some_parameters : Counts n (Exactly false (Opening.Plain ∷ stack)) (Exactly false stack) some_parameters
-  unfolding some_parameters part_of same_class place_of
+  unfolding some_parameters sort_of same_class place_of
   counts_some_parameters =
       counts_then (counts_parameter (Opening.Plain ∷ stack) refl size) (λ (p : TypeData × NameData). counts_then (counts_steps (starts classes.Comma) (counts_parameter_after (Opening.Plain ∷ stack) refl size) (p ∷ []))
       (λ (all : List (TypeData × NameData)). counts_from (ends_exactly false (Opening.Plain ∷ stack)) (counts_close stack Opening.Plain refl classes.Close refl room (λ (c : Lexeme). counts_gives all))))
 
   counts_parameters : Counts n (Exactly false (Opening.Plain ∷ stack)) (Exactly false stack) parameters
-  unfolding parameters part_of same_class place_of
+  unfolding parameters sort_of same_class place_of
   counts_parameters =
       counts_if (counts_from (ends_exactly false (Opening.Plain ∷ stack)) (counts_close stack Opening.Plain refl classes.Close refl room (λ (c : Lexeme). counts_gives []))) counts_some_parameters (starts classes.Close)
 
   pub counts_predicate : (at : Place) → Counts n (Exactly true stack) (Exactly false stack) (predicate at)
-  unfolding predicate part_of same_class place_of
+  unfolding predicate sort_of same_class place_of
   counts_predicate at =
       counts_name stack true classes.Name refl room (λ (m : Lexeme). counts_plain stack classes.Open refl room (λ (o : Lexeme). counts_then counts_parameters (λ (ps : List (TypeData × NameData)).
       counts_colon stack flat room classes.Colon false refl (λ (c : Lexeme). counts_then (counts_formula stack flat size) (λ (e : Expression). counts_other stack flat room classes.Semicolon refl
       (λ (s : Lexeme). counts_gives (ItemData.Predicate (record { at = at; name = name_of m; params = ps; body = e }))))))))
 
   counts_name_parameters : Counts n (Exactly false (Opening.Plain ∷ stack)) (Exactly false stack) name_parameters
-  unfolding name_parameters part_of same_class place_of
+  unfolding name_parameters sort_of same_class place_of
   counts_name_parameters =
       counts_if (counts_from (ends_exactly false (Opening.Plain ∷ stack)) (counts_close stack Opening.Plain refl classes.Close refl room (λ (c : Lexeme). counts_gives [])))
       (counts_then (counts_names (Opening.Plain ∷ stack) refl size) (λ (all : List NameData). counts_from (ends_exactly false (Opening.Plain ∷ stack)) (counts_close stack Opening.Plain refl classes.Close refl room
       (λ (c : Lexeme). counts_gives all)))) (starts classes.Close)
 
   pub counts_pattern : (at : Place) → Counts n (Exactly true stack) (Exactly false stack) (pattern at)
-  unfolding pattern part_of same_class place_of
+  unfolding pattern sort_of same_class place_of
   counts_pattern at =
       counts_name stack true classes.Name refl room (λ (m : Lexeme). counts_plain stack classes.Open refl room (λ (o : Lexeme). counts_then counts_name_parameters (λ (ps : List NameData).
       counts_mark stack flat room classes.OpenBrace false refl (λ (b : Lexeme). counts_then (counts_pitems stack flat size) (λ (parts : List PartData).

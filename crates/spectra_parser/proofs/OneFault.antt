@@ -1,11 +1,11 @@
 -- One fault explains a list of tokens, and none explains one that has a tree.
-use Rattle.std.proofs.Common.{◌≡◌, ℕ, zero, suc, ◌+◌, ◌<◌, List, [], ◌∷◌, ◌++◌, take, Option, Some, None, ◌⊎◌, inl, inr, refl, sym, ap, subst, ◌∙◌, append_assoc, append-nil, arith}
+use Rattle.std.proofs.Common.{◌≡◌, ℕ, zero, suc, ◌+◌, ◌<◌, List, [], ◌∷◌, ◌++◌, take, Option, Some, None, inl, inr, refl, sym, ap, subst, ◌∙◌, append_assoc, append-nil, arith}
 use Rattle.spectra_exprs.specs.declared.fault.SyntaxFault.{SyntaxFault}
 use Rattle.spectra_exprs.specs.declared.fault.SyntaxFault.TheVariants as faults
 use Rattle.spectra_trees.specs.Data.{TreeData}
 use Rattle.spectra_trees.specs.Lexemes.{Lexeme}
 use Rattle.spectra_parser.specs.ItemGrammar.{Text}
-use Rattle.spectra_parser.specs.Texts.{HasTree, BeginText, BeginNoText, IsRefused, OpensLevelTooMany, IsTooDeep, IsBehindPhrase, IsBuilt, Explains, AreOne}
+use Rattle.spectra_parser.specs.Texts.{HasTree, BeginText, BeginNoText, IsRefused, OpensLevelTooMany, IsBehindPhrase, IsBuilt, Explains, AreOne}
 use Rattle.spectra_parser.specs.Unbuilt.{first_unbuilt}
 use Rattle.spectra_parser.proofs.CountingTexts.{tree_shallow}
 

@@ -12,7 +12,7 @@ use Rattle.spectra_parser.specs.Items.{vardecl, typedecl, definition, definition
 use Rattle.spectra_exprs.specs.Forms.{Gives, Token, ◌▸◌, Steps}
 use Rattle.spectra_exprs.specs.Grammar.{ExprOf, Sum, Levels}
 use Rattle.spectra_parser.specs.ItemGrammar.{TypeIn, VardeclIn, TypedeclIn, DefinitionIn, DefinitionAfter, DefineIn, ParameterIn, ParameterAfter, ParametersIn, PredicateIn, ShapeIn, LineIn, PitemIn, MitemIn, PitemAfter, MitemAfter, NameParameters, PatternIn, MonitorIn}
-use Rattle.spectra_exprs.proofs.Opening.{Begun, EndsWhole, IsBehind, OpensAt, opens_as, spelled_append, begun_right, Full, opens_here, full_then, full_gives, full_same, full_token, full_if, full_only, full_unexpected}
+use Rattle.spectra_exprs.proofs.Opening.{Begun, EndsWhole, IsBehind, OpensAt, opens_as, spelled_append, Full, opens_here, full_then, full_gives, full_same, full_token, full_if, full_only, full_unexpected}
 use Rattle.spectra_exprs.proofs.OpeningSteps.{full_steps}
 use Rattle.spectra_exprs.proofs.Examples.{a_Alw, a_AlwEv, a_Becomes, a_Close, a_CloseBrace, a_Colon, a_Comma, a_Equal, a_Ini, a_Name, a_Open, a_OpenBrace, a_Semicolon, a_Var}
 use Rattle.spectra_exprs.proofs.Stopping.{err_is}

@@ -1,4 +1,4 @@
-use Rattle.std.proofs.Common.{◌+◌, ◌*◌, ◌≤◌, length, map}
+use Rattle.std.proofs.Common.{◌+◌, ◌*◌, length, map}
 use Rattle.spectra_trees.specs.declared.class.Class.TheVariants as Class
 use Rattle.spectra_trees.specs.Views.{expr_data}
 use Rattle.spectra_trees.specs.Lexemes.{lexemes_of}

@@ -1,4 +1,4 @@
-use Rattle.std.proofs.Common.{◌≤◌, length, map}
+use Rattle.std.proofs.Common.{length, map}
 use Rattle.spectra_trees.specs.Views.{part_data}
 use Rattle.spectra_trees.specs.Lexemes.{lexemes_of}
 use Rattle.spectra_exprs.specs.Read.{all_of}

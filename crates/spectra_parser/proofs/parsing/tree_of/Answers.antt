@@ -1,5 +1,5 @@
 use Rattle.std.specs.Prelude.{IfOk}
-use Rattle.std.proofs.Common.{◌≡◌, ℕ, ◌+◌, take, List, None, Result, Ok, Err, sym, subst}
+use Rattle.std.proofs.Common.{◌≡◌, ℕ, take, List, None, Result, Ok, Err, sym, subst}
 use Rattle.spectra_exprs.specs.declared.fault.SyntaxFault.{SyntaxFault}
 use Rattle.spectra_exprs.specs.declared.fault.SyntaxFault.TheVariants as faults
 use Rattle.spectra_trees.specs.declared.tree.Tree.{Tree}
@@ -13,7 +13,6 @@ use Rattle.spectra_parser.specs.Texts.{HasTree, IsWholeFrom, BeginText, IsShallo
 use Rattle.spectra_parser.proofs.WholeText.{text_got}
 use Rattle.spectra_parser.proofs.Places.{Refused, unexpected_refused, deep_refused, parentheses_refused, never_unsupported}
 use Rattle.spectra_parser.proofs.OpeningItems.{wide}
-use Rattle.spectra_parser.proofs.SoundItems.{n}
 use Rattle.spectra_parser.proofs.Beginnings.{unexpected_begun, deep_begun, deeper_begun, parentheses_begun, behind_phrase}
 use Rattle.spectra_parser.proofs.CountingTexts.{unexpected_shallow, parentheses_shallow, deep_shallow, deep_level}
 use Rattle.spectra_parser.proofs.NoPhrase.{no_phrase_behind}
