@@ -18,3 +18,4 @@ pub mod Carrying
 pub mod StateCounts
 pub mod SafeGames
 pub mod Staying
+pub mod Chains
