@@ -19,3 +19,7 @@ pub mod StateCounts
 pub mod SafeGames
 pub mod Staying
 pub mod Chains
+pub mod Delays
+pub mod Holds
+pub mod EnvLayering
+pub mod EnvCounts
