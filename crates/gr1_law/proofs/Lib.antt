@@ -23,3 +23,4 @@ pub mod Delays
 pub mod Holds
 pub mod EnvLayering
 pub mod EnvCounts
+pub mod SidesDual

@@ -1,9 +1,9 @@
 -- Laws of the environment's layers, each of which the function of its name in src/env_laws.rt proves.
-use Rattle.std.specs.Prelude.{◌≡◌, ◌↔◌, ℕ, suc, ◌+◌, ◌*◌, ◌<◌, ◌≤◌, List, length, IsTrue}
+use Rattle.std.specs.Prelude.{◌≡◌, ◌↔◌, ℕ, suc, ◌+◌, ◌*◌, ◌<◌, ◌≤◌, not, List, None, length, IsTrue}
 use Rattle.spec_model.specs.Games.{GameData, State}
 use Rattle.spec_model.specs.Steps.{states_of}
-use Rattle.spec_model.specs.Sets.{StateSet, IsPartOf, IsLeast}
-use Rattle.gr1_law.specs.Layers.{goal_sets, assumption_sets}
+use Rattle.spec_model.specs.Sets.{StateSet, rest, system_forces, environment_forces, IsPartOf, IsLeast}
+use Rattle.gr1_law.specs.Layers.{LayerSets, IsWinning, goal_sets, assumption_sets}
 use Rattle.gr1_law.specs.EnvLayers.{delay_value, IsHold, EnvLayerSets, AreEnvLayers, IsLayerCount, AreDelayCounts, denial_count}
 
 -- ---- the sets are told by their equations
@@ -40,3 +40,11 @@ abbrev pub DenialsAreFew : GameData → Type 0
 DenialsAreFew g =
     (e : EnvLayerSets) (n : ℕ) (counts : ℕ → ℕ → List ℕ) → AreEnvLayers g e → IsLayerCount e n → AreDelayCounts g e n counts →
     (n ≤ length (states_of g)) × (denial_count g n counts ≤ 1 + length (assumption_sets g) * length (states_of g))
+
+-- ---- the two sides
+
+-- The last layer has the states that are not in Z, and no others; and exactly one side forces the first state into its set.
+abbrev pub SidesAreDual : GameData → Type 0
+SidesAreDual g =
+    (z : StateSet) (l : LayerSets) (e : EnvLayerSets) (n : ℕ) → IsWinning g z l → AreEnvLayers g e → IsLayerCount e n →
+    (e.z n ≡ rest g z) × (not (system_forces g z None) ≡ environment_forces g (e.z n) None)

@@ -2,8 +2,9 @@
 
 ghost use Rattle.std.specs.Prelude.{ℕ};
 ghost use Rattle.spec_model.specs.Games.{GameData};
+ghost use Rattle.spec_model.specs.WellMade.{WellMade};
 ghost use Rattle.spec_model.specs.Sets.{StateSet};
-ghost use Rattle.gr1_law.specs.EnvLaws.{HoldIsTold, EnvLayersAreTold, DenialsAreTold, DenialsAreFew};
+ghost use Rattle.gr1_law.specs.EnvLaws.{HoldIsTold, EnvLayersAreTold, DenialsAreTold, DenialsAreFew, SidesAreDual};
 
 /// Each goal has one hold above each set: the greatest set that equals what the least sets of its equation, one for each
 /// assumption, have in common (Könighofer et al. 2009, counterstrategies).
@@ -24,4 +25,10 @@ pub fn denials_are_told()
 /// N is at most the number of states, and M at most one more than the number of assumptions times the number of states.
 pub fn denials_are_few()
     ensures { (g : GameData) → DenialsAreFew g }
+{}
+
+/// The two fixpoints are each other's complement: together they have all states, and they share none. So exactly one side
+/// forces the first state into its own: the system into Z, or the environment into its last layer.
+pub fn sides_are_dual()
+    ensures { (g : GameData) → WellMade g → SidesAreDual g }
 {}

@@ -7,7 +7,8 @@
 //!
 //! Contract: `laws::chosen_plays_keep`, a run of chosen outputs is a play that keeps each recurring guarantee within K
 //! rounds; `laws::winning_is_told`, there is one Z and one K; `specification_laws`, the same of a specification that the
-//! game agrees with, with K within its bound; `env_laws::denials_are_told`, there is one N and one M.
+//! game agrees with, with K within its bound; `env_laws::sides_are_dual`, the environment's last layer has the states outside
+//! Z; `env_laws::denials_are_told`, there is one N and one M.
 //! Path: regions → **layers** → strategy → verdict.
 #![tactic(auto)]
 
