@@ -1,5 +1,5 @@
 -- The layers for a set: there are some, only these, and they grow with the set and with the rank.
-use Rattle.std.proofs.Common.{◌≡◌, ℕ, zero, suc, pred, ◌+◌, length, refl, sym, ◌∙◌, ap, subst, arith, IsTrue}
+use Rattle.std.proofs.Common.{◌≡◌, ℕ, zero, suc, pred, length, refl, sym, ◌∙◌, ap, subst, IsTrue}
 use Rattle.std.proofs.lemmas.Bool.{false≢true}
 use Rattle.spec_model.specs.Games.{GameData}
 use Rattle.spec_model.specs.Sets.{StateSet, no_states, IsPartOf, IsGreatest}
@@ -62,10 +62,6 @@ module _ (g : GameData) (z : StateSet) (l : LayerSets) (of_z : AreLayers g z l) 
   y_in_next (suc r) s e =
       subst (λ (t : StateSet). IsTrue (t s)) (sym (of_z.joined j (suc r)))
       (union_grows (l.x j (suc r)) (l.x j (suc (suc r))) (λ i. part_in_next r i (y_in_next r)) (asm_count g) s (subst (λ (t : StateSet). IsTrue (t s)) (of_z.joined j r) e))
-
-  pub y_in_later : (more r : ℕ) → IsPartOf (l.y j r) (l.y j (more + r))
-  y_in_later zero r = subst (λ (n : ℕ). IsPartOf (l.y j r) (l.y j n)) (omega arith) (λ s e. e)
-  y_in_later (suc more) r = subst (λ (n : ℕ). IsPartOf (l.y j r) (l.y j n)) (omega arith) (λ s e. y_in_next (more + r) s (y_in_later more r s e))
 
   -- once a layer equals the next, so do all later ones
   pub settled_from : (r : ℕ) → l.y j r ≡ l.y j (suc r) → l.y j (suc r) ≡ l.y j (suc (suc r))

@@ -18,3 +18,9 @@ pub mod Carrying
 pub mod StateCounts
 pub mod SafeGames
 pub mod Staying
+pub mod Chains
+pub mod Delays
+pub mod Holds
+pub mod EnvLayering
+pub mod EnvCounts
+pub mod SidesDual

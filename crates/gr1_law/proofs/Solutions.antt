@@ -9,7 +9,8 @@ use Rattle.gr1_law.proofs.Greatest.{greatest_of, greatest_of-greatest}
 use Rattle.gr1_law.proofs.Layering.{layers_of, layers_of-layers, y_grows, x_grows}
 use Rattle.gr1_law.proofs.Winning.{layer_inside, in_settled, layer_in_z, z_in_last}
 use Rattle.gr1_law.proofs.Standing.{some_goal}
-use Rattle.gr1_law.proofs.Settling.{state_count, in_full, some_ranks}
+use Rattle.gr1_law.proofs.Chains.{state_count}
+use Rattle.gr1_law.proofs.Settling.{in_full, some_ranks}
 
 -- ---- intersections
 
@@ -117,7 +118,7 @@ least-one P k k' a b =
     let no_more : k' < k → ⊥ = λ less. a.none_before k' less b.here in
     grind (arith, no_less, no_more)
 
-same_list : (xs ys : List ℕ) → length xs ≡ length ys → ((k : ℕ) → k < length xs → slice_index xs k ≡ slice_index ys k) → xs ≡ ys
+pub same_list : (xs ys : List ℕ) → length xs ≡ length ys → ((k : ℕ) → k < length xs → slice_index xs k ≡ slice_index ys k) → xs ≡ ys
 same_list [] [] e each = refl
 same_list [] (y ∷ ys) e each = absurd (omega arith)
 same_list (x ∷ xs) [] e each = absurd (omega arith)

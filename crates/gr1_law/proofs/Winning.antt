@@ -1,12 +1,13 @@
 -- In Z each goal's last layer is Z itself.
-use Rattle.std.proofs.Common.{◌≡◌, ℕ, zero, suc, ◌+◌, ◌-◌, ◌<◌, ◌≤◌, ◌⊎◌, inl, inr, List, length, slice_index, sym, ◌∙◌, ap, subst, arith, IsTrue}
+use Rattle.std.proofs.Common.{◌≡◌, ℕ, zero, suc, ◌<◌, inl, inr, List, length, slice_index, sym, subst, arith, IsTrue}
 use Rattle.std.proofs.lemmas.Bool.{or_cases, or_left, or_right, false≢true}
 use Rattle.spec_model.specs.Games.{GameData, State}
 use Rattle.spec_model.specs.Sets.{StateSet, all_states, either, IsPartOf}
 use Rattle.spec_model.proofs.SetLaws.{pre_sys_grows}
 use Rattle.gr1_law.specs.Layers.{LayerSets, AreLayers, IsWinning, HasRanks, AreGreatestRanks, goal_sets, part_value}
+use Rattle.gr1_law.proofs.Chains as chains
 use Rattle.gr1_law.proofs.Parts.{InPart, in_part, to_part, in_union, of_union, part_value-inside}
-use Rattle.gr1_law.proofs.Layering.{asm_count, layers_of, layers_of-layers, y_grows, y_in_later, settled_from}
+use Rattle.gr1_law.proofs.Layering.{asm_count, layers_of, layers_of-layers, y_grows, y_in_next, settled_from}
 
 module _ (g : GameData) (z : StateSet) (l : LayerSets) (of_z : AreLayers g z l) (j : ℕ) where
   -- a state of a layer is in one of its parts
@@ -28,23 +29,9 @@ module _ (g : GameData) (z : StateSet) (l : LayerSets) (of_z : AreLayers g z l) 
       let part = in_a_part r s e in
       part_value-inside g z (l.y j r) j part.0 (l.x j (suc r) part.0) s (part_solves r part.0 s part.2)
 
-  -- past a layer that equals the next all are equal
-  pub settled_after : (k r : ℕ) → l.y j r ≡ l.y j (suc r) → l.y j r ≡ l.y j (r + k)
-  settled_after zero r same = ap (l.y j) (omega arith)
-  settled_after (suc k) r same = same ∙ (settled_after k (suc r) (settled_from g z l of_z j r same) ∙ ap (l.y j) (omega arith))
-
   -- a settled layer has every other
   pub in_settled : (k r : ℕ) → l.y j k ≡ l.y j (suc k) → IsPartOf (l.y j r) (l.y j k)
-  in_settled k r settled s e = by_cases or_not
-    where
-      or_not : (r ≤ k) ⊎ (k < r)
-      or_not = grind arith
-
-      by_cases : (r ≤ k) ⊎ (k < r) → IsTrue (l.y j k s)
-      by_cases (inl lower) = let e' : (k - r) + r ≡ k = omega arith in subst (λ (n : ℕ). IsTrue (l.y j n s)) e' (y_in_later g z l of_z j (k - r) r s e)
-      by_cases (inr higher) =
-          let e' : k + (r - k) ≡ r = omega arith in
-          subst (λ (t : StateSet). IsTrue (t s)) (sym (settled_after (r - k) k settled)) (subst (λ (n : ℕ). IsTrue (l.y j n s)) (sym e') e)
+  in_settled = chains.in_settled g (l.y j) (y_in_next g z l of_z j) layer_inside (settled_from g z l of_z j)
 
 module _ (g : GameData) (z : StateSet) (l : LayerSets) (w : IsWinning g z l) (ranks : List ℕ) (greatest : AreGreatestRanks g l ranks) where
   -- no layer has more than the last

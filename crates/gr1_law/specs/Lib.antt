@@ -4,3 +4,5 @@ pub mod Potential
 pub mod Laws
 pub mod Worked
 pub mod Specifications
+pub mod EnvLayers
+pub mod EnvLaws

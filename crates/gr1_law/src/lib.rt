@@ -1,15 +1,18 @@
-//! The system's winning states, their layers and its choices, and what follows for every play.
+//! The winning states of both sides and their layers, the system's choices, and what follows for every play.
 //!
 //! The definitions are sets of states given by equations, and the choice of an output by recursion on the play (Bloem et
-//! al. 2012, solving GR(1) games). There is no program here: the solver, the controller and the verdict cite the laws. K
-//! and the rule that keeps one violated assumption until the rank falls are this project's own.
+//! al. 2012, solving GR(1) games; Könighofer et al. 2009, counterstrategies). There is no program here: the solvers, the
+//! controller and the verdict cite the laws. K, N, M and the rule that keeps one violated assumption until the rank falls are
+//! this project's own.
 //!
 //! Contract: `laws::chosen_plays_keep`, a run of chosen outputs is a play that keeps each recurring guarantee within K
 //! rounds; `laws::winning_is_told`, there is one Z and one K; `specification_laws`, the same of a specification that the
-//! game agrees with, with K within its bound.
+//! game agrees with, with K within its bound; `env_laws::sides_are_dual`, the environment's last layer has the states outside
+//! Z; `env_laws::denials_are_told`, there is one N and one M.
 //! Path: regions → **layers** → strategy → verdict.
 #![tactic(auto)]
 
+pub mod env_laws;
 pub mod laws;
 pub mod specification_laws;
 pub mod worked;
