@@ -1,5 +1,5 @@
 -- What is found of its game is found of a specification.
-use Rattle.std.proofs.Common.{◌≡◌, ℕ, Bool, true, false, ◌&&◌, if◌then◌else◌, List, [], ◌∷◌, ◌++◌, flat_map, None, Vec, refl, sym, ap, subst, ◌∙◌}
+use Rattle.std.proofs.Common.{◌≡◌, ℕ, Bool, true, false, ◌&&◌, if◌then◌else◌, List, [], ◌∷◌, ◌++◌, flat_map, Some, None, Vec, refl, sym, ap, subst, ◌∙◌}
 use Rattle.std.specs.List.{AllByRecursion}
 use Rattle.std.proofs.lemmas.Bool.{and_parts, and_from, false≢true}
 use Rattle.spec_model.specs.declared.spec.Role.{Role}
@@ -12,21 +12,26 @@ use Rattle.spec_model.specs.WellMade.{WellMade}
 use Rattle.spec_model.proofs.Fixpoints.{greatest-one}
 use Rattle.safety.specs.Solution.{IsRoundCount, IsShiftCount, IsDenialCount}
 use Rattle.hidden_game.specs.GameOf.{game_of}
-use Rattle.hidden_game.specs.Agreement.{HasPlainLines}
 use Rattle.std.specs.declared.alloc.Global.{Global}
-use Rattle.regions.specs.Kept.{Kept}
+use Rattle.regions.specs.declared.types.Halt.{Halt}
+use Rattle.regions.specs.declared.types.Halt.TheVariants as halts
+use Rattle.regions.specs.Kept.{Kept, Jam}
+use Rattle.region_rows.specs.declared.rows.RegionRows.{RegionRows}
+use Rattle.region_rows.specs.Slots.{kept_in}
+use Rattle.spec_model.specs.GameViews.{game_data}
 use Rattle.gr1_law.specs.Layers.{LayerSets, IsWinning, AreGreatestRanks, round_count}
 use Rattle.gr1_sys.specs.declared.layers.SysLayer.{SysLayer}
 use Rattle.gr1_sys.specs.Held.{ranks_of}
-use Rattle.controller.specs.Made.{AreLayersOf}
-use Rattle.spec_model.specs.Agreement.{HasNoGoals, NothingRecurs}
+use Rattle.gr1_sys.specs.Moment.{TellsOneMoment}
+use Rattle.controller.specs.Made.{AreLayersOf, Targets, TellsHalt}
+use Rattle.spec_model.specs.Agreement.{Agrees, HasNoGoals, NothingRecurs}
 use Rattle.gr1_law.proofs.Settling.{some_ranks}
 use Rattle.gr1_law.proofs.Solutions.{some_winning}
 use Rattle.gr1_law.proofs.SafeGames.{special_case}
 use Rattle.gr1_law.proofs.StateCounts.{system_wins}
 use Rattle.gr1_law.proofs.Staying.{no_goals, nothing_recurs}
 use Rattle.spectra.specs.First.{IsInitialLine, IsInitialOnly}
-use Rattle.spectra.specs.Verdict.{is_nothing, has_no_goals, IsWonGame, Escapes, IsLostGame, IsUncontrolledGame, IsKept, IsWonBySystem, IsWonByEnvironment, IsUncontrolled}
+use Rattle.spectra.specs.Verdict.{is_nothing, has_no_goals, IsWonGame, Escapes, IsLostGame, IsUncontrolledGame, RunsOut, IsKept, IsWonBySystem, IsWonByEnvironment, IsUncontrolled}
 use Rattle.spectra.proofs.InitialGames.{initial_kept, initial_lost}
 
 -- ---- whether something recurs
@@ -89,26 +94,26 @@ escapes_that g none escapes z greatest =
     let same : winning.0 ≡ z = greatest-one (pre_sys g) winning.0 z special.0 greatest in
     subst (λ (t : StateSet). system_forces g t None ≡ false) same (escapes winning.0 winning.1 winning.2)
 
-pub won_found : (s : Specification) → HasPlainLines s → WellMade (game_of s) → (k : ℕ) → IsWonGame (game_of s) k → IsWonBySystem s k
-won_found s plain made k found =
-    let staying : NothingRecurs s → IsKept (game_of s) k = λ nothing. kept_by (game_of s) k (no_goals s plain nothing) found in
+pub won_found : (s : Specification) → Agrees s (game_of s) → WellMade (game_of s) → (k : ℕ) → IsWonGame (game_of s) k → IsWonBySystem s k
+won_found s agrees made k found =
+    let staying : NothingRecurs s → IsKept (game_of s) k = λ nothing. kept_by (game_of s) k (no_goals s (game_of s) agrees nothing) found in
     record {
       game = found;
-      wins = rw (found.rounds) (system_wins s plain made found.winning_states found.layers found.ranks (record { winning = found.winning; greatest = found.greatest; forced = found.forced }));
+      wins = rw (found.rounds) (system_wins s (game_of s) agrees made found.winning_states found.layers found.ranks (record { winning = found.winning; greatest = found.greatest; forced = found.forced }));
       staying = staying;
       initial = λ only. initial_kept s only made k (staying (initial_recurs_not s only));
     }
 
-pub lost_found : (s : Specification) → HasPlainLines s → WellMade (game_of s) → (n m : ℕ) → IsLostGame (game_of s) n m → IsWonByEnvironment s n m
-lost_found s plain made n m found =
+pub lost_found : (s : Specification) → Agrees s (game_of s) → WellMade (game_of s) → (n m : ℕ) → IsLostGame (game_of s) n m → IsWonByEnvironment s n m
+lost_found s agrees made n m found =
     record {
-      nothing_recurs = nothing_recurs s plain (goals_none (game_of s) found.no_goals);
+      nothing_recurs = nothing_recurs s (game_of s) agrees (goals_none (game_of s) found.no_goals);
       game = found;
       initial = λ only. initial_lost s only made n m found;
     }
 
-pub uncontrolled_found : (s : Specification) → HasPlainLines s → IsUncontrolledGame (game_of s) → IsUncontrolled s
-uncontrolled_found s plain is = record { some_recurs = λ nothing. false≢true (sym is.some_goal ∙ none_goals (game_of s) (no_goals s plain nothing)); game = is }
+pub uncontrolled_found : (s : Specification) → Agrees s (game_of s) → IsUncontrolledGame (game_of s) → IsUncontrolled s
+uncontrolled_found s agrees is = record { some_recurs = λ nothing. false≢true (sym is.some_goal ∙ none_goals (game_of s) (no_goals s (game_of s) agrees nothing)); game = is }
 
 -- ---- how the game was decided, where the regions' game is the specification's
 
@@ -140,3 +145,16 @@ won_game k z layers l g n is own rounds =
       forced = subst (λ (g : GameData). system_forces g (k.set z) None ≡ true) is own.forced;
       rounds = rounds;
     }
+
+-- rows tell of no jam
+pub rows_never_run_out : RunsOut (λ (r : RegionRows). kept_in (game_data r.numbered.game) r.slots.slots.items) → ⊥
+rows_never_run_out (r, jam, told) = absurd (cc)
+
+-- regions that refused a call for want of budget tell of a jam
+pub solving_ran_out : {R M : Type 0} (old new : Kept R M) (halt : Halt) → halt ≡ halts.Budget → TellsOneMoment old new halt → (jam : Jam) × (new.jam ≡ Some jam)
+solving_ran_out old new halts.Budget is told = (told.1.1.jam, told.1.1.told)
+solving_ran_out old new halts.Memory is told = absurd (cc)
+
+pub making_ran_out : {R M : Type 0} (old new : Kept R M) (targets : Targets) (halt : Halt) → halt ≡ halts.Budget → TellsHalt old new targets halt → (jam : Jam) × (new.jam ≡ Some jam)
+making_ran_out old new targets halts.Budget is told = (told.jam, told.told)
+making_ran_out old new targets halts.Memory is told = absurd (cc)

@@ -9,6 +9,8 @@ mod InitialGames
 mod Found
 mod Placed
 mod Readings
+mod Requests
+mod Decisive
 mod Fronts
 mod Exchanges
 mod Decided

@@ -7,17 +7,14 @@ use Rattle.sp_outside.specs.Files.{Files, told_file, HasFile, HasNoFile}
 use Rattle.spectra_words.specs.declared.words.Command.{Command}
 use Rattle.spectra.specs.declared.status.Status.{Status}
 use Rattle.spectra.specs.declared.status.Status.TheVariants.{Words, Refused, ShelfFault, NoFile}
-use Rattle.spectra.specs.Status.{IsCutShort, IsUnlessCut, IsUnlessFault}
+use Rattle.spectra.specs.Endings.{IsCutShort, IsUnlessCut, IsUnlessFault}
 use Rattle.spectra_words.specs.Commands.{Asks, AskNothing}
-use Rattle.spectra.specs.Sessions.{Moment, Writes, whole, cut, WantsMemory}
+use Rattle.spectra.specs.Streams.{Moment, Writes, whole, cut, WantsMemory}
 use Rattle.spectra.specs.Reading.{IsRefused}
 use Rattle.spectra.proofs.Readings.{one_meaning}
-use Rattle.spectra.specs.Top.{Decides, ServesSpecification, ServesText, ServesFile, ServesWords}
+use Rattle.spectra.proofs.Requests.{one_file}
+use Rattle.spectra.specs.Top.{ServesSpecification, ServesText, ServesFile, ServesWords, Refuses}
 use Rattle.spectra.specs.Top as top
-
--- words ask for one file alone
-one_file : (words : List (List ℕ)) (command command' : Command) (name other : List ℕ) (nodes nodes' : ℕ) → Asks words command name nodes → Asks words command' other nodes' → other ≡ name
-one_file words command command' name other nodes nodes' asks asks' = let a = asks.file_is in let b = asks'.file_is in cc
 
 module _ (before after : Moment) where
   -- a line that is written has its status, where the output did not fail
@@ -33,30 +30,30 @@ module _ (before after : Moment) where
   or_fault expected status (inr is) = inr (inr is)
 
   -- words that are no command get their status
-  pub words_status : (words : List (List ℕ)) (files : Option Files) (failed : Type 0) (status : Status) → ServesWords words files failed before after status → AskNothing words → IsUnlessCut Words status
+  words_status : (words : List (List ℕ)) (files : Option Files) (failed : Type 0) (status : Status) → ServesWords words files failed before after status → AskNothing words → IsUnlessCut Words status
   words_status words files failed status (top.no_command nothing writes) none = written _ Words status writes
   words_status words files failed status (top.asked command name nodes asks serves) none = absurd (none command name nodes asks)
   words_status words files failed status (top.no_memory wants) none = wanted Words status wants
 
   -- a text that is refused is refused, unless something failed
-  module _ (command : Command) (name text : List ℕ) (refuses : IsRefused text) where
-    of_text : (status : Status) → ServesText command name before after text status → IsUnlessFault Refused status
+  module _ (command : Command) (nodes : ℕ) (name text : List ℕ) (refuses : IsRefused text) where
+    of_text : (status : Status) → ServesText command nodes name before after text status → IsUnlessFault Refused status
     of_text status (top.not_utf8 line column is writes) = or_fault Refused status (written _ Refused status writes)
     of_text status (top.bad_character line column is writes) = or_fault Refused status (written _ Refused status writes)
     of_text status (top.too_long is writes) = or_fault Refused status (written _ Refused status writes)
-    of_text status (top.ungrammatical tokens fault at words lexed explains named writes) = or_fault Refused status (written _ Refused status writes)
+    of_text status (top.ungrammatical tokens fault lexed explains refuses) = or_fault Refused status (written _ Refused status refuses.3)
     of_text status (top.mistyped number line column is writes) = or_fault Refused status (written _ Refused status writes)
     of_text status (top.no_memory wants) = or_fault Refused status (wanted Refused status wants)
     of_text status (top.means s reads serves) = by refuses serves
       where
-        by : IsRefused text → ServesSpecification command name before after s status → IsUnlessFault Refused status
+        by : IsRefused text → ServesSpecification command nodes name before after s status → IsUnlessFault Refused status
         by (inl none) serves = absurd (none s reads)
         by (inr many) (top.too_many more writes) = or_fault Refused status (written _ Refused status writes)
         by (inr many) (top.no_memory wants) = or_fault Refused status (wanted Refused status wants)
         by (inr many) (top.few few decides) = absurd (let e = ap (λ (s : Specification). length (states_of (game_of s))) (one_meaning text many.0 s many.1 reads) in let more = many.2 in omega arith)
 
-    of_told : (told : Option (Option (List ℕ))) → told ≡ Some (Some text) → (failed : Type 0) (status : Status) → ServesFile command name before after told failed status → IsUnlessFault Refused status
-    of_told told is failed status (top.no_file none writes) = absurd (let none = subst HasNoFile is none in cc)
+    of_told : (told : Option (Option (List ℕ))) → told ≡ Some (Some text) → (failed : Type 0) (status : Status) → ServesFile command nodes name before after told failed status → IsUnlessFault Refused status
+    of_told told is failed status (top.missing none writes) = absurd (let none = subst HasNoFile is none in cc)
     of_told told is failed status (top.fault rose writes) = faulted (written _ ShelfFault status writes)
       where
         faulted : IsUnlessCut ShelfFault status → IsUnlessFault Refused status
@@ -64,32 +61,40 @@ module _ (before after : Moment) where
         faulted (inr short) = inr (inr short)
     of_told told is failed status (top.of_text other has serves) =
         let same = subst (λ (o : Option (Option (List ℕ))). HasFile o (λ bytes. bytes ≡ other)) is has in
-        of_text status (subst (λ (t : List ℕ). ServesText command name before after t status) (sym same) serves)
+        of_text status (subst (λ (t : List ℕ). ServesText command nodes name before after t status) (sym same) serves)
     of_told told is failed status (top.no_memory wants) = or_fault Refused status (wanted Refused status wants)
 
   -- a name of no file gets its status, unless something failed
-  of_none : (command : Command) (name : List ℕ) (told : Option (Option (List ℕ))) → told ≡ Some None → (failed : Type 0) (status : Status) → ServesFile command name before after told failed status → IsUnlessFault NoFile status
-  of_none command name told is failed status (top.no_file none writes) = or_fault NoFile status (written _ NoFile status writes)
-  of_none command name told is failed status (top.fault rose writes) = faulted (written _ ShelfFault status writes)
+  of_none : (command : Command) (nodes : ℕ) (name : List ℕ) (told : Option (Option (List ℕ))) → told ≡ Some None → (failed : Type 0) (status : Status) → ServesFile command nodes name before after told failed status → IsUnlessFault NoFile status
+  of_none command nodes name told is failed status (top.missing none writes) = or_fault NoFile status (written _ NoFile status writes)
+  of_none command nodes name told is failed status (top.fault rose writes) = faulted (written _ ShelfFault status writes)
     where
       faulted : IsUnlessCut ShelfFault status → IsUnlessFault NoFile status
       faulted (inl same) = inr (inl same)
       faulted (inr short) = inr (inr short)
-  of_none command name told is failed status (top.of_text other has serves) = absurd (subst (λ (o : Option (Option (List ℕ))). HasFile o (λ bytes. bytes ≡ other)) is has)
-  of_none command name told is failed status (top.no_memory wants) = or_fault NoFile status (wanted NoFile status wants)
+  of_none command nodes name told is failed status (top.of_text other has serves) = absurd (subst (λ (o : Option (Option (List ℕ))). HasFile o (λ bytes. bytes ≡ other)) is has)
+  of_none command nodes name told is failed status (top.no_memory wants) = or_fault NoFile status (wanted NoFile status wants)
 
   -- what was asked is served for the file that is asked for
   module _ (words : List (List ℕ)) (files : Option Files) (failed : Type 0) (command : Command) (name : List ℕ) (nodes : ℕ) (asks : Asks words command name nodes) where
-    pub refused_status : (text : List ℕ) → told_file files name ≡ Some (Some text) → IsRefused text → (status : Status) → ServesWords words files failed before after status → IsUnlessFault Refused status
+    refused_status : (text : List ℕ) → told_file files name ≡ Some (Some text) → IsRefused text → (status : Status) → ServesWords words files failed before after status → IsUnlessFault Refused status
     refused_status text told refuses status (top.no_command nothing writes) = absurd (nothing command name nodes asks)
     refused_status text told refuses status (top.asked command' name' nodes' asks' serves) =
         let same = one_file words command command' name name' nodes nodes' asks asks' in
-        of_told command' name' text refuses (told_file files name') (ap (told_file files) same ∙ told) failed status serves
+        of_told command' nodes' name' text refuses (told_file files name') (ap (told_file files) same ∙ told) failed status serves
     refused_status text told refuses status (top.no_memory wants) = or_fault Refused status (wanted Refused status wants)
 
-    pub no_file_status : told_file files name ≡ Some None → (status : Status) → ServesWords words files failed before after status → IsUnlessFault NoFile status
+    no_file_status : told_file files name ≡ Some None → (status : Status) → ServesWords words files failed before after status → IsUnlessFault NoFile status
     no_file_status told status (top.no_command nothing writes) = absurd (nothing command name nodes asks)
     no_file_status told status (top.asked command' name' nodes' asks' serves) =
         let same = one_file words command command' name name' nodes nodes' asks asks' in
-        of_none command' name' (told_file files name') (ap (told_file files) same ∙ told) failed status serves
+        of_none command' nodes' name' (told_file files name') (ap (told_file files) same ∙ told) failed status serves
     no_file_status told status (top.no_memory wants) = or_fault NoFile status (wanted NoFile status wants)
+
+  pub refuses : (words : List (List ℕ)) (files : Option Files) (failed : Type 0) (status : Status) → ServesWords words files failed before after status → Refuses words files status
+  refuses words files failed status serves =
+      record {
+        nothing_asked = words_status words files failed status serves;
+        no_such_file = λ command name nodes asks told. no_file_status words files failed command name nodes asks told status serves;
+        refused_text = λ command name nodes text asks told refused. refused_status words files failed command name nodes asks text told refused status serves;
+      }

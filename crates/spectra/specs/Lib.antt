@@ -1,5 +1,6 @@
 pub mod First
-pub mod Status
+pub mod Endings
+pub mod Streams
 pub mod Reading
 pub mod Verdict
 pub mod Sessions

@@ -1,5 +1,5 @@
 -- Which specification a text means, if it means one.
-use Rattle.std.specs.Prelude.{◌≡◌, ◌⊎◌, ℕ, ◌<◌, ◌==◌, List, length, codes, Option, Some, None, option_map, unwrap_or, slice_get, if◌then◌else◌}
+use Rattle.std.specs.Prelude.{◌≡◌, ◌⊎◌, ℕ, ◌<◌, ◌≤◌, List, length, Option, Some, None, option_map, unwrap_or, slice_get}
 use Rattle.spec_model.specs.Syntax.{Specification}
 use Rattle.spec_model.specs.Steps.{states_of}
 use Rattle.spectra_lexer.specs.declared.token.Token.{Token}
@@ -43,29 +43,13 @@ Explains text tokens (Syntax fault) = parsing.Explains (lexemes text tokens) fau
 Explains text tokens (Types number line column) = HasTypeFault text number line column
 Explains text tokens Memory = Unit {0}
 
--- the token that a fault names, and the fault's number and word; want of memory names none
-abbrev pub named_by : SyntaxFault → Option (ℕ × List ℕ)
-named_by (syntax.Unexpected at) = Some (at, codes "4 Unexpected\n")
-named_by (syntax.TooDeep at) = Some (at, codes "5 TooDeep\n")
-named_by (syntax.Parentheses at) = Some (at, codes "6 Parentheses\n")
-named_by (syntax.Unsupported at) = Some (at, codes "23 Unsupported\n")
+-- the token that a fault names, and the fault's number; want of memory names none
+abbrev pub named_by : SyntaxFault → Option (ℕ × ℕ)
+named_by (syntax.Unexpected at) = Some (at, 4)
+named_by (syntax.TooDeep at) = Some (at, 5)
+named_by (syntax.Parentheses at) = Some (at, 6)
+named_by (syntax.Unsupported at) = Some (at, 23)
 named_by syntax.Memory = None
-
--- the number of a fault of names and types, and its word
-unfoldable pub type_fault : ℕ → List ℕ
-type_fault n =
-    if n == 7 then codes "7 Unknown\n"
-    else if n == 8 then codes "8 Twice\n"
-    else if n == 9 then codes "9 WrongType\n"
-    else if n == 10 then codes "10 NextHere\n"
-    else if n == 11 then codes "11 NextNested\n"
-    else if n == 12 then codes "12 NextOfSystem\n"
-    else if n == 13 then codes "13 SystemInInitial\n"
-    else if n == 14 then codes "14 WideInt\n"
-    else if n == 15 then codes "15 Cycle\n"
-    else if n == 16 then codes "16 Arity\n"
-    else if n == 18 then codes "18 TooMany\n"
-    else codes "19 TooLarge\n"
 
 -- the line and the column of a token, by its number
 abbrev pub place_of_token : List Token → ℕ → ℕ × ℕ
@@ -75,10 +59,12 @@ place_of_token tokens at = unwrap_or (option_map (λ t. (t.line, t.column)) (sli
 abbrev pub most_states : ℕ
 most_states = 1024
 
--- the text means a specification whose game has more states than that
-abbrev pub HasTooManyStates : List ℕ → Type 0
-HasTooManyStates text = (s : Specification) × Reads text s × (most_states < length (states_of (game_of s)))
+abbrev pub HasFewStates : Specification → Type 0
+HasFewStates s = length (states_of (game_of s)) ≤ most_states
+
+abbrev pub HasManyStates : Specification → Type 0
+HasManyStates s = most_states < length (states_of (game_of s))
 
 -- the text gets no verdict
 abbrev pub IsRefused : List ℕ → Type 0
-IsRefused text = MeansNothing text ⊎ HasTooManyStates text
+IsRefused text = MeansNothing text ⊎ ((s : Specification) × Reads text s × HasManyStates s)

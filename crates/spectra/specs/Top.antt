@@ -1,6 +1,6 @@
 -- What the program does for words and files.
-use Rattle.std.specs.Prelude.{◌≡◌, ◌⊎◌, ℕ, ◌<◌, ◌≤◌, List, [], ◌∷◌, ◌++◌, length, codes, Option, Some}
-use Rattle.std.specs.Fmt.{decimal}
+use Rattle.std.specs.Prelude.{◌≡◌, ◌⊎◌, ℕ, List, Option, Some, None}
+use Rattle.sp_outside.specs.Causes.{Rose}
 use Rattle.sp_outside.specs.Files.{Files, told_file, HasNoFile, HasFile}
 use Rattle.spec_model.specs.Syntax.{Specification}
 use Rattle.spectra_lexer.specs.declared.token.Token.{Token}
@@ -12,97 +12,98 @@ use Rattle.spectra_lexer.specs.Faults.{IsNotUtf8At, IsBadAt, IsTooLong}
 use Rattle.hidden_game.specs.GameOf.{game_of}
 use Rattle.spectra_words.specs.declared.words.Command.{Command}
 use Rattle.spectra_words.specs.declared.words.Command.TheVariants.{Synth, Run}
-use Rattle.spectra.specs.declared.status.Status.{Status}
-use Rattle.spectra.specs.declared.status.Status.TheVariants.{Done, Other, Words, Refused, ShelfFault, NoFile}
 use Rattle.spectra_words.specs.Commands.{Asks, AskNothing}
-use Rattle.spectra.specs.Sessions.{Moment, moment, Writes, WantsMemory, realizable, Holds}
-use Rattle.spec_model.specs.Steps.{states_of}
-use Rattle.spectra.specs.Reading.{Reads, HasTypeFault, named_by, type_fault, place_of_token, most_states}
-use Rattle.spectra.specs.Verdict.{IsWonGame, IsLostGame, IsUncontrolledGame, IsWonBySystem, IsWonByEnvironment, IsUncontrolled}
+use Rattle.spectra.specs.declared.status.Status.{Status}
+use Rattle.spectra.specs.declared.status.Status.TheVariants.{Words, Refused, ShelfFault, InputFault, OutputFault, Memory, NoFile}
+use Rattle.spectra.specs.Endings.{IsUnlessCut, IsUnlessFault, usage, no_file, shelf_fault, refused, realizable, unrealizable, no_controller, node_budget}
+use Rattle.spectra.specs.Streams.{Moment, Ends, WantsMemory, OverOutput}
+use Rattle.spectra.specs.Sessions.{Holds}
+use Rattle.spectra.specs.Reading.{Reads, HasTypeFault, IsRefused, HasFewStates, HasManyStates, named_by, place_of_token}
+use Rattle.spectra.specs.Verdict.{IsWonGame, IsLostGame, IsUncontrolledGame, IsWonBySystem, IsWonByEnvironment, IsUncontrolled, FillsRows}
 
--- ---- lines, each with its line feed
+-- the text of the tokens is refused by the fault, at the place of the token that it names
+abbrev pub RefusesSyntax : (name : List ℕ) → List Token → SyntaxFault → (before after : Moment) → Status → Type 0
+RefusesSyntax name tokens fault before after status =
+    (at : ℕ) × (number : ℕ) × (named_by fault ≡ Some (at, number)) × (let place = place_of_token tokens at in Ends (refused name place.0 place.1 number) before after status)
 
-abbrev pub usage : List ℕ
-usage = codes "usage: spectra COMMAND FILE [--nodes N]\n"
-
-abbrev pub no_such_file : List ℕ → List ℕ
-no_such_file name = codes "no such file: " ++ name ++ 10 ∷ []
-
-abbrev pub file_fault : List ℕ → List ℕ
-file_fault name = codes "file fault: " ++ name ++ 10 ∷ []
-
--- a fault of a text: the file's name, the line, the column, the fault's number and its word
-abbrev pub fault_line : (name : List ℕ) (line column : ℕ) (fault : List ℕ) → List ℕ
-fault_line name line column fault = name ++ 58 ∷ (decimal line ++ 58 ∷ (decimal column ++ (codes ": fault " ++ fault)))
-
--- the line of the syntax fault is written with its status, or a front of it, or no memory was given for it
+-- it is, or no memory was given for the line
 abbrev pub IsSaidOfSyntax : {O : Type 0} → (O → Option (List ℕ)) → (O → ℕ) → (name : List ℕ) → List Token → SyntaxFault → (old new : O) → Status → Type 0
-IsSaidOfSyntax written faults name tokens fault old new status =
-    (left : Option (List ℕ)) (read_faults : ℕ) →
-    let before = moment left (written old) read_faults (faults old) in
-    let after = moment left (written new) read_faults (faults new) in
-    ((at : ℕ) × (words : List ℕ) × (named_by fault ≡ Some (at, words)) × (let place = place_of_token tokens at in Writes (fault_line name place.0 place.1 words) Refused before after status)) ⊎ WantsMemory before after status
+IsSaidOfSyntax written faults name tokens fault old new status = OverOutput written faults old new (λ before after. RefusesSyntax name tokens fault before after status ⊎ WantsMemory before after status)
 
-abbrev pub too_many_states : List ℕ → List ℕ
-too_many_states name = name ++ codes ":1:1: fault 24 TooManyStates\n"
+-- ---- what is done for a command, with so many nodes
 
-abbrev pub no_controller : List ℕ
-no_controller = codes "no controller\n"
-
-abbrev pub unrealizable : (n m : ℕ) → List ℕ
-unrealizable n m = codes "unrealizable N=" ++ (decimal n ++ (codes " M=" ++ (decimal m ++ 10 ∷ [])))
-
--- ---- what is done for a command
-
-module _ (command : Command) where
+module _ (command : Command) (nodes : ℕ) where
   -- By who wins: `synth` writes the verdict, and so does `run` where the system doesn't win; where it does, `run` holds a
   -- session. The number K is one that makes `Won` hold, N and M are ones that make `Lost` hold; where something recurs and the
-  -- system doesn't win, there is no verdict yet, and `Uncontrolled` holds.
-  module _ (s : Specification) (Won : ℕ → Type 0) (Lost : ℕ → ℕ → Type 0) (Uncontrolled : Type 0) (before after : Moment) where
+  -- system doesn't win, there is no verdict yet, and `Uncontrolled` holds. The nodes are too few only where `Filled` holds.
+  module _ (s : Specification) (Won : ℕ → Type 0) (Lost : ℕ → ℕ → Type 0) (Uncontrolled Filled : Type 0) (before after : Moment) where
     pub data Decides : Status → Type 0 where
-      won : {status : Status} (k : ℕ) → command ≡ Synth → Won k → Writes (realizable k) Done before after status → Decides status
-      lost : {status : Status} (n m : ℕ) → Lost n m → Writes (unrealizable n m) Other before after status → Decides status
-      uncontrolled : {status : Status} → Uncontrolled → Writes no_controller Other before after status → Decides status
+      won : {status : Status} (k : ℕ) → command ≡ Synth → Won k → Ends (realizable k) before after status → Decides status
       held : {status : Status} (k : ℕ) → command ≡ Run → Won k → Holds s k before after status → Decides status
+      lost : {status : Status} (n m : ℕ) → Lost n m → Ends (unrealizable n m) before after status → Decides status
+      uncontrolled : {status : Status} → Uncontrolled → Ends no_controller before after status → Decides status
+      budget : {status : Status} → Filled → Ends (node_budget nodes) before after status → Decides status
       no_memory : {status : Status} → WantsMemory before after status → Decides status
 
-  -- for a game of few states, and for a specification with few variables
-  abbrev pub DecidesGame : Specification → Moment → Moment → Status → Type 0
-  DecidesGame s before after status = Decides s (IsWonGame (game_of s)) (IsLostGame (game_of s)) (IsUncontrolledGame (game_of s)) before after status
+  -- for a game, and for a specification with few states
+  abbrev pub DecidesGame : Specification → (Filled : Type 0) → Moment → Moment → Status → Type 0
+  DecidesGame s Filled before after status = Decides s (IsWonGame (game_of s)) (IsLostGame (game_of s)) (IsUncontrolledGame (game_of s)) Filled before after status
 
   abbrev pub DecidesSpecification : Specification → Moment → Moment → Status → Type 0
-  DecidesSpecification s before after status = Decides s (IsWonBySystem s) (IsWonByEnvironment s) (IsUncontrolled s) before after status
+  DecidesSpecification s before after status = Decides s (IsWonBySystem s) (IsWonByEnvironment s) (IsUncontrolled s) FillsRows before after status
 
   module _ (name : List ℕ) (before after : Moment) where
     -- for a specification, in a file of this name
     pub data ServesSpecification (s : Specification) : Status → Type 0 where
-      too_many : {status : Status} → most_states < length (states_of (game_of s)) → Writes (too_many_states name) Refused before after status → ServesSpecification s status
-      few : {status : Status} → length (states_of (game_of s)) ≤ most_states → DecidesSpecification s before after status → ServesSpecification s status
+      too_many : {status : Status} → HasManyStates s → Ends (refused name 1 1 24) before after status → ServesSpecification s status
+      few : {status : Status} → HasFewStates s → DecidesSpecification s before after status → ServesSpecification s status
       no_memory : {status : Status} → WantsMemory before after status → ServesSpecification s status
 
     -- for a text: one that has no tokens, or whose tokens are no text of the grammar or have a form that isn't built, is refused
     -- by its fault, and so is one whose tree has a fault of names or types
     pub data ServesText (text : List ℕ) : Status → Type 0 where
-      not_utf8 : {status : Status} (line column : ℕ) → IsNotUtf8At text line column → Writes (fault_line name line column (codes "1 NotUtf8\n")) Refused before after status → ServesText text status
-      bad_character : {status : Status} (line column : ℕ) → IsBadAt text line column → Writes (fault_line name line column (codes "2 BadCharacter\n")) Refused before after status → ServesText text status
-      too_long : {status : Status} → IsTooLong text → Writes (fault_line name 1 1 (codes "3 TooLong\n")) Refused before after status → ServesText text status
-      ungrammatical : {status : Status} (tokens : List Token) (fault : SyntaxFault) (at : ℕ) (words : List ℕ) → AreTokens text tokens → Explains (lexemes text tokens) fault → named_by fault ≡ Some (at, words) →
-          (let place = place_of_token tokens at in Writes (fault_line name place.0 place.1 words) Refused before after status) → ServesText text status
-      mistyped : {status : Status} (number line column : ℕ) → HasTypeFault text number line column → Writes (fault_line name line column (type_fault number)) Refused before after status → ServesText text status
+      not_utf8 : {status : Status} (line column : ℕ) → IsNotUtf8At text line column → Ends (refused name line column 1) before after status → ServesText text status
+      bad_character : {status : Status} (line column : ℕ) → IsBadAt text line column → Ends (refused name line column 2) before after status → ServesText text status
+      too_long : {status : Status} → IsTooLong text → Ends (refused name 1 1 3) before after status → ServesText text status
+      ungrammatical : {status : Status} (tokens : List Token) (fault : SyntaxFault) → AreTokens text tokens → Explains (lexemes text tokens) fault → RefusesSyntax name tokens fault before after status → ServesText text status
+      mistyped : {status : Status} (number line column : ℕ) → HasTypeFault text number line column → Ends (refused name line column number) before after status → ServesText text status
       means : {status : Status} (s : Specification) → Reads text s → ServesSpecification s status → ServesText text status
       no_memory : {status : Status} → WantsMemory before after status → ServesText text status
 
     -- for a file, of which this is told; `shelf_failed` is that the shelf's faults rose. Where nothing is told of the file, it is
     -- served as some text.
     pub data ServesFile (file : Option (Option (List ℕ))) (shelf_failed : Type 0) : Status → Type 0 where
-      no_file : {status : Status} → HasNoFile file → Writes (no_such_file name) NoFile before after status → ServesFile file shelf_failed status
-      fault : {status : Status} → shelf_failed → Writes (file_fault name) ShelfFault before after status → ServesFile file shelf_failed status
+      missing : {status : Status} → HasNoFile file → Ends (no_file name) before after status → ServesFile file shelf_failed status
+      fault : {status : Status} → shelf_failed → Ends (shelf_fault name) before after status → ServesFile file shelf_failed status
       of_text : {status : Status} (text : List ℕ) → HasFile file (λ bytes. bytes ≡ text) → ServesText text status → ServesFile file shelf_failed status
       no_memory : {status : Status} → WantsMemory before after status → ServesFile file shelf_failed status
 
--- for words, over these files
+-- ---- for words, over these files
+
 module _ (words : List (List ℕ)) (files : Option Files) (shelf_failed : Type 0) (before after : Moment) where
   pub data ServesWords : Status → Type 0 where
-    no_command : {status : Status} → AskNothing words → Writes usage Words before after status → ServesWords status
-    asked : {status : Status} (command : Command) (name : List ℕ) (nodes : ℕ) → Asks words command name nodes → ServesFile command name before after (told_file files name) shelf_failed status → ServesWords status
+    no_command : {status : Status} → AskNothing words → Ends usage before after status → ServesWords status
+    asked : {status : Status} (command : Command) (name : List ℕ) (nodes : ℕ) → Asks words command name nodes → ServesFile command nodes name before after (told_file files name) shelf_failed status → ServesWords status
     no_memory : {status : Status} → WantsMemory before after status → ServesWords status
+
+  -- a told file whose text reads, as a specification with few states, is decided, unless the shelf failed
+  abbrev pub DecidesWhatReads : Status → Type 0
+  DecidesWhatReads status =
+      (command : Command) (name : List ℕ) (nodes : ℕ) (text : List ℕ) (s : Specification) → Asks words command name nodes → told_file files name ≡ Some (Some text) → Reads text s → HasFewStates s → ¬ shelf_failed →
+      DecidesSpecification command nodes s before after status
+
+-- Words that are no command get their status, and so do names of no file and texts that are refused.
+module _ (words : List (List ℕ)) (files : Option Files) where
+  pub record Refuses (status : Status) : Type 0 where
+    pub nothing_asked : AskNothing words → IsUnlessCut Words status
+    pub no_such_file : (command : Command) (name : List ℕ) (nodes : ℕ) → Asks words command name nodes → told_file files name ≡ Some None → IsUnlessFault NoFile status
+    pub refused_text : (command : Command) (name : List ℕ) (nodes : ℕ) (text : List ℕ) → Asks words command name nodes → told_file files name ≡ Some (Some text) → IsRefused text → IsUnlessFault Refused status
+
+-- each status that tells of a failure comes only where there was one
+module _ (shelf_failed : Type 0) (before after : Moment) where
+  abbrev pub IsCaused : Status → Type 0
+  IsCaused ShelfFault = shelf_failed
+  IsCaused InputFault = Rose before.read_faults after.read_faults
+  IsCaused OutputFault = Rose before.write_faults after.write_faults
+  IsCaused Memory = WantsMemory before after Memory
+  IsCaused _ = Unit {0}

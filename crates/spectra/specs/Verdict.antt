@@ -1,10 +1,11 @@
 -- Who wins a specification, and with which numbers.
-use Rattle.std.specs.Prelude.{◌≡◌, ℕ, Bool, true, false, ◌&&◌, List, [], ◌∷◌, None}
+use Rattle.std.specs.Prelude.{◌≡◌, ℕ, Bool, true, false, ◌&&◌, List, [], ◌∷◌, Some, None}
 use Rattle.spec_model.specs.Syntax.{Specification}
 use Rattle.spec_model.specs.Games.{GameData}
 use Rattle.spec_model.specs.Sets.{StateSet, pre_sys, system_forces, IsGreatest}
 use Rattle.spec_model.specs.Verdicts.{SystemWins, EnvironmentWins}
 use Rattle.hidden_game.specs.GameOf.{game_of}
+use Rattle.regions.specs.Kept.{Kept, Jam}
 use Rattle.safety.specs.Solution.{IsShiftCount, IsRoundCount, IsDenialCount}
 use Rattle.gr1_law.specs.Layers.{LayerSets, IsWinning, AreGreatestRanks, round_count}
 use Rattle.spec_model.specs.Agreement.{NothingRecurs}
@@ -46,6 +47,16 @@ pub record IsLostGame (g : GameData) (n m : ℕ) : Type 0 where
 pub record IsUncontrolledGame (g : GameData) : Type 0 where
   pub some_goal : has_no_goals g ≡ false
   pub escapes : Escapes g
+
+-- ---- the budget of nodes
+
+-- a call on such regions was refused for want of budget
+abbrev pub RunsOut : {G R M : Type 0} → (G → Kept R M) → Type 0
+RunsOut {G = G} kept = (g : G) × (jam : Jam) × ((kept g).jam ≡ Some jam)
+
+-- rows take no nodes, so that no budget of nodes is too small for them
+abbrev pub FillsRows : Type 0
+FillsRows = ⊥
 
 -- ---- specifications
 

@@ -2,20 +2,19 @@
 
 ghost use Rattle.std.specs.Prelude.{◌≡◌, None, true};
 ghost use Rattle.spec_model.specs.Views.{spec_data};
-ghost use Rattle.spec_model.specs.Laws.{NumbersRise};
 ghost use Rattle.spec_model.specs.WellMade.{WellMade};
 ghost use Rattle.spec_model.specs.GameViews.{game_data};
 ghost use Rattle.hidden_game.specs.GameOf.{game_of};
-ghost use Rattle.hidden_game.specs.Agreement.{HasPlainLines};
+ghost use Rattle.spec_model.specs.Agreement.{Agrees};
 ghost use Rattle.gr1_law.specs.Layers.{LayerSets};
 ghost use Rattle.controller.specs.Made.{AreLayersOf};
 ghost use Rattle.spec_model.specs.WellTyped.{WellTyped, all_hidden};
-ghost use Rattle.spectra.specs.Verdict.{Escapes, has_no_goals as has_no_goals_lem};
-ghost use Rattle.spectra.specs.Sessions.{moment};
+ghost use Rattle.spectra.specs.Verdict.{Escapes, RunsOut, has_no_goals as has_no_goals_lem};
+ghost use Rattle.spectra.specs.Streams.{moments};
 ghost use Rattle.spectra.specs.Top.{DecidesGame, ServesSpecification};
 
 use crate::holding::hold;
-use crate::saying::{say, say_realizable, say_too_many_states, say_unrealizable};
+use crate::saying::{say_fault, say_halt, say_no_controller, say_realizable, say_unrealizable};
 use crate::status::Status;
 use gr1_sys::{SysLayers, solve_sys};
 use hidden_game::expand;
@@ -25,13 +24,13 @@ use safety::{Outcome, solve};
 use sp_outside::{Sink, Source};
 use spec_model::game::Game;
 use spec_model::spec::Spec;
-use spectra_words::Command;
+use spectra_words::{Command, Request};
 use std::alloc::Global;
 
 // Does what the command wants where the system wins with these layers.
 fn do_won<G: Regions + Drop, I: Source, O: Sink>(
     alloc: Global,
-    command: Command,
+    request: Request<'_>,
     spec: &Spec,
     g: G,
     layers: SysLayers<G>,
@@ -40,21 +39,19 @@ fn do_won<G: Regions + Drop, I: Source, O: Sink>(
 ) -> Status
     requires free { (G.kept g).jam ≡ None }
     requires game { (G.kept g).game ≡ game_of (spec_data spec.now) }
-    requires plain { HasPlainLines (spec_data spec.now) }
-    requires rising { NumbersRise (spec_data spec.now).lines }
+    requires agrees { Agrees (spec_data spec.now) (game_of (spec_data spec.now)) }
     requires won { (l : LayerSets) × AreLayersOf (G.kept g) layers.z layers.goals.items l }
-    ensures { let before = moment (I.left input.old) (O.written output.old) (I.faults input.old) (O.faults output.old) in
-        let after = moment (I.left input.new) (O.written output.new) (I.faults input.new) (O.faults output.new) in
-        DecidesGame command (spec_data spec.now) before after result }
+    ensures { let at = moments I.left O.written I.faults O.faults in
+        DecidesGame request.entry.command request.entry.nodes (spec_data spec.now) (RunsOut G.kept) (at input.old output.old) (at input.new output.new) result }
 {
-    match command {
+    match request.command {
         Command::Synth => {
             let k = layers.k();
             let mut g = g;
             layers.spend_all(&mut g);
             say_realizable(alloc, k, output)
         }
-        Command::Run => hold(alloc, spec, g, layers, input, output),
+        Command::Run => hold(alloc, request.nodes, spec, g, layers, input, output),
     }
 }
 
@@ -69,7 +66,7 @@ fn has_no_goals<G: Regions>(g: &G) -> bool
 // Says by how much the environment wins a game in which nothing recurs.
 fn say_lost<G: Regions + Drop, I: Source, O: Sink>(
     alloc: Global,
-    command: Command,
+    request: Request<'_>,
     spec: &Spec,
     g: G,
     input: &mut I,
@@ -79,9 +76,8 @@ fn say_lost<G: Regions + Drop, I: Source, O: Sink>(
     requires game { (G.kept g).game ≡ game_of (spec_data spec.now) }
     requires no_goals { has_no_goals_lem (game_of (spec_data spec.now)) ≡ true }
     requires lost { Escapes (game_of (spec_data spec.now)) }
-    ensures { let before = moment (I.left input.old) (O.written output.old) (I.faults input.old) (O.faults output.old) in
-        let after = moment (I.left input.new) (O.written output.new) (I.faults input.new) (O.faults output.new) in
-        DecidesGame command (spec_data spec.now) before after result }
+    ensures { let at = moments I.left O.written I.faults O.faults in
+        DecidesGame request.entry.command request.entry.nodes (spec_data spec.now) (RunsOut G.kept) (at input.old output.old) (at input.new output.new) result }
 {
     let mut g = g;
     match solve(&mut g) {
@@ -97,7 +93,7 @@ fn say_lost<G: Regions + Drop, I: Source, O: Sink>(
 // Says what is known where the system doesn't win.
 fn do_lost<G: Regions + Drop, I: Source, O: Sink>(
     alloc: Global,
-    command: Command,
+    request: Request<'_>,
     spec: &Spec,
     g: G,
     input: &mut I,
@@ -106,21 +102,20 @@ fn do_lost<G: Regions + Drop, I: Source, O: Sink>(
     requires free { (G.kept g).jam ≡ None }
     requires game { (G.kept g).game ≡ game_of (spec_data spec.now) }
     requires lost { Escapes (game_of (spec_data spec.now)) }
-    ensures { let before = moment (I.left input.old) (O.written output.old) (I.faults input.old) (O.faults output.old) in
-        let after = moment (I.left input.new) (O.written output.new) (I.faults input.new) (O.faults output.new) in
-        DecidesGame command (spec_data spec.now) before after result }
+    ensures { let at = moments I.left O.written I.faults O.faults in
+        DecidesGame request.entry.command request.entry.nodes (spec_data spec.now) (RunsOut G.kept) (at input.old output.old) (at input.new output.new) result }
 {
     if has_no_goals(&g) {
-        say_lost(alloc, command, spec, g, input, output)
+        say_lost(alloc, request, spec, g, input, output)
     } else {
-        say(output, b"no controller\n", Status::Other)
+        say_no_controller(output)
     }
 }
 
 // Solves the game that these regions are of, and does what the command wants.
 fn decide<G: Regions + Drop, I: Source, O: Sink>(
     alloc: Global,
-    command: Command,
+    request: Request<'_>,
     spec: &Spec,
     g: G,
     input: &mut I,
@@ -128,42 +123,37 @@ fn decide<G: Regions + Drop, I: Source, O: Sink>(
 ) -> Status
     requires free { (G.kept g).jam ≡ None }
     requires game { (G.kept g).game ≡ game_of (spec_data spec.now) }
-    requires plain { HasPlainLines (spec_data spec.now) }
-    requires rising { NumbersRise (spec_data spec.now).lines }
+    requires agrees { Agrees (spec_data spec.now) (game_of (spec_data spec.now)) }
     requires made { WellMade (game_of (spec_data spec.now)) }
-    ensures { let before = moment (I.left input.old) (O.written output.old) (I.faults input.old) (O.faults output.old) in
-        let after = moment (I.left input.new) (O.written output.new) (I.faults input.new) (O.faults output.new) in
-        DecidesGame command (spec_data spec.now) before after result }
+    ensures { let at = moments I.left O.written I.faults O.faults in
+        DecidesGame request.entry.command request.entry.nodes (spec_data spec.now) (RunsOut G.kept) (at input.old output.old) (at input.new output.new) result }
 {
     let mut g = g;
     match solve_sys(alloc, &mut g) {
-        Ok(Some(layers)) => do_won(alloc, command, spec, g, layers, input, output),
-        Ok(None) => do_lost(alloc, command, spec, g, input, output),
-        Err(_) => Status::Memory,
+        Ok(Some(layers)) => do_won(alloc, request, spec, g, layers, input, output),
+        Ok(None) => do_lost(alloc, request, spec, g, input, output),
+        Err(halt) => say_halt(alloc, request.nodes, halt, output),
     }
 }
 
 // Does what the command wants with a specification and its game.
 fn serve_game<I: Source, O: Sink>(
     alloc: Global,
-    command: Command,
-    name: &str,
+    request: Request<'_>,
     spec: &Spec,
     game: Game,
     input: &mut I,
     output: &mut O,
 ) -> Status
     requires game { game_data game ≡ game_of (spec_data spec.now) }
-    requires plain { HasPlainLines (spec_data spec.now) }
-    requires rising { NumbersRise (spec_data spec.now).lines }
+    requires agrees { Agrees (spec_data spec.now) (game_of (spec_data spec.now)) }
     requires made { WellMade (game_of (spec_data spec.now)) }
-    ensures { let before = moment (I.left input.old) (O.written output.old) (I.faults input.old) (O.faults output.old) in
-        let after = moment (I.left input.new) (O.written output.new) (I.faults input.new) (O.faults output.new) in
-        ServesSpecification command name.now before after (spec_data spec.now) result }
+    ensures { let at = moments I.left O.written I.faults O.faults in
+        ServesSpecification request.entry.command request.entry.nodes request.entry.file.now (at input.old output.old) (at input.new output.new) (spec_data spec.now) result }
 {
     match RegionRows::make(alloc, game) {
-        Ok(rows) => decide(alloc, command, spec, rows, input, output),
-        Err(RowsRefusal::TooManyStates) => say_too_many_states(alloc, name, output),
+        Ok(rows) => decide(alloc, request, spec, rows, input, output),
+        Err(RowsRefusal::TooManyStates) => say_fault(alloc, request.file, 1, 1, 24, output),
         Err(RowsRefusal::Memory) => Status::Memory,
     }
 }
@@ -171,20 +161,18 @@ fn serve_game<I: Source, O: Sink>(
 /// Does what the command wants with a well-typed specification that needs no hidden tables.
 pub fn serve_specification<I: Source, O: Sink>(
     alloc: Global,
-    command: Command,
-    name: &str,
+    request: Request<'_>,
     spec: &Spec,
     input: &mut I,
     output: &mut O,
 ) -> Status
     requires typed { WellTyped (spec_data spec.now) }
     requires plain { all_hidden (spec_data spec.now) ≡ 0 }
-    ensures { let before = moment (I.left input.old) (O.written output.old) (I.faults input.old) (O.faults output.old) in
-        let after = moment (I.left input.new) (O.written output.new) (I.faults input.new) (O.faults output.new) in
-        ServesSpecification command name.now before after (spec_data spec.now) result }
+    ensures { let at = moments I.left O.written I.faults O.faults in
+        ServesSpecification request.entry.command request.entry.nodes request.entry.file.now (at input.old output.old) (at input.new output.new) (spec_data spec.now) result }
 {
     match expand(alloc, spec) {
-        Ok(game) => serve_game(alloc, command, name, spec, game, input, output),
+        Ok(game) => serve_game(alloc, request, spec, game, input, output),
         Err(_) => Status::Memory,
     }
 }

@@ -1,20 +1,21 @@
 //! A session: the verdict line, the talk, and the last line.
 
-ghost use Rattle.std.specs.Prelude.{◌≡◌, ◌⊎◌, [], None, IfOk, string_bytes};
+ghost use Rattle.std.specs.Prelude.{◌≡◌, [], None, IfOk, string_bytes};
 ghost use Rattle.spec_model.specs.Syntax.{Specification};
 ghost use Rattle.spec_model.specs.Views.{spec_data};
-ghost use Rattle.spec_model.specs.Laws.{NumbersRise};
-ghost use Rattle.hidden_game.specs.GameOf.{game_of};
-ghost use Rattle.hidden_game.specs.Agreement.{HasPlainLines};
+ghost use Rattle.spec_model.specs.Agreement.{Agrees};
 ghost use Rattle.gr1_law.specs.Layers.{LayerSets, round_count};
 ghost use Rattle.gr1_sys.specs.Held.{ranks_of};
 ghost use Rattle.controller.specs.Made.{AreLayersOf};
 ghost use Rattle.controller.specs.Objects.{IsFresh, Stands};
 ghost use Rattle.session_lines.specs.Views.{AreFor, pending_of};
 ghost use Rattle.session.specs.Strategies.{rounds_of, IsOf};
-ghost use Rattle.spectra.specs.Sessions.{moment, Holds, WantsMemory, realizable};
+ghost use Rattle.spectra.specs.Endings.{line_of, realizable};
+ghost use Rattle.spectra.specs.Streams.{moments};
+ghost use Rattle.spectra.specs.Sessions.{Holds, HoldsOrNot};
+ghost use Rattle.spectra.specs.Verdict.{RunsOut};
 
-use crate::closing::close;
+use crate::saying::{close, realizable_line, say_halt};
 use crate::status::Status;
 use controller::Controller;
 use gr1_sys::SysLayers;
@@ -36,12 +37,12 @@ struct Room {
 
 // The room for a session, so that no later call wants memory.
 fn room_for(alloc: Global, spec: &Spec, k: u64) -> Result<Room, OutOfMemory>
-    ensures verdict { IfOk result (λ r. string_bytes r.verdict ≡ realizable k) }
+    ensures verdict { IfOk result (λ r. string_bytes r.verdict ≡ line_of (realizable k)) }
     ensures for_spec { IfOk result (λ r. AreFor r.lines (spec_data spec.now)) }
     ensures nothing_taken { IfOk result (λ r. pending_of r.lines ≡ []) }
 {
     Ok(Room {
-        verdict: format!(in alloc; "realizable K={k}\n")?,
+        verdict: realizable_line(alloc, k)?,
         lines: Lines::make(alloc, spec)?,
     })
 }
@@ -54,14 +55,13 @@ fn exchange<G: Regions, I: Source, O: Sink>(
     input: &mut I,
     output: &mut O,
 ) -> Status
-    requires verdict { verdict.now ≡ realizable (rounds_of play.old) }
+    requires verdict { verdict.now ≡ line_of (realizable (rounds_of play.old)) }
     requires nothing_taken { pending_of lines.old ≡ [] }
     requires fresh { IsFresh play.old }
     requires stands { Stands G.kept play.old }
     requires one_specification { (s : Specification) × AreFor lines.old s × IsOf G.kept play.old s }
-    ensures holds { let before = moment (I.left input.old) (O.written output.old) (I.faults input.old) (O.faults output.old) in
-        let after = moment (I.left input.new) (O.written output.new) (I.faults input.new) (O.faults output.new) in
-        (s : Specification) → AreFor lines.old s → IsOf G.kept play.old s → Holds s (rounds_of play.old) before after result }
+    ensures holds { let at = moments I.left O.written I.faults O.faults in
+        (s : Specification) → AreFor lines.old s → IsOf G.kept play.old s → Holds s (rounds_of play.old) (at input.old output.old) (at input.new output.new) result }
     ensures stands { Stands G.kept play.new }
 {
     match write_line(output, verdict.as_bytes()) {
@@ -80,14 +80,13 @@ fn held<G: Regions + Drop, I: Source, O: Sink>(
     input: &mut I,
     output: &mut O,
 ) -> Status
-    requires verdict { string_bytes room.verdict ≡ realizable (rounds_of play) }
+    requires verdict { string_bytes room.verdict ≡ line_of (realizable (rounds_of play)) }
     requires nothing_taken { pending_of room.lines ≡ [] }
     requires fresh { IsFresh play }
     requires stands { Stands G.kept play }
     requires one_specification { (s : Specification) × AreFor room.lines s × IsOf G.kept play s }
-    ensures { let before = moment (I.left input.old) (O.written output.old) (I.faults input.old) (O.faults output.old) in
-        let after = moment (I.left input.new) (O.written output.new) (I.faults input.new) (O.faults output.new) in
-        (s : Specification) → AreFor room.lines s → IsOf G.kept play s → Holds s (rounds_of play) before after result }
+    ensures { let at = moments I.left O.written I.faults O.faults in
+        (s : Specification) → AreFor room.lines s → IsOf G.kept play s → Holds s (rounds_of play) (at input.old output.old) (at input.new output.new) result }
 {
     let Room { verdict, mut lines } = room;
     let mut play = play;
@@ -100,6 +99,7 @@ fn held<G: Regions + Drop, I: Source, O: Sink>(
 /// before the verdict line is written.
 pub fn hold<G: Regions + Drop, I: Source, O: Sink>(
     alloc: Global,
+    nodes: u32,
     spec: &Spec,
     g: G,
     layers: SysLayers<G>,
@@ -107,13 +107,10 @@ pub fn hold<G: Regions + Drop, I: Source, O: Sink>(
     output: &mut O,
 ) -> Status
     requires free { (G.kept g).jam ≡ None }
-    requires game { (G.kept g).game ≡ game_of (spec_data spec.now) }
-    requires plain { HasPlainLines (spec_data spec.now) }
-    requires rising { NumbersRise (spec_data spec.now).lines }
+    requires agrees { Agrees (spec_data spec.now) (G.kept g).game }
     requires won { (l : LayerSets) × AreLayersOf (G.kept g) layers.z layers.goals.items l }
-    ensures holds { let before = moment (I.left input.old) (O.written output.old) (I.faults input.old) (O.faults output.old) in
-        let after = moment (I.left input.new) (O.written output.new) (I.faults input.new) (O.faults output.new) in
-        Holds (spec_data spec.now) (round_count (ranks_of layers.goals.items)) before after result ⊎ WantsMemory before after result }
+    ensures holds { let at = moments I.left O.written I.faults O.faults in
+        HoldsOrNot (spec_data spec.now) (round_count (ranks_of layers.goals.items)) nodes (RunsOut G.kept) (at input.old output.old) (at input.new output.new) result }
 {
     let mut g = g;
     let Ok(room) = room_for(alloc, spec, layers.k()) else {
@@ -122,6 +119,6 @@ pub fn hold<G: Regions + Drop, I: Source, O: Sink>(
     };
     match Controller::make(alloc, g, layers) {
         Ok(play) => held(room, play, input, output),
-        Err(MakeRefusal { halt: _, g: _g }) => Status::Memory,
+        Err(MakeRefusal { halt, g: _g }) => say_halt(alloc, nodes, halt, output),
     }
 }

@@ -8,16 +8,15 @@
 //! Contract: `top::spectra`. Path: words and bytes → tokens → trees → specification → verdict → **lines and status**.
 #![tactic(auto)]
 
-mod closing;
 mod deciding;
 mod holding;
+mod laws;
 mod placing;
 mod reading;
 mod saying;
 mod serving;
 mod status;
 mod top;
-mod typed_laws;
 
 use sp_outside::{OutOfMemory, RealShelf, RealSink, RealSource};
 use status::Status;
@@ -48,7 +47,5 @@ fn words_of(rt: &(impl Env + AllocGlobal)) -> Result<Vec<String>, OutOfMemory> {
     }
 }
 
-#[cfg(test)]
-mod run_tests;
 #[cfg(test)]
 mod tests;

@@ -1,7 +1,7 @@
 //! How a run of the program ends.
 
 ghost use Rattle.std.specs.Prelude.{◌≡◌};
-ghost use Rattle.spectra.specs.Status.{number_of};
+ghost use Rattle.spectra.specs.Endings.{number_of};
 
 /// How a run of the program ends. Each status has the number that the process ends with.
 #[derive(Clone, Copy, Debug, PartialEq, Eq)]

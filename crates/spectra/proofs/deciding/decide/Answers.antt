@@ -2,8 +2,8 @@ use Rattle.std.proofs.Common.{sym, subst}
 use Rattle.spec_model.specs.WellMade.{WellMade}
 use Rattle.controller.proofs.Serving.{solved_layers}
 use Rattle.spectra.specs.Verdict.{Escapes}
-use Rattle.spectra.specs.Top.{no_memory}
-use Rattle.spectra.proofs.Decided.{nothing_done}
+use Rattle.spectra.proofs.Decided.{is_halted}
+use Rattle.spectra.proofs.Found.{solving_ran_out}
 use Rattle.spectra.proofs.deciding.decide.Goals as goal
 
 pub do_won-requires-clause-won : goal.do_won-requires-clause-won
@@ -17,4 +17,4 @@ do_lost-requires-clause-lost g c =
     subst Escapes c.requires.game h.solved.escapes
 
 pub returns-in-Err : goal.returns-in-Err
-returns-in-Err g c = no_memory (nothing_done _ _ _ _)
+returns-in-Err g c = is_halted _ _ _ _ _ _ _ c.in-Err.halt (λ is. let told = solving_ran_out (g.G.Regions.kept c.args.g) (g.G.Regions.kept c.solve_sys.new.g) c.in-Err.halt is c.in-Err.ensures.told in (c.solve_sys.new.g, told.0, told.1)) (c.say_halt.ensures _ _)

@@ -2,13 +2,14 @@ use Rattle.std.proofs.Common.{◌≡◌, ◌∙◌, List, ℕ, refl, subst}
 use Rattle.std.specs.Io.KnownBytes.{Appends}
 use Rattle.sp_outside.specs.Written.{AppendsFront}
 use Rattle.session.specs.Strategies.{rounds_of}
-use Rattle.spectra.specs.Sessions.{realizable, cut_at_once}
+use Rattle.spectra.specs.Endings.{line_of, realizable}
+use Rattle.spectra.specs.Sessions.{cut_at_once}
 use Rattle.spectra.proofs.Exchanges.{session_held}
 use Rattle.spectra.proofs.holding.exchange.Goals as goal
 
 pub returns-in-Ok-clause-holds : goal.returns-in-Ok-clause-holds
 returns-in-Ok-clause-holds g c =
-    let line : c.as_bytes.result.now ≡ realizable (rounds_of c.args.play.now) = c.as_bytes.ensures.value ∙ c.requires.verdict in
+    let line : c.as_bytes.result.now ≡ line_of (realizable (rounds_of c.args.play.now)) = c.as_bytes.ensures.value ∙ c.requires.verdict in
     λ s for_spec is_of.
     session_held s (rounds_of c.args.play.now) _ _ _ _ _ _ _ _ _ _ _ _ _ _
     (subst (λ (l : List ℕ). Appends (g.O.Sink.written c.args.output.now) (g.O.Sink.written c.write_line.new.output) l) line c.in-Ok.ensures.whole)
@@ -16,6 +17,6 @@ returns-in-Ok-clause-holds g c =
 
 pub returns-in-Err-clause-holds : goal.returns-in-Err-clause-holds
 returns-in-Err-clause-holds g c =
-    let line : c.as_bytes.result.now ≡ realizable (rounds_of c.args.play.now) = c.as_bytes.ensures.value ∙ c.requires.verdict in
+    let line : c.as_bytes.result.now ≡ line_of (realizable (rounds_of c.args.play.now)) = c.as_bytes.ensures.value ∙ c.requires.verdict in
     λ s for_spec is_of.
     cut_at_once refl (subst (λ (l : List ℕ). AppendsFront (g.O.Sink.written c.args.output.now) (g.O.Sink.written c.write_line.new.output) l) line c.in-Err.ensures.part) c.in-Err.ensures.cause.failed

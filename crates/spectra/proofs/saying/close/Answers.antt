@@ -6,7 +6,7 @@ use Rattle.session.specs.declared.talking.End.TheVariants as ends
 use Rattle.spectra.specs.declared.status.Status.TheVariants.{Done, OutputFault}
 use Rattle.spectra.specs.Sessions.{Closes, whole}
 use Rattle.spectra.proofs.Exchanges.{closes_by}
-use Rattle.spectra.proofs.closing.close.Goals as goal
+use Rattle.spectra.proofs.saying.close.Goals as goal
 
 pub returns-in-Finished-clause-closes : goal.returns-in-Finished-clause-closes
 returns-in-Finished-clause-closes g c =

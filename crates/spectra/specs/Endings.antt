@@ -1,0 +1,105 @@
+-- How the program ends: its statuses, and the lines that it may write last.
+use Rattle.std.specs.Prelude.{◌≡◌, ◌⊎◌, ℕ, ◌==◌, List, [], ◌∷◌, ◌++◌, codes, if◌then◌else◌}
+use Rattle.std.specs.Fmt.{decimal}
+use Rattle.spectra.specs.declared.status.Status.{Status}
+use Rattle.spectra.specs.declared.status.Status.TheVariants.{Done, Other, Words, Refused, Assumption, Budget, BadLine, ShelfFault, InputFault, OutputFault, Memory, NoFile, Limit}
+
+-- ---- statuses
+
+-- the number that stands for each
+abbrev pub number_of : Status → ℕ
+number_of Done = 0
+number_of Other = 1
+number_of Words = 2
+number_of Refused = 3
+number_of Assumption = 4
+number_of Budget = 5
+number_of BadLine = 6
+number_of ShelfFault = 7
+number_of InputFault = 8
+number_of OutputFault = 9
+number_of Memory = 10
+number_of NoFile = 11
+number_of Limit = 12
+
+-- the output or memory failed
+abbrev pub IsCutShort : Status → Type 0
+IsCutShort OutputFault = Unit {0}
+IsCutShort Memory = Unit {0}
+IsCutShort _ = ⊥
+
+-- the status is this one, where the output and memory did not fail
+abbrev pub IsUnlessCut : Status → Status → Type 0
+IsUnlessCut expected status = (status ≡ expected) ⊎ IsCutShort status
+
+-- the status is this one, where nothing that lies outside failed
+abbrev pub IsUnlessFault : Status → Status → Type 0
+IsUnlessFault expected status = (status ≡ expected) ⊎ ((status ≡ ShelfFault) ⊎ IsCutShort status)
+
+-- ---- faults of texts
+
+-- the number and the word of each fault
+unfoldable pub fault_text : ℕ → List ℕ
+fault_text n =
+    if n == 1 then codes "1 NotUtf8"
+    else if n == 2 then codes "2 BadCharacter"
+    else if n == 3 then codes "3 TooLong"
+    else if n == 4 then codes "4 Unexpected"
+    else if n == 5 then codes "5 TooDeep"
+    else if n == 6 then codes "6 Parentheses"
+    else if n == 7 then codes "7 Unknown"
+    else if n == 8 then codes "8 Twice"
+    else if n == 9 then codes "9 WrongType"
+    else if n == 10 then codes "10 NextHere"
+    else if n == 11 then codes "11 NextNested"
+    else if n == 12 then codes "12 NextOfSystem"
+    else if n == 13 then codes "13 SystemInInitial"
+    else if n == 14 then codes "14 WideInt"
+    else if n == 15 then codes "15 Cycle"
+    else if n == 16 then codes "16 Arity"
+    else if n == 18 then codes "18 TooMany"
+    else if n == 19 then codes "19 TooLarge"
+    else if n == 23 then codes "23 Unsupported"
+    else codes "24 TooManyStates"
+
+-- ---- endings
+
+-- How a run ends that neither the output nor memory cuts short.
+pub data Ending : Type 0 where
+  usage : Ending
+  no_file : (name : List ℕ) → Ending
+  shelf_fault : (name : List ℕ) → Ending
+  refused : (name : List ℕ) (line column number : ℕ) → Ending
+  realizable : (k : ℕ) → Ending
+  unrealizable : (n m : ℕ) → Ending
+  no_controller : Ending
+  node_budget : (nodes : ℕ) → Ending
+  all_answered : Ending
+  broken : (line : ℕ) → Ending
+  bad_line : (line : ℕ) → Ending
+  state_limit : Ending
+  input_fault : Ending
+  output_fault : Ending
+
+-- the last line of each, with its line feed, and its status
+abbrev pub row : Ending → List ℕ × Status
+row usage = (codes "usage: spectra COMMAND FILE [--nodes N]\n", Words)
+row (no_file name) = (codes "no such file: " ++ name ++ 10 ∷ [], NoFile)
+row (shelf_fault name) = (codes "file fault: " ++ name ++ 10 ∷ [], ShelfFault)
+row (refused name line column number) = (name ++ 58 ∷ (decimal line ++ 58 ∷ (decimal column ++ (codes ": fault " ++ (fault_text number ++ 10 ∷ [])))), Refused)
+row (realizable k) = (codes "realizable K=" ++ (decimal k ++ 10 ∷ []), Done)
+row (unrealizable n m) = (codes "unrealizable N=" ++ (decimal n ++ (codes " M=" ++ (decimal m ++ 10 ∷ []))), Other)
+row no_controller = (codes "no controller\n", Other)
+row (node_budget nodes) = (codes "node budget " ++ (decimal nodes ++ codes " reached\n"), Budget)
+row all_answered = ([], Done)
+row (broken line) = (codes "assumption broken #" ++ (decimal line ++ codes "\n"), Assumption)
+row (bad_line line) = (codes "line " ++ (decimal line ++ codes " refused\n"), BadLine)
+row state_limit = (codes "state limit reached\n", Limit)
+row input_fault = (codes "input fault\n", InputFault)
+row output_fault = ([], OutputFault)
+
+abbrev pub line_of : Ending → List ℕ
+line_of e = (row e).0
+
+abbrev pub status_of : Ending → Status
+status_of e = (row e).1

@@ -1,0 +1,22 @@
+//! Texts with faults of tokens, of the grammar and of states, worked out by hand.
+
+// The statements after `spec X`, and the place and the fault.
+pub const FORMS: [&str; 12] = [
+    "sys boolean a; sys boolean b; sys boolean c; sys boolean d; sys boolean e; env boolean f; env boolean h; env boolean i; env boolean j; env boolean k; env boolean l; => 1:1 24 TooManyStates",
+    // The file ends behind its line feed, where a semicolon is wanted.
+    "sys boolean g; gar ini g => 3:1 4 Unexpected",
+    "env boolean g; sys boolean g; => 2:28 8 Twice",
+    "sys boolean true; => 2:13 4 Unexpected",
+    "sys boolean g; /* a comment => 2:16 2 BadCharacter",
+    "sys boolean g; gar ini $; => 2:24 2 BadCharacter",
+    // A column is a character, and a name may have letters beyond ASCII.
+    "sys boolean né; gar ini né & #; => 2:30 2 BadCharacter",
+    "sys boolean g; gar alw g -> g -> g; => 2:31 6 Parentheses",
+    // Forms that aren't built yet are named by their first token.
+    "sys boolean g; gar alw PREV g; => 2:24 23 Unsupported",
+    "sys boolean g; monitor boolean m { } => 2:16 23 Unsupported",
+    // Lines may have names, and no two the same one.
+    "sys boolean g; asm g: alw true; gar h: alwEv g; gar i: alw g; gar h: alw g; gar g: alw g; => 2:67 8 Twice",
+    // More states than rows may have.
+    "sys Int(0..1024) x; => 1:1 24 TooManyStates",
+];
