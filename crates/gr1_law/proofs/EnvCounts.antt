@@ -37,7 +37,7 @@ most-same f f' (suc k) each = let earlier = most-same f f' k (λ i below. each i
 -- ---- the greatest ranks
 
 -- the least rank at which iterates that are told settle, whatever their names
-told_least : (x d : ℕ → StateSet) → ((r : ℕ) → x r ≡ d r) → (k : ℕ) → IsLeastNumber (λ r. d r ≡ d (suc r)) k → IsLeastNumber (λ r. x r ≡ x (suc r)) k
+pub told_least : (x d : ℕ → StateSet) → ((r : ℕ) → x r ≡ d r) → (k : ℕ) → IsLeastNumber (λ r. d r ≡ d (suc r)) k → IsLeastNumber (λ r. x r ≡ x (suc r)) k
 told_least x d same k least =
     record {
       here = same k ∙ (least.here ∙ sym (same (suc k)));

@@ -24,3 +24,4 @@ pub mod Holds
 pub mod EnvLayering
 pub mod EnvCounts
 pub mod SidesDual
+pub mod LostGames

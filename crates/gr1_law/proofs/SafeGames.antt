@@ -20,20 +20,23 @@ not_both true e = cc
 not_both false e = cc
 
 module _ (g : GameData) (none : HasNoGoals g) where
-  one_goal : goal_sets g ≡ all_states g ∷ []
+  pub one_goal : goal_sets g ≡ all_states g ∷ []
   one_goal = ap (λ (gs : List GoalData). or_all_states g (map (λ (goal : GoalData). holding g goal.holds) gs)) none.1
 
-  one_assumption : assumption_sets g ≡ all_states g ∷ []
+  pub one_assumption : assumption_sets g ≡ all_states g ∷ []
   one_assumption = ap (λ (gs : List GoalData). or_all_states g (map (λ (goal : GoalData). holding g goal.holds) gs)) none.0
 
-  goal_count : length (goal_sets g) ≡ 1
+  pub goal_count : length (goal_sets g) ≡ 1
   goal_count = ap (λ (sets : List StateSet). length sets) one_goal
 
-  asm_alone : asm_count g ≡ 1
+  pub asm_alone : asm_count g ≡ 1
   asm_alone = ap (λ (sets : List StateSet). length sets) one_assumption
 
-  holds_in_all : (s : State) → is_state g s ≡ true → goal_set g 0 s ≡ true
+  pub holds_in_all : (s : State) → is_state g s ≡ true → goal_set g 0 s ≡ true
   holds_in_all s here = ap (λ (sets : List StateSet). get_or sets 0 no_states s) one_goal ∙ here
+
+  pub met_in_all : (s : State) → is_state g s ≡ true → assumption_set g 0 s ≡ true
+  met_in_all s here = ap (λ (sets : List StateSet). get_or sets 0 no_states s) one_assumption ∙ here
 
   -- the only assumption is never false
   no_waiting : (s : State) → rest g (assumption_set g 0) s ≡ true → ⊥

@@ -20,21 +20,21 @@ use Rattle.gr1_law.proofs.EnvLayering.{in_a_hold, hold_in_layer, env_layer_insid
 
 -- ---- complements
 
-to_rest : (g : GameData) (t : StateSet) (s : State) → IsTrue (all_states g s) → (IsTrue (t s) → ⊥) → IsTrue (rest g t s)
+pub to_rest : (g : GameData) (t : StateSet) (s : State) → IsTrue (all_states g s) → (IsTrue (t s) → ⊥) → IsTrue (rest g t s)
 to_rest g t s here out = at (t s) out
   where
     at : (p : Bool) → (p ≡ true → ⊥) → (is_state g s && not p) ≡ true
     at true outside = absurd (outside refl)
     at false outside = and_from _ _ here refl
 
-of_rest : (g : GameData) (t : StateSet) (s : State) → IsTrue (rest g t s) → IsTrue (t s) → ⊥
+pub of_rest : (g : GameData) (t : StateSet) (s : State) → IsTrue (rest g t s) → IsTrue (t s) → ⊥
 of_rest g t s e here = at (t s) here (and_parts _ _ e).1
   where
     at : (p : Bool) → p ≡ true → not p ≡ true → ⊥
     at true inside out = false≢true out
     at false inside out = false≢true inside
 
-rest_state : (g : GameData) (t : StateSet) (s : State) → IsTrue (rest g t s) → IsTrue (all_states g s)
+pub rest_state : (g : GameData) (t : StateSet) (s : State) → IsTrue (rest g t s) → IsTrue (all_states g s)
 rest_state g t s e = (and_parts (is_state g s) (not (t s)) e).0
 
 -- a state that can't be outside a set is in it

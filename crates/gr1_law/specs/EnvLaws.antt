@@ -2,7 +2,8 @@
 use Rattle.std.specs.Prelude.{◌≡◌, ◌↔◌, ℕ, suc, ◌+◌, ◌*◌, ◌<◌, ◌≤◌, not, List, None, length, IsTrue}
 use Rattle.spec_model.specs.Games.{GameData, State}
 use Rattle.spec_model.specs.Steps.{states_of}
-use Rattle.spec_model.specs.Sets.{StateSet, rest, system_forces, environment_forces, IsPartOf, IsLeast}
+use Rattle.spec_model.specs.Sets.{StateSet, rest, pre_env, system_forces, environment_forces, IsPartOf, IsLeast}
+use Rattle.safety.specs.Solution.{IsShiftCount, IsDenialCount}
 use Rattle.gr1_law.specs.Layers.{LayerSets, IsWinning, goal_sets, assumption_sets}
 use Rattle.gr1_law.specs.EnvLayers.{delay_value, IsHold, EnvLayerSets, AreEnvLayers, IsLayerCount, AreDelayCounts, denial_count}
 
@@ -48,3 +49,19 @@ abbrev pub SidesAreDual : GameData → Type 0
 SidesAreDual g =
     (z : StateSet) (l : LayerSets) (e : EnvLayerSets) (n : ℕ) → IsWinning g z l → AreEnvLayers g e → IsLayerCount e n →
     (e.z n ≡ rest g z) × (not (system_forces g z None) ≡ environment_forces g (e.z n) None)
+
+-- ---- where nothing recurs
+
+-- A layer has the states from which the environment forces the next one into the layer before it, and the last is the least
+-- set that equals its own `pre_env`. N is the least number of positions after which no more states are lost; M is 2, or 1
+-- where N is 0.
+pub record LossIsASpecialCase (g : GameData) (e : EnvLayerSets) (n m : ℕ) : Type 0 where
+  pub layers : (a : ℕ) → e.z (suc a) ≡ pre_env g (e.z a)
+  pub last : IsLeast (pre_env g) (e.z n)
+  pub shifts : IsShiftCount g n
+  pub denials : IsDenialCount n m
+
+abbrev pub LosingIsASpecialCase : GameData → Type 0
+LosingIsASpecialCase g =
+    (e : EnvLayerSets) (n : ℕ) (counts : ℕ → ℕ → List ℕ) → AreEnvLayers g e → IsLayerCount e n → AreDelayCounts g e n counts →
+    LossIsASpecialCase g e n (denial_count g n counts)

@@ -2,9 +2,10 @@
 
 ghost use Rattle.std.specs.Prelude.{ℕ};
 ghost use Rattle.spec_model.specs.Games.{GameData};
+ghost use Rattle.spec_model.specs.Agreement.{HasNoGoals};
 ghost use Rattle.spec_model.specs.WellMade.{WellMade};
 ghost use Rattle.spec_model.specs.Sets.{StateSet};
-ghost use Rattle.gr1_law.specs.EnvLaws.{HoldIsTold, EnvLayersAreTold, DenialsAreTold, DenialsAreFew, SidesAreDual};
+ghost use Rattle.gr1_law.specs.EnvLaws.{HoldIsTold, EnvLayersAreTold, DenialsAreTold, DenialsAreFew, SidesAreDual, LosingIsASpecialCase};
 
 /// Each goal has one hold above each set: the greatest set that equals what the least sets of its equation, one for each
 /// assumption, have in common (Könighofer et al. 2009, counterstrategies).
@@ -31,4 +32,10 @@ pub fn denials_are_few()
 /// forces the first state into its own: the system into Z, or the environment into its last layer.
 pub fn sides_are_dual()
     ensures { (g : GameData) → WellMade g → SidesAreDual g }
+{}
+
+/// In a game without goals the environment's layers, N and M are those of a safety game: the environment wins by leaving the
+/// system without a legal output (Bloem et al. 2012, safety games).
+pub fn losing_is_a_special_case()
+    ensures { (g : GameData) → HasNoGoals g → LosingIsASpecialCase g }
 {}
