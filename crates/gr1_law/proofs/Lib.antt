@@ -25,3 +25,9 @@ pub mod EnvLayering
 pub mod EnvCounts
 pub mod SidesDual
 pub mod LostGames
+pub mod CounterSteps
+pub mod Lengthening
+pub mod CounterTrails
+pub mod CounterRounds
+pub mod Denied
+pub mod CounterBeats

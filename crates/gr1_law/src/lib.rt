@@ -12,6 +12,7 @@
 //! Path: regions → **layers** → strategy → verdict.
 #![tactic(auto)]
 
+pub mod counter_laws;
 pub mod env_laws;
 pub mod laws;
 pub mod specification_laws;
