@@ -12,12 +12,12 @@ use Rattle.spec_model.specs.WellMade.{WellMade}
 use Rattle.gr1_law.specs.Layers.{IsLeastNumber, goal_set, assumption_set}
 use Rattle.gr1_law.specs.EnvLayers.{EnvLayerSets, denial_count}
 use Rattle.gr1_law.specs.Counter.{CounterMemory, first_counter, next_assumption, IsGiven, IsNoted, note_of, label_at, AnsweredPlay}
-use Rattle.gr1_law.specs.CounterLaws.{LabelsDiffer, IsLostWith, AnsweredPlayBeats, AnswerIsOne}
+use Rattle.gr1_law.specs.CounterLaws.{LabelsDiffer, IsLostWith, AnsweredPlayBeats, AnswerIsOne, DenialsLower}
 use Rattle.gr1_law.proofs.Solutions.{least-one}
 use Rattle.gr1_law.proofs.Denied.{goal_there, labelled, labelled-found, labelled-holds}
 use Rattle.gr1_law.proofs.CounterSteps.{CounterReady, input_exists, given_input, given_legal, given_leads, note_exists}
 use Rattle.gr1_law.proofs.CounterTrails.{Answered, CounterTrail, answered}
-use Rattle.gr1_law.proofs.CounterRounds.{stands_state, denied_at, fair}
+use Rattle.gr1_law.proofs.CounterRounds.{stands_state, rank_at, ranked_at, denied_at, fair, denials_fall}
 
 module _ (g : GameData) (made : WellMade g) (differ : LabelsDiffer g) (e : EnvLayerSets) (n : ℕ) (counts : ℕ → ℕ → List ℕ) (lost : IsLostWith g e n counts) where
   -- the shifts used never pass N
@@ -99,6 +99,19 @@ module _ (g : GameData) (made : WellMade g) (differ : LabelsDiffer g) (e : EnvLa
 
   pub unrealizable : IsUnrealizable (rules_of_game g) n (denial_count g n counts)
   unrealizable = record { at_least_one = omega arith; beats = λ depth. beats depth [] [] None first_counter AnsweredPlay.nothing }
+
+-- ---- the potential
+
+pub remembered : (g : GameData) → DenialsLower g
+remembered g e n counts lost h notes b k play =
+    let end = answered g e lost.layers n h notes b k lost.forced play in
+    record {
+      memory = end.trail.memory;
+      rank = rank_at g e lost.layers n h notes k end.trail;
+      answered = end.trail.played;
+      ranked = ranked_at g e lost.layers n h notes k end.trail;
+      falls = denials_fall g e lost.layers n counts lost.delays h notes k end.trail;
+    }
 
 -- ---- the choice is determined
 

@@ -11,7 +11,8 @@ use Rattle.spec_model.specs.WellMade.{WellMade}
 use Rattle.gr1_law.specs.Layers.{IsLeastNumber, goal_sets, assumption_sets, assumption_set}
 use Rattle.gr1_law.specs.EnvLayers.{delay, EnvLayerSets, AreEnvLayers, AreDelayCounts, most, denial_count}
 use Rattle.gr1_law.specs.Counter.{CounterMemory, next_assumption, label_at}
-use Rattle.gr1_law.specs.Potential.{ranks_ahead}
+use Rattle.gr1_law.specs.Potential.{ranks_ahead, denial_potential}
+use Rattle.gr1_law.specs.CounterLaws.{DenialsFall}
 use Rattle.gr1_law.proofs.Chains.{in_settled}
 use Rattle.gr1_law.proofs.Delays.{delay_in_next, delay-inside, delay_stays}
 use Rattle.gr1_law.proofs.EnvCounts.{at_most-most}
@@ -28,6 +29,27 @@ module _ (g : GameData) (e : EnvLayerSets) (of : AreEnvLayers g e) (n : ℕ) whe
 
   abbrev pub RankedBy : State → CounterMemory → ℕ → Type 0
   RankedBy s k rank = IsLeastNumber (λ r. IsTrue (e.x k.layer k.goal k.before r s)) rank
+
+  -- ---- the rank at each position of a run
+
+  module _ (h : Run) (notes : List NoteData) (k : CounterMemory) (trail : CounterTrail g e n h notes k) where
+    in_or_past : (t : ℕ) → (t < length h) ⊎ (length h ≤ t)
+    in_or_past t = grind arith
+
+    rank_where : (t : ℕ) → (t < length h) ⊎ (length h ≤ t) → ℕ
+    rank_where t (inl inner) = (trail.stands t inner).rank
+    rank_where t (inr past) = 0
+
+    pub rank_at : ℕ → ℕ
+    rank_at t = rank_where t (in_or_past t)
+
+    pub ranked_at : (t : ℕ) → t < length h → RankedBy (state_at g h t) (trail.memory t) (rank_at t)
+    unfolding rank_at rank_where
+    ranked_at t inner = by_cases (in_or_past t)
+      where
+        by_cases : (place : (t < length h) ⊎ (length h ≤ t)) → RankedBy (state_at g h t) (trail.memory t) (rank_where t place)
+        by_cases (inl inner) = (trail.stands t inner).ranked
+        by_cases (inr past) = absurd (omega arith)
 
   module _ (counts : ℕ → ℕ → List ℕ) (are : AreDelayCounts g e n counts) where
     abbrev pub counts_of : CounterMemory → List ℕ
@@ -74,7 +96,7 @@ module _ (g : GameData) (e : EnvLayerSets) (of : AreEnvLayers g e) (n : ℕ) whe
 
     module _ (q : ℕ) (q_in : q < length (assumption_sets g)) where
       abbrev pub potential_of : CounterMemory → ℕ → ℕ
-      potential_of k rank = rank + ranks_ahead (counts_of k) q k.before
+      potential_of k rank = denial_potential (counts_of k) q rank k
 
       module _ (s : State) (k : CounterMemory) (stands : CounterStands g e n 0 s k) (rank : ℕ) (ranked : RankedBy s k rank) where
         pub potential_some : 0 < potential_of k rank
@@ -113,31 +135,12 @@ module _ (g : GameData) (e : EnvLayerSets) (of : AreEnvLayers g e) (n : ℕ) whe
       -- ---- along a run
 
       module _ (h : Run) (notes : List NoteData) (k : CounterMemory) (trail : CounterTrail g e n h notes k) where
-        in_or_past : (t : ℕ) → (t < length h) ⊎ (length h ≤ t)
-        in_or_past t = grind arith
-
-        rank_where : (t : ℕ) → (t < length h) ⊎ (length h ≤ t) → ℕ
-        rank_where t (inl inner) = (trail.stands t inner).rank
-        rank_where t (inr past) = 0
-
-        -- the rank at each position
-        pub rank_at : ℕ → ℕ
-        rank_at t = rank_where t (in_or_past t)
-
-        pub ranked_at : (t : ℕ) → t < length h → RankedBy (state_at g h t) (trail.memory t) (rank_at t)
-        unfolding rank_at rank_where
-        ranked_at t inner = by_cases (in_or_past t)
-          where
-            by_cases : (place : (t < length h) ⊎ (length h ≤ t)) → RankedBy (state_at g h t) (trail.memory t) (rank_where t place)
-            by_cases (inl inner) = (trail.stands t inner).ranked
-            by_cases (inr past) = absurd (omega arith)
-
         abbrev pub at : ℕ → ℕ
-        at t = potential_of (trail.memory t) (rank_at t)
+        at t = potential_of (trail.memory t) (rank_at h notes k trail t)
 
         falls_once : (t : ℕ) → suc t < length h → (trail.memory t).denying ≡ true → assumption_set g q (state_at g h t) ≡ false → at (suc t) < at t
         falls_once t inner denying fails =
-            potential_falls (state_at g h t) (trail.memory t) (trail.stands t (omega arith)) (rank_at t) (ranked_at t (omega arith)) (state_at g h (suc t)) (trail.memory (suc t)) (trail.stands (suc t) inner) (rank_at (suc t)) (ranked_at (suc t) inner) fails
+            potential_falls (state_at g h t) (trail.memory t) (trail.stands t (omega arith)) (rank_at h notes k trail t) (ranked_at h notes k trail t (omega arith)) (state_at g h (suc t)) (trail.memory (suc t)) (trail.stands (suc t) inner) (rank_at h notes k trail (suc t)) (ranked_at h notes k trail (suc t) inner) fails
             (trail.follows t inner denying)
 
         -- over a stretch of denials at which the assumption fails it falls as often as there are positions
@@ -161,10 +164,20 @@ module _ (g : GameData) (e : EnvLayerSets) (of : AreEnvLayers g e) (n : ℕ) whe
               | inl found ↦ found
               | inr fails ↦
                   let over = falls_over len from inner denying fails in
-                  let few = potential_at_most (state_at g h from) (trail.memory from) (trail.stands from (omega arith)) (rank_at from) (ranked_at from (omega arith)) in
-                  let some = potential_some (state_at g h (from + len)) (trail.memory (from + len)) (trail.stands (from + len) inner) (rank_at (from + len)) (ranked_at (from + len) inner) in
+                  let few = potential_at_most (state_at g h from) (trail.memory from) (trail.stands from (omega arith)) (rank_at h notes k trail from) (ranked_at h notes k trail from (omega arith)) in
+                  let some = potential_some (state_at g h (from + len)) (trail.memory (from + len)) (trail.stands (from + len) inner) (rank_at h notes k trail (from + len)) (ranked_at h notes k trail (from + len) inner) in
                   absurd (omega (arith, over, few, some))
             ]
+
+    pub denials_fall : (h : Run) (notes : List NoteData) (k : CounterMemory) (trail : CounterTrail g e n h notes k) (q : ℕ) → q < length (assumption_sets g) → DenialsFall g counts h trail.memory (rank_at h notes k trail) q
+    denials_fall h notes k trail q q_in =
+        record {
+          at_least = λ t inner. potential_some q q_in (state_at g h t) (trail.memory t) (trail.stands t inner) (rank_at h notes k trail t) (ranked_at h notes k trail t inner);
+          at_most = λ t inner. potential_at_most q q_in (state_at g h t) (trail.memory t) (trail.stands t inner) (rank_at h notes k trail t) (ranked_at h notes k trail t inner);
+          lower = λ t inner denying fails.
+              let followed = trail.follows t inner denying in
+              (followed.layer, followed.goal, falls_once q q_in h notes k trail t inner denying fails);
+        }
 
     -- ---- any M denials in a row
 

@@ -1,7 +1,7 @@
 -- What is remembered at each position of an answered play.
-use Rattle.std.proofs.Common.{◌≡◌, ℕ, suc, ◌+◌, ◌<◌, ◌⊎◌, inl, inr, Bool, true, false, if◌then◌else◌, cond, List, [], ◌∷◌, ◌++◌, length, slice_get, count_by, Some, None, refl, sym, ◌∙◌, ap, subst, arith, IsTrue}
+use Rattle.std.proofs.Common.{◌≡◌, ℕ, suc, ◌+◌, ◌<◌, ◌⊎◌, inl, inr, Bool, true, false, if◌then◌else◌, cond, List, [], ◌∷◌, ◌++◌, length, take, slice_get, count_by, Some, None, refl, sym, ◌∙◌, ap, subst, arith, IsTrue}
 use Rattle.std.proofs.lemmas.Bool.{and_from, false≢true}
-use Rattle.std.proofs.lemmas.List.{length_push}
+use Rattle.std.proofs.lemmas.List.{length_push, take-append-le, take_all}
 use Rattle.std.proofs.lemmas.List.Sums.{sum_by_push}
 use Rattle.spec_model.specs.Values.{Assignment}
 use Rattle.spec_model.specs.Plays.{IsPlay}
@@ -34,6 +34,7 @@ pub record CounterTrail (g : GameData) (e : EnvLayerSets) (n : ℕ) (h : Run) (n
   pub noted : (t : ℕ) → t < length h → slice_get notes t ≡ Some (note_of g (memory t))
   pub follows : (t : ℕ) → suc t < length h → (memory t).denying ≡ true → IsFollowed g e (state_at g h t) (state_at g h (suc t)) (memory t) (memory (suc t))
   pub last : (t : ℕ) → suc t ≡ length h → memory t ≡ k
+  pub played : (t : ℕ) → t < length h → AnsweredPlay g e (take (suc t) h) (take (suc t) notes) (Some (state_at g h t)) (memory t)
 
 -- an answered play is a play, and its end is known
 pub record Answered (g : GameData) (e : EnvLayerSets) (n : ℕ) (h : Run) (notes : List NoteData) (b : Before) (k : CounterMemory) : Type 0 where
@@ -106,7 +107,7 @@ module _ (g : GameData) (e : EnvLayerSets) (of : AreEnvLayers g e) (n : ℕ) whe
               omega (arith, is, lowers denying fails rank' least');
         }
 
-  module _ (h : Run) (notes : List NoteData) (b : Before) (k : CounterMemory) (r : ℕ) (x y : Assignment) (k' : CounterMemory) (answered : Answered g e n h notes b k) (given : IsGiven g e b k r x) (output : is_output g y ≡ true) (legal : legal_output g b x y ≡ true) (noted : IsNoted g e k (reached g b x y) k') where
+  module _ (h : Run) (notes : List NoteData) (b : Before) (k : CounterMemory) (r : ℕ) (x y : Assignment) (k' : CounterMemory) (play : AnsweredPlay g e h notes b k) (answered : Answered g e n h notes b k) (given : IsGiven g e b k r x) (output : is_output g y ≡ true) (legal : legal_output g b x y ≡ true) (noted : IsNoted g e k (reached g b x y) k') where
     abbrev p : Position
     p = record { input = x; output = y }
 
@@ -184,6 +185,20 @@ module _ (g : GameData) (e : EnvLayerSets) (of : AreEnvLayers g e) (n : ℕ) whe
         (subst (λ (k : CounterMemory). IsFollowed g e (state_at g h t) (reached g b x y) (answered.trail.memory t) k) (sym memory-here)
         (last_move t same (subst (λ (k : CounterMemory). k.denying ≡ true) (memory-before t less') denying))))))
 
+    played_at : (t : ℕ) → (t < length h) ⊎ (t ≡ length h) → AnsweredPlay g e (take (suc t) (after h x y)) (take (suc t) (notes ++ note_of g k' ∷ [])) (Some (state_at g (after h x y) t)) (memory t)
+    played_at t (inl less) =
+        subst (λ (h' : Run). AnsweredPlay g e h' (take (suc t) (notes ++ note_of g k' ∷ [])) (Some (state_at g (after h x y) t)) (memory t)) (sym (take-append-le (suc t) h (p ∷ []) (omega arith)))
+        (subst (λ (notes' : List NoteData). AnsweredPlay g e (take (suc t) h) notes' (Some (state_at g (after h x y) t)) (memory t)) (sym (take-append-le (suc t) notes (note_of g k' ∷ []) (omega (arith, less, answered.counted))))
+        (subst (λ (s : State). AnsweredPlay g e (take (suc t) h) (take (suc t) notes) (Some s) (memory t)) (sym (state_at-earlier g h p t less))
+        (subst (AnsweredPlay g e (take (suc t) h) (take (suc t) notes) (Some (state_at g h t))) (sym (memory-before t less)) (answered.trail.played t less))))
+    played_at t (inr same) =
+        subst (λ (t : ℕ). AnsweredPlay g e (take (suc t) (after h x y)) (take (suc t) (notes ++ note_of g k' ∷ [])) (Some (state_at g (after h x y) t)) (memory t)) (sym same)
+        (subst (λ (h' : Run). AnsweredPlay g e h' (take (suc (length h)) (notes ++ note_of g k' ∷ [])) (Some (state_at g (after h x y) (length h))) (memory (length h))) (sym (take_all (suc (length h)) (after h x y) (omega (arith, length-after h p))))
+        (subst (λ (notes' : List NoteData). AnsweredPlay g e (after h x y) notes' (Some (state_at g (after h x y) (length h))) (memory (length h)))
+        (sym (take_all (suc (length h)) (notes ++ note_of g k' ∷ []) (omega (arith, length_push notes (note_of g k'), answered.counted))))
+        (subst (λ (s : State). AnsweredPlay g e (after h x y) (notes ++ note_of g k' ∷ []) (Some s) (memory (length h))) (sym new_state)
+        (subst (AnsweredPlay g e (after h x y) (notes ++ note_of g k' ∷ []) (Some (reached g b x y))) (sym memory-here) (AnsweredPlay.more h notes b k r x y k' play given output legal noted)))))
+
     longer : Answered g e n (after h x y) (notes ++ note_of g k' ∷ []) (Some (reached g b x y)) k'
     longer =
         record {
@@ -197,6 +212,7 @@ module _ (g : GameData) (e : EnvLayerSets) (of : AreEnvLayers g e) (n : ℕ) whe
             last = λ t same.
                 let is : t ≡ length h = omega (arith, same, length-after h p) in
                 ap memory is ∙ memory-here;
+            played = λ t below. played_at t (place t below);
           };
           legal = IsPlay.more h x y answered.legal
               (and_from _ _ (given_input g e of n b k r x given) (subst (λ (b : Before). legal_input g b x ≡ true) answered.state (given_legal g e of n b k r x given)))
@@ -215,8 +231,9 @@ module _ (g : GameData) (e : EnvLayerSets) (of : AreEnvLayers g e) (n : ℕ) whe
           noted = λ t below. absurd (omega arith);
           follows = λ t below. absurd (omega arith);
           last = λ t same. refl;
+          played = λ t below. absurd (omega arith);
         };
         legal = IsPlay.nothing;
         counted = refl;
       }
-  answered _ _ _ _ start (AnsweredPlay.more h notes b k r x y k' play given output legal noted) = longer h notes b k r x y k' (answered h notes b k start play) given output legal noted
+  answered _ _ _ _ start (AnsweredPlay.more h notes b k r x y k' play given output legal noted) = longer h notes b k r x y k' play (answered h notes b k start play) given output legal noted

@@ -1,15 +1,17 @@
 -- Laws of the environment's choices, each of which the function of its name in src/counter_laws.rt proves.
-use Rattle.std.specs.Prelude.{◌≡◌, ℕ, false, ◌<◌, List, None, length, IsTrue}
+use Rattle.std.specs.Prelude.{◌≡◌, ℕ, suc, true, false, ◌<◌, ◌≤◌, List, Some, None, length, take, sum, IsTrue}
 use Rattle.spec_model.specs.Values.{Assignment}
 use Rattle.spec_model.specs.Plays.{IsPlay}
 use Rattle.spec_model.specs.Rules.{Run}
 use Rattle.spec_model.specs.Unrealizable.{NoteData, Beaten, IsUnrealizable, same_label}
-use Rattle.spec_model.specs.Games.{GameData, State}
+use Rattle.spec_model.specs.Games.{GameData, State, state_at}
 use Rattle.spec_model.specs.GameRules.{last_state, rules_of_game}
 use Rattle.spec_model.specs.Steps.{Before, is_input, is_output, legal_input, legal_output, reached}
 use Rattle.spec_model.specs.Sets.{environment_forces}
+use Rattle.gr1_law.specs.Layers.{assumption_sets, assumption_set, IsLeastNumber}
 use Rattle.gr1_law.specs.EnvLayers.{EnvLayerSets, AreEnvLayers, AreDelayCounts, denial_count}
 use Rattle.gr1_law.specs.Counter.{CounterMemory, IsGiven, IsNoted, AnsweredPlay, label_at}
+use Rattle.gr1_law.specs.Potential.{denial_potential}
 
 -- no two goals have one label, so each denied label is that of one goal
 abbrev pub LabelsDiffer : GameData → Type 0
@@ -45,3 +47,30 @@ LosingIsUnrealizable g = (e : EnvLayerSets) (n : ℕ) (counts : ℕ → ℕ → 
 pub record AnswerIsOne (g : GameData) (e : EnvLayerSets) : Type 0 where
   pub input : (b : Before) (k : CounterMemory) (r r' : ℕ) (x x' : Assignment) → IsGiven g e b k r x → IsGiven g e b k r' x' → (r ≡ r') × (x ≡ x')
   pub memory : (k : CounterMemory) (s : State) (k' k'' : CounterMemory) → IsNoted g e k s k' → IsNoted g e k s k'' → k' ≡ k''
+
+-- ---- what falls
+
+-- the potential at a position, in the hold that is remembered there
+abbrev pub potential_at : (ℕ → ℕ → List ℕ) → (ℕ → CounterMemory) → (ℕ → ℕ) → (q t : ℕ) → ℕ
+potential_at counts memory rank q t = denial_potential (counts (memory t).layer (memory t).goal) q (rank t) (memory t)
+
+-- Of what is remembered at the positions of a run: an assumption's potential is at least 1 and at most the ranks of the hold
+-- together, and each denial at which the assumption fails, and after which the run goes on, keeps the hold and lowers it.
+pub record DenialsFall (g : GameData) (counts : ℕ → ℕ → List ℕ) (h : Run) (memory : ℕ → CounterMemory) (rank : ℕ → ℕ) (q : ℕ) : Type 0 where
+  pub at_least : (t : ℕ) → t < length h → 1 ≤ potential_at counts memory rank q t
+  pub at_most : (t : ℕ) → t < length h → potential_at counts memory rank q t ≤ sum (counts (memory t).layer (memory t).goal)
+  pub lower : (t : ℕ) → suc t < length h → (memory t).denying ≡ true → assumption_set g q (state_at g h t) ≡ false →
+      ((memory (suc t)).layer ≡ (memory t).layer) × ((memory (suc t)).goal ≡ (memory t).goal) × (potential_at counts memory rank q (suc t) < potential_at counts memory rank q t)
+
+-- What is remembered after each position of an answered play, with the state's rank; for each assumption the potential falls.
+pub record DenialsAreRemembered (g : GameData) (e : EnvLayerSets) (counts : ℕ → ℕ → List ℕ) (h : Run) (notes : List NoteData) : Type 0 where
+  pub memory : ℕ → CounterMemory
+  pub rank : ℕ → ℕ
+  pub answered : (t : ℕ) → t < length h → AnsweredPlay g e (take (suc t) h) (take (suc t) notes) (Some (state_at g h t)) (memory t)
+  pub ranked : (t : ℕ) → t < length h → IsLeastNumber (λ r. IsTrue (e.x (memory t).layer (memory t).goal (memory t).before r (state_at g h t))) (rank t)
+  pub falls : (q : ℕ) → q < length (assumption_sets g) → DenialsFall g counts h memory rank q
+
+abbrev pub DenialsLower : GameData → Type 0
+DenialsLower g =
+    (e : EnvLayerSets) (n : ℕ) (counts : ℕ → ℕ → List ℕ) → IsLostWith g e n counts →
+    (h : Run) (notes : List NoteData) (b : Before) (k : CounterMemory) → AnsweredPlay g e h notes b k → DenialsAreRemembered g e counts h notes

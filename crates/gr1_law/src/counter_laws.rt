@@ -3,7 +3,7 @@
 ghost use Rattle.spec_model.specs.Games.{GameData};
 ghost use Rattle.spec_model.specs.WellMade.{WellMade};
 ghost use Rattle.gr1_law.specs.EnvLayers.{EnvLayerSets};
-ghost use Rattle.gr1_law.specs.CounterLaws.{LabelsDiffer, AnsweredPlaysBeat, LosingIsUnrealizable, AnswerIsOne};
+ghost use Rattle.gr1_law.specs.CounterLaws.{LabelsDiffer, AnsweredPlaysBeat, LosingIsUnrealizable, AnswerIsOne, DenialsLower};
 
 /// What is remembered and the state determine the next input; and with the state that it leads to what is remembered then.
 pub fn answer_is_one()
@@ -19,4 +19,10 @@ pub fn answered_plays_beat()
 /// So the game is unrealizable with N and M.
 pub fn losing_is_unrealizable()
     ensures { (g : GameData) → WellMade g → LabelsDiffer g → LosingIsUnrealizable g }
+{}
+
+/// Along such a run each denial at which an assumption fails lowers the assumption's potential: the state's rank for the
+/// assumption aimed at, and the hold's greatest ranks for the assumptions from there on up to the one that fails.
+pub fn denials_lower()
+    ensures { (g : GameData) → DenialsLower g }
 {}
