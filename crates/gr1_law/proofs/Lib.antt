@@ -31,3 +31,5 @@ pub mod CounterTrails
 pub mod CounterRounds
 pub mod Denied
 pub mod CounterBeats
+pub mod Labels
+pub mod OneSide

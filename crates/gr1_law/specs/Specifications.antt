@@ -1,12 +1,13 @@
 -- What the layers of a game say of a specification that it agrees with; src/specification_laws.rt proves each.
-use Rattle.std.specs.Prelude.{◌≡◌, ℕ, List, None, IsTrue}
+use Rattle.std.specs.Prelude.{◌≡◌, ◌⊎◌, ℕ, List, None, IsTrue}
 use Rattle.spec_model.specs.Values.{Assignment}
 use Rattle.spec_model.specs.Syntax.{Specification}
 use Rattle.spec_model.specs.Plays.{IsPlay}
 use Rattle.spec_model.specs.Rules.{Run}
 use Rattle.spec_model.specs.Moves.{legal_input, legal_output, rules_of}
 use Rattle.spec_model.specs.Realizable.{Kept, IsRealizable}
-use Rattle.spec_model.specs.Verdicts.{SystemWins}
+use Rattle.spec_model.specs.Verdicts.{SystemWins, EnvironmentWins}
+use Rattle.spec_model.specs.Cores.{Realizable, Unrealizable}
 use Rattle.spec_model.specs.Games.{GameData}
 use Rattle.spec_model.specs.GameRules.{last_state}
 use Rattle.spec_model.specs.Steps.{Before}
@@ -14,6 +15,8 @@ use Rattle.spec_model.specs.Sets.{StateSet, system_forces, pre_sys, IsGreatest}
 use Rattle.safety.specs.Solution.{IsRoundCount}
 use Rattle.gr1_law.specs.Layers.{LayerSets, IsWinning, AreGreatestRanks, round_count}
 use Rattle.gr1_law.specs.Choice.{Memory, IsChosen, ChosenPlay}
+use Rattle.gr1_law.specs.EnvLayers.{EnvLayerSets, IsLayerCount, denial_count}
+use Rattle.gr1_law.specs.CounterLaws.{IsLostWith}
 
 -- the system wins the game with these layers and ranks: it forces the first state into Z
 pub record IsWonWith (g : GameData) (z : StateSet) (l : LayerSets) (ranks : List ℕ) : Type 0 where
@@ -52,3 +55,18 @@ SafetyIsASpecialCase g =
 -- so the system wins by staying in that set, with its number
 abbrev pub StayingWins : Specification → GameData → Type 0
 StayingWins s g = (z : StateSet) (k : ℕ) → IsGreatest (pre_sys g) z → IsTrue (system_forces g z None) → IsRoundCount z k → SystemWins s k
+
+-- ---- the environment's side, and both
+
+-- N and M are within the bounds that are printed
+abbrev pub EnvironmentWinsWithLayers : Specification → GameData → Type 0
+EnvironmentWinsWithLayers s g =
+    (e : EnvLayerSets) (n : ℕ) (counts : ℕ → ℕ → List ℕ) → IsLostWith g e n counts → IsLayerCount e n → EnvironmentWins s n (denial_count g n counts)
+
+-- the system wins with some number, or the environment with some
+abbrev pub OneWins : Specification → Type 0
+OneWins s = ((k : ℕ) × SystemWins s k) ⊎ ((n : ℕ) × (m : ℕ) × EnvironmentWins s n m)
+
+-- within the bounds the specification is realizable, or it is unrealizable
+abbrev pub OneIsTrue : Specification → Type 0
+OneIsTrue s = Realizable s ⊎ Unrealizable s

@@ -3,9 +3,11 @@
 
 ghost use Rattle.spec_model.specs.Syntax.{Specification};
 ghost use Rattle.spec_model.specs.Games.{GameData};
+ghost use Rattle.spec_model.specs.Laws.{NumbersRise};
 ghost use Rattle.spec_model.specs.WellMade.{WellMade};
 ghost use Rattle.spec_model.specs.Agreement.{Agrees, HasNoGoals, NothingRecurs};
-ghost use Rattle.gr1_law.specs.Specifications.{SpecificationIsRealizable, SystemWinsWithRanks, ChosenPlaysKeepTheSpecification, SafetyIsASpecialCase, StayingWins};
+ghost use Rattle.gr1_law.specs.CounterLaws.{LabelsDiffer};
+ghost use Rattle.gr1_law.specs.Specifications.{SpecificationIsRealizable, SystemWinsWithRanks, ChosenPlaysKeepTheSpecification, SafetyIsASpecialCase, StayingWins, EnvironmentWinsWithLayers, OneWins, OneIsTrue};
 
 /// Where the system can force the first state of the game into Z, the specification is realizable with K.
 pub fn specification_is_realizable()
@@ -32,4 +34,21 @@ pub fn safety_is_a_special_case()
 /// So where nothing recurs and the system can force the first state into that set, it wins the specification with that K.
 pub fn staying_wins()
     ensures { (s : Specification) (g : GameData) → Agrees s g → WellMade g → NothingRecurs s → StayingWins s g }
+{}
+
+/// Where line numbers rise no two goals of the game have one label.
+pub fn labels_differ()
+    ensures { (s : Specification) (g : GameData) → Agrees s g → NumbersRise s.lines → LabelsDiffer g }
+{}
+
+/// Where the environment can force the first state of the game into its last layer, the specification is unrealizable with N
+/// and M, within the bounds that its size gives.
+pub fn environment_wins()
+    ensures { (s : Specification) (g : GameData) → Agrees s g → WellMade g → NumbersRise s.lines → EnvironmentWinsWithLayers s g }
+{}
+
+/// So one of the two wins the specification, within the bounds.
+pub fn one_wins()
+    ensures wins { (s : Specification) (g : GameData) → Agrees s g → WellMade g → NumbersRise s.lines → OneWins s }
+    ensures is_true { (s : Specification) (g : GameData) → Agrees s g → WellMade g → NumbersRise s.lines → OneIsTrue s }
 {}
