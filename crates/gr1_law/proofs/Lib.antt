@@ -33,3 +33,4 @@ pub mod Denied
 pub mod CounterBeats
 pub mod Labels
 pub mod OneSide
+pub mod CarryingBeats

@@ -7,7 +7,7 @@ ghost use Rattle.spec_model.specs.Laws.{NumbersRise};
 ghost use Rattle.spec_model.specs.WellMade.{WellMade};
 ghost use Rattle.spec_model.specs.Agreement.{Agrees, HasNoGoals, NothingRecurs};
 ghost use Rattle.gr1_law.specs.CounterLaws.{LabelsDiffer};
-ghost use Rattle.gr1_law.specs.Specifications.{SpecificationIsRealizable, SystemWinsWithRanks, ChosenPlaysKeepTheSpecification, SafetyIsASpecialCase, StayingWins, EnvironmentWinsWithLayers, OneWins, OneIsTrue};
+ghost use Rattle.gr1_law.specs.Specifications.{SpecificationIsRealizable, SystemWinsWithRanks, ChosenPlaysKeepTheSpecification, SafetyIsASpecialCase, StayingWins, EnvironmentWinsWithLayers, AnsweredPlaysBeatTheSpecification, OneWins, OneIsTrue};
 
 /// Where the system can force the first state of the game into Z, the specification is realizable with K.
 pub fn specification_is_realizable()
@@ -45,6 +45,13 @@ pub fn labels_differ()
 /// and M, within the bounds that its size gives.
 pub fn environment_wins()
     ensures { (s : Specification) (g : GameData) → Agrees s g → WellMade g → NumbersRise s.lines → EnvironmentWinsWithLayers s g }
+{}
+
+/// A run of given inputs and legal replies is a play of the specification that beats the system within N shifts and M denials
+/// in a row; an input that the specification allows is given after it, and each reply that it allows makes such a run again
+/// (Könighofer et al. 2009, counterstrategies).
+pub fn answered_plays_beat_the_specification()
+    ensures { (s : Specification) (g : GameData) → Agrees s g → WellMade g → LabelsDiffer g → AnsweredPlaysBeatTheSpecification s g }
 {}
 
 /// So one of the two wins the specification, within the bounds.
