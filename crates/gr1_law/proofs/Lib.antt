@@ -34,3 +34,4 @@ pub mod CounterBeats
 pub mod Labels
 pub mod OneSide
 pub mod CarryingBeats
+pub mod Stuck
