@@ -23,10 +23,10 @@ use Rattle.gr1_law.proofs.Keeping as keeping
 
 module _ (s : Specification) (g : GameData) (agrees : Agrees s g) where
   -- the moves that are legal from the last state are those that the specification allows
-  inputs_agree : (h : Run) (b : Before) → b ≡ last_state g h → (x : Assignment) → (is_input g x && legal_input_from g b x) ≡ legal_input s h x
+  pub inputs_agree : (h : Run) (b : Before) → b ≡ last_state g h → (x : Assignment) → (is_input g x && legal_input_from g b x) ≡ legal_input s h x
   inputs_agree h b last x = ap (λ (b : Before). is_input g x && legal_input_from g b x) last ∙ ap (λ (r : Rules). r.legal_input h x) agrees.rules
 
-  outputs_agree : (h : Run) (b : Before) → b ≡ last_state g h → (x y : Assignment) → (is_output g y && legal_output_from g b x y) ≡ legal_output s h x y
+  pub outputs_agree : (h : Run) (b : Before) → b ≡ last_state g h → (x y : Assignment) → (is_output g y && legal_output_from g b x y) ≡ legal_output s h x y
   outputs_agree h b last x y = ap (λ (b : Before). is_output g y && legal_output_from g b x y) last ∙ ap (λ (r : Rules). r.legal_output h x y) agrees.rules
 
   module _ (made : WellMade g) where

@@ -25,3 +25,13 @@ pub mod EnvLayering
 pub mod EnvCounts
 pub mod SidesDual
 pub mod LostGames
+pub mod CounterSteps
+pub mod Lengthening
+pub mod CounterTrails
+pub mod CounterRounds
+pub mod Denied
+pub mod CounterBeats
+pub mod Labels
+pub mod OneSide
+pub mod CarryingBeats
+pub mod Stuck

@@ -18,13 +18,12 @@ use Rattle.gr1_law.proofs.Winning.{in_a_part, part_in_layer, part_solves, layer_
 use Rattle.gr1_law.proofs.Solutions.{least-one, some_winning}
 use Rattle.gr1_law.proofs.Settling.{some_ranks, one_rank}
 use Rattle.gr1_law.proofs.Keeping.{realizable}
-use Rattle.spec_model.specs.Verdicts.{SystemWins}
 use Rattle.spec_model.specs.WellMade.{WellMade}
 use Rattle.spec_model.specs.Values.{Assignment, truth_of}
 use Rattle.spec_model.proofs.SetLaws.{system_forces_grows}
 
 -- the states, by whether a and g hold
-abbrev state : Bool → Bool → State
+abbrev pub state : Bool → Bool → State
 state a g = record { hidden = []; position = record { input = value.Bool a ∷ []; output = value.Bool g ∷ [] } }
 
 -- ---- of any game

@@ -4,6 +4,7 @@ use Rattle.std.proofs.lemmas.List.{length-map}
 use Rattle.std.specs.List.{list_all, list_any}
 use Rattle.std.proofs.lemmas.Bool.{and_parts}
 use Rattle.spec_model.specs.declared.value.Value.TheVariants as value
+use Rattle.spec_model.specs.declared.game.Label.{Label}
 use Rattle.spec_model.specs.Values.{truth_of}
 use Rattle.spec_model.specs.Syntax.{Formula, Constant, Variable, NextOf, Negation, Conjunction, Disjunction, Implication, Equivalence, Comparison, Sum, Difference, Product, Remainder, PastOf, Entry, Formulas}
 use Rattle.spec_model.specs.Meaning.{Reading, value_at, truths_at, holds_at}
@@ -96,13 +97,14 @@ module _ (g : GameData) where
     pub set : get_or (map (λ (goal : GoalData). holding g goal.holds) gs) k no_states ≡ holding g goal.holds
     pub among : (d : RecurringGoal) → slice_index_or (goals_in g gs) k d ≡ record { label = goal.label; holds = λ h t. holds_at (game_reading g h) goal.holds t }
     pub formed : is_state_formula (scope_of g) goal.holds ≡ true
+    pub label : (none : Label) → get_or (map (λ (goal : GoalData). goal.label) gs) k none ≡ goal.label
 
   pub goal_at : (gs : List GoalData) → list_all (λ (goal : GoalData). is_state_formula (scope_of g) goal.holds) gs ≡ true → (k : ℕ) → k < length gs → GoalAt gs k
   goal_at [] formed k below = absurd (omega arith)
-  goal_at (a ∷ gs) formed zero below = record { goal = a; set = refl; among = λ d. refl; formed = (and_parts (is_state_formula (scope_of g) a.holds) _ formed).0 }
+  goal_at (a ∷ gs) formed zero below = record { goal = a; set = refl; among = λ d. refl; formed = (and_parts (is_state_formula (scope_of g) a.holds) _ formed).0; label = λ none. refl }
   goal_at (a ∷ gs) formed (suc k) below =
       let rest = goal_at gs (and_parts (is_state_formula (scope_of g) a.holds) _ formed).1 k (omega arith) in
-      record { goal = rest.goal; set = rest.set; among = rest.among; formed = rest.formed }
+      record { goal = rest.goal; set = rest.set; among = rest.among; formed = rest.formed; label = rest.label }
 
   sets_same : (gs : List GoalData) (k : ℕ) → k < length gs → or_all_states g (map (λ (goal : GoalData). holding g goal.holds) gs) ≡ map (λ (goal : GoalData). holding g goal.holds) gs
   sets_same [] k below = absurd (omega arith)
@@ -113,7 +115,7 @@ module _ (g : GameData) where
     pub there : k < length (or_all_states g (map (λ (goal : GoalData). holding g goal.holds) gs))
     pub holds : (h : Run) (t : ℕ) → is_state g (state_at g h t) ≡ true → goal.holds h t ≡ get_or (or_all_states g (map (λ (goal : GoalData). holding g goal.holds) gs)) k no_states (state_at g h t)
 
-  numbered_at : (gs : List GoalData) (k : ℕ) → k < length gs → (at : GoalAt gs k) → Numbered gs (record { label = at.goal.label; holds = λ h t. holds_at (game_reading g h) at.goal.holds t }) k
+  pub numbered_at : (gs : List GoalData) (k : ℕ) → k < length gs → (at : GoalAt gs k) → Numbered gs (record { label = at.goal.label; holds = λ h t. holds_at (game_reading g h) at.goal.holds t }) k
   numbered_at gs k below at =
       record {
         there = subst (λ (sets : List StateSet). k < length sets) (sym (sets_same gs k below)) (omega (arith, length-map gs (λ (goal : GoalData). holding g goal.holds)));

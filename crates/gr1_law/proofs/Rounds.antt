@@ -35,7 +35,7 @@ round_meets g (a ∷ gs) formed h from cut some states each i below =
     (met.place, met.from_on, met.before, sym (goal.2.holds h met.place (states met.place met.before)) ∙ met.holds)
 
 -- a stretch has a state of the set, or none
-meets_or_not : (test : ℕ → Bool) (len from : ℕ) → ((t : ℕ) × (from ≤ t) × (t < from + len) × (test t ≡ true)) ⊎ ((t : ℕ) → from ≤ t → t < from + len → test t ≡ false)
+pub meets_or_not : (test : ℕ → Bool) (len from : ℕ) → ((t : ℕ) × (from ≤ t) × (t < from + len) × (test t ≡ true)) ⊎ ((t : ℕ) → from ≤ t → t < from + len → test t ≡ false)
 meets_or_not test zero from = inr (λ t from_on before. absurd (omega arith))
 meets_or_not test (suc len) from =
     elim (meets_or_not test len from) [

@@ -3,7 +3,7 @@ use Rattle.std.proofs.Common.{◌≡◌, ℕ, ◌≤◌, List, [], ◌∷◌, le
 use Rattle.std.proofs.Math.Nat.{mul-le-mul}
 use Rattle.std.proofs.lemmas.List.{length-map}
 use Rattle.spec_model.specs.Syntax.{Specification}
-use Rattle.spec_model.specs.Rules.{RecurringGoal, Rules}
+use Rattle.spec_model.specs.Rules.{Rules}
 use Rattle.spec_model.specs.Moves.{is_guarantee, goals_of}
 use Rattle.spec_model.specs.Games.{GameData, GoalData}
 use Rattle.spec_model.specs.Sets.{StateSet, holding}
@@ -15,7 +15,7 @@ use Rattle.gr1_law.specs.Specifications.{IsWonWith, SystemWinsWithRanks}
 use Rattle.gr1_law.proofs.Settling.{ranks_few}
 use Rattle.gr1_law.proofs.Carrying.{realizable}
 
-sets_counted : (g : GameData) (sets : List StateSet) → length (or_all_states g sets) ≡ max 1 (length sets)
+pub sets_counted : (g : GameData) (sets : List StateSet) → length (or_all_states g sets) ≡ max 1 (length sets)
 sets_counted g [] = refl
 sets_counted g (a ∷ more) = omega arith
 

@@ -1,8 +1,7 @@
 -- What is remembered at each position of a chosen play.
-use Rattle.std.proofs.Common.{[], ◌∷◌, take, ◌≡◌, ℕ, suc, ◌<◌, ◌==◌, ◌⊎◌, inl, inr, Bool, true, if◌then◌else◌, length, List, Some, None, refl, sym, ◌∙◌, ap, subst, arith}
+use Rattle.std.proofs.Common.{[], ◌∷◌, take, ◌≡◌, ℕ, suc, ◌<◌, ◌⊎◌, inl, inr, true, length, List, Some, None, refl, sym, ◌∙◌, ap, subst, arith}
 use Rattle.std.proofs.lemmas.Bool.{and_from}
 use Rattle.std.proofs.lemmas.List.{take-append-le, take_all}
-use borrow.Author.Tests.{eq-eqb, ne_eqb}
 use Rattle.spec_model.specs.Values.{Assignment}
 use Rattle.spec_model.specs.Plays.{IsPlay}
 use Rattle.spec_model.specs.Rules.{Run, Position, after}
@@ -12,6 +11,7 @@ use Rattle.spec_model.specs.Sets.{StateSet, system_forces}
 use Rattle.gr1_law.specs.Layers.{LayerSets, IsWinning, AreGreatestRanks}
 use Rattle.gr1_law.specs.Choice.{Memory, Standing, first_memory, IsChosen, ChosenPlay}
 use Rattle.spec_model.specs.GameRules.{last_state, before_at, rules_of_game}
+use Rattle.gr1_law.proofs.Lengthening.{with_last, with_last-here, with_last-before}
 use Rattle.gr1_law.proofs.Standing.{Ready}
 use Rattle.gr1_law.proofs.Choosing.{Lowers, lowers, standing_next, chosen_output, chosen_legal}
 use Rattle.spec_model.proofs.Running.{length-after, state_at-earlier, state_at-last, last_state-after}
@@ -30,19 +30,6 @@ pub record Played (g : GameData) (z : StateSet) (l : LayerSets) (h : Run) (b : B
   pub ready : Ready g z l b m
   pub trail : Trail g l h m
   pub legal : IsPlay (rules_of_game g) h
-
--- ---- one memory more
-
-with_last : (ℕ → Memory) → ℕ → Memory → ℕ → Memory
-with_last memory n m t = if t == n then m else memory t
-
-with_last-here : (memory : ℕ → Memory) (n : ℕ) (m : Memory) → with_last memory n m n ≡ m
-unfolding with_last
-with_last-here memory n m = ap (λ (b : Bool). if b then m else memory n) (eq-eqb n n refl)
-
-with_last-before : (memory : ℕ → Memory) (n : ℕ) (m : Memory) (t : ℕ) → t < n → with_last memory n m t ≡ memory t
-unfolding with_last
-with_last-before memory n m t below = ap (λ (b : Bool). if b then m else memory t) (ne_eqb t n (λ same. omega arith))
 
 module _ (g : GameData) (z : StateSet) (l : LayerSets) (w : IsWinning g z l) (ranks : List ℕ) (greatest : AreGreatestRanks g l ranks) where
   module _ (h : Run) (b : Before) (m : Memory) (x y : Assignment) (m' : Memory) (play : ChosenPlay g l h b m) (played : Played g z l h b m) (input : is_input g x ≡ true) (legal : legal_input g b x ≡ true) (c : IsChosen g l b m x y m') where

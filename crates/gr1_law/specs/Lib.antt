@@ -6,3 +6,5 @@ pub mod Worked
 pub mod Specifications
 pub mod EnvLayers
 pub mod EnvLaws
+pub mod Counter
+pub mod CounterLaws

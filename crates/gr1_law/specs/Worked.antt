@@ -1,14 +1,14 @@
--- Small games, whose K is worked out by hand.
-use Rattle.std.specs.Prelude.{◌≡◌, ℕ, suc, List, [], ◌∷◌, None, codes}
+-- Small games, whose K, or N and M, is worked out by hand.
+use Rattle.std.specs.Prelude.{◌≡◌, ℕ, List, [], ◌∷◌, codes}
 use Rattle.spec_model.specs.declared.value.Owner.TheVariants.{Env, Sys}
-use Rattle.spec_model.specs.declared.spec.Role.{Role}
-use Rattle.spec_model.specs.declared.spec.Role.TheVariants.{Assumption, Guarantee}
 use Rattle.spec_model.specs.Values.{TruthValues}
-use Rattle.spec_model.specs.Syntax.{Formula, Variable, NextOf, Negation, Conjunction, Implication, formulas, Content, Initial, Safety, Recurring, Statement, Specification}
+use Rattle.spec_model.specs.Syntax.{Formula, Variable, NextOf, Negation, Conjunction, Implication, formulas}
 use Rattle.spec_model.specs.Realizable.{IsRealizable}
+use Rattle.spec_model.specs.Unrealizable.{IsUnrealizable}
 use Rattle.spec_model.specs.Games.{GameData, GoalData}
 use Rattle.spec_model.specs.Sets.{StateSet}
 use Rattle.gr1_law.specs.Layers.{LayerSets, IsWinning, AreGreatestRanks, round_count}
+use Rattle.gr1_law.specs.EnvLayers.{EnvLayerSets, AreEnvLayers, IsLayerCount, AreDelayCounts, denial_count}
 use Rattle.spec_model.specs.GameRules.{rules_of_game}
 
 -- `env boolean a; sys boolean g; gar alwEv g;` with assumptions that recur, and lines that are judged at each position
@@ -44,3 +44,12 @@ dead_end = lighting [] ((2, Conjunction (formulas (NextOf (Variable 0) ∷ NextO
 pub record HasRounds (g : GameData) (k : ℕ) : Type 0 where
   pub count : (z : StateSet) (l : LayerSets) (ranks : List ℕ) → IsWinning g z l → AreGreatestRanks g l ranks → round_count ranks ≡ k
   pub realizable : IsRealizable (rules_of_game g) k
+
+-- `asm alwEv a; gar alw next(g) & next(!g);`: no second output is legal; each state is in the first layer, with the rank 1
+abbrev pub stuck : GameData
+stuck = lighting (record { label = record { line = 2; part = 0 }; holds = Variable 0 } ∷ []) [] ((3, Conjunction (formulas (NextOf (Variable 1) ∷ NextOf (Negation (Variable 1)) ∷ []))) ∷ [])
+
+-- N and M are these numbers, and with them the game is unrealizable
+pub record HasDenials (g : GameData) (n m : ℕ) : Type 0 where
+  pub count : (e : EnvLayerSets) (n' : ℕ) (counts : ℕ → ℕ → List ℕ) → AreEnvLayers g e → IsLayerCount e n' → AreDelayCounts g e n' counts → (n' ≡ n) × (denial_count g n' counts ≡ m)
+  pub unrealizable : IsUnrealizable (rules_of_game g) n m

@@ -3,9 +3,11 @@
 
 ghost use Rattle.spec_model.specs.Syntax.{Specification};
 ghost use Rattle.spec_model.specs.Games.{GameData};
+ghost use Rattle.spec_model.specs.Laws.{NumbersRise};
 ghost use Rattle.spec_model.specs.WellMade.{WellMade};
 ghost use Rattle.spec_model.specs.Agreement.{Agrees, HasNoGoals, NothingRecurs};
-ghost use Rattle.gr1_law.specs.Specifications.{SpecificationIsRealizable, SystemWinsWithRanks, ChosenPlaysKeepTheSpecification, SafetyIsASpecialCase, StayingWins};
+ghost use Rattle.gr1_law.specs.CounterLaws.{LabelsDiffer};
+ghost use Rattle.gr1_law.specs.Specifications.{SpecificationIsRealizable, SystemWinsWithRanks, ChosenPlaysKeepTheSpecification, SafetyIsASpecialCase, StayingWins, EnvironmentWinsWithLayers, AnsweredPlaysBeatTheSpecification, OneWins, OneIsTrue};
 
 /// Where the system can force the first state of the game into Z, the specification is realizable with K.
 pub fn specification_is_realizable()
@@ -32,4 +34,28 @@ pub fn safety_is_a_special_case()
 /// So where nothing recurs and the system can force the first state into that set, it wins the specification with that K.
 pub fn staying_wins()
     ensures { (s : Specification) (g : GameData) → Agrees s g → WellMade g → NothingRecurs s → StayingWins s g }
+{}
+
+/// Where line numbers rise no two goals of the game have one label.
+pub fn labels_differ()
+    ensures { (s : Specification) (g : GameData) → Agrees s g → NumbersRise s.lines → LabelsDiffer g }
+{}
+
+/// Where the environment can force the first state of the game into its last layer, the specification is unrealizable with N
+/// and M, within the bounds that its size gives.
+pub fn environment_wins()
+    ensures { (s : Specification) (g : GameData) → Agrees s g → WellMade g → NumbersRise s.lines → EnvironmentWinsWithLayers s g }
+{}
+
+/// A run of given inputs and legal replies is a play of the specification that beats the system within N shifts and M denials
+/// in a row; an input that the specification allows is given after it, and each reply that it allows makes such a run again
+/// (Könighofer et al. 2009, counterstrategies).
+pub fn answered_plays_beat_the_specification()
+    ensures { (s : Specification) (g : GameData) → Agrees s g → WellMade g → LabelsDiffer g → AnsweredPlaysBeatTheSpecification s g }
+{}
+
+/// So one of the two wins the specification, within the bounds.
+pub fn one_wins()
+    ensures wins { (s : Specification) (g : GameData) → Agrees s g → WellMade g → NumbersRise s.lines → OneWins s }
+    ensures is_true { (s : Specification) (g : GameData) → Agrees s g → WellMade g → NumbersRise s.lines → OneIsTrue s }
 {}

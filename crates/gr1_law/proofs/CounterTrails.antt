@@ -1,0 +1,239 @@
+-- What is remembered at each position of an answered play.
+use Rattle.std.proofs.Common.{◌≡◌, ℕ, suc, ◌+◌, ◌<◌, ◌⊎◌, inl, inr, Bool, true, false, if◌then◌else◌, cond, List, [], ◌∷◌, ◌++◌, length, take, slice_get, count_by, Some, None, refl, sym, ◌∙◌, ap, subst, arith, IsTrue}
+use Rattle.std.proofs.lemmas.Bool.{and_from, false≢true}
+use Rattle.std.proofs.lemmas.List.{length_push, take-append-le, take_all}
+use Rattle.std.proofs.lemmas.List.Sums.{sum_by_push}
+use Rattle.spec_model.specs.Values.{Assignment}
+use Rattle.spec_model.specs.Plays.{IsPlay}
+use Rattle.spec_model.specs.Rules.{Run, Position, after}
+use Rattle.spec_model.specs.Unrealizable.{NoteData, Shift, Deny, is_shift}
+use Rattle.spec_model.specs.Games.{GameData, State, state_at}
+use Rattle.spec_model.specs.GameRules.{last_state, before_at, rules_of_game}
+use Rattle.spec_model.specs.Steps.{Before, is_output, legal_input, legal_output, reached}
+use Rattle.spec_model.specs.Sets.{environment_forces}
+use Rattle.spec_model.proofs.Running.{length-after, state_at-earlier, state_at-last, last_state-after}
+use Rattle.gr1_law.specs.Layers.{IsLeastNumber, assumption_set}
+use Rattle.gr1_law.specs.EnvLayers.{EnvLayerSets, AreEnvLayers}
+use Rattle.gr1_law.specs.Counter.{CounterMemory, first_counter, targets, IsGiven, IsNoted, note_of, label_at, AnsweredPlay}
+use Rattle.gr1_law.proofs.Lengthening.{with_last, with_last-here, with_last-before, slice_get-earlier, slice_get-last}
+use Rattle.gr1_law.proofs.Solutions.{least-one}
+use Rattle.gr1_law.proofs.CounterSteps.{CounterReady, CounterStands, CounterStep, counter_step, ready_after, given_input, given_legal, given_leads, in_iterate, stands_next}
+
+-- after a denial the layer and the goal stay, and where the assumption aimed at fails the rank falls
+pub record IsFollowed (g : GameData) (e : EnvLayerSets) (s s' : State) (k k' : CounterMemory) : Type 0 where
+  pub layer : k'.layer ≡ k.layer
+  pub goal : k'.goal ≡ k.goal
+  pub before : k'.before ≡ k.index
+  pub lower : assumption_set g k.before s ≡ false → (rank rank' : ℕ) → IsLeastNumber (λ r. IsTrue (e.x k.layer k.goal k.before r s)) rank →
+      IsLeastNumber (λ r. IsTrue (e.x k'.layer k'.goal k'.before r s')) rank' → rank' < rank
+
+-- what is remembered at each position, the last being the one at the end
+pub record CounterTrail (g : GameData) (e : EnvLayerSets) (n : ℕ) (h : Run) (notes : List NoteData) (k : CounterMemory) : Type 0 where
+  pub memory : ℕ → CounterMemory
+  pub stands : (t : ℕ) → t < length h → CounterStands g e n 0 (state_at g h t) (memory t)
+  pub noted : (t : ℕ) → t < length h → slice_get notes t ≡ Some (note_of g (memory t))
+  pub follows : (t : ℕ) → suc t < length h → (memory t).denying ≡ true → IsFollowed g e (state_at g h t) (state_at g h (suc t)) (memory t) (memory (suc t))
+  pub last : (t : ℕ) → suc t ≡ length h → memory t ≡ k
+  pub played : (t : ℕ) → t < length h → AnsweredPlay g e (take (suc t) h) (take (suc t) notes) (Some (state_at g h t)) (memory t)
+
+-- an answered play is a play, and its end is known
+pub record Answered (g : GameData) (e : EnvLayerSets) (n : ℕ) (h : Run) (notes : List NoteData) (b : Before) (k : CounterMemory) : Type 0 where
+  pub state : b ≡ last_state g h
+  pub ready : CounterReady g e n (count_by is_shift notes) b k
+  pub trail : CounterTrail g e n h notes k
+  pub legal : IsPlay (rules_of_game g) h
+  pub counted : length notes ≡ length h
+
+-- each shift counts
+abbrev shifts_in : NoteData → ℕ
+shifts_in note = cond (is_shift note) 1 0
+
+abbrev shifts_of : Bool → ℕ
+shifts_of denying = if denying then 0 else 1
+
+count_by-note : (g : GameData) (notes : List NoteData) (k : CounterMemory) → count_by is_shift (notes ++ note_of g k ∷ []) ≡ count_by is_shift notes + shifts_of k.denying
+count_by-note g notes k = sum_by_push shifts_in notes (note_of g k) ∙ ap (λ (m : ℕ). count_by is_shift notes + m) (at k.denying)
+  where
+    at : (d : Bool) → shifts_in (if d then Deny (label_at g k.goal) else Shift) ≡ shifts_of d
+    at true = refl
+    at false = refl
+
+module _ (g : GameData) (e : EnvLayerSets) (of : AreEnvLayers g e) (n : ℕ) where
+  -- what is remembered of a position doesn't depend on the shifts before it
+  unused : (used : ℕ) (s : State) (k : CounterMemory) → CounterStands g e n used s k → CounterStands g e n 0 s k
+  unused used s k stands =
+      record {
+        low = stands.low;
+        layer = stands.layer;
+        few = omega (arith, stands.few);
+        goal_in = stands.goal_in;
+        before_in = stands.before_in;
+        rank = stands.rank;
+        ranked = stands.ranked;
+        denying = stands.denying;
+        index = stands.index;
+      }
+
+  module _ (s : State) (k : CounterMemory) (stands : CounterStands g e n 0 s k) (r : ℕ) (x : Assignment) (given : IsGiven g e (Some s) k r x) (s' : State) (led : IsTrue (targets e k r s')) (k' : CounterMemory) (noted : IsNoted g e k s' k') where
+    lowers : k.denying ≡ true → assumption_set g k.before s ≡ false → (rank' : ℕ) → IsLeastNumber (λ r. IsTrue (e.x k'.layer k'.goal k'.before r s')) rank' → rank' < stands.rank
+    lowers denying fails rank' least' = by_step (counter_step g e of n 0 s k stands)
+      where
+        same : (k'.layer ≡ k.layer) × (k'.goal ≡ k.goal) × (k'.before ≡ k.index)
+        same = noted.stays denying
+
+        here : IsTrue (e.x k'.layer k'.goal k'.before r s')
+        here =
+            subst (λ (a : ℕ). IsTrue (e.x a k'.goal k'.before r s')) (sym same.0)
+            (subst (λ (j : ℕ). IsTrue (e.x k.layer j k'.before r s')) (sym same.1)
+            (subst (λ (i : ℕ). IsTrue (e.x k.layer k.goal i r s')) (sym same.2) (in_iterate g e of n (Some s) k r x given s' led denying)))
+
+        by_step : CounterStep g e s k stands.low stands.rank → rank' < stands.rank
+        by_step (CounterStep.shift shifts down) = absurd (false≢true (sym shifts ∙ denying))
+        by_step (CounterStep.met denying' holds aims q on) = absurd (false≢true (sym fails ∙ holds))
+        by_step (CounterStep.missed denying' aims q is on) =
+            let number_low : q < r → ⊥ = λ less. given.number.none_before q less (subst (λ (d : Bool). environment_forces g ((if d then e.x k.layer k.goal k.index else e.z) q) (Some s) ≡ true) (sym denying) on) in
+            let rank_low : r < rank' → ⊥ = λ less. least'.none_before r less here in
+            grind (arith, number_low, rank_low, is)
+
+    followed : k.denying ≡ true → IsFollowed g e s s' k k'
+    followed denying =
+        let same = noted.stays denying in
+        record {
+          layer = same.0;
+          goal = same.1;
+          before = same.2;
+          lower = λ fails rank rank' least least'.
+              let is : rank ≡ stands.rank = least-one (λ r. IsTrue (e.x k.layer k.goal k.before r s)) rank stands.rank least stands.ranked in
+              omega (arith, is, lowers denying fails rank' least');
+        }
+
+  module _ (h : Run) (notes : List NoteData) (b : Before) (k : CounterMemory) (r : ℕ) (x y : Assignment) (k' : CounterMemory) (play : AnsweredPlay g e h notes b k) (answered : Answered g e n h notes b k) (given : IsGiven g e b k r x) (output : is_output g y ≡ true) (legal : legal_output g b x y ≡ true) (noted : IsNoted g e k (reached g b x y) k') where
+    abbrev p : Position
+    p = record { input = x; output = y }
+
+    abbrev used : ℕ
+    used = count_by is_shift notes
+
+    memory : ℕ → CounterMemory
+    memory = with_last answered.trail.memory (length h) k'
+
+    memory-here : memory (length h) ≡ k'
+    unfolding memory
+    memory-here = with_last-here answered.trail.memory (length h) k'
+
+    memory-before : (t : ℕ) → t < length h → memory t ≡ answered.trail.memory t
+    unfolding memory
+    memory-before t below = with_last-before answered.trail.memory (length h) k' t below
+
+    new_state : state_at g (after h x y) (length h) ≡ reached g b x y
+    new_state = state_at-last g h p ∙ ap (λ (b : Before). reached g b x y) (sym answered.state)
+
+    led : IsTrue (targets e k r (reached g b x y))
+    led = given_leads g e of n b k r x given y output legal
+
+    new_stands : CounterStands g e n used (reached g b x y) k'
+    new_stands = stands_next g e of n b k r x given (reached g b x y) led used answered.ready k' noted
+
+    earlier_or_last : (t : ℕ) → t < suc (length h) → (t < length h) ⊎ (t ≡ length h)
+    earlier_or_last t below = grind arith
+
+    place : (t : ℕ) → t < length (after h x y) → (t < length h) ⊎ (t ≡ length h)
+    place t below = earlier_or_last t (subst (λ (n : ℕ). t < n) (length-after h p) below)
+
+    stands_at : (t : ℕ) → (t < length h) ⊎ (t ≡ length h) → CounterStands g e n 0 (state_at g (after h x y) t) (memory t)
+    stands_at t (inl less) =
+        subst (λ (s : State). CounterStands g e n 0 s (memory t)) (sym (state_at-earlier g h p t less))
+        (subst (CounterStands g e n 0 (state_at g h t)) (sym (memory-before t less)) (answered.trail.stands t less))
+    stands_at t (inr same) =
+        subst (λ (t : ℕ). CounterStands g e n 0 (state_at g (after h x y) t) (memory t)) (sym same)
+        (subst (λ (s : State). CounterStands g e n 0 s (memory (length h))) (sym new_state)
+        (subst (CounterStands g e n 0 (reached g b x y)) (sym memory-here) (unused used (reached g b x y) k' new_stands)))
+
+    noted_at : (t : ℕ) → (t < length h) ⊎ (t ≡ length h) → slice_get (notes ++ note_of g k' ∷ []) t ≡ Some (note_of g (memory t))
+    noted_at t (inl less) =
+        slice_get-earlier notes (note_of g k') t (omega (arith, less, answered.counted))
+        ∙ (answered.trail.noted t less
+        ∙ ap (λ (k : CounterMemory). Some (note_of g k)) (sym (memory-before t less)))
+    noted_at t (inr same) =
+        ap (slice_get (notes ++ note_of g k' ∷ [])) (same ∙ sym answered.counted)
+        ∙ (slice_get-last notes (note_of g k')
+        ∙ ap (λ (k : CounterMemory). Some (note_of g k)) (sym memory-here ∙ ap memory (sym same)))
+
+    -- the move from the run's last position
+    last_move : (t : ℕ) → suc t ≡ length h → (answered.trail.memory t).denying ≡ true → IsFollowed g e (state_at g h t) (reached g b x y) (answered.trail.memory t) k'
+    last_move t same denying =
+        let is : b ≡ Some (state_at g h t) = answered.state ∙ ap (before_at g h) (sym same) in
+        let last = answered.trail.last t same in
+        subst (λ (k : CounterMemory). IsFollowed g e (state_at g h t) (reached g b x y) k k') (sym last)
+        (followed (state_at g h t) k (subst (CounterStands g e n 0 (state_at g h t)) last (answered.trail.stands t (omega (arith, same)))) r x (subst (λ (b : Before). IsGiven g e b k r x) is given) (reached g b x y) led k' noted
+        (subst (λ (k : CounterMemory). k.denying ≡ true) last denying))
+
+    follows_at : (t : ℕ) → (suc t < length h) ⊎ (suc t ≡ length h) → (memory t).denying ≡ true → IsFollowed g e (state_at g (after h x y) t) (state_at g (after h x y) (suc t)) (memory t) (memory (suc t))
+    follows_at t (inl less) denying =
+        let less' : t < length h = omega (arith, less) in
+        subst (λ (s : State). IsFollowed g e s (state_at g (after h x y) (suc t)) (memory t) (memory (suc t))) (sym (state_at-earlier g h p t less'))
+        (subst (λ (s : State). IsFollowed g e (state_at g h t) s (memory t) (memory (suc t))) (sym (state_at-earlier g h p (suc t) less))
+        (subst (λ (k : CounterMemory). IsFollowed g e (state_at g h t) (state_at g h (suc t)) k (memory (suc t))) (sym (memory-before t less'))
+        (subst (λ (k : CounterMemory). IsFollowed g e (state_at g h t) (state_at g h (suc t)) (answered.trail.memory t) k) (sym (memory-before (suc t) less))
+        (answered.trail.follows t less (subst (λ (k : CounterMemory). k.denying ≡ true) (memory-before t less') denying)))))
+    follows_at t (inr same) denying =
+        let less' : t < length h = omega (arith, same) in
+        subst (λ (s : State). IsFollowed g e s (state_at g (after h x y) (suc t)) (memory t) (memory (suc t))) (sym (state_at-earlier g h p t less'))
+        (subst (λ (q : ℕ). IsFollowed g e (state_at g h t) (state_at g (after h x y) q) (memory t) (memory q)) (sym same)
+        (subst (λ (s : State). IsFollowed g e (state_at g h t) s (memory t) (memory (length h))) (sym new_state)
+        (subst (λ (k : CounterMemory). IsFollowed g e (state_at g h t) (reached g b x y) k (memory (length h))) (sym (memory-before t less'))
+        (subst (λ (k : CounterMemory). IsFollowed g e (state_at g h t) (reached g b x y) (answered.trail.memory t) k) (sym memory-here)
+        (last_move t same (subst (λ (k : CounterMemory). k.denying ≡ true) (memory-before t less') denying))))))
+
+    played_at : (t : ℕ) → (t < length h) ⊎ (t ≡ length h) → AnsweredPlay g e (take (suc t) (after h x y)) (take (suc t) (notes ++ note_of g k' ∷ [])) (Some (state_at g (after h x y) t)) (memory t)
+    played_at t (inl less) =
+        subst (λ (h' : Run). AnsweredPlay g e h' (take (suc t) (notes ++ note_of g k' ∷ [])) (Some (state_at g (after h x y) t)) (memory t)) (sym (take-append-le (suc t) h (p ∷ []) (omega arith)))
+        (subst (λ (notes' : List NoteData). AnsweredPlay g e (take (suc t) h) notes' (Some (state_at g (after h x y) t)) (memory t)) (sym (take-append-le (suc t) notes (note_of g k' ∷ []) (omega (arith, less, answered.counted))))
+        (subst (λ (s : State). AnsweredPlay g e (take (suc t) h) (take (suc t) notes) (Some s) (memory t)) (sym (state_at-earlier g h p t less))
+        (subst (AnsweredPlay g e (take (suc t) h) (take (suc t) notes) (Some (state_at g h t))) (sym (memory-before t less)) (answered.trail.played t less))))
+    played_at t (inr same) =
+        subst (λ (t : ℕ). AnsweredPlay g e (take (suc t) (after h x y)) (take (suc t) (notes ++ note_of g k' ∷ [])) (Some (state_at g (after h x y) t)) (memory t)) (sym same)
+        (subst (λ (h' : Run). AnsweredPlay g e h' (take (suc (length h)) (notes ++ note_of g k' ∷ [])) (Some (state_at g (after h x y) (length h))) (memory (length h))) (sym (take_all (suc (length h)) (after h x y) (omega (arith, length-after h p))))
+        (subst (λ (notes' : List NoteData). AnsweredPlay g e (after h x y) notes' (Some (state_at g (after h x y) (length h))) (memory (length h)))
+        (sym (take_all (suc (length h)) (notes ++ note_of g k' ∷ []) (omega (arith, length_push notes (note_of g k'), answered.counted))))
+        (subst (λ (s : State). AnsweredPlay g e (after h x y) (notes ++ note_of g k' ∷ []) (Some s) (memory (length h))) (sym new_state)
+        (subst (AnsweredPlay g e (after h x y) (notes ++ note_of g k' ∷ []) (Some (reached g b x y))) (sym memory-here) (AnsweredPlay.more h notes b k r x y k' play given output legal noted)))))
+
+    longer : Answered g e n (after h x y) (notes ++ note_of g k' ∷ []) (Some (reached g b x y)) k'
+    longer =
+        record {
+          state = ap (λ (b : Before). Some (reached g b x y)) answered.state ∙ sym (last_state-after g h x y);
+          ready = subst (λ (m : ℕ). CounterReady g e n m (Some (reached g b x y)) k') (sym (count_by-note g notes k')) (ready_after g e of n used (reached g b x y) k' new_stands);
+          trail = record {
+            memory = memory;
+            stands = λ t below. stands_at t (place t below);
+            noted = λ t below. noted_at t (place t below);
+            follows = λ t below. follows_at t (place (suc t) below);
+            last = λ t same.
+                let is : t ≡ length h = omega (arith, same, length-after h p) in
+                ap memory is ∙ memory-here;
+            played = λ t below. played_at t (place t below);
+          };
+          legal = IsPlay.more h x y answered.legal
+              (and_from _ _ (given_input g e of n b k r x given) (subst (λ (b : Before). legal_input g b x ≡ true) answered.state (given_legal g e of n b k r x given)))
+              (and_from _ _ output (subst (λ (b : Before). legal_output g b x y ≡ true) answered.state legal));
+          counted = omega (arith, length_push notes (note_of g k'), length-after h p, answered.counted);
+        }
+
+  pub answered : (h : Run) (notes : List NoteData) (b : Before) (k : CounterMemory) → environment_forces g (e.z n) None ≡ true → AnsweredPlay g e h notes b k → Answered g e n h notes b k
+  answered _ _ _ _ start AnsweredPlay.nothing =
+      record {
+        state = refl;
+        ready = CounterReady.into_layer refl n start (omega arith);
+        trail = record {
+          memory = λ t. first_counter;
+          stands = λ t below. absurd (omega arith);
+          noted = λ t below. absurd (omega arith);
+          follows = λ t below. absurd (omega arith);
+          last = λ t same. refl;
+          played = λ t below. absurd (omega arith);
+        };
+        legal = IsPlay.nothing;
+        counted = refl;
+      }
+  answered _ _ _ _ start (AnsweredPlay.more h notes b k r x y k' play given output legal noted) = longer h notes b k r x y k' play (answered h notes b k start play) given output legal noted
