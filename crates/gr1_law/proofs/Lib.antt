@@ -35,3 +35,4 @@ pub mod Labels
 pub mod OneSide
 pub mod CarryingBeats
 pub mod Stuck
+pub mod CoreTrials

@@ -16,8 +16,8 @@ pub record HoldIsTold (g : GameData) (lower : StateSet) (j : ℕ) : Type 0 where
   pub least : (hold : StateSet) (x : ℕ → StateSet) → IsHold g lower j hold → ((i : ℕ) → IsLeast (delay_value g lower hold j i) (x i)) →
       (s : State) → IsTrue (hold s) ↔ ((i : ℕ) → i < length (assumption_sets g) → IsTrue (x i s))
 
--- There are layers, and only these: the holds and iterates at layer 0 alone are free. So N is one number, and so is M. Each
--- layer is part of the next, and none has more than the one numbered N.
+-- There are layers, and only these: the holds and iterates at layer 0 alone are free. Each layer is part of the next, and none
+-- has more than the one numbered N.
 pub record EnvLayersAreTold (g : GameData) : Type 0 where
   pub some : (e : EnvLayerSets) × AreEnvLayers g e
   pub same_z : (e e' : EnvLayerSets) → AreEnvLayers g e → AreEnvLayers g e' → (a : ℕ) → e.z a ≡ e'.z a
@@ -26,7 +26,7 @@ pub record EnvLayersAreTold (g : GameData) : Type 0 where
   pub rises : (e : EnvLayerSets) → AreEnvLayers g e → (a : ℕ) → IsPartOf (e.z a) (e.z (suc a))
   pub last : (e : EnvLayerSets) (n : ℕ) → AreEnvLayers g e → IsLayerCount e n → (a : ℕ) → IsPartOf (e.z a) (e.z n)
 
--- There is one N, there is a list of greatest ranks for each hold below it, and there is one M.
+-- There is one N, one list of greatest ranks for each hold in the layers up to it, and so one M.
 pub record DenialsAreTold (g : GameData) : Type 0 where
   pub some_layers : (e : EnvLayerSets) → AreEnvLayers g e → (n : ℕ) × IsLayerCount e n
   pub same_layers : (e e' : EnvLayerSets) (n n' : ℕ) → AreEnvLayers g e → AreEnvLayers g e' → IsLayerCount e n → IsLayerCount e' n' → n ≡ n'

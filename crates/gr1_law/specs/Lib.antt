@@ -8,3 +8,4 @@ pub mod EnvLayers
 pub mod EnvLaws
 pub mod Counter
 pub mod CounterLaws
+pub mod CoreLaws

@@ -6,6 +6,7 @@ ghost use Rattle.spec_model.specs.Games.{GameData};
 ghost use Rattle.spec_model.specs.Laws.{NumbersRise};
 ghost use Rattle.spec_model.specs.WellMade.{WellMade};
 ghost use Rattle.spec_model.specs.Agreement.{Agrees, HasNoGoals, NothingRecurs};
+ghost use Rattle.gr1_law.specs.CoreLaws.{PartStaysRealizable, LeftIsCore};
 ghost use Rattle.gr1_law.specs.CounterLaws.{LabelsDiffer};
 ghost use Rattle.gr1_law.specs.Specifications.{SpecificationIsRealizable, SystemWinsWithRanks, ChosenPlaysKeepTheSpecification, SafetyIsASpecialCase, StayingWins, EnvironmentWinsWithLayers, AnsweredPlaysBeatTheSpecification, OneWins, OneIsTrue};
 
@@ -58,4 +59,15 @@ pub fn answered_plays_beat_the_specification()
 pub fn one_wins()
     ensures wins { (s : Specification) (g : GameData) → Agrees s g → WellMade g → NumbersRise s.lines → OneWins s }
     ensures is_true { (s : Specification) (g : GameData) → Agrees s g → WellMade g → NumbersRise s.lines → OneIsTrue s }
+{}
+
+/// What is realizable with some of its guarantees, within its bound, is realizable with a part of them, within the part's own.
+pub fn part_stays_realizable()
+    ensures { (s : Specification) → PartStaysRealizable s }
+{}
+
+/// What trying the guarantees of an unrealizable specification in text order leaves is a core (Könighofer et al. 2009,
+/// unrealizable cores).
+pub fn left_is_core()
+    ensures { (s : Specification) → LeftIsCore s }
 {}
