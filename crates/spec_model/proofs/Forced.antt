@@ -23,10 +23,10 @@ le-fold : (a : ℕ) (ns : List ℕ) → a ≤ fold max a ns
 le-fold a [] = omega arith
 le-fold a (n ∷ ns) = let rest = le-fold (max a n) ns in omega arith
 
-abbrev numbers_of : List Statement → List ℕ
+abbrev pub numbers_of : List Statement → List ℕ
 numbers_of ls = map (λ (l : Statement). l.number) ls
 
-fold_below : (a m : ℕ) (ls : List Statement) → a ≤ m → list_all (λ l. nat_le l.number m) ls ≡ true → fold max a (numbers_of ls) ≤ m
+pub fold_below : (a m : ℕ) (ls : List Statement) → a ≤ m → list_all (λ l. nat_le l.number m) ls ≡ true → fold max a (numbers_of ls) ≤ m
 fold_below a m [] le e = le
 fold_below a m (l ∷ ls) le e =
     let parts = and_parts (nat_le l.number m) _ e in
