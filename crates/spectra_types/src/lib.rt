@@ -26,5 +26,8 @@ mod tables;
 pub use fault::TypeFault;
 pub use laws::faultless_texts_are_well_typed;
 pub use resolving::resolve;
-pub use restricting::without;
+pub use restricting::{forced, without};
 pub use std::alloc::AllocError as OutOfMemory;
+
+#[cfg(test)]
+mod tests;
