@@ -1,0 +1,4 @@
+pub mod Gathered
+pub mod Rising
+pub mod Climbing
+pub mod Holding
