@@ -9,6 +9,7 @@ use Rattle.spec_model.specs.Sets.{StateSet, no_states, all_states, both, pre_env
 use Rattle.spec_model.proofs.SetLaws.{pre_env_grows}
 use Rattle.spec_model.proofs.Fixpoints.{IsFalling, falling-last, greatest-one}
 use Rattle.regions.specs.Kept.{Kept, Item, Meaning, weight, HasRegion, MakesRegion, IsExact}
+use Rattle.gr1_law.specs.Layers.{IsLeastNumber}
 use Rattle.gr1_sys.specs.Solution.{greatest_of, meet}
 use Rattle.gr1_sys.specs.Held.{MakesRegions}
 use Rattle.gr1_sys.proofs.Greatest.{greatest_of-greatest}
@@ -48,6 +49,10 @@ module _ (g : GameData) (base : StateSet) where
 
 -- ---- assumption by assumption
 
+module _ {R : Type 0} where
+  sets_counted : (g : GameData) (cover : StateSet) (asms : List StateSet) (n : ℕ) (v : Vec R Global) → length v.items ≡ length (delay_sets g cover (at asms n) (vec_len v))
+  sets_counted g cover asms n v = let mapped = length_map (λ r. delay_on g cover (at asms n) (suc r)) (below (vec_len v)) in omega (arith, mapped, length_below (vec_len v))
+
 module _ {R M : Type 0} where
   -- a call told of the sets as they stand then
   pub delays_at : (g : GameData) (k new : Kept R M) (cover asm c a : StateSet) (rs : List R) → k.game ≡ g → cover ≡ c → asm ≡ a → HasDelays k.game k new cover asm rs → HasDelays g k new c a rs
@@ -69,12 +74,11 @@ module _ {R M : Type 0} where
         (subst (λ n. MakesRegions k new v.items (delay_sets g cover (at asms (length xs)) n)) counted more.made)
 
     pub more_least : AreLeast g cover asms xs → HasDelays g k new cover (at asms (length xs)) v.items → AreLeast g cover asms (xs ++ v ∷ [])
-    more_least least more = all_of-push _ xs v least (subst _ counted more.least)
+    more_least least more =
+        all_of-push (λ i (u : Vec R Global). IsLeastNumber (λ r. delay_on g cover (at asms i) r ≡ delay_on g cover (at asms i) (suc r)) (vec_len u)) xs v least
+        (subst (IsLeastNumber (λ r. delay_on g cover (at asms (length xs)) r ≡ delay_on g cover (at asms (length xs)) (suc r))) counted more.least)
 
   -- ---- what the last iterates have in common
-
-  sets_counted : (g : GameData) (cover : StateSet) (asms : List StateSet) (n : ℕ) (v : Vec R Global) → length v.items ≡ length (delay_sets g cover (at asms n) (vec_len v))
-  sets_counted g cover asms n v = let mapped = length_map (λ r. delay_on g cover (at asms n) (suc r)) (below (vec_len v)) in omega (arith, mapped, length_below (vec_len v))
 
   module _ (g : GameData) (first k : Kept R M) (none : R) (cover : StateSet) (asms : List StateSet) (exact : IsExact k) (empty : k.set none ≡ no_states) (proper : IsPartOf cover (all_states g)) where
     last_stands : (xs : List (Vec R Global)) → map k.set (list_regions xs) ≡ list_sets g cover asms xs → AreLeast g cover asms xs → (i : ℕ) (v : Vec R Global) → i < length xs → last_set k none xs i ≡ last_delay_on g cover (at asms i)

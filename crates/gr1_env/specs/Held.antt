@@ -3,12 +3,13 @@ use Rattle.std.specs.Prelude.{◌≡◌, ℕ, zero, suc, Bool, true, false, ◌<
 use Rattle.std.specs.Vec.{vec_len}
 use Rattle.std.specs.declared.alloc.Global.{Global}
 use Rattle.spec_model.specs.Games.{GameData}
-use Rattle.spec_model.specs.Sets.{StateSet}
-use Rattle.regions.specs.Kept.{Kept, Region, States, MakesRegion, HoldsBesides, Replaces}
+use Rattle.spec_model.specs.Sets.{StateSet, no_states, either, pre_env}
+use Rattle.regions.specs.Kept.{Kept, Region, States, HasRegion, MakesRegion, HoldsBesides, Replaces}
 use Rattle.gr1_law.specs.Layers.{IsLeastNumber}
-use Rattle.gr1_sys.specs.Held.{MakesRegions}
+use Rattle.gr1_sys.specs.Held.{HasEach, MakesRegions}
 use Rattle.gr1_env.specs.declared.layers.EnvGoal.{EnvGoal}
 use Rattle.gr1_env.specs.declared.layers.EnvLayer.{EnvLayer}
+use Rattle.gr1_env.specs.declared.givens.Given.{Given}
 use Rattle.gr1_env.specs.declared.holds.Step.{Step}
 use Rattle.gr1_env.specs.declared.holds.Step.TheVariants.{Settled, Next}
 use Rattle.gr1_env.specs.Solution.{at, rising, delay_on, cover_of, hold_value_on, hold_on, base_of, hold_over, layer_over, layer_on, delay_sets}
@@ -106,3 +107,63 @@ module _ {G R M : Type 0} where
   abbrev pub Steps : GameData → Kept R M → Kept R M → (base : StateSet) → List StateSet → R → StateSet → Step G R M → Type 0
   Steps g old new base asms y set (Settled e) = (e.y ≡ y) × ((set ≡ hold_value_on g base asms set) × HaveDelays g old new (cover_of g base set) asms e.x.items)
   Steps g old new base asms y set (Next next) = Replaces old new (Region y) (States set) (Region next) (States (hold_value_on g base asms set)) × (set ≡ hold_value_on g base asms set → ⊥)
+
+-- ---- layers
+
+-- the sets of the holds of all goals, where from `forced` the next state is forced into the layer below
+abbrev pub holds_sets : {G R M : Type 0} → GameData → (forced : StateSet) → (misses asms : List StateSet) → List (EnvGoal G R M) → List StateSet
+holds_sets g forced misses asms goals = gather (λ j e. hold_sets g (either (at misses j) forced) asms e) goals
+
+-- those of a layer above another
+abbrev pub layer_sets : {G R M : Type 0} → GameData → (lower : StateSet) → (misses asms : List StateSet) → EnvLayer G R M → List StateSet
+layer_sets g lower misses asms l = layer_over g lower misses asms ∷ holds_sets g (pre_env g lower) misses asms l.goals.items
+
+-- those of all layers
+abbrev pub all_sets : {G R M : Type 0} → GameData → (misses asms : List StateSet) → List (EnvLayer G R M) → List StateSet
+all_sets g misses asms ls = gather (λ a l. layer_sets g (layer_on g misses asms a) misses asms l) ls
+
+module _ {G R M : Type 0} where
+  -- There is a hold for each goal, and all have what a hold has.
+  pub record AreWholeHolds (g : GameData) (forced : StateSet) (misses asms : List StateSet) (goals : List (EnvGoal G R M)) : Type 0 where
+    pub counted : length goals ≡ length misses
+    pub whole : AllOf (λ j e. IsWholeHold g (either (at misses j) forced) asms e) goals
+
+  pub record HaveHolds (g : GameData) (old new : Kept R M) (forced : StateSet) (misses asms : List StateSet) (goals : List (EnvGoal G R M)) : Type 0 where
+    pub made : MakesRegions old new (goal_regions goals) (holds_sets g forced misses asms goals)
+    pub whole : AreWholeHolds g forced misses asms goals
+
+  -- a layer was made above another
+  pub record HasLayer (g : GameData) (old new : Kept R M) (lower : StateSet) (misses asms : List StateSet) (l : EnvLayer G R M) : Type 0 where
+    pub made : MakesRegions old new (layer_regions l) (layer_sets g lower misses asms l)
+    pub whole : AreWholeHolds g (pre_env g lower) misses asms l.goals.items
+
+  -- one layer more was made; or it has no more states than the last, and nothing changed
+  abbrev pub GrowsLayers : GameData → Kept R M → Kept R M → (lower : StateSet) → (misses asms : List StateSet) → List (EnvLayer G R M) → List (EnvLayer G R M) → Bool → Type 0
+  GrowsLayers g old new lower misses asms ls next true = (next ≡ ls) × (HoldsBesides old new [] × ((new.jam ≡ None) × (lower ≡ layer_over g lower misses asms)))
+  GrowsLayers g old new lower misses asms ls next false =
+      (l : EnvLayer G R M) × ((next ≡ ls ++ l ∷ []) × (HasLayer g old new lower misses asms l × (lower ≡ layer_over g lower misses asms → ⊥)))
+
+  -- each layer has the hold of each goal above the layer before it
+  abbrev pub AreWholeLayers : GameData → (misses asms : List StateSet) → List (EnvLayer G R M) → Type 0
+  AreWholeLayers g misses asms ls = AllOf (λ a (l : EnvLayer G R M). AreWholeHolds g (pre_env g (layer_on g misses asms a)) misses asms l.goals.items) ls
+
+  -- the layers were made, up to the first that equals the next
+  pub record HaveLayers (g : GameData) (old new : Kept R M) (misses asms : List StateSet) (ls : List (EnvLayer G R M)) : Type 0 where
+    pub made : MakesRegions old new (all_regions ls) (all_sets g misses asms ls)
+    pub whole : AreWholeLayers g misses asms ls
+    pub count : IsLeastNumber (λ a. layer_on g misses asms a ≡ layer_on g misses asms (suc a)) (length ls)
+
+  -- the set of the hold with this number
+  abbrev pub hold_set : Kept R M → List (EnvGoal G R M) → ℕ → StateSet
+  hold_set k goals j = at (map (λ (e : EnvGoal G R M). k.set e.y) goals) j
+
+  -- the region of the last layer, or the one given where there is none
+  abbrev pub last_z : R → List (EnvLayer G R M) → R
+  last_z none ls = last_of none (map (λ (l : EnvLayer G R M). l.z) ls)
+
+  -- The regions that are made first are held: no states, and those for each goal and each assumption.
+  pub record IsGiven (k : Kept R M) (given : Given G R M) : Type 0 where
+    pub none : HasRegion k given.none
+    pub empty : k.set given.none ≡ no_states
+    pub misses : HasEach k given.misses.items
+    pub asms : HasEach k given.asms.items

@@ -50,7 +50,7 @@ module _ (g : GameData) where
   layer_over lower misses asms = union (hold_over lower misses asms) (length misses)
 
   -- the layers, by number
-  unfoldable pub layer_on : (misses asms : List StateSet) → ℕ → StateSet
+  abbrev pub layer_on : (misses asms : List StateSet) → ℕ → StateSet
   layer_on misses asms zero = no_states
   layer_on misses asms (suc a) = layer_over (layer_on misses asms a) misses asms
 

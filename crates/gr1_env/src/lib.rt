@@ -8,7 +8,9 @@
 #![tactic(auto)]
 
 mod delays;
+mod givens;
 mod holds;
+mod layering;
 mod layers;
 mod spending;
 

@@ -12,12 +12,14 @@ pub loop-e-init : goal.loop-e-init
 loop-e-init g c =
     let kept = g.G.Regions.kept in
     let first = kept c.args.g.now in
-    let value = hold_value_on first.game (first.set c.args.base.now) (map first.set c.args.asms.now) in
+    let base = first.set c.args.base.now in
+    let asms = map first.set c.args.asms.now in
+    let value = hold_value_on first.game base asms in
     let is = made_is first (kept c.all.new.self) c.in_ok-y.y _ (g.met.G.Regions.exact _) c.in_ok-y.ensures.made in
     record {
       made = is.1;
       same = c.all.ensures.same;
-      falling = subst (IsFalling first.game value) (sym is.0) (falling-first first.game value (hold_value_on-grows first.game _ _) (hold_value_on-inside first.game _ _));
+      falling = subst (IsFalling first.game value) (sym is.0) (falling-first first.game value (hold_value_on-grows first.game base asms) (hold_value_on-inside first.game base asms));
     }
 
 pub one_value-requires-clause-base : goal.one_value-requires-clause-base
