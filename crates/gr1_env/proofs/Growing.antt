@@ -9,9 +9,9 @@ use Rattle.spec_model.proofs.Fixpoints.{rising-more}
 use Rattle.regions.specs.Kept.{Kept, HasRegion, IsExact}
 use Rattle.gr1_law.specs.Layers.{union}
 use Rattle.gr1_law.proofs.Greatest.{greatest_grows}
-use Rattle.gr1_sys.specs.Held.{MakesRegions, HasEach}
+use Rattle.gr1_sys.specs.Held.{MakesRegions, HasEach, HasTogether}
 use Rattle.gr1_sys.proofs.Greatest.{count_at_most, up-rises}
-use Rattle.gr1_sys.proofs.Lists.{makes_still, each_append, set_kept, length_push}
+use Rattle.gr1_sys.proofs.Lists.{makes_still, each_append, together_as, length_push}
 use Rattle.gr1_sys.proofs.Parted.{nothing_made}
 use Rattle.gr1_sys.proofs.Rounds.{first_is}
 use Rattle.gr1_sys.proofs.Winning.{both_grows, either_grows, meet_grows, union_grows, union_inside}
@@ -55,15 +55,12 @@ module _ (g : GameData) (misses asms : List StateSet) where
 
 -- ---- the last layer
 
+slice_get-map : {X Y : Type 0} (f : X → Y) (xs : List X) (n : ℕ) (x : X) → Some x ≡ slice_get xs n → Some (f x) ≡ slice_get (map f xs) n
+slice_get-map f [] n x is = cc
+slice_get-map f (y ∷ xs) zero x is = let same : x ≡ y = cc in ap (λ z. Some (f z)) same
+slice_get-map f (y ∷ xs) (suc n) x is = slice_get-map f xs n x is
+
 module _ {G R M : Type 0} where
-  slice_get-map : {X Y : Type 0} (f : X → Y) (xs : List X) (n : ℕ) (x : X) → Some x ≡ slice_get xs n → Some (f x) ≡ slice_get (map f xs) n
-  slice_get-map f [] n x is = cc
-  slice_get-map f (y ∷ xs) zero x is = let same : x ≡ y = cc in ap (λ z. Some (f z)) same
-  slice_get-map f (y ∷ xs) (suc n) x is = slice_get-map f xs n x is
-
-  zs : List (EnvLayer G R M) → List R
-  zs ls = map (λ (l : EnvLayer G R M). l.z) ls
-
   mapped : (ls : List (EnvLayer G R M)) → length (map (λ (l : EnvLayer G R M). l.z) ls) ≡ length ls
   mapped [] = refl
   mapped (l ∷ ls) = let rest = mapped ls in omega (arith, rest)
@@ -82,6 +79,9 @@ module _ {G R M : Type 0} where
 
   pub z_is : (g : GameData) (k k1 : Kept R M) (lower : StateSet) (misses asms : List StateSet) (l : EnvLayer G R M) → IsExact k1 → HasLayer g k k1 lower misses asms l → k1.set l.z ≡ layer_over g lower misses asms
   z_is g k k1 lower misses asms l exact has = first_is k k1 l.z (goal_regions l.goals.items) (layer_over g lower misses asms) (holds_sets g (pre_env g lower) misses asms l.goals.items) exact has.made
+
+  pub layer_held : (g : GameData) (k k1 : Kept R M) (lower : StateSet) (misses asms : List StateSet) (l : EnvLayer G R M) → IsExact k1 → HasLayer g k k1 lower misses asms l → HasTogether k1 (layer_regions l)
+  layer_held g k k1 lower misses asms l exact has = together_as k1 (layer_regions l) (layer_sets g lower misses asms l) exact has.made.counted (λ w. omega (arith, has.made.held w))
 
   -- ---- layer by layer
 

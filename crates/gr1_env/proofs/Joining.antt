@@ -53,6 +53,10 @@ module _ {R M : Type 0} where
 
 -- ---- the union of the holds
 
+pub union-same : (f h : ℕ → StateSet) (n : ℕ) → ((i : ℕ) → i < n → f i ≡ h i) → union f n ≡ union h n
+union-same f h zero same = refl
+union-same f h (suc n) same = ap (λ t. either t (f n)) (union-same f h n (λ i before. same i (omega arith))) ∙ ap (λ t. either (union h n) t) (same n (omega arith))
+
 gather-counted : {X Y Z : Type 0} (f : ℕ → X → List Y) (h : ℕ → X → List Z) → ((n : ℕ) (x : X) → length (f n x) ≡ length (h n x)) → (xs : List X) → length (gather f xs) ≡ length (gather h xs)
 gather-counted f h each [] = refl
 gather-counted f h each (x ∷ xs) =
@@ -81,10 +85,6 @@ module _ {G R M : Type 0} where
         by_goals : (es : List (EnvGoal G R M)) → goals ≡ es → hold_set k goals j ≡ hold_on g (either (at misses j) forced) asms
         by_goals [] e = absurd (omega (arith, before, ap (λ (es : List (EnvGoal G R M)). length es) e))
         by_goals (e ∷ es) is = hold_stands goals (as_held k (goal_regions goals) (holds_sets g forced misses asms goals) exact has.made.counted (λ w. omega (arith, has.made.held w))) j e before
-
-  union-same : (f h : ℕ → StateSet) (n : ℕ) → ((i : ℕ) → i < n → f i ≡ h i) → union f n ≡ union h n
-  union-same f h zero same = refl
-  union-same f h (suc n) same = ap (λ t. either t (f n)) (union-same f h n (λ i before. same i (omega arith))) ∙ ap (λ t. either (union h n) t) (same n (omega arith))
 
   pub layer_made : (g : GameData) (k k1 k2 : Kept R M) (lower : StateSet) (misses asms : List StateSet) (l : EnvLayer G R M) → IsExact k1 → HaveHolds g k k1 (pre_env g lower) misses asms l.goals.items →
       MakesRegion k1 k2 l.z (union (hold_set k1 l.goals.items) (length l.goals.items)) → HasLayer g k k2 lower misses asms l

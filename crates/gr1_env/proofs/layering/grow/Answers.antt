@@ -2,10 +2,10 @@ use Rattle.std.proofs.Common.{◌∙◌, ◌++◌, ◌∷◌, [], List, map, ap,
 use Rattle.std.proofs.lemmas.Bool.{false≢true}
 use Rattle.regions.specs.Kept.{HasRegion}
 use Rattle.gr1_sys.specs.Held.{HasTogether, SpendsAll}
-use Rattle.gr1_sys.proofs.Lists.{held_each, together_each, together_as, together_stays, takes_all, region_stays, set_kept}
+use Rattle.gr1_sys.proofs.Lists.{together_each, together_stays, takes_all, region_stays, set_kept}
 use Rattle.gr1_sys.proofs.Climbed.{next_spent}
 use Rattle.gr1_env.specs.Held.{HasLayer, layer_regions, all_regions, last_z}
-use Rattle.gr1_env.proofs.Growing.{last_z_held, z_is}
+use Rattle.gr1_env.proofs.Growing.{last_z_held, layer_held, z_is}
 use Rattle.gr1_env.proofs.layering.grow.Goals as goal
 
 pub layer_above-requires-clause-lower : goal.layer_above-requires-clause-lower
@@ -24,13 +24,12 @@ same-requires-clause-a g c =
 
 pub same-requires-clause-b : goal.same-requires-clause-b
 same-requires-clause-b g c =
-    let made = c.in-Ok.ensures.made.made in
-    (held_each (g.G.Regions.kept c.layer_above.new.g) (layer_regions c.in-Ok.next) _ made.counted (λ w. omega (arith, made.held w))).0
+    let k1 = g.G.Regions.kept c.layer_above.new.g in
+    (together_each k1 (layer_regions c.in-Ok.next) (layer_held _ _ k1 _ _ _ c.in-Ok.next (g.met.G.Regions.exact _) c.in-Ok.ensures.made)).0
 
 pub spend_layer-requires : goal.spend_layer-requires
 spend_layer-requires g c =
-    let made = c.in-Ok.ensures.made.made in
-    together_as (g.G.Regions.kept c.layer_above.new.g) (layer_regions c.in-Ok.next) _ (g.met.G.Regions.exact _) made.counted (λ w. omega (arith, made.held w))
+    layer_held _ _ (g.G.Regions.kept c.layer_above.new.g) _ _ _ c.in-Ok.next (g.met.G.Regions.exact _) c.in-Ok.ensures.made
 
 pub spend_layers-requires-in-Err : goal.spend_layers-requires-in-Err
 spend_layers-requires-in-Err g c =
