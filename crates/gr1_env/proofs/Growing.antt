@@ -11,7 +11,7 @@ use Rattle.gr1_law.specs.Layers.{union}
 use Rattle.gr1_law.proofs.Greatest.{greatest_grows}
 use Rattle.gr1_sys.specs.Held.{MakesRegions, HasEach, HasTogether}
 use Rattle.gr1_sys.proofs.Greatest.{count_at_most, up-rises}
-use Rattle.gr1_sys.proofs.Lists.{makes_still, each_append, together_as, length_push}
+use Rattle.gr1_sys.proofs.Lists.{makes_still, each_append, held_each, region_stays, set_kept, together_as, length_push}
 use Rattle.gr1_sys.proofs.Parted.{nothing_made}
 use Rattle.gr1_sys.proofs.Rounds.{first_is}
 use Rattle.gr1_sys.proofs.Winning.{both_grows, either_grows, meet_grows, union_grows, union_inside}
@@ -139,6 +139,14 @@ module _ {G R M : Type 0} (g : GameData) (first k new : Kept R M) (none : R) (mi
         whole = climbs.whole;
         count = record { here = grown.1.1.1; none_before = climbs.unsettled };
       })
+
+  -- and the last stays
+  pub last_stays : IsExact new → HasRegion first none → GrowsLayers g k new (layer_on g misses asms (length ls)) misses asms ls next true → new.set (last_z none next) ≡ layer_on g misses asms (length next)
+  last_stays exact has_none grown =
+      let here = region_stays first k none (λ w. omega (arith, climbs.made.held w)) has_none in
+      let each = held_each k (all_regions ls) (all_sets g misses asms ls) climbs.made.counted (λ w. omega (arith, climbs.made.held w)) in
+      let kept = set_kept k new (last_z none ls) exact (λ w. omega (arith, grown.1.0 w)) (last_z_held k none ls here each) in
+      subst (λ (qs : List (EnvLayer G R M)). new.set (last_z none qs) ≡ layer_on g misses asms (length qs)) (sym grown.0) (kept ∙ climbs.last)
 
 module _ {G R M : Type 0} where
   -- a call told of the sets as they stand then

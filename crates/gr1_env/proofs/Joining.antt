@@ -57,18 +57,18 @@ pub union-same : (f h : ℕ → StateSet) (n : ℕ) → ((i : ℕ) → i < n →
 union-same f h zero same = refl
 union-same f h (suc n) same = ap (λ t. either t (f n)) (union-same f h n (λ i before. same i (omega arith))) ∙ ap (λ t. either (union h n) t) (same n (omega arith))
 
-gather-counted : {X Y Z : Type 0} (f : ℕ → X → List Y) (h : ℕ → X → List Z) → ((n : ℕ) (x : X) → length (f n x) ≡ length (h n x)) → (xs : List X) → length (gather f xs) ≡ length (gather h xs)
+pub gather-counted : {X Y Z : Type 0} (f : ℕ → X → List Y) (h : ℕ → X → List Z) → ((n : ℕ) (x : X) → length (f n x) ≡ length (h n x)) → (xs : List X) → length (gather f xs) ≡ length (gather h xs)
 gather-counted f h each [] = refl
 gather-counted f h each (x ∷ xs) =
     let rest = gather-counted (λ n. f (suc n)) (λ n. h (suc n)) (λ n. each (suc n)) xs in
     omega (arith, rest, each 0 x, length_both (f 0 x) (gather (λ n. f (suc n)) xs), length_both (h 0 x) (gather (λ n. h (suc n)) xs))
 
 module _ {R : Type 0} where
-  sets_counted : (g : GameData) (cover : StateSet) (asms : List StateSet) (n : ℕ) (v : Vec R Global) → length v.items ≡ length (delay_sets g cover (at asms n) (vec_len v))
+  pub sets_counted : (g : GameData) (cover : StateSet) (asms : List StateSet) (n : ℕ) (v : Vec R Global) → length v.items ≡ length (delay_sets g cover (at asms n) (vec_len v))
   sets_counted g cover asms n v = let mapped = length_map (λ r. delay_on g cover (at asms n) (suc r)) (below (vec_len v)) in omega (arith, mapped, length_below (vec_len v))
 
 module _ {G R M : Type 0} where
-  hold_counted : (g : GameData) (base : StateSet) (asms : List StateSet) (e : EnvGoal G R M) → length (hold_regions e) ≡ length (hold_sets g base asms e)
+  pub hold_counted : (g : GameData) (base : StateSet) (asms : List StateSet) (e : EnvGoal G R M) → length (hold_regions e) ≡ length (hold_sets g base asms e)
   hold_counted g base asms e =
       let rest = gather-counted (λ i (v : Vec R Global). v.items) (λ i (v : Vec R Global). delay_sets g (cover_of g base (hold_on g base asms)) (at asms i) (vec_len v)) (sets_counted g (cover_of g base (hold_on g base asms)) asms) e.x.items in
       omega (arith, rest)

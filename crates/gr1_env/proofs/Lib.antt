@@ -5,3 +5,7 @@ pub mod Holding
 pub mod Givings
 pub mod Joining
 pub mod Growing
+pub mod Exact
+pub mod Counting
+pub mod Deciding
+pub mod Shown

@@ -5,7 +5,7 @@ ghost use Rattle.spec_model.specs.Sets.{either, pre_env};
 ghost use Rattle.regions.specs.Kept.{HasRegion, HoldsBesides, MakesRegion, IsSameGame};
 ghost use Rattle.gr1_law.specs.Layers.{union};
 ghost use Rattle.gr1_sys.specs.Held.{HasEach, HasTogether, HoldsWithoutAll};
-ghost use Rattle.gr1_env.specs.Solution.{at, base_of};
+ghost use Rattle.gr1_env.specs.Solution.{layer_on};
 ghost use Rattle.gr1_env.specs.Held.{goal_regions, all_regions, last_z, hold_set, IsGiven, HasHold, HaveHolds, HasLayer, GrowsLayers, HaveLayers};
 
 use crate::givens::Given;
@@ -195,6 +195,7 @@ pub fn all_layers<G: Regions>(
     requires free { (G.kept g.old).jam ≡ None }
     requires given { IsGiven (G.kept g.old) given.now }
     ensures made { let k = G.kept g.old in IfOk result (λ layers. HaveLayers k.game k (G.kept g.new) (map k.set given.now.misses.items) (map k.set given.now.asms.items) layers.items) }
+    ensures last { let k = G.kept g.old in IfOk result (λ layers. (G.kept g.new).set (last_z given.now.none layers.items) ≡ layer_on k.game (map k.set given.now.misses.items) (map k.set given.now.asms.items) (length layers.items)) }
     ensures halted { OnErr result (HoldsBesides (G.kept g.old) (G.kept g.new) []) }
     ensures same { IsSameGame (G.kept g.old) (G.kept g.new) }
 {

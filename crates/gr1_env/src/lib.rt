@@ -12,6 +12,9 @@ mod givens;
 mod holds;
 mod layering;
 mod layers;
+mod numbers;
+mod solving;
 mod spending;
 
 pub use layers::{EnvGoal, EnvLayer, EnvLayers};
+pub use solving::solve_env;

@@ -4,7 +4,7 @@ use Rattle.gr1_env.specs.Held.{GrowsLayers, all_regions, last_z}
 use Rattle.gr1_sys.proofs.Holdings.{on_err, same_then}
 use Rattle.gr1_sys.proofs.Lists.{set_kept, sets_stay, together_as, made_and_taken_all}
 use Rattle.gr1_env.proofs.Givings.{given_stays}
-use Rattle.gr1_env.proofs.Growing.{climbs_first, climbs_next, climbs_fewer, climbed, grows_at}
+use Rattle.gr1_env.proofs.Growing.{climbs_first, climbs_next, climbs_fewer, climbed, last_stays, grows_at}
 use Rattle.gr1_env.proofs.layering.all_layers.Goals as goal
 
 pub loop-more-init : goal.loop-more-init
@@ -87,4 +87,21 @@ returns-then-settled-clause-made g c =
     let asms_are = sets_stay first k given.asms.items (g.met.G.Regions.exact _) (λ w. omega (arith, inv.climbs.made.held w)) c.requires.given.asms in
     let grown = grows_at first.game k new (k.set (last_z given.none ls)) (layer_on first.game misses asms (length ls)) _ misses _ asms ls c.in_ok-more.more.items c.in_ok-more.settled inv.same.game inv.climbs.last misses_are asms_are c.in_ok-more.ensures.grown in
     climbed first.game first k new given.none misses asms ls c.in_ok-more.more.items inv.climbs
+    (subst (GrowsLayers first.game k new (layer_on first.game misses asms (length ls)) misses asms ls c.in_ok-more.more.items) c.if-settled.true grown)
+
+pub returns-then-settled-clause-last : goal.returns-then-settled-clause-last
+returns-then-settled-clause-last g c =
+    let kept = g.G.Regions.kept in
+    let first = kept c.args.g.now in
+    let k = kept c.loop-more.g in
+    let new = kept c.grow.new.g in
+    let inv = c.loop-more.invariant in
+    let ls = c.loop-more.layers.items in
+    let given = c.args.given.now in
+    let misses = map first.set given.misses.items in
+    let asms = map first.set given.asms.items in
+    let misses_are = sets_stay first k given.misses.items (g.met.G.Regions.exact _) (λ w. omega (arith, inv.climbs.made.held w)) c.requires.given.misses in
+    let asms_are = sets_stay first k given.asms.items (g.met.G.Regions.exact _) (λ w. omega (arith, inv.climbs.made.held w)) c.requires.given.asms in
+    let grown = grows_at first.game k new (k.set (last_z given.none ls)) (layer_on first.game misses asms (length ls)) _ misses _ asms ls c.in_ok-more.more.items c.in_ok-more.settled inv.same.game inv.climbs.last misses_are asms_are c.in_ok-more.ensures.grown in
+    last_stays first.game first k new given.none misses asms ls c.in_ok-more.more.items inv.climbs (g.met.G.Regions.exact _) c.requires.given.none
     (subst (GrowsLayers first.game k new (layer_on first.game misses asms (length ls)) misses asms ls c.in_ok-more.more.items) c.if-settled.true grown)
