@@ -1,15 +1,15 @@
-mod Greatest
-mod Winning
-mod Holdings
+pub mod Greatest
+pub mod Winning
+pub mod Holdings
 mod Told
 mod Naming
 mod Waits
-mod Lists
-mod Popped
-mod Parted
-mod Climbed
-mod Turned
+pub mod Lists
+pub mod Popped
+pub mod Parted
+pub mod Climbed
+pub mod Turned
 pub mod Givings
-mod Rounds
-mod Won
-mod Walked
+pub mod Rounds
+pub mod Won
+pub mod Walked

@@ -32,26 +32,26 @@ pub union_grows : (f h : ℕ → StateSet) → ((i : ℕ) → IsPartOf (f i) (h 
 union_grows f h part zero = λ s e. e
 union_grows f h part (suc n) = either_grows (union f n) (f n) (union h n) (h n) (union_grows f h part n) (part n)
 
-union_inside : (f : ℕ → StateSet) (c : StateSet) → ((i : ℕ) → IsPartOf (f i) c) → (n : ℕ) → IsPartOf (union f n) c
+pub union_inside : (f : ℕ → StateSet) (c : StateSet) → ((i : ℕ) → IsPartOf (f i) c) → (n : ℕ) → IsPartOf (union f n) c
 union_inside f c part zero = λ s e. absurd (false≢true e)
 union_inside f c part (suc n) = either_inside (union f n) (f n) c (union_inside f c part n) (part n)
 
-union_same : (f h : ℕ → StateSet) → ((i : ℕ) → f i ≡ h i) → (n : ℕ) → union f n ≡ union h n
+pub union_same : (f h : ℕ → StateSet) → ((i : ℕ) → f i ≡ h i) → (n : ℕ) → union f n ≡ union h n
 union_same f h same n = let one : f ≡ h = λ k i. same i k in ap (λ (f : ℕ → StateSet). union f n) one
 
 module _ (g : GameData) where
-  meet_grows : (f h : ℕ → StateSet) → ((i : ℕ) → IsPartOf (f i) (h i)) → (n : ℕ) → IsPartOf (meet g f n) (meet g h n)
+  pub meet_grows : (f h : ℕ → StateSet) → ((i : ℕ) → IsPartOf (f i) (h i)) → (n : ℕ) → IsPartOf (meet g f n) (meet g h n)
   meet_grows f h part zero = λ s e. e
   meet_grows f h part (suc n) = both_grows (meet g f n) (f n) (meet g h n) (h n) (meet_grows f h part n) (part n)
 
-  meet_inside : (f : ℕ → StateSet) (n : ℕ) → IsPartOf (meet g f n) (all_states g)
+  pub meet_inside : (f : ℕ → StateSet) (n : ℕ) → IsPartOf (meet g f n) (all_states g)
   meet_inside f zero s e = e
   meet_inside f (suc n) s e = meet_inside f n s (and_parts (meet g f n s) (f n s) e).0
 
   less_or_last : (j n : ℕ) → j < suc n → (j < n) ⊎ (j ≡ n)
   less_or_last j n below = grind (arith, below)
 
-  meet-each : (f : ℕ → StateSet) (n j : ℕ) → j < n → IsPartOf (meet g f n) (f j)
+  pub meet-each : (f : ℕ → StateSet) (n j : ℕ) → j < n → IsPartOf (meet g f n) (f j)
   meet-each f zero j below s e = absurd (omega arith)
   meet-each f (suc n) j below s e = at (less_or_last j n below) (and_parts (meet g f n s) (f n s) e) (λ earlier. meet-each f n j earlier s)
     where
@@ -60,7 +60,7 @@ module _ (g : GameData) where
       at (inr last) parts rest = subst (λ m. f m s ≡ true) (sym last) parts.1
 
   -- a state that each set has is in what they have in common
-  meet-from : (f : ℕ → StateSet) (n : ℕ) (s : State) → IsTrue (all_states g s) → ((j : ℕ) → j < n → IsTrue (f j s)) → IsTrue (meet g f n s)
+  pub meet-from : (f : ℕ → StateSet) (n : ℕ) (s : State) → IsTrue (all_states g s) → ((j : ℕ) → j < n → IsTrue (f j s)) → IsTrue (meet g f n s)
   meet-from f zero s inside each = inside
   meet-from f (suc n) s inside each = and_from _ _ (meet-from f n s inside (λ j below. each j (omega arith))) (each n (omega arith))
 

@@ -19,7 +19,7 @@ use Rattle.gr1_sys.proofs.Rounds.{first_is}
 use Rattle.gr1_sys.proofs.Givings.{all_above}
 use Rattle.gr1_sys.proofs.Winning.{following-grows, following-inside, is_winning}
 
-found : {X : Type 0} (xs : List X) (i : ℕ) (x : X) → slice_get xs i ≡ Some x → (i < length xs) × (get_or xs i x ≡ x)
+pub found : {X : Type 0} (xs : List X) (i : ℕ) (x : X) → slice_get xs i ≡ Some x → (i < length xs) × (get_or xs i x ≡ x)
 found [] i x e = cc
 found (y ∷ xs) zero x e = (omega arith, cc)
 found (y ∷ xs) (suc i) x e = let rest = found xs i x e in (omega (arith, rest.0), rest.1)

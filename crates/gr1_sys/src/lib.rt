@@ -17,6 +17,7 @@ mod solving;
 mod spending;
 mod turns;
 
+pub use joining::{and_in, or_in};
 pub use layers::{SysLayer, SysLayers};
 pub use solving::solve_sys;
 pub use spending::spend_all;

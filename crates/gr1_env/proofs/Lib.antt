@@ -1,0 +1,11 @@
+pub mod Gathered
+pub mod Rising
+pub mod Climbing
+pub mod Holding
+pub mod Givings
+pub mod Joining
+pub mod Growing
+pub mod Exact
+pub mod Counting
+pub mod Deciding
+pub mod Shown

@@ -1,0 +1,21 @@
+use Rattle.std.proofs.Common.{◌∙◌, subst, sym, []}
+use Rattle.std.proofs.lemmas.Result.{IfOk-weaker, IfErr-weaker}
+use Rattle.regions.specs.Kept.{MakesRegion}
+use Rattle.gr1_sys.proofs.Givings.{assumption_alone, assumption_there}
+use Rattle.regions.specs.Kept.{Holding}
+use Rattle.gr1_env.proofs.givens.assumption_region.Goals as goal
+
+pub returns-then-is_empty-clause-made : goal.returns-then-is_empty-clause-made
+returns-then-is_empty-clause-made g c =
+    let kept = g.G.Regions.kept in
+    let k = kept c.args.g.now in
+    IfOk-weaker c.all.result _ _ (λ r made. subst (MakesRegion k (kept c.all.new.self) r) (sym (assumption_alone c.game.result.now k.game c.game.ensures (sym c.is_empty.ensures ∙ c.if-is_empty.true) c.args.i c.requires.there)) made) c.all.ensures.made
+
+pub holding-requires-clause-there : goal.holding-requires-clause-there
+holding-requires-clause-there g c = (assumption_there c.game.result.now (g.G.Regions.kept c.args.g.now).game c.game.ensures (sym c.is_empty.ensures ∙ c.if-is_empty.false) c.args.i c.requires.there).0
+
+pub returns-else-is_empty-clause-made : goal.returns-else-is_empty-clause-made
+returns-else-is_empty-clause-made g c =
+    let kept = g.G.Regions.kept in
+    let k = kept c.args.g.now in
+    IfOk-weaker c.holding.result _ _ (λ r made. subst (MakesRegion k (kept c.holding.new.self) r) (assumption_there c.game.result.now k.game c.game.ensures (sym c.is_empty.ensures ∙ c.if-is_empty.false) c.args.i c.requires.there).1 made) c.holding.ensures.made

@@ -1,0 +1,29 @@
+use Rattle.std.proofs.Common.{◌∷◌, subst, arith}
+use Rattle.spec_model.specs.Sets.{no_states}
+use Rattle.gr1_env.specs.declared.givens.Wanted.TheVariants.{Misses, Assumptions}
+use Rattle.gr1_sys.specs.Held.{MakesRegions}
+use Rattle.gr1_env.specs.Givens.{wanted}
+use Rattle.gr1_sys.proofs.Lists.{together_as, made_and_spent_all, makes_both}
+use Rattle.gr1_env.proofs.givens.give.Goals as goal
+
+pub spend_all-requires : goal.spend_all-requires
+spend_all-requires g c =
+    let made = c.in_ok-misses.ensures.made in
+    together_as (g.G.Regions.kept c.with_misses.new.g) c.in_ok-misses.misses.items _ (g.met.G.Regions.exact _) made.counted (λ w. omega (arith, made.held w, c.in-Err.ensures.halted w))
+
+pub returns-in-Ok-clause-made : goal.returns-in-Ok-clause-made
+returns-in-Ok-clause-made g c =
+    let kept = g.G.Regions.kept in
+    let k = kept c.args.g.now in
+    let k1 = kept c.regions_of.new.g in
+    let k2 = kept c.with_misses.new.g in
+    makes_both k k1 k2 c.in_ok-misses.misses.items (c.in-Ok.none ∷ c.in-Ok.asms.items) (wanted k.game Misses) (no_states ∷ wanted k.game Assumptions) c.in_ok-misses.ensures.made
+    (subst (λ h. MakesRegions k1 k2 (c.in-Ok.none ∷ c.in-Ok.asms.items) (no_states ∷ wanted h Assumptions)) c.regions_of.ensures.same.game c.in-Ok.ensures.made)
+
+pub returns-in-Err-clause-halted : goal.returns-in-Err-clause-halted
+returns-in-Err-clause-halted g c =
+    let kept = g.G.Regions.kept in
+    made_and_spent_all (kept c.args.g.now) (kept c.regions_of.new.g) (kept c.with_misses.new.g) (kept c.spend_all.new.g) c.in_ok-misses.misses.items _ (g.met.G.Regions.exact _) c.in_ok-misses.ensures.made c.in-Err.ensures.halted c.spend_all.ensures.spends
+
+pub returns-in-Ok-clause-counted : goal.returns-in-Ok-clause-counted
+returns-in-Ok-clause-counted g c = c.in_ok-misses.ensures.made.counted

@@ -1,0 +1,41 @@
+use Rattle.std.proofs.Common.{◌∙◌, ap, subst, sym, arith, [], ◌∷◌}
+use Rattle.std.proofs.lemmas.Result.{IfOk-weaker}
+use Rattle.spec_model.specs.Sets.{rest}
+use Rattle.regions.specs.Kept.{MakesRegion}
+use Rattle.regions.specs.declared.types.Recur.TheVariants.{Guarantee}
+use Rattle.regions.specs.Rules.{states_holding}
+use Rattle.gr1_law.specs.Layers.{assumption_set}
+use Rattle.regions.proofs.Holding.{set_is}
+use Rattle.gr1_sys.proofs.Parted.{halted_above}
+use Rattle.gr1_sys.proofs.Givings.{goal_alone, goal_there, one_above}
+use Rattle.gr1_env.proofs.Givings.{miss_alone, miss_there, miss_counted}
+use Rattle.regions.specs.Kept.{Not, Holding, States}
+use Rattle.gr1_env.proofs.givens.miss_region.Goals as goal
+
+pub returns-then-is_empty-clause-made : goal.returns-then-is_empty-clause-made
+returns-then-is_empty-clause-made g c =
+    let kept = g.G.Regions.kept in
+    let k = kept c.args.g.now in
+    let alone = goal_alone c.game.result.now k.game c.game.ensures (sym c.is_empty.ensures ∙ c.if-is_empty.true) c.args.j (miss_counted k.game c.args.j c.requires.there) in
+    IfOk-weaker c.none.result _ _ (λ r made. subst (MakesRegion k (kept c.none.new.self) r) (sym (miss_alone k.game c.args.j c.requires.there alone)) made) c.none.ensures.made
+
+pub holding-requires-clause-there : goal.holding-requires-clause-there
+holding-requires-clause-there g c =
+    let k = g.G.Regions.kept c.args.g.now in
+    (goal_there c.game.result.now k.game c.game.ensures (sym c.is_empty.ensures ∙ c.if-is_empty.false) c.args.j (miss_counted k.game c.args.j c.requires.there)).0
+
+pub returns-in-Ok-clause-made : goal.returns-in-Ok-clause-made
+returns-in-Ok-clause-made g c =
+    let kept = g.G.Regions.kept in
+    let k = kept c.args.g.now in
+    let k1 = kept c.holding.new.self in
+    let found = goal_there c.game.result.now k.game c.game.ensures (sym c.is_empty.ensures ∙ c.if-is_empty.false) c.args.j (miss_counted k.game c.args.j c.requires.there) in
+    let made = c.in_ok-holds.ensures.made in
+    let is = set_is k1 c.in_ok-holds.holds (states_holding k.game (Guarantee c.args.j)) (g.met.G.Regions.exact _) (λ w. omega (arith, made.held w)) in
+    let rest_is = ap (λ h. rest h (k1.set c.in_ok-holds.holds)) c.holding.ensures.same.game ∙ miss_there k.game c.args.j (k1.set c.in_ok-holds.holds) c.requires.there (is ∙ found.1) in
+    one_above k k1 (kept c.not.new.self) (kept c.spend.new.self) c.in_ok-holds.holds c.in-Ok.misses _ _ (g.met.G.Regions.exact _) made (subst (MakesRegion k1 (kept c.not.new.self) c.in-Ok.misses) rest_is c.in-Ok.ensures.made) c.spend.ensures.spends
+
+pub returns-in-Err-clause-halted : goal.returns-in-Err-clause-halted
+returns-in-Err-clause-halted g c =
+    let kept = g.G.Regions.kept in
+    halted_above (kept c.args.g.now) (kept c.holding.new.self) (kept c.not.new.self) (kept c.spend-in-Err.new.self) c.in_ok-holds.holds _ (g.met.G.Regions.exact _) c.in_ok-holds.ensures.made c.in-Err.ensures.halted.held c.spend-in-Err.ensures.spends

@@ -1,0 +1,48 @@
+use Rattle.std.proofs.Common.{◌∙◌, map, arith}
+use Rattle.std.proofs.lemmas.Result.{IfOk-weaker}
+use Rattle.gr1_sys.proofs.Lists.{together_as, made_and_spent_all}
+use Rattle.gr1_sys.proofs.Won.{match_weaker}
+use Rattle.gr1_env.specs.Givens.{given_regions, given_sets}
+use Rattle.gr1_env.proofs.Givings.{given_as}
+use Rattle.gr1_env.proofs.Exact.{layers_for}
+use Rattle.gr1_env.proofs.Deciding.{still_held}
+use Rattle.gr1_env.proofs.Shown.{won_is, lost_is}
+use Rattle.gr1_env.proofs.solving.solve_env.Goals as goal
+
+pub winning-requires-clause-given : goal.winning-requires-clause-given
+winning-requires-clause-given g c =
+    let kept = g.G.Regions.kept in
+    (given_as (kept c.args.g.now) (kept c.give.new.g) c.in_ok-given.given (g.met.G.Regions.exact _) c.in_ok-given.ensures.made c.in_ok-given.ensures.counted).is
+
+pub spend_given-requires : goal.spend_given-requires
+spend_given-requires g c =
+    let kept = g.G.Regions.kept in
+    let made = c.in_ok-given.ensures.made in
+    together_as (kept c.winning.new.g) (given_regions c.in_ok-given.given) _ (g.met.G.Regions.exact _) made.counted
+    (still_held (kept c.args.g.now) (kept c.give.new.g) (kept c.winning.new.g) (given_regions c.in_ok-given.given) _ _ _ c.in-Ok.won (λ (l : _). l.layers.items) made c.in-Ok.ensures.won)
+
+pub spend_given-requires-in-Err : goal.spend_given-requires-in-Err
+spend_given-requires-in-Err g c =
+    let made = c.in_ok-given.ensures.made in
+    together_as (g.G.Regions.kept c.winning.new.g) (given_regions c.in_ok-given.given) _ (g.met.G.Regions.exact _) made.counted (λ w. omega (arith, made.held w, c.in-Err.ensures.halted w))
+
+pub returns-in-Ok-clause-solved : goal.returns-in-Ok-clause-solved
+returns-in-Ok-clause-solved g c =
+    let kept = g.G.Regions.kept in
+    let k = kept c.args.g.now in
+    let k1 = kept c.give.new.g in
+    let k2 = kept c.winning.new.g in
+    let k3 = kept c.spend_given.new.g in
+    let given = c.in_ok-given.given in
+    let made = c.in_ok-given.ensures.made in
+    let gives = given_as k k1 given (g.met.G.Regions.exact _) made c.in_ok-given.ensures.counted in
+    let gone = c.spend_given.ensures.spends in
+    match_weaker c.in-Ok.won _ _ _ _
+    (lost_is k k1 k2 k3 (map k1.set given.misses.items) (map k1.set given.asms.items) (given_regions given) (given_sets k.game) (g.met.G.Regions.exact _) c.give.ensures.same.game gives.misses gives.asms made gone c.requires.free)
+    (λ l won. (layers_for k.game, won_is k k1 k2 k3 (map k1.set given.misses.items) (map k1.set given.asms.items) (given_regions given) (given_sets k.game) (g.met.G.Regions.exact _) c.give.ensures.same.game gives.misses gives.asms made gone l.layers.items (g.met.G.Regions.exact _) won))
+    c.in-Ok.ensures.won
+
+pub returns-in-Err-clause-halted : goal.returns-in-Err-clause-halted
+returns-in-Err-clause-halted g c =
+    let kept = g.G.Regions.kept in
+    made_and_spent_all (kept c.args.g.now) (kept c.give.new.g) (kept c.winning.new.g) (kept c.spend_given-in-Err.new.g) (given_regions c.in_ok-given.given) _ (g.met.G.Regions.exact _) c.in_ok-given.ensures.made c.in-Err.ensures.halted c.spend_given-in-Err.ensures.spends

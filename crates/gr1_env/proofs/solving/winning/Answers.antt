@@ -1,0 +1,37 @@
+use Rattle.std.proofs.Common.{◌∙◌, ap, subst, sym, None, length, map, arith}
+use Rattle.std.proofs.lemmas.Result.{IfOk-weaker, on_err_weaker}
+use Rattle.spec_model.specs.Sets.{environment_forces}
+use Rattle.gr1_sys.proofs.Lists.{together_as, made_and_spent_all, made_and_taken_all}
+use Rattle.gr1_sys.proofs.Won.{match_weaker}
+use Rattle.gr1_env.specs.Held.{all_regions}
+use Rattle.gr1_env.proofs.Givings.{given_stays}
+use Rattle.gr1_env.proofs.Deciding.{lost, won}
+use Rattle.gr1_env.proofs.solving.winning.Goals as goal
+
+pub decide-requires-clause-given : goal.decide-requires-clause-given
+decide-requires-clause-given g c =
+    let kept = g.G.Regions.kept in
+    given_stays (kept c.args.g.now) (kept c.all_layers.new.g) c.args.given.now (g.met.G.Regions.exact _) (λ w. omega (arith, c.in_ok-layers.ensures.made.made.held w)) c.requires.given
+
+pub decide-requires-clause-held : goal.decide-requires-clause-held
+decide-requires-clause-held g c =
+    let made = c.in_ok-layers.ensures.made.made in
+    together_as (g.G.Regions.kept c.all_layers.new.g) (all_regions c.in_ok-layers.layers.items) _ (g.met.G.Regions.exact _) made.counted (λ w. omega (arith, made.held w))
+
+pub returns-clause-won : goal.returns-clause-won
+returns-clause-won g c =
+    let kept = g.G.Regions.kept in
+    let k = kept c.args.g.now in
+    let k1 = kept c.all_layers.new.g in
+    let k2 = kept c.decide.new.g in
+    let misses = map k.set c.args.given.now.misses.items in
+    let asms = map k.set c.args.given.now.asms.items in
+    let ls = c.in_ok-layers.layers.items in
+    IfOk-weaker c.decide.result _ _ (λ o. match_weaker o _ _ _ _
+    (λ dropped. lost k k1 k2 _ misses asms ls (g.met.G.Regions.exact _) c.requires.free c.all_layers.ensures.same.game c.in_ok-layers.ensures.last c.in_ok-layers.ensures.made dropped)
+    (λ l h. won k k1 k2 _ misses asms ls l.layers.items h.0 c.all_layers.ensures.same.game c.in_ok-layers.ensures.last c.in_ok-layers.ensures.made h.1)) c.decide.ensures.decided
+
+pub returns-clause-halted : goal.returns-clause-halted
+returns-clause-halted g c =
+    let kept = g.G.Regions.kept in
+    on_err_weaker c.decide.result (made_and_taken_all (kept c.args.g.now) (kept c.all_layers.new.g) (kept c.decide.new.g) (all_regions c.in_ok-layers.layers.items) _ (g.met.G.Regions.exact _) c.in_ok-layers.ensures.made.made) c.decide.ensures.halted

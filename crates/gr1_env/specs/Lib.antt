@@ -1,0 +1,4 @@
+pub mod Solution
+pub mod Held
+pub mod Givens
+pub mod Solved
