@@ -1,5 +1,5 @@
 -- What is found of its game is found of a specification.
-use Rattle.std.proofs.Common.{◌≡◌, ◌⊎◌, inl, inr, ℕ, Bool, true, false, not, List, Some, None, Vec, refl, sym, ap, subst, ◌∙◌}
+use Rattle.std.proofs.Common.{◌≡◌, ◌⊎◌, inl, inr, ℕ, Bool, true, false, not, List, length, Some, None, Vec, refl, sym, ap, subst, ◌∙◌}
 use Rattle.std.proofs.lemmas.Bool.{false≢true}
 use Rattle.spec_model.specs.Syntax.{Specification}
 use Rattle.spec_model.specs.Moves.{rules_of}
@@ -15,10 +15,12 @@ use Rattle.region_rows.specs.declared.rows.RegionRows.{RegionRows}
 use Rattle.region_rows.specs.Slots.{kept_in}
 use Rattle.spec_model.specs.GameViews.{game_data}
 use Rattle.gr1_law.specs.Layers.{LayerSets, IsWinning, AreGreatestRanks, round_count}
-use Rattle.gr1_law.specs.EnvLayers.{EnvLayerSets, AreEnvLayers, IsLayerCount, AreDelayCounts, denial_count}
+use Rattle.gr1_law.specs.EnvLayers.{EnvLayerSets, AreEnvLayers, IsLayerCount, denial_count}
 use Rattle.gr1_sys.specs.declared.layers.SysLayer.{SysLayer}
 use Rattle.gr1_sys.specs.Held.{ranks_of}
 use Rattle.gr1_sys.specs.Moment.{TellsOneMoment}
+use Rattle.gr1_env.specs.declared.layers.EnvLayer.{EnvLayer}
+use Rattle.gr1_env.specs.Solved.{counts_of, denials_of, WonByEnvironment}
 use Rattle.controller.specs.Made.{AreLayersOf, Targets, TellsHalt}
 use Rattle.spec_model.specs.Agreement.{Agrees}
 use Rattle.spec_model.specs.Laws.{NumbersRise}
@@ -83,10 +85,12 @@ one_found s agrees made rise = by_start (system_forces (game_of s) (some_winning
 
 -- ---- how the game was decided, where the regions' game is the specification's
 
-pub lost_game : (g g' : GameData) → g' ≡ g → (e : EnvLayerSets) (n m : ℕ) (counts : ℕ → ℕ → List ℕ) → AreEnvLayers g' e → IsLayerCount e n → AreDelayCounts g' e n counts →
-    environment_forces g' (e.z n) None ≡ true → m ≡ denial_count g' n counts → IsLostGame g n m
-lost_game g g' is e n m counts layers last greatest forced denials =
-    subst (λ (g : GameData). IsLostGame g n m) is (record { layers = e; counts = counts; are_layers = layers; last = last; greatest = greatest; forced = forced; denials = denials })
+-- the environment's layers are held
+pub lost_game : {G R M : Type 0} (old new : Kept R M) (layers : List (EnvLayer G R M)) (e : EnvLayerSets) (g : GameData) (n m : ℕ) →
+    old.game ≡ g → WonByEnvironment old new layers e → n ≡ length layers → m ≡ denials_of layers → IsLostGame g n m
+lost_game old new layers e g n m is own shifts denials =
+    subst (λ (n : ℕ). IsLostGame g n m) (sym shifts) (subst (λ (g : GameData). IsLostGame g (length layers) m) is
+    (record { layers = e; counts = counts_of layers; are_layers = own.layers; last = own.last; greatest = own.counts; forced = own.forced; denials = denials ∙ own.denials }))
 
 -- the layers of the winning states are held
 pub won_game : {G R M : Type 0} (k : Kept R M) (z : R) (layers : List (Vec (SysLayer G R M) Global)) (l : LayerSets) (g : GameData) (n : ℕ) →

@@ -81,6 +81,7 @@ fn do_lost<G: Regions + Drop, I: Source, O: Sink>(
         }
         // One of the two wins each game.
         Ok(None) => unreachable!(),
+        // No clause of this solver tells a budget that ran out, and rows have none.
         Err(_) => Status::Memory,
     }
 }
