@@ -9,8 +9,8 @@ is found by going on until nothing changes. It is slow: try it on texts of up to
 assumptions count from 0, ranks from 1. A set has a digit for each state: inputs and then outputs, each in declared order,
 false before true, the first variable slowest; a `_` stands where the input changes. The last line has K and who wins.
 
-`run` writes what the controller replies to the lines of INPUT, each with all inputs as `name=value`: the verdict, a line
-for each reply, and the assumption that an input breaks.
+`run` writes what the controller replies to the lines of INPUT, each with all inputs as `name=value`: the verdict, by the
+layers of the side that wins, a line for each reply, and the assumption that an input breaks.
 """
 import itertools
 import re
@@ -203,6 +203,13 @@ class Game:
     def pre_sys(self, target):
         return {s for s in self.states if self.forces(s, target)}
 
+    def env_forces(self, before, target):
+        """Whether some legal input has all its legal outputs in the target."""
+        return any(all(s in target for s in reached) for reached in self.moves(before).values())
+
+    def pre_env(self, target):
+        return {s for s in self.states if self.env_forces(s, target)}
+
 
 # ---- the layers
 
@@ -245,6 +252,49 @@ def round_count(goals):
     return 1 + sum(len(layers) for layers in goals)
 
 
+# ---- the environment's layers
+
+
+def delays_of(game, base, hold, assumption):
+    """The iterates from nothing up, from rank 1 on, for a hold and one assumption."""
+    cover = base & game.pre_env(hold)
+    iterates, t = [], set()
+    while True:
+        larger = cover & (assumption | game.pre_env(t))
+        if larger == t:
+            return iterates
+        iterates.append(larger)
+        t = larger
+
+
+def hold_of(game, goal, lower):
+    """The greatest set of the states that are in some iterate for each assumption, with these iterates."""
+    base = (set(game.states) - goal) | game.pre_env(lower)
+    hold = set(game.states)
+    while True:
+        delays = [delays_of(game, base, hold, a) for a in game.assumptions]
+        following = set.intersection(*(iterates[-1] if iterates else set() for iterates in delays))
+        if following == hold:
+            return hold, delays
+        hold = following
+
+
+def env_layers(game):
+    """The layers, each with the holds of the goals, up to the last that is new."""
+    layers, lower = [], set()
+    while True:
+        holds = [hold_of(game, goal, lower) for goal in game.goals]
+        layer = set().union(*(hold for hold, _ in holds))
+        if layer == lower:
+            return layers
+        layers.append((layer, holds))
+        lower = layer
+
+
+def denial_count(layers):
+    return 1 + max((sum(map(len, delays)) for _, holds in layers for _, delays in holds), default=0)
+
+
 # ---- what is written
 
 
@@ -272,7 +322,10 @@ def play(game, inputs):
     rank stay, into the part of the assumption that is waited for."""
     z, goals = winning(game)
     if not game.forces(None, z):
-        yield "no controller"
+        layers = env_layers(game)
+        last = layers[-1][0] if layers else set()
+        assert last == set(game.states) - z and game.env_forces(None, last)
+        yield f"unrealizable N={len(layers)} M={denial_count(layers)}"
         return
     yield f"realizable K={round_count(goals)}"
     state, goal, rank, index = None, 0, 0, 0

@@ -6,7 +6,7 @@ use Rattle.spec_model.specs.Agreement.{HasNoGoals}
 use Rattle.spec_model.specs.Sets.{StateSet, rest, pre_env, IsPartOf, IsLeast}
 use Rattle.spec_model.proofs.SetLaws.{pre_env_grows}
 use Rattle.spec_model.proofs.Duality.{parts_agree}
-use Rattle.safety.specs.Solution.{lost_within, IsShiftCount, IsDenialCount}
+use Rattle.gr1_law.specs.SafeGames.{lost_within, IsShiftCount, IsDenialCount}
 use Rattle.gr1_law.specs.Layers.{goal_sets, goal_set, assumption_set, union}
 use Rattle.gr1_law.specs.EnvLayers.{delay, IsHold, EnvLayerSets, AreEnvLayers, IsLayerCount, AreDelayCounts, most, denial_count}
 use Rattle.gr1_law.specs.EnvLaws.{LosingIsASpecialCase}

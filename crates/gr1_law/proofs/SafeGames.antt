@@ -5,7 +5,7 @@ use Rattle.spec_model.specs.Steps.{is_state}
 use Rattle.spec_model.specs.Sets.{StateSet, no_states, all_states, rest, holding, pre_sys, IsPartOf, IsGreatest}
 use Rattle.spec_model.proofs.SetLaws.{pre_sys_grows, pre_sys-inside}
 use Rattle.spec_model.proofs.Duality.{parts_agree}
-use Rattle.safety.specs.Solution.{IsRoundCount}
+use Rattle.gr1_law.specs.SafeGames.{IsRoundCount}
 use Rattle.gr1_law.specs.Layers.{LayerSets, AreLayers, IsWinning, HasRanks, AreGreatestRanks, IsLeastNumber, or_all_states, goal_sets, goal_set, assumption_sets, assumption_set, round_count}
 use Rattle.gr1_law.specs.Specifications.{SafetyIsASpecialCase}
 use Rattle.spec_model.specs.Agreement.{HasNoGoals}

@@ -8,7 +8,7 @@ use Rattle.spec_model.specs.Sets.{StateSet, pre_sys, system_forces}
 use Rattle.spec_model.specs.Verdicts.{SystemWins}
 use Rattle.spec_model.specs.WellMade.{WellMade}
 use Rattle.spec_model.proofs.Fixpoints.{greatest-one}
-use Rattle.safety.specs.Solution.{IsRoundCount}
+use Rattle.gr1_law.specs.SafeGames.{IsRoundCount}
 use Rattle.gr1_law.specs.Layers.{round_count}
 use Rattle.gr1_law.specs.Specifications.{IsWonWith, StayingWins}
 use Rattle.gr1_law.proofs.Settling.{some_ranks}

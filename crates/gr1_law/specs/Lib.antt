@@ -3,6 +3,7 @@ pub mod Choice
 pub mod Potential
 pub mod Laws
 pub mod Worked
+pub mod SafeGames
 pub mod Specifications
 pub mod EnvLayers
 pub mod EnvLaws

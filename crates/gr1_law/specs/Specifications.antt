@@ -13,7 +13,7 @@ use Rattle.spec_model.specs.Games.{GameData}
 use Rattle.spec_model.specs.GameRules.{last_state}
 use Rattle.spec_model.specs.Steps.{Before, reached}
 use Rattle.spec_model.specs.Sets.{StateSet, system_forces, pre_sys, IsGreatest}
-use Rattle.safety.specs.Solution.{IsRoundCount}
+use Rattle.gr1_law.specs.SafeGames.{IsRoundCount}
 use Rattle.gr1_law.specs.Layers.{LayerSets, IsWinning, AreGreatestRanks, round_count}
 use Rattle.gr1_law.specs.Choice.{Memory, IsChosen, ChosenPlay}
 use Rattle.gr1_law.specs.EnvLayers.{EnvLayerSets, IsLayerCount, denial_count}

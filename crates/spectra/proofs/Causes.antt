@@ -49,7 +49,6 @@ module _ (failed : Type 0) (before after : Moment) where
     by_deciding s status (top.won k is wins writes) = by_writing _ Done status tt writes
     by_deciding s status (top.held k is wins holds) = by_holding s k status holds
     by_deciding s status (top.lost n m loses writes) = by_writing _ Other status tt writes
-    by_deciding s status (top.uncontrolled is writes) = by_writing _ Other status tt writes
     by_deciding s status (top.budget filled writes) = absurd filled
     by_deciding s status (top.no_memory wants) = by_wanting status wants
 

@@ -13,21 +13,22 @@ use Rattle.spectra_parser.specs.Texts.{Explains}
 use Rattle.spectra_lexer.specs.Faults.{IsNotUtf8At, IsBadAt, IsTooLong}
 use Rattle.hidden_game.specs.GameOf.{game_of}
 use Rattle.spec_model.specs.Agreement.{Agrees}
+use Rattle.spec_model.specs.Laws.{NumbersRise}
 use Rattle.spectra_words.specs.declared.words.Command.{Command}
 use Rattle.spectra_words.specs.declared.words.Command.TheVariants.{Synth, Run}
 use Rattle.spectra_words.specs.Commands.{AskNothing}
 use Rattle.spectra.specs.declared.status.Status.{Status}
 use Rattle.spectra.specs.declared.status.Status.TheVariants.{Memory}
-use Rattle.spectra.specs.Endings.{usage, no_file, shelf_fault, refused, realizable, unrealizable, no_controller, node_budget}
+use Rattle.spectra.specs.Endings.{usage, no_file, shelf_fault, refused, realizable, unrealizable, node_budget}
 use Rattle.spectra.specs.Streams.{Moment, moment, Ends, WantsMemory, SaysHalt}
 use Rattle.regions.specs.declared.types.Halt.{Halt}
 use Rattle.regions.specs.declared.types.Halt.TheVariants as halts
 use Rattle.spectra.specs.Sessions.{Holds, HoldsOrNot}
 use Rattle.spectra.specs.Reading.{HasTypeFault, HasManyStates}
-use Rattle.spectra.specs.Verdict.{IsWonGame, IsLostGame, IsUncontrolledGame}
-use Rattle.spectra.specs.Top.{Decides, won, held, lost, uncontrolled, budget, no_memory, DecidesGame, DecidesSpecification, IsSaidOfSyntax, ServesSpecification, ServesText, ServesFile, ServesWords}
+use Rattle.spectra.specs.Verdict.{IsWonGame, IsLostGame}
+use Rattle.spectra.specs.Top.{Decides, won, held, lost, budget, no_memory, DecidesGame, DecidesSpecification, IsSaidOfSyntax, ServesSpecification, ServesText, ServesFile, ServesWords}
 use Rattle.spectra.specs.Top as top
-use Rattle.spectra.proofs.Found.{won_found, lost_found, uncontrolled_found}
+use Rattle.spectra.proofs.Found.{won_found, lost_found}
 
 -- nothing was done: no memory was given
 pub nothing_done : (m : Moment) → WantsMemory m m Memory
@@ -39,43 +40,36 @@ halt_said halt is same nodes before after status said = subst (λ (h : Halt). Sa
 
 -- ---- for a game
 
-module _ (command : Command) (nodes : ℕ) (s : Specification) (Won : ℕ → Type 0) (Lost : ℕ → ℕ → Type 0) (Uncontrolled Filled : Type 0) (before after : Moment) (status : Status) where
-  won_by : (k : ℕ) → command ≡ Synth → Won k → Ends (realizable k) before after status ⊎ WantsMemory before after status → Decides command nodes s Won Lost Uncontrolled Filled before after status
+module _ (command : Command) (nodes : ℕ) (s : Specification) (Won : ℕ → Type 0) (Lost : ℕ → ℕ → Type 0) (Filled : Type 0) (before after : Moment) (status : Status) where
+  won_by : (k : ℕ) → command ≡ Synth → Won k → Ends (realizable k) before after status ⊎ WantsMemory before after status → Decides command nodes s Won Lost Filled before after status
   won_by k is wins (inl writes) = won k is wins writes
   won_by k is wins (inr wants) = no_memory wants
 
-  held_by : (k : ℕ) → command ≡ Run → Won k → HoldsOrNot s k nodes Filled before after status → Decides command nodes s Won Lost Uncontrolled Filled before after status
+  held_by : (k : ℕ) → command ≡ Run → Won k → HoldsOrNot s k nodes Filled before after status → Decides command nodes s Won Lost Filled before after status
   held_by k is wins (inl holds) = held k is wins holds
   held_by k is wins (inr (inl full)) = budget full.0 full.1
   held_by k is wins (inr (inr wants)) = no_memory wants
 
-  lost_by : (n m : ℕ) → Lost n m → Ends (unrealizable n m) before after status ⊎ WantsMemory before after status → Decides command nodes s Won Lost Uncontrolled Filled before after status
+  lost_by : (n m : ℕ) → Lost n m → Ends (unrealizable n m) before after status ⊎ WantsMemory before after status → Decides command nodes s Won Lost Filled before after status
   lost_by n m loses (inl writes) = lost n m loses writes
   lost_by n m loses (inr wants) = no_memory wants
 
-  uncontrolled_by : Uncontrolled → Ends no_controller before after status ⊎ WantsMemory before after status → Decides command nodes s Won Lost Uncontrolled Filled before after status
-  uncontrolled_by is (inl writes) = uncontrolled is writes
-  uncontrolled_by is (inr wants) = no_memory wants
-
-  filled_by : Filled → Ends (node_budget nodes) before after status ⊎ WantsMemory before after status → Decides command nodes s Won Lost Uncontrolled Filled before after status
+  filled_by : Filled → Ends (node_budget nodes) before after status ⊎ WantsMemory before after status → Decides command nodes s Won Lost Filled before after status
   filled_by is (inl writes) = budget is writes
   filled_by is (inr wants) = no_memory wants
 
 module _ (command : Command) (nodes : ℕ) (s : Specification) (Filled : Type 0) (before after : Moment) (status : Status) where
   pub synth_won : (k : ℕ) → command ≡ Synth → IsWonGame (game_of s) k → Ends (realizable k) before after status ⊎ WantsMemory before after status → DecidesGame command nodes s Filled before after status
-  synth_won = won_by command nodes s (IsWonGame (game_of s)) (IsLostGame (game_of s)) (IsUncontrolledGame (game_of s)) Filled before after status
+  synth_won = won_by command nodes s (IsWonGame (game_of s)) (IsLostGame (game_of s)) Filled before after status
 
   pub run_held : (k : ℕ) → command ≡ Run → IsWonGame (game_of s) k → HoldsOrNot s k nodes Filled before after status → DecidesGame command nodes s Filled before after status
-  run_held = held_by command nodes s (IsWonGame (game_of s)) (IsLostGame (game_of s)) (IsUncontrolledGame (game_of s)) Filled before after status
+  run_held = held_by command nodes s (IsWonGame (game_of s)) (IsLostGame (game_of s)) Filled before after status
 
   pub is_lost : (n m : ℕ) → IsLostGame (game_of s) n m → Ends (unrealizable n m) before after status ⊎ WantsMemory before after status → DecidesGame command nodes s Filled before after status
-  is_lost = lost_by command nodes s (IsWonGame (game_of s)) (IsLostGame (game_of s)) (IsUncontrolledGame (game_of s)) Filled before after status
-
-  pub is_uncontrolled : IsUncontrolledGame (game_of s) → Ends no_controller before after status ⊎ WantsMemory before after status → DecidesGame command nodes s Filled before after status
-  is_uncontrolled = uncontrolled_by command nodes s (IsWonGame (game_of s)) (IsLostGame (game_of s)) (IsUncontrolledGame (game_of s)) Filled before after status
+  is_lost = lost_by command nodes s (IsWonGame (game_of s)) (IsLostGame (game_of s)) Filled before after status
 
   is_filled : Filled → Ends (node_budget nodes) before after status ⊎ WantsMemory before after status → DecidesGame command nodes s Filled before after status
-  is_filled = filled_by command nodes s (IsWonGame (game_of s)) (IsLostGame (game_of s)) (IsUncontrolledGame (game_of s)) Filled before after status
+  is_filled = filled_by command nodes s (IsWonGame (game_of s)) (IsLostGame (game_of s)) Filled before after status
 
   pub is_halted : (halt : Halt) → (halt ≡ halts.Budget → Filled) → SaysHalt halt nodes before after status → DecidesGame command nodes s Filled before after status
   is_halted halts.Budget filled said = is_filled (filled refl) said
@@ -102,12 +96,11 @@ too_many command nodes name before after s status more (inl writes) = top.too_ma
 too_many command nodes name before after s status more (inr wants) = top.no_memory wants
 
 -- rows never ran out of nodes
-module _ (command : Command) (nodes : ℕ) (s : Specification) (agrees : Agrees s (game_of s)) (made : WellMade (game_of s)) (Filled : Type 0) (never : ¬ Filled) (before after : Moment) where
+module _ (command : Command) (nodes : ℕ) (s : Specification) (agrees : Agrees s (game_of s)) (made : WellMade (game_of s)) (rise : NumbersRise s.lines) (Filled : Type 0) (never : ¬ Filled) (before after : Moment) where
   pub decided : (status : Status) → DecidesGame command nodes s Filled before after status → DecidesSpecification command nodes s before after status
   decided status (won k is wins writes) = won k is (won_found s agrees made k wins) writes
   decided status (held k is wins holds) = held k is (won_found s agrees made k wins) holds
-  decided status (lost n m loses writes) = lost n m (lost_found s agrees made n m loses) writes
-  decided status (uncontrolled is writes) = uncontrolled (uncontrolled_found s agrees is) writes
+  decided status (lost n m loses writes) = lost n m (lost_found s agrees made rise n m loses) writes
   decided status (budget filled writes) = absurd (never filled)
   decided status (no_memory wants) = no_memory wants
 

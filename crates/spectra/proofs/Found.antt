@@ -1,16 +1,11 @@
 -- What is found of its game is found of a specification.
-use Rattle.std.proofs.Common.{◌≡◌, ℕ, Bool, true, false, ◌&&◌, if◌then◌else◌, List, [], ◌∷◌, ◌++◌, flat_map, Some, None, Vec, refl, sym, ap, subst, ◌∙◌}
-use Rattle.std.specs.List.{AllByRecursion}
-use Rattle.std.proofs.lemmas.Bool.{and_parts, and_from, false≢true}
-use Rattle.spec_model.specs.declared.spec.Role.{Role}
-use Rattle.spec_model.specs.Syntax.{Content, Initial, Safety, Recurring, PatternUse, TriggerUse, Statement, Specification}
-use Rattle.spec_model.specs.Rules.{RecurringGoal}
-use Rattle.spec_model.specs.Moves.{is_assumption, is_guarantee, labelled, recurrences}
+use Rattle.std.proofs.Common.{◌≡◌, ◌⊎◌, inl, inr, ℕ, Bool, true, false, not, List, length, Some, None, Vec, refl, sym, ap, subst, ◌∙◌}
+use Rattle.std.proofs.lemmas.Bool.{false≢true}
+use Rattle.spec_model.specs.Syntax.{Specification}
+use Rattle.spec_model.specs.Moves.{rules_of}
 use Rattle.spec_model.specs.Games.{GameData}
-use Rattle.spec_model.specs.Sets.{StateSet, pre_sys, system_forces, IsGreatest}
+use Rattle.spec_model.specs.Sets.{StateSet, system_forces, environment_forces}
 use Rattle.spec_model.specs.WellMade.{WellMade}
-use Rattle.spec_model.proofs.Fixpoints.{greatest-one}
-use Rattle.safety.specs.Solution.{IsRoundCount, IsShiftCount, IsDenialCount}
 use Rattle.hidden_game.specs.GameOf.{game_of}
 use Rattle.std.specs.declared.alloc.Global.{Global}
 use Rattle.regions.specs.declared.types.Halt.{Halt}
@@ -20,117 +15,82 @@ use Rattle.region_rows.specs.declared.rows.RegionRows.{RegionRows}
 use Rattle.region_rows.specs.Slots.{kept_in}
 use Rattle.spec_model.specs.GameViews.{game_data}
 use Rattle.gr1_law.specs.Layers.{LayerSets, IsWinning, AreGreatestRanks, round_count}
+use Rattle.gr1_law.specs.EnvLayers.{EnvLayerSets, AreEnvLayers, IsLayerCount, denial_count}
 use Rattle.gr1_sys.specs.declared.layers.SysLayer.{SysLayer}
 use Rattle.gr1_sys.specs.Held.{ranks_of}
 use Rattle.gr1_sys.specs.Moment.{TellsOneMoment}
+use Rattle.gr1_env.specs.declared.layers.EnvLayer.{EnvLayer}
+use Rattle.gr1_env.specs.Solved.{counts_of, denials_of, WonByEnvironment}
 use Rattle.controller.specs.Made.{AreLayersOf, Targets, TellsHalt}
-use Rattle.spec_model.specs.Agreement.{Agrees, HasNoGoals, NothingRecurs}
+use Rattle.spec_model.specs.Agreement.{Agrees}
+use Rattle.spec_model.specs.Laws.{NumbersRise}
 use Rattle.gr1_law.proofs.Settling.{some_ranks}
 use Rattle.gr1_law.proofs.Solutions.{some_winning}
-use Rattle.gr1_law.proofs.SafeGames.{special_case}
 use Rattle.gr1_law.proofs.StateCounts.{system_wins}
-use Rattle.gr1_law.proofs.Staying.{no_goals, nothing_recurs}
-use Rattle.spectra.specs.First.{IsInitialLine, IsInitialOnly}
-use Rattle.spectra.specs.Verdict.{is_nothing, has_no_goals, IsWonGame, Escapes, IsLostGame, IsUncontrolledGame, RunsOut, IsKept, IsWonBySystem, IsWonByEnvironment, IsUncontrolled}
-use Rattle.spectra.proofs.InitialGames.{initial_kept, initial_lost}
-
--- ---- whether something recurs
-
-none_there : {X : Type 0} (xs : List X) → is_nothing xs ≡ true → xs ≡ []
-none_there [] e = refl
-none_there (x ∷ xs) e = absurd (false≢true e)
-
-is_nothing-of : {X : Type 0} (xs : List X) → xs ≡ [] → is_nothing xs ≡ true
-is_nothing-of xs e = ap is_nothing e
-
-goals_none : (g : GameData) → has_no_goals g ≡ true → HasNoGoals g
-goals_none g is = let parts = and_parts (is_nothing g.assume) (is_nothing g.goals) is in (none_there g.assume parts.0, none_there g.goals parts.1)
-
-none_goals : (g : GameData) → HasNoGoals g → has_no_goals g ≡ true
-none_goals g none = and_from (is_nothing g.assume) (is_nothing g.goals) (is_nothing-of g.assume none.0) (is_nothing-of g.goals none.1)
-
--- no initial line recurs
-none_recurs : (s : Specification) (number : ℕ) (c : Content) → IsInitialLine c → labelled number (recurrences s c) ≡ []
-none_recurs s number (Initial e) is = refl
-none_recurs s number (Safety e) is = absurd is
-none_recurs s number (Recurring e) is = absurd is
-none_recurs s number (PatternUse p es) is = absurd is
-none_recurs s number (TriggerUse t) is = absurd is
-
-either_way : (b : Bool) (goals : List RecurringGoal) → goals ≡ [] → (if b then goals else []) ≡ []
-either_way true goals none = none
-either_way false goals none = refl
-
-none_recur : (test : Role → Bool) (s : Specification) (ls : List Statement) → AllByRecursion (λ l. IsInitialLine l.content) ls →
-    flat_map (λ (l : Statement). if test l.role then labelled l.number (recurrences s l.content) else []) ls ≡ []
-none_recur test s [] are = refl
-none_recur test s (l ∷ ls) are =
-    ap (λ (first : List RecurringGoal). first ++ flat_map (λ (l : Statement). if test l.role then labelled l.number (recurrences s l.content) else []) ls)
-    (either_way (test l.role) (labelled l.number (recurrences s l.content)) (none_recurs s l.number l.content are.0))
-    ∙ none_recur test s ls are.1
-
-initial_recurs_not : (s : Specification) → IsInitialOnly s → NothingRecurs s
-initial_recurs_not s only = (none_recur is_assumption s s.lines only.initial, none_recur is_guarantee s s.lines only.initial)
+use Rattle.gr1_law.proofs.EnvLayering.{env_layers_of, env_layers_of-layers, some_count}
+use Rattle.gr1_law.proofs.EnvCounts.{some_delay_counts}
+use Rattle.gr1_law.proofs.SidesDual.{sides_dual}
+use Rattle.gr1_law.proofs.OneSide.{environment_wins}
+use Rattle.spectra.specs.Verdict.{IsWonGame, IsLostGame, EnvironmentForces, RunsOut, IsWonBySystem, IsWonByEnvironment, OneOfBoth}
 
 -- ---- who wins
 
--- without goals the winning states are the greatest set in which the system can stay
-kept_by : (g : GameData) (k : ℕ) → HasNoGoals g → IsWonGame g k → IsKept g k
-kept_by g k none found =
-    let special = special_case g none found.winning_states found.layers found.ranks found.winning found.greatest in
-    record {
-      kept = found.winning_states;
-      greatest = special.0;
-      forced = found.forced;
-      rounds = subst (IsRoundCount found.winning_states) (sym found.rounds) special.1;
-    }
-
--- so where the system doesn't win a game without goals, it can't stay in that set
-pub escapes_that : (g : GameData) → HasNoGoals g → Escapes g → (z : StateSet) → IsGreatest (pre_sys g) z → system_forces g z None ≡ false
-escapes_that g none escapes z greatest =
-    let winning = some_winning g in
-    let ranks = some_ranks g winning.0 winning.1 winning.2.layers in
-    let special = special_case g none winning.0 winning.1 ranks.0 winning.2 ranks.1 in
-    let same : winning.0 ≡ z = greatest-one (pre_sys g) winning.0 z special.0 greatest in
-    subst (λ (t : StateSet). system_forces g t None ≡ false) same (escapes winning.0 winning.1 winning.2)
-
 pub won_found : (s : Specification) → Agrees s (game_of s) → WellMade (game_of s) → (k : ℕ) → IsWonGame (game_of s) k → IsWonBySystem s k
 won_found s agrees made k found =
-    let staying : NothingRecurs s → IsKept (game_of s) k = λ nothing. kept_by (game_of s) k (no_goals s (game_of s) agrees nothing) found in
     record {
       game = found;
       wins = rw (found.rounds) (system_wins s (game_of s) agrees made found.winning_states found.layers found.ranks (record { winning = found.winning; greatest = found.greatest; forced = found.forced }));
-      staying = staying;
-      initial = λ only. initial_kept s only made k (staying (initial_recurs_not s only));
     }
 
-pub lost_found : (s : Specification) → Agrees s (game_of s) → WellMade (game_of s) → (n m : ℕ) → IsLostGame (game_of s) n m → IsWonByEnvironment s n m
-lost_found s agrees made n m found =
+pub lost_found : (s : Specification) → Agrees s (game_of s) → WellMade (game_of s) → NumbersRise s.lines → (n m : ℕ) → IsLostGame (game_of s) n m → IsWonByEnvironment s n m
+lost_found s agrees made rise n m found =
     record {
-      nothing_recurs = nothing_recurs s (game_of s) agrees (goals_none (game_of s) found.no_goals);
       game = found;
-      initial = λ only. initial_lost s only made n m found;
+      wins = rw (found.denials) (environment_wins s (game_of s) agrees made rise found.layers n found.counts (record { layers = found.are_layers; delays = found.greatest; forced = found.forced }) found.last);
     }
 
-pub uncontrolled_found : (s : Specification) → Agrees s (game_of s) → IsUncontrolledGame (game_of s) → IsUncontrolled s
-uncontrolled_found s agrees is = record { some_recurs = λ nothing. false≢true (sym is.some_goal ∙ none_goals (game_of s) (no_goals s (game_of s) agrees nothing)); game = is }
+-- where the system doesn't win a game, the environment does
+pub forced_where_lost : (g g' : GameData) → g' ≡ g → WellMade g → ((z : StateSet) (l : LayerSets) → IsWinning g' z l → system_forces g' z None ≡ false) → EnvironmentForces g
+forced_where_lost g g' is made escapes e n layers count =
+    let w = some_winning g in
+    let unforced : system_forces g w.0 None ≡ false = subst (λ (g : GameData). (z : StateSet) (l : LayerSets) → IsWinning g z l → system_forces g z None ≡ false) is escapes w.0 w.1 w.2 in
+    sym (sides_dual g made w.0 w.1 e n w.2 layers count).1 ∙ ap not unforced
+
+-- and then it isn't that it doesn't
+pub not_unforced : (g g' : GameData) → g' ≡ g → EnvironmentForces g → ((e : EnvLayerSets) (n : ℕ) → AreEnvLayers g' e → IsLayerCount e n → environment_forces g' (e.z n) None ≡ false) → ⊥
+not_unforced g g' is forces escapes =
+    let layers = env_layers_of-layers g in
+    let count = some_count g (env_layers_of g) layers in
+    let unforced = subst (λ (g : GameData). (e : EnvLayerSets) (n : ℕ) → AreEnvLayers g e → IsLayerCount e n → environment_forces g (e.z n) None ≡ false) is escapes (env_layers_of g) count.0 layers count.1 in
+    false≢true (sym unforced ∙ forces (env_layers_of g) count.0 layers count.1)
+
+-- one of the two wins each specification
+pub one_found : (s : Specification) → Agrees s (game_of s) → WellMade (game_of s) → NumbersRise s.lines → OneOfBoth s
+one_found s agrees made rise = by_start (system_forces (game_of s) (some_winning (game_of s)).0 None) refl
+  where
+    by_start : (c : Bool) → system_forces (game_of s) (some_winning (game_of s)).0 None ≡ c → OneOfBoth s
+    by_start true forced =
+        let w = some_winning (game_of s) in
+        let ranks = some_ranks (game_of s) w.0 w.1 w.2.layers in
+        inl (round_count ranks.0, won_found s agrees made (round_count ranks.0) (record { winning_states = w.0; layers = w.1; ranks = ranks.0; winning = w.2; greatest = ranks.1; forced = forced; rounds = refl }))
+    by_start false unforced =
+        let w = some_winning (game_of s) in
+        let layers = env_layers_of-layers (game_of s) in
+        let count = some_count (game_of s) (env_layers_of (game_of s)) layers in
+        let counts = some_delay_counts (game_of s) (env_layers_of (game_of s)) layers count.0 in
+        let forced = sym (sides_dual (game_of s) made w.0 w.1 (env_layers_of (game_of s)) count.0 w.2 layers count.1).1 ∙ ap not unforced in
+        let m = denial_count (game_of s) count.0 counts.0 in
+        inr (count.0, m, lost_found s agrees made rise count.0 m
+        (record { layers = env_layers_of (game_of s); counts = counts.0; are_layers = layers; last = count.1; greatest = counts.1; forced = forced; denials = refl }))
 
 -- ---- how the game was decided, where the regions' game is the specification's
 
-module _ (g g' : GameData) (is : g' ≡ g) (none : has_no_goals g ≡ true) (escapes : Escapes g) where
-  pub lost_game : (n m : ℕ) → IsShiftCount g' n → IsDenialCount n m → IsLostGame g n m
-  lost_game n m shifts denials =
-      record { no_goals = none; escapes = escapes_that g (goals_none g none) escapes; shifts = subst (λ (g : GameData). IsShiftCount g n) is shifts; denials = denials }
-
-  -- the system doesn't stay either
-  pub not_kept : (z : StateSet) → IsGreatest (pre_sys g') z → system_forces g' z None ≡ true → ⊥
-  not_kept z greatest forced =
-      false≢true
-      (sym (escapes_that g (goals_none g none) escapes z (subst (λ (g : GameData). IsGreatest (pre_sys g) z) is greatest))
-      ∙ subst (λ (g : GameData). system_forces g z None ≡ true) is forced)
-
-pub uncontrolled_game : (g g' : GameData) (b : Bool) → g' ≡ g → b ≡ has_no_goals g' → b ≡ false → Escapes g → IsUncontrolledGame g
-uncontrolled_game g g' b is counted not_so escapes = record { some_goal = ap has_no_goals (sym is) ∙ (sym counted ∙ not_so); escapes = escapes }
+-- the environment's layers are held
+pub lost_game : {G R M : Type 0} (old new : Kept R M) (layers : List (EnvLayer G R M)) (e : EnvLayerSets) (g : GameData) (n m : ℕ) →
+    old.game ≡ g → WonByEnvironment old new layers e → n ≡ length layers → m ≡ denials_of layers → IsLostGame g n m
+lost_game old new layers e g n m is own shifts denials =
+    subst (λ (n : ℕ). IsLostGame g n m) (sym shifts) (subst (λ (g : GameData). IsLostGame g (length layers) m) is
+    (record { layers = e; counts = counts_of layers; are_layers = own.layers; last = own.last; greatest = own.counts; forced = own.forced; denials = denials ∙ own.denials }))
 
 -- the layers of the winning states are held
 pub won_game : {G R M : Type 0} (k : Kept R M) (z : R) (layers : List (Vec (SysLayer G R M) Global)) (l : LayerSets) (g : GameData) (n : ℕ) →

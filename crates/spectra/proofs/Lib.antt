@@ -3,9 +3,6 @@ mod BuiltExpressions
 mod TextTokens
 mod SpelledTokens
 mod BuiltTexts
-mod FirstMoves
-mod Bounds
-mod InitialGames
 mod Found
 mod Placed
 mod Readings

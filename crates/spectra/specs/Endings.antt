@@ -72,7 +72,6 @@ pub data Ending : Type 0 where
   refused : (name : List ℕ) (line column number : ℕ) → Ending
   realizable : (k : ℕ) → Ending
   unrealizable : (n m : ℕ) → Ending
-  no_controller : Ending
   node_budget : (nodes : ℕ) → Ending
   all_answered : Ending
   broken : (line : ℕ) → Ending
@@ -89,7 +88,6 @@ row (shelf_fault name) = (codes "file fault: " ++ name ++ 10 ∷ [], ShelfFault)
 row (refused name line column number) = (name ++ 58 ∷ (decimal line ++ 58 ∷ (decimal column ++ (codes ": fault " ++ (fault_text number ++ 10 ∷ [])))), Refused)
 row (realizable k) = (codes "realizable K=" ++ (decimal k ++ 10 ∷ []), Done)
 row (unrealizable n m) = (codes "unrealizable N=" ++ (decimal n ++ (codes " M=" ++ (decimal m ++ 10 ∷ []))), Other)
-row no_controller = (codes "no controller\n", Other)
 row (node_budget nodes) = (codes "node budget " ++ (decimal nodes ++ codes " reached\n"), Budget)
 row all_answered = ([], Done)
 row (broken line) = (codes "assumption broken #" ++ (decimal line ++ codes "\n"), Assumption)

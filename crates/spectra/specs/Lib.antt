@@ -1,4 +1,3 @@
-pub mod First
 pub mod Endings
 pub mod Streams
 pub mod Reading

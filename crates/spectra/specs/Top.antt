@@ -15,11 +15,11 @@ use Rattle.spectra_words.specs.declared.words.Command.TheVariants.{Synth, Run}
 use Rattle.spectra_words.specs.Commands.{Asks, AskNothing}
 use Rattle.spectra.specs.declared.status.Status.{Status}
 use Rattle.spectra.specs.declared.status.Status.TheVariants.{Words, Refused, ShelfFault, InputFault, OutputFault, Memory, NoFile}
-use Rattle.spectra.specs.Endings.{IsUnlessCut, IsUnlessFault, usage, no_file, shelf_fault, refused, realizable, unrealizable, no_controller, node_budget}
+use Rattle.spectra.specs.Endings.{IsUnlessCut, IsUnlessFault, usage, no_file, shelf_fault, refused, realizable, unrealizable, node_budget}
 use Rattle.spectra.specs.Streams.{Moment, Ends, WantsMemory, OverOutput}
 use Rattle.spectra.specs.Sessions.{Holds}
 use Rattle.spectra.specs.Reading.{Reads, HasTypeFault, IsRefused, HasFewStates, HasManyStates, named_by, place_of_token}
-use Rattle.spectra.specs.Verdict.{IsWonGame, IsLostGame, IsUncontrolledGame, IsWonBySystem, IsWonByEnvironment, IsUncontrolled, FillsRows}
+use Rattle.spectra.specs.Verdict.{IsWonGame, IsLostGame, IsWonBySystem, IsWonByEnvironment, FillsRows}
 
 -- the text of the tokens is refused by the fault, at the place of the token that it names
 abbrev pub RefusesSyntax : (name : List ℕ) → List Token → SyntaxFault → (before after : Moment) → Status → Type 0
@@ -34,23 +34,22 @@ IsSaidOfSyntax written faults name tokens fault old new status = OverOutput writ
 
 module _ (command : Command) (nodes : ℕ) where
   -- By who wins: `synth` writes the verdict, and so does `run` where the system doesn't win; where it does, `run` holds a
-  -- session. The number K is one that makes `Won` hold, N and M are ones that make `Lost` hold; where something recurs and the
-  -- system doesn't win, there is no verdict yet, and `Uncontrolled` holds. The nodes are too few only where `Filled` holds.
-  module _ (s : Specification) (Won : ℕ → Type 0) (Lost : ℕ → ℕ → Type 0) (Uncontrolled Filled : Type 0) (before after : Moment) where
+  -- session. The number K is one that makes `Won` hold, N and M are ones that make `Lost` hold. The nodes are too few only
+  -- where `Filled` holds.
+  module _ (s : Specification) (Won : ℕ → Type 0) (Lost : ℕ → ℕ → Type 0) (Filled : Type 0) (before after : Moment) where
     pub data Decides : Status → Type 0 where
       won : {status : Status} (k : ℕ) → command ≡ Synth → Won k → Ends (realizable k) before after status → Decides status
       held : {status : Status} (k : ℕ) → command ≡ Run → Won k → Holds s k before after status → Decides status
       lost : {status : Status} (n m : ℕ) → Lost n m → Ends (unrealizable n m) before after status → Decides status
-      uncontrolled : {status : Status} → Uncontrolled → Ends no_controller before after status → Decides status
       budget : {status : Status} → Filled → Ends (node_budget nodes) before after status → Decides status
       no_memory : {status : Status} → WantsMemory before after status → Decides status
 
   -- for a game, and for a specification with few states
   abbrev pub DecidesGame : Specification → (Filled : Type 0) → Moment → Moment → Status → Type 0
-  DecidesGame s Filled before after status = Decides s (IsWonGame (game_of s)) (IsLostGame (game_of s)) (IsUncontrolledGame (game_of s)) Filled before after status
+  DecidesGame s Filled before after status = Decides s (IsWonGame (game_of s)) (IsLostGame (game_of s)) Filled before after status
 
   abbrev pub DecidesSpecification : Specification → Moment → Moment → Status → Type 0
-  DecidesSpecification s before after status = Decides s (IsWonBySystem s) (IsWonByEnvironment s) (IsUncontrolled s) FillsRows before after status
+  DecidesSpecification s before after status = Decides s (IsWonBySystem s) (IsWonByEnvironment s) FillsRows before after status
 
   module _ (name : List ℕ) (before after : Moment) where
     -- for a specification, in a file of this name

@@ -1,26 +1,27 @@
 //! Who wins a specification, and what is done then.
 
-ghost use Rattle.std.specs.Prelude.{◌≡◌, None, true};
+ghost use Rattle.std.specs.Prelude.{◌≡◌, None};
 ghost use Rattle.spec_model.specs.Views.{spec_data};
 ghost use Rattle.spec_model.specs.WellMade.{WellMade};
 ghost use Rattle.spec_model.specs.GameViews.{game_data};
 ghost use Rattle.hidden_game.specs.GameOf.{game_of};
 ghost use Rattle.spec_model.specs.Agreement.{Agrees};
+ghost use Rattle.spec_model.specs.Laws.{NumbersRise};
 ghost use Rattle.gr1_law.specs.Layers.{LayerSets};
 ghost use Rattle.controller.specs.Made.{AreLayersOf};
 ghost use Rattle.spec_model.specs.WellTyped.{WellTyped, all_hidden};
-ghost use Rattle.spectra.specs.Verdict.{Escapes, RunsOut, has_no_goals as has_no_goals_lem};
+ghost use Rattle.spectra.specs.Verdict.{EnvironmentForces, RunsOut};
 ghost use Rattle.spectra.specs.Streams.{moments};
 ghost use Rattle.spectra.specs.Top.{DecidesGame, ServesSpecification};
 
 use crate::holding::hold;
-use crate::saying::{say_fault, say_halt, say_no_controller, say_realizable, say_unrealizable};
+use crate::saying::{say_fault, say_halt, say_realizable, say_unrealizable};
 use crate::status::Status;
+use gr1_env::solve_env;
 use gr1_sys::{SysLayers, solve_sys};
 use hidden_game::expand;
 use region_rows::{RegionRows, RowsRefusal};
 use regions::Regions;
-use safety::{Outcome, solve};
 use sp_outside::{Sink, Source};
 use spec_model::game::Game;
 use spec_model::spec::Spec;
@@ -55,42 +56,7 @@ fn do_won<G: Regions + Drop, I: Source, O: Sink>(
     }
 }
 
-// Whether nothing recurs in the game that these regions are of.
-fn has_no_goals<G: Regions>(g: &G) -> bool
-    ensures { result ≡ has_no_goals_lem (G.kept g.now).game }
-{
-    let game = g.game();
-    game.assume.is_empty() && game.goals.is_empty()
-}
-
-// Says by how much the environment wins a game in which nothing recurs.
-fn say_lost<G: Regions + Drop, I: Source, O: Sink>(
-    alloc: Global,
-    request: Request<'_>,
-    spec: &Spec,
-    g: G,
-    input: &mut I,
-    output: &mut O,
-) -> Status
-    requires free { (G.kept g).jam ≡ None }
-    requires game { (G.kept g).game ≡ game_of (spec_data spec.now) }
-    requires no_goals { has_no_goals_lem (game_of (spec_data spec.now)) ≡ true }
-    requires lost { Escapes (game_of (spec_data spec.now)) }
-    ensures { let at = moments I.left O.written I.faults O.faults in
-        DecidesGame request.entry.command request.entry.nodes (spec_data spec.now) (RunsOut G.kept) (at input.old output.old) (at input.new output.new) result }
-{
-    let mut g = g;
-    match solve(&mut g) {
-        Ok(Outcome::Environment { n, m }) => say_unrealizable(alloc, n, m, output),
-        Ok(Outcome::System { z, k: _ }) => {
-            g.spend(z);
-            unreachable!()
-        }
-        Err(_) => Status::Memory,
-    }
-}
-
-// Says what is known where the system doesn't win.
+// Says by how much the environment wins where the system doesn't.
 fn do_lost<G: Regions + Drop, I: Source, O: Sink>(
     alloc: Global,
     request: Request<'_>,
@@ -101,14 +67,22 @@ fn do_lost<G: Regions + Drop, I: Source, O: Sink>(
 ) -> Status
     requires free { (G.kept g).jam ≡ None }
     requires game { (G.kept g).game ≡ game_of (spec_data spec.now) }
-    requires lost { Escapes (game_of (spec_data spec.now)) }
+    requires lost { EnvironmentForces (game_of (spec_data spec.now)) }
     ensures { let at = moments I.left O.written I.faults O.faults in
         DecidesGame request.entry.command request.entry.nodes (spec_data spec.now) (RunsOut G.kept) (at input.old output.old) (at input.new output.new) result }
 {
-    if has_no_goals(&g) {
-        say_lost(alloc, request, spec, g, input, output)
-    } else {
-        say_no_controller(output)
+    let mut g = g;
+    match solve_env(alloc, &mut g) {
+        Ok(Some(layers)) => {
+            let n = layers.n();
+            let m = layers.m();
+            layers.spend_all(&mut g);
+            say_unrealizable(alloc, n, m, output)
+        }
+        // One of the two wins each game.
+        Ok(None) => unreachable!(),
+        // No clause of this solver tells a budget that ran out, and rows have none.
+        Err(_) => Status::Memory,
     }
 }
 
@@ -148,6 +122,7 @@ fn serve_game<I: Source, O: Sink>(
     requires game { game_data game ≡ game_of (spec_data spec.now) }
     requires agrees { Agrees (spec_data spec.now) (game_of (spec_data spec.now)) }
     requires made { WellMade (game_of (spec_data spec.now)) }
+    requires rising { NumbersRise (spec_data spec.now).lines }
     ensures { let at = moments I.left O.written I.faults O.faults in
         ServesSpecification request.entry.command request.entry.nodes request.entry.file.now (at input.old output.old) (at input.new output.new) (spec_data spec.now) result }
 {

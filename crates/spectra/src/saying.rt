@@ -2,7 +2,7 @@
 
 ghost use Rattle.std.specs.Prelude.{◌≡◌, ◌≤◌, IfOk, OnOk, OnErr, string_bytes};
 ghost use Rattle.sp_outside.specs.Causes.{Rose};
-ghost use Rattle.spectra.specs.Endings.{line_of, fault_text as fault_text_lem, usage, no_file, shelf_fault, refused, realizable, unrealizable, no_controller, node_budget};
+ghost use Rattle.spectra.specs.Endings.{line_of, fault_text as fault_text_lem, usage, no_file, shelf_fault, refused, realizable, unrealizable, node_budget};
 ghost use Rattle.spectra.specs.Streams.{Writes, IsSaid, OverOutput, SaysHalt};
 ghost use Rattle.spectra.specs.Sessions.{Closes};
 
@@ -129,13 +129,6 @@ pub fn say_unrealizable<O: Sink>(alloc: Global, n: u64, m: u64, output: &mut O) 
         Ok(line) => say(output, line.as_bytes(), Status::Other),
         Err(_) => Status::Memory,
     }
-}
-
-/// Says that the system doesn't win, where something recurs. It takes no memory.
-pub fn say_no_controller<O: Sink>(output: &mut O) -> Status
-    ensures { IsSaid O.written O.faults no_controller output.old output.new result }
-{
-    say(output, b"no controller\n", Status::Other)
 }
 
 // Says that so many nodes were too few.

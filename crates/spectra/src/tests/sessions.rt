@@ -46,8 +46,8 @@ const SESSIONS: [&str; 33] = [
     // No second input is legal, so the goal is owed to nobody: one rank.
     "env boolean a; sys boolean g; asm alw next(a) & next(!a); gar alwEv g; gar alw !g; => a=true\na=true\n => realizable K=2\ng=false\nassumption broken #1\n => 4",
     "env boolean a; sys boolean g; asm alw next(a) & next(!a); gar alwEv g; gar alw !g; => a=true\n => realizable K=2\ng=false\n => 0",
-    // The input isn't read where there is no controller.
-    "env boolean a; gar alwEv a; => nonsense\n => no controller\n => 1",
+    // The input isn't read where the environment wins: it never gives a.
+    "env boolean a; gar alwEv a; => nonsense\n => unrealizable N=2 M=2\n => 1",
     // Each reply has g, though at first an output without g is legal: after it no output is legal.
     "env boolean a; sys boolean g; gar alw next(a) | !next(a) -> g; => a=false\na=true\n => realizable K=2\ng=true\ng=true\n => 0",
     // Enum names and whole numbers: shut asks for lamp + 2 above 1 and an even lamp.

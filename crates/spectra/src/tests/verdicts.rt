@@ -1,7 +1,7 @@
 //! Texts with their verdicts, worked out by hand from the rules of reading, of first moves and of layers.
 
 // The statements after `spec X`, and the line.
-pub const VERDICTS: [&str; 47] = [
+pub const VERDICTS: [&str; 53] = [
     "env boolean a; sys boolean g; gar ini a & g; => unrealizable N=0 M=1",
     "env boolean a; sys boolean g; gar ini g; => realizable K=2",
     "env boolean a; asm ini a & !a; gar ini false; => realizable K=2",
@@ -35,8 +35,20 @@ pub const VERDICTS: [&str; 47] = [
     "env boolean a; asm alwEv a; gar alwEv a; => realizable K=2",
     // The system may keep the assumption false; from g the goal is reached at the next position.
     "sys boolean g; asm alwEv g; gar alwEv !g; => realizable K=3",
-    // The goal is never legal.
-    "sys boolean g; gar alwEv g; gar alw !g; => no controller",
+    // The goal is never legal: the state without g is held at the first layer, and that with g leads into it.
+    "sys boolean g; gar alwEv g; gar alw !g; => unrealizable N=2 M=2",
+    // The reply would be the next request: every state is lost after one position.
+    "env boolean r; sys boolean g; gar alw g <-> next(r); => unrealizable N=1 M=2",
+    // The environment never gives a.
+    "env boolean a; sys boolean g; gar alw g -> a; gar alwEv g; => unrealizable N=2 M=2",
+    // It gives a and b in turn: for each of both assumptions a state is at most two positions away.
+    "env boolean a; env boolean b; sys boolean g; asm alwEv a; asm alwEv b; asm alw !(a & b); gar alwEv g; gar alw !g; => unrealizable N=2 M=5",
+    // No second input is legal, so the goal is owed to nobody.
+    "env boolean a; sys boolean g; asm alw next(a) & next(!a); gar alwEv g; gar alw !g; => realizable K=2",
+    // No state is lost, but the first input has no legal output.
+    "env boolean a; sys boolean g; asm alw next(a); gar ini a & g; => unrealizable N=0 M=1",
+    // No second output is legal.
+    "env boolean a; sys boolean g; asm alwEv a; gar alw next(g) & next(!g); gar alwEv g; => unrealizable N=1 M=2",
     "sys boolean g; gar one: alw g; gar alw g; gar two: alwEv g; gar alw g; => realizable K=3",
     // Enums, whole numbers, types, defines and predicates.
     "sys {A, B} x;\nsys {B, C} y;\ngar alw x = B & y = B; => realizable K=2",

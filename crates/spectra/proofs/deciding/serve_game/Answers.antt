@@ -12,7 +12,7 @@ use Rattle.spectra.proofs.deciding.serve_game.Goals as goal
 pub returns-in-Ok : goal.returns-in-Ok
 returns-in-Ok g c =
     let fits : length (states_of (game_data c.args.game)) ≤ 1024 = elim (cases_lt 1024 (length (states_of (game_data c.args.game)))) [ inl more ↦ absurd (not_err _ _ (c.in-Ok.ensures.too_many.1 more)) | inr few ↦ few ] in
-    top.few (subst (λ (g : GameData). length (states_of g) ≤ 1024) c.requires.game fits) (decided _ _ (spec_data c.args.spec.now) c.requires.agrees c.requires.made _ rows_never_run_out _ _ _ c.decide.ensures)
+    top.few (subst (λ (g : GameData). length (states_of g) ≤ 1024) c.requires.game fits) (decided _ _ (spec_data c.args.spec.now) c.requires.agrees c.requires.made c.requires.rising _ rows_never_run_out _ _ _ c.decide.ensures)
 
 pub returns-in-Err-TooManyStates : goal.returns-in-Err-TooManyStates
 returns-in-Err-TooManyStates g c =
