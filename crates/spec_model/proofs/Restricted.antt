@@ -117,7 +117,7 @@ module _ {X : Type 0} where
   fewer_pass : (p q : X → Bool) → ((x : X) → p x ≡ true → q x ≡ true) → (xs : List X) → length (filter p xs) ≤ length (filter q xs)
   fewer_pass p q each xs = let c = covered p q (λ x. false) (λ x e. inl (each x e)) xs in let z = none_pass xs in omega arith
 
-  list_all-filter : (p keep : X → Bool) (xs : List X) → list_all p xs ≡ true → list_all p (filter keep xs) ≡ true
+  pub list_all-filter : (p keep : X → Bool) (xs : List X) → list_all p xs ≡ true → list_all p (filter keep xs) ≡ true
   list_all-filter p keep [] e = e
   list_all-filter p keep (x ∷ xs) e = let parts = and_parts (p x) (list_all p xs) e in at (keep x) parts.0 (list_all-filter p keep xs parts.1)
     where
@@ -125,10 +125,10 @@ module _ {X : Type 0} where
       at true here rest = and_from _ _ here rest
       at false here rest = rest
 
-  sum_by-filter-le : (f : X → ℕ) (keep : X → Bool) (xs : List X) → sum_by f (filter keep xs) ≤ sum_by f xs
+  pub sum_by-filter-le : (f : X → ℕ) (keep : X → Bool) (xs : List X) → sum_by f (filter keep xs) ≤ sum_by f xs
   sum_by-filter-le f keep xs = let both = sum_by-filter_both keep (λ x. not (keep x)) (λ x. refl) f xs in omega arith
 
-  length-filter-le : (keep : X → Bool) (xs : List X) → length (filter keep xs) ≤ length xs
+  pub length-filter-le : (keep : X → Bool) (xs : List X) → length (filter keep xs) ≤ length xs
   length-filter-le keep xs = let both = length-filter_both keep (λ x. not (keep x)) (λ x. refl) xs in omega arith
 
 -- ---- different trees
@@ -218,7 +218,7 @@ fewer_trees trees keep (l ∷ ls) = at (keep l) (fewer_trees trees keep ls)
     at true fewer = all_before (trees l) _ _ fewer
     at false fewer = all_more (trees l) _ _ fewer
 
-fewer_distinct : (trees : Statement → List Formula) (keep : Statement → Bool) (ls : List Statement) → length (distinct (flat_map trees (filter keep ls))) ≤ length (distinct (flat_map trees ls))
+pub fewer_distinct : (trees : Statement → List Formula) (keep : Statement → Bool) (ls : List Statement) → length (distinct (flat_map trees (filter keep ls))) ≤ length (distinct (flat_map trees ls))
 fewer_distinct trees keep ls =
     let fewer = fewer_trees trees keep ls (λ f. true) in
     let all = ap (λ gs. length gs) (all_pass (distinct (flat_map trees (filter keep ls)))) in
@@ -234,7 +234,7 @@ rising_lower m n (l ∷ ls) le e =
     let above = leb-true n l.number parts.0 in
     and_from _ _ (le-leb m l.number (omega arith)) parts.1
 
-rising-filter : (keep : Statement → Bool) (least : ℕ) (ls : List Statement) → are_rising least ls ≡ true → are_rising least (filter keep ls) ≡ true
+pub rising-filter : (keep : Statement → Bool) (least : ℕ) (ls : List Statement) → are_rising least ls ≡ true → are_rising least (filter keep ls) ≡ true
 rising-filter keep least [] e = e
 rising-filter keep least (l ∷ ls) e =
     let parts = and_parts (nat_le least l.number) _ e in
@@ -249,60 +249,62 @@ rising-filter keep least (l ∷ ls) e =
 
 -- ---- specifications
 
-module _ (s : Specification) (kept : List ℕ) where
-  abbrev fewer : Specification
-  fewer = with_guarantees s kept
+-- With other lines each line is as well typed and as large as before.
+module _ (s : Specification) (others : List Statement) where
+  abbrev changed : Specification
+  changed = record s { lines = others }
 
-  same_formulas_of : (c : Content) → formulas_of fewer c ≡ formulas_of s c
+  pub same_formulas_of : (c : Content) → formulas_of changed c ≡ formulas_of s c
   same_formulas_of (Initial e) = refl
   same_formulas_of (Safety e) = refl
   same_formulas_of (Recurring e) = refl
   same_formulas_of (PatternUse p es) = refl
   same_formulas_of (TriggerUse t) = refl
 
-  same_content : (asm : Bool) (c : Content) → is_typed_content fewer asm c ≡ is_typed_content s asm c
+  same_content : (asm : Bool) (c : Content) → is_typed_content changed asm c ≡ is_typed_content s asm c
   same_content b (Initial e) = refl
   same_content b (Safety e) = refl
   same_content b (Recurring e) = refl
   same_content b (PatternUse p es) = refl
   same_content b (TriggerUse t) = refl
 
-  typed_lines : (ls : List Statement) → list_all (is_typed_line s) ls ≡ true → list_all (is_typed_line fewer) ls ≡ true
+  pub typed_lines : (ls : List Statement) → list_all (is_typed_line s) ls ≡ true → list_all (is_typed_line changed) ls ≡ true
   typed_lines [] e = e
   typed_lines (l ∷ ls) e =
       let parts = and_parts (is_typed_line s l) _ e in
       and_from _ _ (same_content (is_assumption l.role) l.content ∙ parts.0) (typed_lines ls parts.1)
 
-  abbrev is_flat : Specification → Statement → Bool
+  abbrev pub is_flat : Specification → Statement → Bool
   is_flat t l = list_all (λ e. nat_le (levels_in e) 512) (formulas_of t l.content)
 
-  flat_lines : (ls : List Statement) → list_all (is_flat s) ls ≡ true → list_all (is_flat fewer) ls ≡ true
+  pub flat_lines : (ls : List Statement) → list_all (is_flat s) ls ≡ true → list_all (is_flat changed) ls ≡ true
   flat_lines [] e = e
   flat_lines (l ∷ ls) e =
       let parts = and_parts (is_flat s l) _ e in
       and_from _ _ (ap (list_all (λ f. nat_le (levels_in f) 512)) (same_formulas_of l.content) ∙ parts.0) (flat_lines ls parts.1)
 
-  abbrev nodes_of : Specification → Statement → ℕ
+  abbrev pub nodes_of : Specification → Statement → ℕ
   nodes_of t l = sum_by nodes_in (formulas_of t l.content)
 
-  same_nodes : (ls : List Statement) → sum_by (nodes_of fewer) ls ≡ sum_by (nodes_of s) ls
+  pub same_nodes : (ls : List Statement) → sum_by (nodes_of changed) ls ≡ sum_by (nodes_of s) ls
   same_nodes [] = refl
   same_nodes (l ∷ ls) =
       let here = ap (sum_by nodes_in) (same_formulas_of l.content) in
       let rest = same_nodes ls in
-      let a = sum_by-cons (nodes_of fewer) l ls in
+      let a = sum_by-cons (nodes_of changed) l ls in
       let b = sum_by-cons (nodes_of s) l ls in
       omega arith
 
-  abbrev trees_of : Specification → Statement → List Formula
+  abbrev pub trees_of : Specification → Statement → List Formula
   trees_of t l = flat_map past_trees (formulas_of t l.content)
 
-  same_trees : (ls : List Statement) → flat_map (trees_of fewer) ls ≡ flat_map (trees_of s) ls
+  pub same_trees : (ls : List Statement) → flat_map (trees_of changed) ls ≡ flat_map (trees_of s) ls
   same_trees [] = refl
-  same_trees (l ∷ ls) = ap (λ fs. flat_map past_trees fs ++ flat_map (trees_of fewer) ls) (same_formulas_of l.content) ∙ ap (λ fs. trees_of s l ++ fs) (same_trees ls)
+  same_trees (l ∷ ls) = ap (λ fs. flat_map past_trees fs ++ flat_map (trees_of changed) ls) (same_formulas_of l.content) ∙ ap (λ fs. trees_of s l ++ fs) (same_trees ls)
 
 pub restricted_is_well_typed : (s : Specification) → RestrictedIsWellTyped s
 restricted_is_well_typed s typed kept =
+    let stayed : List Statement = filter (stays kept) s.lines in
     record {
       few_names = typed.few_names;
       different_names = typed.different_names;
@@ -313,20 +315,20 @@ restricted_is_well_typed s typed kept =
       domains = typed.domains;
       patterns = typed.patterns;
       triggers = typed.triggers;
-      lines = typed_lines s kept (filter (stays kept) s.lines) (list_all-filter _ (stays kept) s.lines typed.lines);
+      lines = typed_lines s stayed stayed (list_all-filter _ (stays kept) s.lines typed.lines);
       roles = list_all-filter _ (stays kept) s.lines typed.roles;
       few_lines = let few = typed.few_lines in let le = length-filter-le (stays kept) s.lines in omega arith;
       rising = rising-filter (stays kept) 1 s.lines typed.rising;
       few_nodes =
           let few = typed.few_nodes in
-          let same = same_nodes s kept (filter (stays kept) s.lines) in
-          let le = sum_by-filter-le (nodes_of s kept s) (stays kept) s.lines in
+          let same = same_nodes s stayed stayed in
+          let le = sum_by-filter-le (nodes_of s stayed s) (stays kept) s.lines in
           omega arith;
-      few_levels = flat_lines s kept (filter (stays kept) s.lines) (list_all-filter _ (stays kept) s.lines typed.few_levels);
+      few_levels = flat_lines s stayed stayed (list_all-filter _ (stays kept) s.lines typed.few_levels);
       few_hidden =
           let few = typed.few_hidden in
-          let same = ap (λ fs. length (distinct fs)) (same_trees s kept (filter (stays kept) s.lines)) in
-          let trees = fewer_distinct (trees_of s kept s) (stays kept) s.lines in
+          let same = ap (λ fs. length (distinct fs)) (same_trees s stayed stayed) in
+          let trees = fewer_distinct (trees_of s stayed s) (stays kept) s.lines in
           let hidden = sum_by-filter-le (λ (l : Statement). cond (is_hidden l.content) 1 0) (stays kept) s.lines in
           omega arith;
     }

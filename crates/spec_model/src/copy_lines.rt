@@ -1,11 +1,11 @@
 //! Copies of lines, patterns and triggers, which stand for the same data.
 
 ghost use Rattle.std.specs.Prelude.{◌≡◌, map, IfOk, string_bytes, option_map};
-ghost use Rattle.spec_model.specs.Views.{formula, regular, content_data, line_data, pattern_data, trigger_data, domain_data};
+ghost use Rattle.spec_model.specs.Views.{formula, regular, content_data, line_data, pattern_data, trigger_data, spec_data};
 
-use crate::copy::{copy_domains, copy_expr, copy_exprs};
+use crate::copy::{copy_domains, copy_expr, copy_exprs, copy_names, copy_vars};
 use crate::expr::Regex;
-use crate::spec::{Body, Line, Pattern, Trigger};
+use crate::spec::{Body, Line, Pattern, Spec, Trigger};
 use std::alloc::{AllocError, Global};
 
 /// A regular expression that stands for the same one.
@@ -118,4 +118,17 @@ pub fn copy_triggers(alloc: Global, triggers: &[Trigger]) -> Result<Vec<Trigger>
         copies.push(copy_trigger(alloc, trigger)?)?;
     }
     Ok(copies)
+}
+
+/// The same specification with other lines.
+pub fn copy_with_lines(alloc: Global, spec: &Spec, lines: Vec<Line>) -> Result<Spec, AllocError>
+    ensures { IfOk result (λ copy. spec_data copy ≡ record (spec_data spec.now) { lines = map line_data lines.items }) }
+{
+    Ok(Spec {
+        names: copy_names(alloc, &spec.names)?,
+        vars: copy_vars(alloc, &spec.vars)?,
+        patterns: copy_patterns(alloc, &spec.patterns)?,
+        triggers: copy_triggers(alloc, &spec.triggers)?,
+        lines,
+    })
 }
