@@ -7,3 +7,4 @@ pub mod FactsViews
 pub mod TableViews
 pub mod Signatures
 pub mod Noting
+pub mod Samples

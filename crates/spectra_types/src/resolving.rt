@@ -9,6 +9,7 @@ ghost use Rattle.spectra_names.specs.Findings.{found_in, with_faults, first_of_f
 ghost use Rattle.spectra_names.specs.Spaces.{scope_of as scope_of_lem};
 ghost use Rattle.spectra_names.specs.ScopeViews.{scope_data};
 ghost use Rattle.spectra_typing.specs.Notes.{setting_of, notes_of};
+ghost use Rattle.spec_model.specs.Cores.{HasRoomForOne};
 ghost use Rattle.spec_model.specs.WellTyped.{WellTyped, all_hidden};
 ghost use Rattle.spectra_types.specs.Built.{is_built_tree};
 ghost use Rattle.spectra_types.specs.Shapes.{has_shape, IsSpelledTree};
@@ -165,6 +166,7 @@ pub fn resolve(alloc: Global, trees: &[Tree]) -> Result<Spec, TypeFault>
     ensures means { IfOk result (λ s. (tree : TreeData) → map tree_data trees.now ≡ tree ∷ [] → Means tree (spec_data s)) }
     ensures typed { IfOk result (λ s. WellTyped (spec_data s)) }
     ensures plain { IfOk result (λ s. all_hidden (spec_data s) ≡ 0) }
+    ensures room { IfOk result (λ s. HasRoomForOne (spec_data s)) }
     ensures fault { IfErr result (λ fault. (tree : TreeData) → map tree_data trees.now ≡ tree ∷ [] → Explains tree fault) }
 {
     resolve_tree(alloc, &trees[0])

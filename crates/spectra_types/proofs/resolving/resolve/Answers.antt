@@ -5,6 +5,7 @@ use Rattle.spectra_trees.specs.Views.{tree_data}
 use Rattle.spectra_types.specs.Resolved.{Means}
 use Rattle.spectra_types.proofs.Told.{only_tree, the_one}
 use Rattle.spectra_types.proofs.Answered.{means_typed, means_open}
+use Rattle.spectra_types.proofs.Spare.{means_roomy}
 use Rattle.spectra_types.proofs.resolving.resolve.Goals as goal
 
 -- the list's one tree is the one that was resolved
@@ -25,3 +26,7 @@ returns-clause-plain c =
     let one = the_one c.args.trees.now c.index-trees-0.result c.requires.one c.index-trees-0.is in
     let tree = tree_data c.index-trees-0.result in
     IfOk-weaker c.resolve_tree.result _ _ (λ s means. means_open tree (spec_data s) (c.requires.built tree one) means) c.resolve_tree.ensures.means
+
+-- and leaves room for a guarantee that is forced
+pub returns-clause-room : goal.returns-clause-room
+returns-clause-room c = IfOk-weaker c.resolve_tree.result _ _ (λ s means. means_roomy (tree_data c.index-trees-0.result) (spec_data s) means) c.resolve_tree.ensures.means
