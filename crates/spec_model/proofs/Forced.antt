@@ -9,11 +9,11 @@ use Rattle.std.specs.Prelude.{sum_by}
 use Rattle.std.specs.List.{list_all}
 use Rattle.spec_model.specs.declared.spec.Role.TheVariants.{Guarantee}
 use Rattle.spec_model.specs.declared.value.Value.TheVariants as value
-use Rattle.spec_model.specs.Syntax.{Formula, Constant, Recurring, Statement, Specification}
+use Rattle.spec_model.specs.Syntax.{Constant, Recurring, Statement, Specification}
 use Rattle.spec_model.specs.Moves.{is_guarantee}
 use Rattle.spec_model.specs.Sizes.{distinct}
-use Rattle.spec_model.specs.WellTyped.{is_typed_line, fits_role, are_rising, is_hidden, WellTyped}
-use Rattle.spec_model.specs.Cores.{forced, HasRoomForOne}
+use Rattle.spec_model.specs.WellTyped.{is_typed_line, fits_role, are_rising, is_hidden}
+use Rattle.spec_model.specs.Cores.{forced}
 use Rattle.spec_model.specs.Laws.{ForcedIsWellTyped}
 use Rattle.spec_model.proofs.Restricted.{list_all-filter, sum_by-filter-le, length-filter-le, fewer_distinct, rising-filter, typed_lines, flat_lines, same_nodes, same_trees, is_flat, nodes_of, trees_of}
 

@@ -1,10 +1,10 @@
 -- What stays of a well-typed specification is well typed.
-use Rattle.std.proofs.Common.{◌≡◌, ◌≤◌, ℕ, suc, ◌+◌, Bool, true, false, not, ◌&&◌, ◌==◌, nat_le, List, [], ◌∷◌, ◌++◌, map, flat_map, filter, cond, length, refl, sym, ap, ◌∙◌, subst, arith, inl, inr, ◌⊎◌}
+use Rattle.std.proofs.Common.{◌≡◌, ◌≤◌, ℕ, suc, ◌+◌, Bool, true, false, not, ◌&&◌, ◌==◌, nat_le, List, [], ◌∷◌, ◌++◌, flat_map, filter, cond, length, refl, ap, ◌∙◌, subst, arith, inl, inr, ◌⊎◌}
 use Rattle.std.proofs.lemmas.Bool.{and_parts, and_from, false≢true, both_ways, leb-true, le-leb}
 use Rattle.std.proofs.lemmas.Bool.Decides.{Decides-int_eq}
 use Rattle.std.proofs.lemmas.List.Filters.{length-filter_both, sum_by-filter_both}
 use Rattle.std.proofs.lemmas.List.Sums.{sum_by-cons}
-use Rattle.std.specs.Prelude.{ℤ, sum_by, count_by}
+use Rattle.std.specs.Prelude.{ℤ, sum_by}
 use Rattle.std.specs.List.{list_all}
 use Rattle.std.specs.Ordering.{int_eq}
 use borrow.Author.Tests.{eqb-true}
@@ -14,10 +14,10 @@ use Rattle.spec_model.specs.declared.expr.Past.{Past}
 use Rattle.spec_model.specs.declared.expr.Past.TheVariants.{Prev, Once, Historically, Since, Triggered}
 use Rattle.spec_model.specs.Syntax.{Formula, Constant, Variable, NextOf, Negation, Conjunction, Disjunction, Implication, Equivalence, Comparison, Sum, Difference, Product, Remainder, PastOf, Entry, Formulas, Content, Initial, Safety, Recurring, PatternUse, TriggerUse, Statement, Specification}
 use Rattle.spec_model.specs.Moves.{is_assumption}
-use Rattle.spec_model.specs.Sizes.{compare_number, past_number, same_formula, same_formulas, past_trees, formulas_of, distinct, past_operators}
+use Rattle.spec_model.specs.Sizes.{compare_number, past_number, same_formula, same_formulas, past_trees, formulas_of, distinct}
 use Rattle.spec_model.specs.FormulaSizes.{nodes_in, levels_in}
-use Rattle.spec_model.specs.WellTyped.{is_typed_content, is_typed_line, are_rising, is_hidden, pattern_formulas, WellTyped}
-use Rattle.spec_model.specs.Cores.{with_guarantees, stays}
+use Rattle.spec_model.specs.WellTyped.{is_typed_content, is_typed_line, are_rising, is_hidden}
+use Rattle.spec_model.specs.Cores.{stays}
 use Rattle.spec_model.specs.Laws.{RestrictedIsWellTyped}
 use Rattle.spec_model.proofs.AllStates.{same_value-true}
 

@@ -68,6 +68,6 @@ fn guarantees_that_are_not_kept_go(rt: HostRuntime) -> Result<(), Fail> {
         assert_eq!(rt; numbers.as_slice(), stay, "{kept:?}");
     }
     let numbers = numbers_of(alloc, &forced(alloc, &spec)?)?;
-    assert_eq!(rt; numbers.as_slice(), &[1, 3, 5, 6]);
+    assert_eq!(rt; numbers.as_slice(), [1u32, 3, 5, 6].as_slice());
     Ok(())
 }

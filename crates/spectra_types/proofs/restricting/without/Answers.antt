@@ -10,7 +10,7 @@ use Rattle.spectra_types.proofs.restricting.without.Goals as goal
 pub returns-clause-typed : goal.returns-clause-typed
 returns-clause-typed c =
     let lines : map line_data c.in_ok-lines.lines.items ≡ filter (stays c.args.kept.now) (map line_data c.args.spec.now.lines.items) =
-        c.in_ok-lines.ensures ∙ ap (λ ls. filter (stays c.args.kept.now) (map line_data ls)) c.deref.ensures.value in
+    c.in_ok-lines.ensures ∙ ap (λ ls. filter (stays c.args.kept.now) (map line_data ls)) c.deref.ensures.value in
     IfOk-weaker c.copy_with_lines.result _ _
     (λ s is. subst WellTyped (sym (is ∙ ap (λ (ls : List Statement). record (spec_data c.args.spec.now) { lines = ls }) lines)) (restricted_is_well_typed (spec_data c.args.spec.now) c.requires.typed c.args.kept.now))
     c.copy_with_lines.ensures
