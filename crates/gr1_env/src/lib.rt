@@ -4,7 +4,8 @@
 //! the solver has the iterates of a least set for each assumption (Könighofer et al. 2009, counterstrategies). Those of
 //! earlier values are spent, and each iteration begins at all states or at none.
 //!
-//! Contract: `solve_env`, `EnvLayers::n` and `EnvLayers::m`. Path: regions → **layers** → counterstrategy.
+//! Contract: `solve_env`, `EnvLayers::n` and `EnvLayers::m`. Not proved yet: what is held when a budget runs out, as named
+//! sets of one moment; after a halt all is spent, and nothing more is said. Path: regions → **layers** → counterstrategy.
 #![tactic(auto)]
 
 mod delays;
@@ -18,3 +19,6 @@ mod spending;
 
 pub use layers::{EnvGoal, EnvLayer, EnvLayers};
 pub use solving::solve_env;
+
+#[cfg(test)]
+mod tests;
