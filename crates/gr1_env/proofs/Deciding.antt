@@ -34,10 +34,9 @@ module _ {G R M : Type 0} (k k1 k2 : Kept R M) (last : StateSet) (misses asms : 
 
   pub won : (shown : List (EnvLayer G R M)) → shown ≡ ls → k1.game ≡ k.game → last ≡ layer_on k.game misses asms (length ls) → HaveLayers k.game k k1 misses asms ls → IsForced k1 k2 last → HasWon k k2 misses asms shown
   won shown same game is have forced =
-      subst (λ (qs : List (EnvLayer G R M)). HasWon k k2 misses asms qs) (sym same)
-      (
+      subst (λ (qs : List (EnvLayer G R M)). HasWon k k2 misses asms qs) (sym same) (
         record { made = makes_still k k1 k2 (all_regions ls) (all_sets k.game misses asms ls) have.made forced.0.held (forced.0.jam ∙ have.made.jam); whole = have.whole; count = have.count },
-        ap (λ t. environment_forces k.game t None) (sym is) ∙ subst (λ h. environment_forces h last None ≡ true) game forced.1
+        ap (λ t. environment_forces k.game t None) (sym is) ∙ subst (λ h. environment_forces h last None ≡ true) game forced.1,
       )
 
 -- what was made first is held whether there are layers or not

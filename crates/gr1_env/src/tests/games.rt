@@ -75,7 +75,14 @@ fn ruled(alloc: Global, line: Expr, goals: Vec<Goal>) -> Result<Game, AllocError
 {
     let none = Vec::new(alloc);
     let lines = vec![in alloc; (1, line)]?;
-    game(alloc, variables(alloc)?, none, lines, Vec::new(alloc), goals)
+    game(
+        alloc,
+        variables(alloc)?,
+        none,
+        lines,
+        Vec::new(alloc),
+        goals,
+    )
 }
 
 pub fn foretold(alloc: Global) -> Result<Game, AllocError>

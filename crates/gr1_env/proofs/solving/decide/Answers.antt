@@ -38,8 +38,7 @@ pub returns-in-Ok-false-clause-decided : goal.returns-in-Ok-false-clause-decided
 returns-in-Ok-false-clause-decided g c =
     let kept = g.G.Regions.kept in
     let k = kept c.args.g.now in
-    let last_is = c.last_layer.ensures ∙ ap (last_z c.args.given.now.none) c.deref.ensures.value in
-    (
+    let last_is = c.last_layer.ensures ∙ ap (last_z c.args.given.now.none) c.deref.ensures.value in (
       spent_later k (kept c.start_env.new.self) (kept c.spend_layers.new.g) (all_regions c.args.layers.items) (g.met.G.Regions.exact _) c.requires.held c.in-Ok-false.ensures.stays c.spend_layers.ensures.spends,
       ap (λ r. environment_forces k.game (k.set r) None) (sym last_is) ∙ (sym c.in-Ok-false.ensures.answer ∙ c.in-Ok-false.field-0-test),
     )
