@@ -80,8 +80,12 @@ one_found s agrees made rise = by_start (system_forces (game_of s) (some_winning
         let counts = some_delay_counts (game_of s) (env_layers_of (game_of s)) layers count.0 in
         let forced = sym (sides_dual (game_of s) made w.0 w.1 (env_layers_of (game_of s)) count.0 w.2 layers count.1).1 ∙ ap not unforced in
         let m = denial_count (game_of s) count.0 counts.0 in
-        inr (count.0, m, lost_found s agrees made rise count.0 m
-        (record { layers = env_layers_of (game_of s); counts = counts.0; are_layers = layers; last = count.1; greatest = counts.1; forced = forced; denials = refl }))
+        inr (
+          count.0,
+          m,
+          lost_found s agrees made rise count.0 m
+              (record { layers = env_layers_of (game_of s); counts = counts.0; are_layers = layers; last = count.1; greatest = counts.1; forced = forced; denials = refl }),
+        )
 
 -- ---- how the game was decided, where the regions' game is the specification's
 
