@@ -1,5 +1,5 @@
 -- What causes the statuses that tell of a failure.
-use Rattle.std.proofs.Common.{◌≡◌, ℕ, List, Option, sym, subst}
+use Rattle.std.proofs.Common.{ℕ, List, Option, sym, subst}
 use Rattle.sp_outside.specs.Causes.{Rose}
 use Rattle.sp_outside.specs.Files.{Files}
 use Rattle.spec_model.specs.Syntax.{Specification}
@@ -8,7 +8,7 @@ use Rattle.session.specs.declared.talking.End.TheVariants as ends
 use Rattle.session.specs.Talks.{RunTalk}
 use Rattle.spectra_words.specs.declared.words.Command.{Command}
 use Rattle.spectra.specs.declared.status.Status.{Status}
-use Rattle.spectra.specs.declared.status.Status.TheVariants.{Done, Other, Words, Refused, Budget, ShelfFault, NoFile}
+use Rattle.spectra.specs.declared.status.Status.TheVariants.{Done, Other, Words, Refused, ShelfFault, NoFile}
 use Rattle.spectra.specs.Endings.{status_of}
 use Rattle.spectra.specs.Streams.{Moment, Writes, whole, cut, WantsMemory}
 use Rattle.spectra.specs.Sessions as sessions

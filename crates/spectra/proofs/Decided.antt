@@ -23,7 +23,7 @@ use Rattle.spectra.specs.Endings.{usage, no_file, shelf_fault, refused, realizab
 use Rattle.spectra.specs.Streams.{Moment, moment, Ends, WantsMemory, SaysHalt}
 use Rattle.regions.specs.declared.types.Halt.{Halt}
 use Rattle.regions.specs.declared.types.Halt.TheVariants as halts
-use Rattle.spectra.specs.Sessions.{Holds, HoldsOrNot}
+use Rattle.spectra.specs.Sessions.{HoldsOrNot}
 use Rattle.spectra.specs.Reading.{HasTypeFault, HasManyStates}
 use Rattle.spectra.specs.Verdict.{IsWonGame, IsLostGame}
 use Rattle.spectra.specs.Top.{Decides, won, held, lost, budget, no_memory, DecidesGame, DecidesSpecification, IsSaidOfSyntax, ServesSpecification, ServesText, ServesFile, ServesWords}

@@ -1,5 +1,5 @@
 -- A text that means a specification has no fault, so that it gets the decision of that specification.
-use Rattle.std.proofs.Common.{◌≡◌, ℕ, ◌+◌, List, length, take, drop, Option, Some, None, refl, ap, sym, subst, arith, ◌∙◌}
+use Rattle.std.proofs.Common.{◌≡◌, ℕ, ◌+◌, List, length, take, drop, Option, Some, None, ap, sym, subst, arith, ◌∙◌}
 use Rattle.std.proofs.lemmas.List.{take-append-drop}
 use Rattle.sp_outside.specs.Files.{Files, told_file, HasFile, HasNoFile}
 use Rattle.spec_model.specs.Syntax.{Specification}
@@ -7,7 +7,7 @@ use Rattle.spec_model.specs.Steps.{states_of}
 use Rattle.hidden_game.specs.GameOf.{game_of}
 use Rattle.spectra_lexer.specs.declared.token.Token.{Token}
 use Rattle.spectra_lexer.specs.Tokens.{AreTokens}
-use Rattle.spectra_lexer.specs.Faults.{IsNotUtf8At, IsBadAt, IsTooLong}
+use Rattle.spectra_lexer.specs.Faults.{IsTooLong}
 use Rattle.spectra_lexer.proofs.Unique.{one_list_of_tokens, reads_or_fails}
 use Rattle.spectra_lexer.proofs.Outcomes.{broken_is_no_utf8}
 use Rattle.spectra_trees.specs.Data.{TreeData}
@@ -21,7 +21,6 @@ use Rattle.spectra_parser.proofs.WholeText.{one_tree}
 use Rattle.spectra_names.specs.Findings.{first_of_faults}
 use Rattle.spectra_types.specs.Meanings.{faults_of}
 use Rattle.spectra_words.specs.declared.words.Command.{Command}
-use Rattle.spectra_words.specs.Commands.{Asks}
 use Rattle.spectra.specs.declared.status.Status.{Status}
 use Rattle.spectra.specs.Streams.{Moment}
 use Rattle.spectra.specs.Reading.{Reads, HasTypeFault, HasFewStates, named_by}

@@ -1,8 +1,7 @@
 -- What is found of its game is found of a specification.
-use Rattle.std.proofs.Common.{◌≡◌, ◌⊎◌, inl, inr, ℕ, Bool, true, false, not, List, length, Some, None, Vec, refl, sym, ap, subst, ◌∙◌}
+use Rattle.std.proofs.Common.{◌≡◌, inl, inr, ℕ, Bool, true, false, not, List, length, Some, None, Vec, refl, sym, ap, subst, ◌∙◌}
 use Rattle.std.proofs.lemmas.Bool.{false≢true}
 use Rattle.spec_model.specs.Syntax.{Specification}
-use Rattle.spec_model.specs.Moves.{rules_of}
 use Rattle.spec_model.specs.Games.{GameData}
 use Rattle.spec_model.specs.Sets.{StateSet, system_forces, environment_forces}
 use Rattle.spec_model.specs.WellMade.{WellMade}

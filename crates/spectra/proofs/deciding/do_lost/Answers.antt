@@ -20,5 +20,5 @@ unreachable-requires g c =
     let h = rw c.in-Ok-None.field-0-is at c.in-Ok-None.ensures in
     not_unforced _ _ c.requires.game c.requires.lost h.solved.escapes
 
-pub returns-in-Err : goal.returns-in-Err
-returns-in-Err g c = no_memory (nothing_done _)
+pub returns : goal.returns
+returns g c = no_memory (nothing_done _)

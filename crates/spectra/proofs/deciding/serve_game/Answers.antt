@@ -1,4 +1,4 @@
-use Rattle.std.proofs.Common.{ℕ, ◌<◌, ◌≤◌, length, subst, inl, inr}
+use Rattle.std.proofs.Common.{◌<◌, ◌≤◌, length, subst, inl, inr}
 use Rattle.std.proofs.lemmas.Bool.{cases_lt}
 use Rattle.spec_model.specs.Views.{spec_data}
 use Rattle.spec_model.specs.Games.{GameData}

@@ -1,4 +1,4 @@
-use Rattle.std.proofs.Common.{ℕ, sym, ap, subst, ◌∙◌, List, Vec}
+use Rattle.std.proofs.Common.{ℕ, sym, ap, subst, ◌∙◌}
 use Rattle.spec_model.specs.Views.{spec_data}
 use Rattle.spec_model.specs.Agreement.{Agrees}
 use Rattle.gr1_law.specs.Layers.{round_count}
