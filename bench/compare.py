@@ -1,0 +1,128 @@
+#!/usr/bin/env python3
+"""compare.py PROGRAM [COUNT [SEED]]: random texts and inputs, each command of the program against the plain one (reference/).
+
+It stops at the first difference, and leaves the text and the input in compare.spectra and compare.in of the folder it runs in.
+"""
+import random
+import subprocess
+import sys
+from pathlib import Path
+
+sys.path.insert(0, str(Path(__file__).resolve().parent))
+
+from reference.game import Game  # noqa: E402
+from reference.talks import answer, lines_of, show  # noqa: E402
+from reference.text import Text  # noqa: E402
+
+COMMANDS = ("synth", "run", "counter", "core", "separate", "audit")
+DOMAINS = ("boolean", "boolean", "boolean", "Int(0..2)", "Int(-1..1)", "{RED, GREEN, BLUE}")
+ROWS = ("asm ini", "asm alw", "asm alw", "asm alwEv", "gar ini", "gar alw", "gar alw", "gar alw", "gar alwEv", "gar alwEv")
+
+
+class Maker:
+    """Makes random texts."""
+
+    def __init__(self, seed):
+        self.random = random.Random(seed)
+
+    def declared(self, owner, most):
+        names = "ab" if owner == "env" else "gh"
+        count = self.random.randint(0 if owner == "env" else 1, most)
+        return [(name, owner, self.random.choice(DOMAINS)) for name in names[:count]]
+
+    def number(self, variables):
+        some = [name for name, kind in variables if kind.startswith("Int")]
+        if some and self.random.random() < 0.7:
+            return self.random.choice(some)
+        return str(self.random.randint(-1, 2)) if self.random.random() < 0.8 else "1 + 1"
+
+    def atom(self, variables):
+        """A Boolean expression over these."""
+        if not variables or self.random.random() < 0.05:
+            return self.random.choice(("true", "false"))
+        name, kind = self.random.choice(variables)
+        if kind == "boolean":
+            return name
+        if kind.startswith("Int"):
+            sign = self.random.choice(("=", "!=", "<", "<=", ">", ">="))
+            return f"({name} {sign} {self.number(variables)})"
+        return f"({name} {self.random.choice(('=', '!='))} {self.random.choice(('RED', 'GREEN', 'BLUE'))})"
+
+    def formula(self, now, later, depth):
+        """A Boolean expression over these at present, and those at the next position; None: there is no next."""
+        if later is not None and self.random.random() < 0.35:
+            return f"next({self.formula(later, None, depth - 1)})"
+        if depth <= 0 or self.random.random() < 0.25:
+            return self.atom(now)
+        if self.random.random() < 0.25:
+            return f"!({self.formula(now, later, depth - 1)})"
+        sign = self.random.choice(("&", "|", "->", "<->"))
+        return f"({self.formula(now, later, depth - 1)}) {sign} ({self.formula(now, later, depth - 1)})"
+
+    def line(self, inputs, outputs):
+        row = self.random.choice(ROWS)
+        both = inputs + outputs
+        if row == "asm ini":
+            says = self.formula(inputs, None, 2)
+        elif row == "asm alw":
+            says = self.formula(self.random.choice((inputs, both)), self.random.choice((None, inputs)), 2)
+        elif row == "gar alw":
+            says = self.formula(both, self.random.choice((None, both)), 3)
+        else:
+            says = self.formula(both, None, 2)
+        return f"{row} {says};"
+
+    def text(self):
+        declared = self.declared("env", 2) + self.declared("sys", 2)
+        inputs = [(name, kind) for name, owner, kind in declared if owner == "env"]
+        outputs = [(name, kind) for name, owner, kind in declared if owner == "sys"]
+        lines = [self.line(inputs, outputs) for _ in range(self.random.randint(1, 6))]
+        return "\n".join(["spec X"] + [f"{owner} {kind} {name};" for name, owner, kind in declared] + lines) + "\n"
+
+    def given(self, variables, count):
+        """Lines for some variables, now and then a bad one."""
+        lines = []
+        for _ in range(self.random.randint(0, count)):
+            line = show(variables, [self.random.choice(domain) for _, domain in variables])
+            if self.random.random() < 0.02:
+                line += self.random.choice((" z=1", " a=true", "=", "x"))
+            lines.append(line)
+        return "\n".join(lines) + ("\n" if self.random.random() < 0.8 else "")
+
+
+def reads(command, game):
+    """The variables that the lines of a command's input assign."""
+    if command == "run":
+        return game.inputs
+    return game.outputs if command == "counter" else game.inputs + game.outputs
+
+
+def main():
+    if len(sys.argv) not in (2, 3, 4):
+        sys.exit("usage: compare.py PROGRAM [COUNT [SEED]]")
+    program = Path(sys.argv[1]).resolve()
+    count = int(sys.argv[2]) if len(sys.argv) > 2 else 200
+    maker = Maker(int(sys.argv[3]) if len(sys.argv) > 3 else 1)
+    said = dict.fromkeys(COMMANDS, 0)
+    for number in range(count):
+        source = maker.text()
+        Path("compare.spectra").write_text(source)
+        text = Text(source)
+        game = Game(text)
+        for command in COMMANDS:
+            given = maker.given(reads(command, game), 12)
+            lines, status = answer(command, text, lines_of(given))
+            Path("compare.in").write_text(given)
+            done = subprocess.run([program, command, "compare.spectra"], input=given.encode(), capture_output=True)
+            written = done.stdout.decode()
+            if written != "\n".join(lines) + "\n" or done.returncode != status:
+                print(f"text {number}, {command}: wrote, with status {done.returncode}\n{written}wanted, with status {status}")
+                print("\n".join(lines))
+                return 1
+            said[command] += status == 0
+    print(f"{count} texts, each command as the plain program: status 0 in " + ", ".join(f"{c} {n}" for c, n in said.items()))
+    return 0
+
+
+if __name__ == "__main__":
+    sys.exit(main())

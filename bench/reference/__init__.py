@@ -1,0 +1,1 @@
+"""A plain program for the language, straight from its definitions, which shares nothing with the crates."""

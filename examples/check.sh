@@ -1,0 +1,25 @@
+#!/usr/bin/env bash
+# check.sh [PROGRAM]: runs the built program on each example of list.txt and compares what it writes, and its status, with what
+# is wanted. A row is a command, a specification and a status; the input is NAME.COMMAND.in, and the output NAME.COMMAND.out.
+cd "$(dirname "$0")" || exit 1
+program=${1:-../crates/spectra/out/spectra}
+if [ ! -x "$program" ]; then
+  echo "examples: skipped, since there is no program at $program"
+  exit 0
+fi
+passed=0 failed=0
+while read -r command name status; do
+  input=/dev/null
+  [ -f "$name.$command.in" ] && input=$name.$command.in
+  written=$("$program" "$command" "$name.spectra" <"$input"; echo "status $?")
+  wanted=$(cat "$name.$command.out"; echo "status $status")
+  if [ "$written" = "$wanted" ]; then
+    passed=$((passed + 1))
+  else
+    failed=$((failed + 1))
+    echo "examples: $command $name.spectra: wrote"
+    echo "$written"
+  fi
+done <list.txt
+echo "examples: $passed as written, $failed not"
+[ "$failed" -eq 0 ]
