@@ -1,0 +1,3 @@
+pub mod Removed
+pub mod Turns
+pub mod Answered
