@@ -1,3 +1,5 @@
 pub mod Removed
 pub mod Turns
 pub mod Answered
+pub mod Few
+pub mod MemoryLaw

@@ -6,7 +6,8 @@ use Rattle.std.proofs.Math.Numerals.{add-one}
 use Rattle.std.proofs.lemmas.Bool.{eq-eqb, eqb-true, false≢true}
 use Rattle.std.proofs.lemmas.List.{drop_all}
 use Rattle.std.proofs.lemmas.List.Edits.{length-remove}
-use Rattle.std.proofs.lemmas.List.Elements.{Contains-append_cases, Contains-append_left, Contains-append_right, Contains-push, Contains-push_cases}
+use Rattle.std.proofs.lemmas.List.Elements.{All-filter, Contains-append_cases, Contains-append_left, Contains-append_right, Contains-push, Contains-push_cases}
+use Rattle.std.proofs.lemmas.List.Kept.{IsStrictlyIncreasing-filter}
 use Rattle.core_min.specs.Sets.{below, without, IsSetBelow, IsPartOf, PartsWin, IsLosing, IsCore, Leaves, AsksFrom, IsLeft, IsAsked}
 use Rattle.core_min.proofs.Removed.{without_is_remove, removed_is_set, drop_removed, all_below}
 
@@ -145,3 +146,15 @@ module _ (IsWinning : List ℕ → Type 0) (parts : PartsWin IsWinning) where
   left_is_core n left loses leaves =
       let end = tried (below n) (below n) left loses leaves in
       record { loses = end.loses; minimal = λ k there. end.minimal k there (end.inside k there) }
+
+-- what is left is a set of numbers below n
+pub left_is_set : (IsWinning : List ℕ → Type 0) (n : ℕ) (left : List ℕ) → IsLeft IsWinning n left → IsSetBelow n left
+left_is_set IsWinning n left leaves = on (below n) (below n) (all_below n) leaves
+  where
+    on : (ns set : List ℕ) → IsSetBelow n set → Leaves IsWinning set ns left → IsSetBelow n left
+    on [] set numbers same = subst (IsSetBelow n) same numbers
+    on (m ∷ ns) set numbers leaves =
+        elim leaves [
+          | inl dropped ↦ on ns (without set m) (record { rises = IsStrictlyIncreasing-filter _ set numbers.rises; below = All-filter _ (λ k. k < n) set numbers.below }) dropped.1
+          | inr needed ↦ on ns set numbers needed.1
+        ]

@@ -1,5 +1,7 @@
 -- What a call leaves of a judge, and when a fault may be answered.
 use Rattle.std.specs.Prelude.{◌≡◌, ◌↔◌, ℕ, ◌+◌, ◌-◌, ◌^◌, ◌≤◌, min, List, Option, Some}
+use Rattle.core_min.specs.declared.fault.CoreFault.{CoreFault}
+use Rattle.core_min.specs.declared.fault.CoreFault.TheVariants.{Memory, Judge}
 use Rattle.core_min.specs.Sets.{IsAsked}
 
 -- a count went up, or stands at the greatest number that it can have
@@ -25,3 +27,8 @@ module _ {J F : Type 0} where
     pub set : List ℕ
     pub asked : IsAsked (IsWinning old) n set
     pub answered : IsAnswered faults last MayFail old new fault set
+
+  -- why no core was found: memory ran out before any set was asked about, or a fault was answered
+  abbrev pub IsCause : (faults : J → ℕ) (last : J → Option (F × List ℕ)) (IsWinning : J → List ℕ → Type 0) (MayFail : J → List ℕ → F → Type 0) (old new : J) (n : ℕ) → CoreFault F → Type 0
+  IsCause faults last IsWinning MayFail old new n Memory = new ≡ old
+  IsCause faults last IsWinning MayFail old new n (Judge fault) = IsAnsweredInTurn faults last IsWinning MayFail old new n fault

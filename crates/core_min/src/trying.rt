@@ -1,16 +1,17 @@
 //! Numbers that are tried in order, each of which stays or goes.
 
-ghost use Rattle.std.specs.Prelude.{◌≡◌, ◌↔◌, ◌<◌, if◌then◌else◌, vec_len, IfOk, IfErr, IsTrue, Err};
+ghost use Rattle.std.specs.Prelude.{◌≡◌, ◌↔◌, ◌<◌, if◌then◌else◌, vec_len, IfOk, IfErr, IsTrue};
 ghost use Rattle.std.specs.List.{remove};
 ghost use Rattle.core_min.specs.Sets.{below, IsSetBelow, IsLosing, IsLeft, IsCore};
-ghost use Rattle.core_min.specs.Judges.{IsAnswered, IsAnsweredInTurn, IsSameJudge};
+ghost use Rattle.core_min.specs.Judges.{IsAnswered, IsCause, IsSameJudge};
 
 use crate::fault::CoreFault;
 use crate::judge::Judge;
 use std::alloc::{AllocError, Global};
 
 /// What is left of the numbers below `n` after each of them, in rising order, was dropped if the others that were
-/// still there lose without it. `Judge`: a set that was so tried could not be judged. `Memory`: none was given.
+/// still there lose without it. `Judge`: a set that was so tried could not be judged. `Memory`: none was given, and no
+/// set was asked about.
 pub fn core<J: Judge>(
     alloc: Global,
     judge: &mut J,
@@ -19,10 +20,8 @@ pub fn core<J: Judge>(
     requires size { n ≡ J.size judge.old }
     requires lost { IsLosing (J.IsWinning judge.old) (below n) }
     ensures left { IfOk result (λ left. IsLeft (J.IsWinning judge.old) n left.items) }
-    ensures set { IfOk result (λ left. IsSetBelow n left.items) }
     ensures core { IfOk result (λ left. IsCore (J.IsWinning judge.old) left.items) }
-    ensures cause { (fault : J.Fault) → result ≡ Err (CoreFault.Judge fault) →
-        IsAnsweredInTurn J.faults J.last J.IsWinning J.MayFail judge.old judge.new n fault }
+    ensures cause { IfErr result (IsCause J.faults J.last J.IsWinning J.MayFail judge.old judge.new n) }
     ensures keeps { IsSameJudge J.size J.IsWinning J.MayFail J.faults judge.old judge.new }
 {
     let mut set = all_below(alloc, n)?;
@@ -37,7 +36,7 @@ pub fn core<J: Judge>(
     Ok(set)
 }
 
-fn all_below(alloc: Global, n: usize) -> Result<Vec<usize>, AllocError>
+pub(crate) fn all_below(alloc: Global, n: usize) -> Result<Vec<usize>, AllocError>
     ensures { IfOk result (λ set. set.items ≡ below n) }
 {
     let mut set = Vec::with_capacity(alloc, n)?;

@@ -47,14 +47,13 @@ loop-at-preserved g c =
     }
 
 pub returns-in-Err-clause-cause : goal.returns-in-Err-clause-cause
-returns-in-Err-clause-cause g c fault is =
+returns-in-Err-clause-cause g c =
     let j = g.J.Judge in
     let inside : c.loop-at.at < length c.loop-at.set.items = search rules in
-    let same_fault : c.in-Err.fault ≡ fault = cc is in
     record {
       set = remove c.loop-at.set.items c.loop-at.at;
       asked = asks (j.IsWinning c.args.judge.now) c.args.n c.loop-at.set.items c.loop-at.at c.loop-at.invariant.trying inside;
-      answered = rw (← same_fault) (answered_on j.size j.IsWinning j.MayFail j.faults c.args.judge.now c.loop-at.judge c.stays.new.judge c.loop-at.invariant.same j.last c.in-Err.fault (remove c.loop-at.set.items c.loop-at.at) c.in-Err.ensures.cause);
+      answered = answered_on j.size j.IsWinning j.MayFail j.faults c.args.judge.now c.loop-at.judge c.stays.new.judge c.loop-at.invariant.same j.last c.in-Err.fault (remove c.loop-at.set.items c.loop-at.at) c.in-Err.ensures.cause;
     }
 
 pub returns-clause-core : goal.returns-clause-core
