@@ -2,7 +2,7 @@
 
 ghost use Rattle.std.specs.Prelude.{◌≡◌, IfOk};
 ghost use Rattle.spec_model.specs.Views.{line_data, spec_data};
-ghost use Rattle.spectra_types.specs.Samples.{plain_line, five_lines};
+ghost use Rattle.spec_parts.specs.Samples.{plain_line, five_lines};
 
 use crate::{forced, without};
 use spec_model::expr::Expr;

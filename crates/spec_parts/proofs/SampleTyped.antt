@@ -4,7 +4,7 @@ use Rattle.std.proofs.lemmas.List.Elements.{All-nil}
 use Rattle.spec_model.specs.WellTyped.{WellTyped}
 use Rattle.spec_model.specs.Cores.{HasRoomForOne}
 use Rattle.spec_model.specs.Syntax.{Specification}
-use Rattle.spectra_types.specs.Samples.{five_lines}
+use Rattle.spec_parts.specs.Samples.{five_lines}
 
 sample_is_typed : WellTyped five_lines
 sample_is_typed =

@@ -1,9 +1,9 @@
-//! Specifications with other guarantees: a part of them, or one that can never be met.
+//! A specification with a part of its guarantees, and with one that can never be met.
 
-ghost use Rattle.std.specs.Prelude.{◌≡◌, IfOk};
+ghost use Rattle.std.specs.Prelude.{◌≡◌, ◌≤◌, IfOk};
 ghost use Rattle.spec_model.specs.Views.{spec_data};
 ghost use Rattle.spec_model.specs.Cores.{HasRoomForOne, with_guarantees, forced as forced_lem};
-ghost use Rattle.spec_model.specs.WellTyped.{WellTyped};
+ghost use Rattle.spec_model.specs.WellTyped.{WellTyped, all_hidden};
 
 use crate::OutOfMemory;
 use spec_model::copy_lines::copy_with_lines;
@@ -18,6 +18,7 @@ pub fn without(alloc: Global, spec: &Spec, kept: &[u32]) -> Result<Spec, OutOfMe
     requires typed { WellTyped (spec_data spec.now) }
     ensures value { IfOk result (λ s. spec_data s ≡ with_guarantees (spec_data spec.now) kept.now) }
     ensures typed { IfOk result (λ s. WellTyped (spec_data s)) }
+    ensures hidden { IfOk result (λ s. all_hidden (spec_data s) ≤ all_hidden (spec_data spec.now)) }
 {
     let lines = copy_kept_lines(alloc, &spec.lines, kept)?;
     copy_with_lines(alloc, spec, lines)
@@ -30,6 +31,7 @@ pub fn forced(alloc: Global, spec: &Spec) -> Result<Spec, OutOfMemory>
     requires room { HasRoomForOne (spec_data spec.now) }
     ensures value { IfOk result (λ s. spec_data s ≡ forced_lem (spec_data spec.now)) }
     ensures typed { IfOk result (λ s. WellTyped (spec_data s)) }
+    ensures hidden { IfOk result (λ s. all_hidden (spec_data s) ≤ all_hidden (spec_data spec.now)) }
 {
     let lines = copy_forced_lines(alloc, &spec.lines)?;
     copy_with_lines(alloc, spec, lines)
