@@ -2,4 +2,3 @@ pub mod Removed
 pub mod Turns
 pub mod Answered
 pub mod Few
-pub mod MemoryLaw

@@ -59,7 +59,7 @@ fn is_inside(set: &[usize], other: &[usize]) -> bool
 }
 
 impl Judge for MemoryJudge {
-    ghost use Rattle.core_min.proofs.MemoryLaw.{parts_are_inside};
+    ghost use Rattle.core_min.specs.Memory.{parts_are_inside};
 
     type Fault = u64;
 
