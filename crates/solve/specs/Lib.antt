@@ -1,0 +1,4 @@
+pub mod States
+pub mod Winners
+pub mod Solved
+pub mod Verdicts
