@@ -7,12 +7,14 @@
 //! and which keeps each recurring guarantee within K rounds; and it says how it ended. Path: verdict → **lines**.
 #![tactic(auto)]
 
+mod auditing;
 mod protocol;
 mod strategy;
 mod talking;
 #[cfg(test)]
 mod tests;
 
+pub use auditing::{AuditEnd, Finding};
 pub use session_lines::{Lines, Taken};
 pub use strategy::run_lines;
 pub use talking::End;
