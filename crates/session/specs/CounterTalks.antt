@@ -28,10 +28,14 @@ AreOutputs s [] [] = Unit {0}
 AreOutputs s (line ∷ lines) (p ∷ h) = ReadsOutput s line p.output × AreOutputs s lines h
 AreOutputs s _ _ = ⊥
 
--- the line of a note: a goal is told by its line's number, and by its part where the line gives several
+-- the line of a denial: a goal is told by its line's number, and by its part where the line gives several
+abbrev pub denial_line : Label → List ℕ
+denial_line l = codes "deny #" ++ (decimal l.line ++ (if l.part == 0 then codes "\n" else (codes "." ++ (decimal l.part ++ codes "\n"))))
+
+-- the line of a note
 abbrev pub note_line : NoteData → List ℕ
 note_line Shift = codes "shift\n"
-note_line (Deny l) = codes "deny #" ++ (decimal l.line ++ (if l.part == 0 then codes "\n" else (codes "." ++ (decimal l.part ++ codes "\n"))))
+note_line (Deny l) = denial_line l
 
 -- the inputs of the run and the one after it, each shown on a line, and between two of them the note of the position
 abbrev pub shown_inputs : Specification → Run → List NoteData → (next : Assignment) → List ℕ

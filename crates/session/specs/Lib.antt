@@ -4,4 +4,5 @@ pub mod Talks
 pub mod CounterTalks
 pub mod AuditTalks
 pub mod Strategies
+pub mod Audits
 pub mod Parrots
