@@ -11,3 +11,4 @@ pub mod Deciding
 pub mod Shown
 pub mod Told
 pub mod Naming
+pub mod Settled

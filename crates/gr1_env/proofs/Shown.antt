@@ -33,7 +33,7 @@ module _ {G R M : Type 0} where
       let rest = gather-counted (λ j (e : EnvGoal G R M). hold_regions e) (λ j (e : EnvGoal G R M). hold_sets g (either (at misses j) (pre_env g lower)) asms e) (λ j e. hold_counted g (either (at misses j) (pre_env g lower)) asms e) l.goals.items in
       omega (arith, rest)
 
-  counts_are : (ls : List (EnvLayer G R M)) (a j : ℕ) (l : EnvLayer G R M) (e : EnvGoal G R M) → slice_get ls a ≡ Some l → slice_get l.goals.items j ≡ Some e → counts_of ls (suc a) j ≡ map (λ (v : Vec R Global). vec_len v) e.x.items
+  pub counts_are : (ls : List (EnvLayer G R M)) (a j : ℕ) (l : EnvLayer G R M) (e : EnvGoal G R M) → slice_get ls a ≡ Some l → slice_get l.goals.items j ≡ Some e → counts_of ls (suc a) j ≡ map (λ (v : Vec R Global). vec_len v) e.x.items
   counts_are ls a j l e l_is e_is =
       ap (λ ns. get_or ns j []) (mapped_at (λ (l : EnvLayer G R M). goal_counts l.goals.items) [] ls a l l_is) ∙
       mapped_at (λ (e : EnvGoal G R M). map (λ (v : Vec R Global). vec_len v) e.x.items) [] l.goals.items j e e_is

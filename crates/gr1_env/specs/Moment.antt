@@ -1,5 +1,5 @@
 -- The sets that a solver has at one moment, and what is told of them when it halts.
-use Rattle.std.specs.Prelude.{◌≡◌, ℕ, suc, pred, ◌≤◌, ◌&&◌, ◌==◌, if◌then◌else◌, List, [], ◌∷◌, length, Some, None}
+use Rattle.std.specs.Prelude.{◌≡◌, ℕ, suc, pred, ◌≤◌, ◌&&◌, ◌==◌, if◌then◌else◌, List, [], ◌∷◌, length, map, Some, None}
 use Rattle.spec_model.specs.Games.{GameData}
 use Rattle.spec_model.specs.Steps.{states_of}
 use Rattle.spec_model.specs.Sets.{StateSet, no_states, both, either, rest, pre_env}
@@ -12,7 +12,9 @@ use Rattle.gr1_sys.specs.Solution.{iterate, meet}
 use Rattle.gr1_sys.specs.Moment.{IsGoal, IsAssumption}
 use Rattle.gr1_env.specs.declared.givens.Wanted.TheVariants.{Misses, Assumptions}
 use Rattle.gr1_env.specs.Givens.{wanted}
+use Rattle.gr1_env.specs.declared.layers.EnvLayer.{EnvLayer}
 use Rattle.gr1_env.specs.Solution.{base_of, hold_on, layer_on}
+use Rattle.gr1_env.specs.Held.{all_regions}
 
 -- ---- values of Y
 
@@ -111,6 +113,17 @@ module _ {R M : Type 0} where
   abbrev pub TellsOneMoment : Kept R M → Kept R M → Halt → Type 0
   TellsOneMoment old new Budget = (m : Moment) × (IsMoment old.game m × TellsMoment old.game old new m)
   TellsOneMoment old new Memory = new.jam ≡ None
+
+-- ---- finished layers
+
+-- the moment of layers: each value is the hold itself
+abbrev pub settled : EnvLayerSets → Moment
+settled e = record { layers = e; value = e.y }
+
+-- The regions of the layers stand for iterates of their moment.
+pub record AreOfOneMoment {G R M : Type 0} (g : GameData) (k : Kept R M) (ls : List (EnvLayer G R M)) (sets : EnvLayerSets) : Type 0 where
+  pub moment : IsMoment g (settled sets)
+  pub iterates : Each (IsIterateOfMoment g (settled sets)) (map States (map k.set (all_regions ls)))
 
 -- ---- the solver's moments
 

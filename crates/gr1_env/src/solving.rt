@@ -1,13 +1,13 @@
 //! The environment's layers, where they win.
 
-ghost use Rattle.std.specs.Prelude.{◌≡◌, ℕ, [], None, IfOk, IfErr, OnErr, MatchOption, map};
+ghost use Rattle.std.specs.Prelude.{◌≡◌, ℕ, [], None, IfOk, IfErr, IfSome, OnErr, MatchOption, map};
 ghost use Rattle.spec_model.specs.Games.{GameData};
 ghost use Rattle.regions.specs.Kept.{HoldsBesides, IsSameGame, Stays};
 ghost use Rattle.gr1_law.specs.EnvLayers.{IsLayerCount};
 ghost use Rattle.gr1_sys.specs.Held.{HasTogether, HoldsWithoutAll};
 ghost use Rattle.gr1_env.specs.Held.{IsGiven, all_regions, last_z};
 ghost use Rattle.gr1_env.specs.Solved.{IsForced, IsDropped, IsLost, HasWon, HasLost, WonByEnvironment};
-ghost use Rattle.gr1_env.specs.Moment.{Moment, AreGiven, TellsHalt, TellsLayers, TellsOneMoment};
+ghost use Rattle.gr1_env.specs.Moment.{Moment, AreGiven, AreOfOneMoment, TellsHalt, TellsLayers, TellsOneMoment};
 
 use crate::givens::{Given, give, spend_given};
 use crate::layering::{all_layers, last_layer};
@@ -91,6 +91,7 @@ fn winning<G: Regions>(
 pub fn solve_env<G: Regions>(alloc: Global, g: &mut G) -> Result<Option<EnvLayers<G>>, Halt>
     requires free { (G.kept g.old).jam ≡ None }
     ensures solved { let k = G.kept g.old in IfOk result (λ o. MatchOption o (IsLost k (G.kept g.new)) (λ l. (sets : _) × WonByEnvironment k (G.kept g.new) l.layers.items sets)) }
+    ensures moment { let k = G.kept g.old in IfOk result (λ o. IfSome o (λ l. (sets : _) → WonByEnvironment k (G.kept g.new) l.layers.items sets → AreOfOneMoment k.game (G.kept g.new) l.layers.items sets)) }
     ensures halted { OnErr result (HoldsBesides (G.kept g.old) (G.kept g.new) []) }
     ensures told { IfErr result (TellsOneMoment (G.kept g.old) (G.kept g.new)) }
     ensures same { IsSameGame (G.kept g.old) (G.kept g.new) }

@@ -9,6 +9,7 @@ use Rattle.gr1_env.proofs.Shown.{won_is, lost_is}
 use Rattle.spec_model.specs.Sets.{all_states}
 use Rattle.gr1_env.specs.Moment.{TellsOneMoment, moment_at}
 use Rattle.gr1_env.proofs.Told.{handed_on, layers_past}
+use Rattle.gr1_env.proofs.Settled.{of_one_moment, some_each}
 use Rattle.gr1_env.proofs.Naming.{given_named, at_moment, of_layers}
 use Rattle.gr1_env.proofs.solving.solve_env.Goals as goal
 
@@ -71,3 +72,6 @@ returns-in-Err-clause-told g c =
     of_layers k last c.in-Err.halt
     (layers_past k.game k k1 (kept c.winning.new.g) last (given_regions given) (given_sets k.game) c.in-Err.halt made (λ a j y. given_named k.game (moment_at k.game a j y)) c.spend_given-in-Err.ensures.spends.jam
     (c.in-Err.ensures.told k.game c.give.ensures.same.game (record { misses_are = gives.misses; asms_are = gives.asms })))
+
+pub returns-in-Ok-clause-moment : goal.returns-in-Ok-clause-moment
+returns-in-Ok-clause-moment g c = some_each c.in-Ok.won _ (λ l. λ sets won. of_one_moment (g.G.Regions.kept c.args.g.now) (g.G.Regions.kept c.spend_given.new.g) l.layers.items sets won)
