@@ -1,2 +1,6 @@
 mod Placing
 mod Found
+mod Lanes
+mod Bits
+mod FirstZero
+mod EqualCodes

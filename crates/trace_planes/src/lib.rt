@@ -9,11 +9,17 @@
 #![tactic(auto)]
 
 mod audit;
+mod codes;
 mod finding;
 mod judge;
 mod laws;
 mod place;
+mod planes;
+mod zeros;
 
 pub use audit::Audit;
+pub use codes::equal_codes;
 pub use finding::Finding;
 pub use laws::findings_agree;
+pub use planes::{and_planes, not_plane, or_planes};
+pub use zeros::first_zero;
