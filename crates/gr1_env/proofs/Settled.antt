@@ -1,12 +1,11 @@
 -- The layers that were made are of one moment.
-use Rattle.std.proofs.Common.{◌≡◌, ℕ, zero, suc, ◌<◌, List, [], ◌∷◌, ◌++◌, map, length, slice_get, Option, Some, None, IfSome, Vec, vec_len, ap, sym, ◌∙◌, refl, subst, arith}
+use Rattle.std.proofs.Common.{◌≡◌, ℕ, zero, suc, List, [], ◌∷◌, ◌++◌, map, length, slice_get, Option, Some, None, IfSome, Vec, vec_len, ap, sym, refl, subst, arith}
 use Rattle.std.proofs.lemmas.List.{map-append}
 use Rattle.std.specs.declared.alloc.Global.{Global}
 use Rattle.spec_model.specs.Games.{GameData}
 use Rattle.spec_model.specs.Steps.{below}
 use Rattle.spec_model.specs.Sets.{StateSet}
-use Rattle.regions.specs.Kept.{Kept, Meaning, States, Each}
-use Rattle.gr1_law.specs.Layers.{goal_sets, assumption_sets}
+use Rattle.regions.specs.Kept.{Kept, States, Each}
 use Rattle.gr1_law.specs.EnvLayers.{EnvLayerSets, AreEnvLayers}
 use Rattle.gr1_law.proofs.EnvLayering.{env_z-one, env_y-one}
 use Rattle.gr1_sys.specs.Moment.{IsGoal, IsAssumption}
@@ -14,8 +13,8 @@ use Rattle.gr1_sys.proofs.Lists.{length_map}
 use Rattle.gr1_sys.proofs.Won.{found}
 use Rattle.gr1_env.specs.declared.layers.EnvGoal.{EnvGoal}
 use Rattle.gr1_env.specs.declared.layers.EnvLayer.{EnvLayer}
-use Rattle.gr1_env.specs.Held.{gather, list_regions, hold_regions, goal_regions, layer_regions, all_regions}
-use Rattle.gr1_env.specs.Solved.{counts_of, WonByEnvironment}
+use Rattle.gr1_env.specs.Held.{gather, hold_regions, layer_regions}
+use Rattle.gr1_env.specs.Solved.{WonByEnvironment}
 use Rattle.gr1_env.specs.Moment.{Moment, IsMoment, IsIterate, IsIterateOfMoment, IsValueOfY, AreOfOneMoment, layer, value, delayed, settled, layers_for, layer_number}
 use Rattle.gr1_env.proofs.Exact.{layers_for-layers}
 use Rattle.gr1_env.proofs.Naming.{hold_is_value}
