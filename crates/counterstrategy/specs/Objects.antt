@@ -1,5 +1,5 @@
 -- What a strategy is seen as: which noted plays it stands for, and what it holds.
-use Rattle.std.specs.Prelude.{◌≡◌, ◌++◌, ℕ, suc, List, [], ◌∷◌, length, Some, None, true, false}
+use Rattle.std.specs.Prelude.{◌≡◌, ◌≤◌, ◌++◌, ℕ, suc, List, [], ◌∷◌, length, Some, None, true, false}
 use Rattle.spec_model.specs.Values.{Assignment}
 use Rattle.spec_model.specs.Rules.{Run, after}
 use Rattle.spec_model.specs.Unrealizable.{NoteData, Shift, Deny}
@@ -15,7 +15,7 @@ use Rattle.gr1_law.specs.EnvLayers.{EnvLayerSets}
 use Rattle.gr1_law.specs.Counter.{CounterMemory, first_counter, IsGiven, IsNoted, note_of, AnsweredPlay}
 use Rattle.gr1_law.specs.CounterLaws.{IsLostWith}
 use Rattle.gr1_env.specs.declared.layers.EnvLayer.{EnvLayer}
-use Rattle.gr1_env.specs.Solved.{counts_of}
+use Rattle.gr1_env.specs.Solved.{counts_of, denials_of}
 use Rattle.strategy_parts.specs.Owned.{HasAll, SpendsAll, MakesAll}
 use Rattle.strategy_parts.specs.Positions.{IsWholeBefore}
 use Rattle.counterstrategy.specs.declared.kit.Kit.{Kit}
@@ -48,7 +48,7 @@ module _ {G R M : Type 0} where
 
   -- all that it owns: the layers, the states of the goals and the assumptions, and the moves
   abbrev pub items_of : Counterstrategy G R M → List (Item R M)
-  items_of c = layer_items c.layers.layers.items ++ kit_items c.kit
+  items_of c = layer_items c.layers.items ++ kit_items c.kit
 
   -- whether an input was given, and the one that was given last
   abbrev pub IsFresh : Counterstrategy G R M → Type 0
@@ -65,7 +65,7 @@ module _ {G R M : Type 0} where
     game_of c = (kept c.g).game
 
     abbrev pub IsSound : Counterstrategy G R M → EnvLayerSets → Type 0
-    IsSound c e = AreSound (kept c.g) c.layers.layers.items c.kit e
+    IsSound c e = AreSound (kept c.g) c.layers.items c.kit e
 
     -- It stands for this noted play of given inputs, which ends in its state with what it remembers; where it has given an
     -- input, that is the one which is given after the play.
@@ -77,6 +77,7 @@ module _ {G R M : Type 0} where
       pub given : HasGiven c → (r : ℕ) × IsGiven (game_of c) e b k r (given_by c)
       pub room : length (given_by c) ≡ input_count (game_of c)
       pub owned : HasAll (kept c.g) (items_of c)
+      pub few : denials_of c.layers.items ≤ 18446744073709551615
       pub judge : IsOutputJudgeOf (game_of c) c.judge
 
     abbrev pub Stands : Counterstrategy G R M → Type 0
@@ -115,7 +116,7 @@ module _ {G R M : Type 0} where
       pub fresh : IsFresh c
       pub made : MakesAll old (kept c.g) (kit_items c.kit) (made_meanings old ls)
       pub game : IsSameGame old (kept c.g)
-      pub same_layers : c.layers.layers.items ≡ ls
+      pub same_layers : c.layers.items ≡ ls
 
     -- all that it owns is spent
     pub record GivesBack (c : Counterstrategy G R M) (g : G) : Type 0 where

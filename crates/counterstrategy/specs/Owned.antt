@@ -14,6 +14,13 @@ module _ {R M : Type 0} where
   list_items [] = []
   list_items (v ∷ vs) = move_items v.items ++ list_items vs
 
+  -- for each list of regions one of moves, of the same length
+  abbrev pub AreLike : List (Vec M Global) → List (Vec R Global) → Type 0
+  AreLike [] [] = Unit {0}
+  AreLike [] (v ∷ vs) = ⊥
+  AreLike (m ∷ ms) [] = ⊥
+  AreLike (m ∷ ms) (v ∷ vs) = (length m.items ≡ length v.items) × AreLike ms vs
+
 module _ {G R M : Type 0} where
   -- the lists of iterates of all holds, goal by goal and layer by layer
   abbrev pub goal_lists : List (EnvGoal G R M) → List (Vec R Global)
@@ -21,13 +28,6 @@ module _ {G R M : Type 0} where
 
   abbrev pub all_lists : List (EnvLayer G R M) → List (Vec R Global)
   all_lists ls = gather (λ a (l : EnvLayer G R M). goal_lists l.goals.items) ls
-
-  -- for each list of regions one of moves, of the same length
-  abbrev pub AreLike : List (Vec M Global) → List (Vec R Global) → Type 0
-  AreLike [] [] = Unit {0}
-  AreLike [] (v ∷ vs) = ⊥
-  AreLike (m ∷ ms) [] = ⊥
-  AreLike (m ∷ ms) (v ∷ vs) = (length m.items ≡ length v.items) × AreLike ms vs
 
   abbrev pub layer_items : List (EnvLayer G R M) → List (Item R M)
   layer_items ls = region_items (all_regions ls)

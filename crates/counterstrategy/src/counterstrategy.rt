@@ -19,7 +19,7 @@ use crate::giving::give;
 use crate::kit::{Kit, spend_kit};
 use crate::noting::{label_of, note_position};
 use crate::place::Place;
-use gr1_env::EnvLayers;
+use gr1_env::{EnvLayer, EnvLayers};
 use hidden_game::OutputJudge;
 use regions::{Halt, MakeRefusal, Regions};
 use spec_model::game::{Game, Label};
@@ -37,7 +37,7 @@ pub enum Note {
 /// A play of the environment's strategy. It must be closed.
 pub struct Counterstrategy<G: Regions> {
     g: G,
-    layers: EnvLayers<G>,
+    layers: Vec<EnvLayer<G>>,
     kit: Kit<G>,
     place: Place,
     /// Whether an input was given, and the one that was given last.
@@ -87,15 +87,18 @@ impl<G: Regions> Counterstrategy<G> {
             });
         };
         match equip(alloc, &mut g, &layers.layers) {
-            Ok(kit) => Ok(Counterstrategy {
-                g,
-                layers,
-                kit,
-                place,
-                has_given: false,
-                given,
-                judge,
-            }),
+            Ok(kit) => {
+                let EnvLayers { layers } = layers;
+                Ok(Counterstrategy {
+                    g,
+                    layers,
+                    kit,
+                    place,
+                    has_given: false,
+                    given,
+                    judge,
+                })
+            }
             Err(halt) => {
                 layers.spend_all(&mut g);
                 Err(MakeRefusal { halt, g })
@@ -176,7 +179,7 @@ impl<G: Regions> Counterstrategy<G> {
     {
         let place = &mut self.place;
         place.position.go_on(self.g.game(), &self.given, out);
-        note_position(&mut self.g, &self.layers.layers, &self.kit, place);
+        note_position(&mut self.g, &self.layers, &self.kit, place);
         self.has_given = false;
         self.note()
     }
@@ -217,7 +220,7 @@ impl<G: Regions> Counterstrategy<G> {
             given: _given,
             judge: _judge,
         } = self;
-        layers.spend_all(&mut g);
+        EnvLayers { layers }.spend_all(&mut g);
         spend_kit(&mut g, kit);
         g
     }

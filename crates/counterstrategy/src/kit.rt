@@ -1,8 +1,8 @@
 //! What a strategy has besides its layers.
 
-ghost use Rattle.std.specs.Prelude.{◌≡◌};
+ghost use Rattle.std.specs.Prelude.{◌≡◌, ◌++◌};
 ghost use Rattle.regions.specs.Kept.{IsSameGame};
-ghost use Rattle.strategy_parts.specs.Owned.{HasAll, SpendsAll};
+ghost use Rattle.strategy_parts.specs.Owned.{HasAll, SpendsAll, move_items};
 ghost use Rattle.counterstrategy.specs.Owned.{list_items, moves_in, kit_items};
 
 use regions::Regions;

@@ -21,5 +21,3 @@ mod place;
 
 pub use counterstrategy::{Counterstrategy, Note};
 
-#[cfg(test)]
-mod tests;

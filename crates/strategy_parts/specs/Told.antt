@@ -31,27 +31,27 @@ pub record Tale : Type 0 where
   pub sets : List StateSet
   pub targets : When → List StateSet
 
+abbrev pub IsMadeBy : Owner → List StateSet → (When → List StateSet) → Meaning → Type 0
+IsMadeBy who sets targets (States s) = IsIn s sets
+IsMadeBy Sys sets targets (Outputs when s) = IsIn s (targets when)
+IsMadeBy Env sets targets (Inputs when s) = IsIn s (targets when)
+IsMadeBy who sets targets m = ⊥
+
 abbrev pub IsMade : Tale → Meaning → Type 0
-IsMade tale m = is_made tale.who m
-  where
-    abbrev is_made : Owner → Meaning → Type 0
-    is_made who (States s) = IsIn s tale.sets
-    is_made Sys (Outputs when s) = IsIn s (tale.targets when)
-    is_made Env (Inputs when s) = IsIn s (tale.targets when)
-    is_made who m = ⊥
+IsMade tale = IsMadeBy tale.who tale.sets tale.targets
 
 -- Only these calls are made: for the side's moves, into a target of that time, and without an argument for the states of a
 -- goal, and on the environment's side for no states.
+abbrev pub AsksFor : Owner → (When → List StateSet) → Call → List Meaning → Type 0
+AsksFor Sys targets (OutMoves when) asked = (s : StateSet) × IsIn s (targets when) × (asked ≡ States s ∷ [])
+AsksFor Env targets (InMoves when) asked = (s : StateSet) × IsIn s (targets when) × (asked ≡ States s ∷ [])
+AsksFor who targets Holding asked = asked ≡ []
+AsksFor who targets All asked = asked ≡ []
+AsksFor Env targets NoStates asked = asked ≡ []
+AsksFor who targets _ asked = ⊥
+
 abbrev pub AsksOf : Tale → Call → List Meaning → Type 0
-AsksOf tale asked arguments = asks tale.who asked
-  where
-    abbrev asks : Owner → Call → Type 0
-    asks Sys (OutMoves when) = (s : StateSet) × IsIn s (tale.targets when) × (arguments ≡ States s ∷ [])
-    asks Env (InMoves when) = (s : StateSet) × IsIn s (tale.targets when) × (arguments ≡ States s ∷ [])
-    asks who Holding = arguments ≡ []
-    asks who All = arguments ≡ []
-    asks Env NoStates = arguments ≡ []
-    asks who asked = ⊥
+AsksOf tale = AsksFor tale.who tale.targets
 
 module _ {R M : Type 0} where
   -- each region stands for a target of that time

@@ -4,6 +4,7 @@ ghost use Rattle.std.specs.Prelude.{◌≡◌, ◌<◌, [], ◌∷◌, None, len
 ghost use Rattle.spec_model.specs.declared.value.Owner.{Owner};
 ghost use Rattle.spec_model.specs.Sets.{no_states};
 ghost use Rattle.regions.specs.Kept.{Move, States, HasRegion, HoldsBesides, Makes, MakesRegion, IsSameGame};
+ghost use Rattle.gr1_sys.specs.Held.{HasEach};
 ghost use Rattle.strategy_parts.specs.Owned.{Every, MakesAll, region_items, move_items};
 ghost use Rattle.strategy_parts.specs.Told.{Tale, IsIn, AreTargets, TellsHalt, leadings, moves_meant};
 ghost use Rattle.strategy_parts.specs.Wanted.{sets_wanted};
@@ -127,7 +128,7 @@ pub fn moves_into<G: Regions>(
     regions: &[G::R],
 ) -> Result<Vec<G::Move>, Halt>
     requires free { (G.kept g.old).jam ≡ None }
-    requires regions { Every (HasRegion (G.kept g.old)) regions.now }
+    requires regions { HasEach (G.kept g.old) regions.now }
     ensures made { let k = G.kept g.old in IfOk result (λ ms. MakesAll k (G.kept g.new) (move_items ms.items) (leadings k who when regions.now)) }
     ensures halted { OnErr result (HoldsBesides (G.kept g.old) (G.kept g.new) []) }
     ensures told { let k = G.kept g.old in (tale : Tale) → tale.who ≡ who → AreTargets tale when k regions.now → IfErr result (TellsHalt k (G.kept g.new) tale) }
