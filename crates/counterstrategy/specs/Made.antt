@@ -13,13 +13,13 @@ use Rattle.gr1_law.specs.EnvLayers.{EnvLayerSets}
 use Rattle.gr1_law.specs.CounterLaws.{IsLostWith}
 use Rattle.gr1_sys.specs.Held.{HasTogether, HoldsWithoutAll}
 use Rattle.gr1_env.specs.declared.layers.EnvLayer.{EnvLayer}
-use Rattle.gr1_env.specs.Held.{list_regions, all_regions}
+use Rattle.gr1_env.specs.Held.{all_regions}
 use Rattle.gr1_env.specs.Solved.{counts_of, ShowsLayers}
 use Rattle.strategy_parts.specs.Owned.{HoldsAll, MakesAll}
 use Rattle.strategy_parts.specs.Told.{IsIn, Tale, AreTargets, TellsHalt}
 use Rattle.counterstrategy.specs.declared.kit.Kit.{Kit}
 use Rattle.counterstrategy.specs.Settled.{tops}
-use Rattle.counterstrategy.specs.Owned.{AreLike, all_lists}
+use Rattle.counterstrategy.specs.Owned.{AreLike, all_lists, all_delays}
 
 -- ---- lists that grow
 
@@ -46,10 +46,10 @@ HoldsSome old new is = (ms : List Meaning) × HoldsAll old new is ms
 module _ {G R M : Type 0} where
   -- the layers by number, of which 0 has no states, and the iterates of all holds
   abbrev pub layer_sets : Kept R M → List (EnvLayer G R M) → List StateSet
-  layer_sets k ls = no_states ∷ map (λ (l : EnvLayer G R M). k.set l.z) ls
+  layer_sets k ls = no_states ∷ map k.set (tops ls)
 
   abbrev pub delay_sets : Kept R M → List (EnvLayer G R M) → List StateSet
-  delay_sets k ls = map k.set (list_regions (all_lists ls))
+  delay_sets k ls = map k.set (all_delays ls)
 
   -- First moves lead into the layers, later ones into the layers and the iterates.
   abbrev pub targets_of : Kept R M → List (EnvLayer G R M) → When → List StateSet
@@ -75,7 +75,7 @@ module _ {G R M : Type 0} where
     pub none : IsIn no_states tale.sets
     pub none_in : (when : When) → IsIn no_states (tale.targets when)
     pub layers : (when : When) → AreTargets tale when k (tops ls)
-    pub delays : AreTargets tale Later k (list_regions (all_lists ls))
+    pub delays : AreTargets tale Later k (all_delays ls)
 
   -- no moves were made yet
   pub record IsBare (kit : Kit G R M) : Type 0 where

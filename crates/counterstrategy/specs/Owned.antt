@@ -4,7 +4,7 @@ use Rattle.std.specs.declared.alloc.Global.{Global}
 use Rattle.regions.specs.Kept.{Item}
 use Rattle.gr1_env.specs.declared.layers.EnvGoal.{EnvGoal}
 use Rattle.gr1_env.specs.declared.layers.EnvLayer.{EnvLayer}
-use Rattle.gr1_env.specs.Held.{gather, all_regions}
+use Rattle.gr1_env.specs.Held.{gather, list_regions, all_regions}
 use Rattle.strategy_parts.specs.Owned.{region_items, move_items}
 use Rattle.counterstrategy.specs.declared.kit.Kit.{Kit}
 
@@ -28,6 +28,13 @@ module _ {G R M : Type 0} where
 
   abbrev pub all_lists : List (EnvLayer G R M) → List (Vec R Global)
   all_lists ls = gather (λ a (l : EnvLayer G R M). goal_lists l.goals.items) ls
+
+  -- and the regions in them, one after the other
+  abbrev pub goal_delays : List (EnvGoal G R M) → List R
+  goal_delays goals = gather (λ j (e : EnvGoal G R M). list_regions e.x.items) goals
+
+  abbrev pub all_delays : List (EnvLayer G R M) → List R
+  all_delays ls = gather (λ a (l : EnvLayer G R M). goal_delays l.goals.items) ls
 
   abbrev pub layer_items : List (EnvLayer G R M) → List (Item R M)
   layer_items ls = region_items (all_regions ls)

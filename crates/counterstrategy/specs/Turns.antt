@@ -1,9 +1,8 @@
 -- One turn of the environment's strategy: which input is given, and what is remembered after the reply; the numbers are in range.
-use Rattle.std.specs.Prelude.{◌≡◌, ℕ, suc, ◌<◌, ◌≤◌, true, false, List, length, slice_index, Some}
+use Rattle.std.specs.Prelude.{◌≡◌, ℕ, suc, ◌<◌, ◌≤◌, true, false, List, length, slice_index, Some, is_some, IsTrue}
 use Rattle.spec_model.specs.Values.{Assignment}
 use Rattle.spec_model.specs.Games.{GameData, State}
 use Rattle.spec_model.specs.Steps.{Before, is_state}
-use Rattle.std.specs.Prelude.{IsTrue}
 use Rattle.regions.specs.declared.types.When.TheVariants.{First, Later}
 use Rattle.regions.specs.Kept.{Kept}
 use Rattle.gr1_law.specs.Layers.{goal_sets, assumption_sets}
@@ -32,6 +31,9 @@ pub record IsTurn (g : GameData) (e : EnvLayerSets) (n : ℕ) (counts : ℕ → 
   pub before : IsWholeBefore g b
   pub layer : k.denying ≡ false → r ≤ n
   pub hold : k.denying ≡ true → IsInHold g n counts k r
+  -- nothing is denied before the first position, and a hold's first iterate has no states, as layer 0
+  pub later : k.denying ≡ true → is_some b ≡ true
+  pub none : k.denying ≡ true → e.x k.layer k.goal k.index 0 ≡ e.z 0
 
 -- this is remembered after a reply
 pub record IsReply (g : GameData) (e : EnvLayerSets) (n : ℕ) (k : CounterMemory) (s : State) (next : CounterMemory) : Type 0 where

@@ -1,6 +1,6 @@
 //! The environment's strategy over any regions.
 
-ghost use Rattle.std.specs.Prelude.{◌≡◌, length, IsTrue, IfOk, IfErr, None, is_none};
+ghost use Rattle.std.specs.Prelude.{◌≡◌, ◌<◌, length, IsTrue, IfOk, IfErr, None, is_none};
 ghost use Rattle.std.specs.Bool.{OnTrue, OnFalse};
 ghost use Rattle.spec_model.specs.Steps.{is_output, legal_output};
 ghost use Rattle.spec_model.specs.GameViews.{game_data};
@@ -186,6 +186,7 @@ impl<G: Regions> Counterstrategy<G> {
 
     /// The note of the last position.
     fn note(&self) -> Note
+        requires { IsTrue self.now.place.denying → self.now.place.goal < length (game_of G.kept self.now).goals }
         ensures { note_data result ≡ note_of (game_of G.kept self.now) (memory_at self.now.place) }
     {
         if self.place.denying {

@@ -10,7 +10,7 @@ ghost use Rattle.gr1_env.specs.Held.{list_regions};
 ghost use Rattle.strategy_parts.specs.Owned.{move_items};
 ghost use Rattle.strategy_parts.specs.Told.{Tale, IsIn, AreTargets, TellsHalt, leadings};
 ghost use Rattle.counterstrategy.specs.Settled.{tops};
-ghost use Rattle.counterstrategy.specs.Owned.{list_items, goal_lists, all_lists, AreLike};
+ghost use Rattle.counterstrategy.specs.Owned.{list_items, goal_lists, goal_delays, all_lists, all_delays, AreLike};
 ghost use Rattle.counterstrategy.specs.Made.{Adds, AddsSome};
 
 use gr1_env::{EnvGoal, EnvLayer};
@@ -123,11 +123,11 @@ fn add_holds<G: Regions>(
     chains: &mut Vec<Vec<G::Move>>,
 ) -> Result<(), Halt>
     requires free { (G.kept g.old).jam ≡ None }
-    requires regions { HasEach (G.kept g.old) (list_regions (goal_lists goals.now)) }
-    ensures added { let k = G.kept g.old in OnOk result (Adds list_items k (G.kept g.new) chains.old.items chains.new.items (leadings k Owner.Env When.Later (list_regions (goal_lists goals.now)))) }
+    requires regions { HasEach (G.kept g.old) (goal_delays goals.now) }
+    ensures added { let k = G.kept g.old in OnOk result (Adds list_items k (G.kept g.new) chains.old.items chains.new.items (leadings k Owner.Env When.Later (goal_delays goals.now))) }
     ensures alike { (done : List (Vec _ Global)) → AreLike chains.old.items done → OnOk result (AreLike chains.new.items (done ++ goal_lists goals.now)) }
     ensures halted { OnErr result (AddsSome list_items (G.kept g.old) (G.kept g.new) chains.old.items chains.new.items) }
-    ensures told { let k = G.kept g.old in (tale : Tale) → tale.who ≡ Owner.Env → AreTargets tale When.Later k (list_regions (goal_lists goals.now)) → IfErr result (TellsHalt k (G.kept g.new) tale) }
+    ensures told { let k = G.kept g.old in (tale : Tale) → tale.who ≡ Owner.Env → AreTargets tale When.Later k (goal_delays goals.now) → IfErr result (TellsHalt k (G.kept g.new) tale) }
     ensures same { IsSameGame (G.kept g.old) (G.kept g.new) }
 {
     for goal in goals {
@@ -144,11 +144,11 @@ pub fn add_delays<G: Regions>(
     chains: &mut Vec<Vec<G::Move>>,
 ) -> Result<(), Halt>
     requires free { (G.kept g.old).jam ≡ None }
-    requires regions { HasEach (G.kept g.old) (list_regions (all_lists layers.now)) }
-    ensures added { let k = G.kept g.old in OnOk result (Adds list_items k (G.kept g.new) chains.old.items chains.new.items (leadings k Owner.Env When.Later (list_regions (all_lists layers.now)))) }
+    requires regions { HasEach (G.kept g.old) (all_delays layers.now) }
+    ensures added { let k = G.kept g.old in OnOk result (Adds list_items k (G.kept g.new) chains.old.items chains.new.items (leadings k Owner.Env When.Later (all_delays layers.now))) }
     ensures alike { (done : List (Vec _ Global)) → AreLike chains.old.items done → OnOk result (AreLike chains.new.items (done ++ all_lists layers.now)) }
     ensures halted { OnErr result (AddsSome list_items (G.kept g.old) (G.kept g.new) chains.old.items chains.new.items) }
-    ensures told { let k = G.kept g.old in (tale : Tale) → tale.who ≡ Owner.Env → AreTargets tale When.Later k (list_regions (all_lists layers.now)) → IfErr result (TellsHalt k (G.kept g.new) tale) }
+    ensures told { let k = G.kept g.old in (tale : Tale) → tale.who ≡ Owner.Env → AreTargets tale When.Later k (all_delays layers.now) → IfErr result (TellsHalt k (G.kept g.new) tale) }
     ensures same { IsSameGame (G.kept g.old) (G.kept g.new) }
 {
     for l in layers {
