@@ -1,2 +1,5 @@
 pub mod Found
+pub mod Wholly
+pub mod Places
 pub mod Served
+pub mod LostCores

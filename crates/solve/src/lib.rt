@@ -9,14 +9,19 @@
 #![tactic(auto)]
 
 mod answers;
+mod cores;
 mod deciding;
 mod fault;
 mod laws;
+mod parts;
 mod playing;
 mod rows;
+mod separation;
 mod solving;
 
 pub use answers::{Numbers, Verdict};
+pub use cores::{core_of, core_of_lost};
 pub use deciding::{numbers, verdict, whole_numbers, whole_verdict};
 pub use fault::SolveFault;
 pub use laws::{no_specification_is_won_by_both, one_of_both_wins};
+pub use separation::{Separation, separated};
