@@ -16,7 +16,6 @@ use Rattle.spec_model.specs.FirstBroken.{first_broken}
 use Rattle.regions.specs.Kept.{Kept}
 use Rattle.regions.specs.Rules.{output_count}
 use Rattle.gr1_law.specs.Choice.{Memory, IsChosen}
-use Rattle.gr1_law.specs.Layers.{LayerSets}
 use Rattle.gr1_law.specs.Specifications.{ChosenPlayKeepsSpecification}
 use Rattle.gr1_law.proofs.Carrying.{play_keeps}
 use Rattle.gr1_law.proofs.OneChoice.{choice-one}
