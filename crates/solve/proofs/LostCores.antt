@@ -34,8 +34,7 @@ module _ (s t : Specification) (is : t ≡ s) (n : ℕ) (count : n ≡ length (g
   pub many_tried : WellTyped s → all_hidden s ≡ 0 → (set : List ℕ) (fault : SolveFault) → sets.IsAsked IsWon n set → IsFaultOf (part_at t set) fault → fault ≡ TooManyStates →
       (tried : Specification) × Tried s tried × HasManyStates tried
   many_tried typed plain set fault asked allowed is_many =
-      let many : HasManyStates (part_at t set) = subst (IsFaultOf (part_at t set)) is_many allowed in
-      (
+      let many : HasManyStates (part_at t set) = subst (IsFaultOf (part_at t set)) is_many allowed in (
         part_at s set,
         inr (asked_at s typed plain set (on_whole (λ u k. sets.IsAsked (λ set. Realizable (part_at u set)) k set) asked)),
         subst (λ (u : Specification). HasManyStates (part_at u set)) is many,

@@ -55,8 +55,7 @@ among numbers places part inside n there =
     let place : ℕ = get_or part k 0 in
     let is : found.1 ≡ number place = sym found.3 ∙ get_or-map number part k 0 found.1 short in
     let whole = inside place (Contains-get_or part k 0 short) in
-    list_any-from_Any (λ m. m == n) (at_places numbers places)
-    (
+    list_any-from_Any (λ m. m == n) (at_places numbers places) (
       whole.0,
       number place,
       subst (λ l. whole.0 < l) (sym (length-map places number)) whole.1,

@@ -41,11 +41,7 @@ impl<'a> Parts<'a> {
     ghost use Rattle.solve.specs.Judged.{whole_of};
 
     /// Takes all the room that judging parts wants for itself.
-    pub fn make(
-        alloc: Global,
-        spec: &'a Spec,
-        numbers: &'a [u32],
-    ) -> Result<Parts<'a>, AllocError>
+    pub fn make(alloc: Global, spec: &'a Spec, numbers: &'a [u32]) -> Result<Parts<'a>, AllocError>
         requires typed { WellTyped (spec_data spec.now) }
         requires plain { all_hidden (spec_data spec.now) ≡ 0 }
         requires numbers { numbers.now ≡ guarantees_of (spec_data spec.now) }

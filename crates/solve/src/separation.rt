@@ -1,10 +1,10 @@
 //! Whether the environment can meet its assumptions whatever the system does.
 
-ghost use Rattle.std.specs.Prelude.{◌≡◌, IfOk, IsErrOf};
+ghost use Rattle.std.specs.Prelude.{◌≡◌, IfOk, OnOk, IsErrOf};
 ghost use Rattle.spec_model.specs.Views.{spec_data};
 ghost use Rattle.spec_model.specs.WellTyped.{WellTyped, all_hidden};
 ghost use Rattle.spec_model.specs.Cores.{HasRoomForOne, forced as forced_lem};
-ghost use Rattle.solve.specs.States.{HasManyStates};
+ghost use Rattle.solve.specs.States.{HasFewStates, HasManyStates};
 ghost use Rattle.solve.specs.Separations.{IsSeparationOf};
 
 use crate::answers::Numbers;
@@ -31,6 +31,7 @@ pub fn separated(alloc: Global, spec: &Spec) -> Result<Separation, SolveFault>
     requires plain { all_hidden (spec_data spec.now) ≡ 0 }
     requires room { HasRoomForOne (spec_data spec.now) }
     ensures separation { IfOk result (IsSeparationOf (spec_data spec.now)) }
+    ensures few { OnOk result (HasFewStates (forced_lem (spec_data spec.now))) }
     ensures too_many_states { IsErrOf result SolveFault.TooManyStates → HasManyStates (forced_lem (spec_data spec.now)) }
 {
     let forced_spec = forced(alloc, spec)?;

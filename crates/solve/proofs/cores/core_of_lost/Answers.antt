@@ -1,11 +1,10 @@
-use Rattle.std.proofs.Common.{rules, ◌≡◌, ◌<◌, ℕ, List, length, map, filter, vec_len, sym, ◌∙◌, ap, subst}
+use Rattle.std.proofs.Common.{rules, ◌≡◌, ◌<◌, List, length, map, filter, vec_len, sym, ◌∙◌, ap, subst}
 use Rattle.std.specs.List.{All}
 use Rattle.spec_model.specs.declared.spec.Line.{Line}
 use Rattle.spec_model.specs.Moves.{is_guarantee}
 use Rattle.spec_model.specs.Views.{line_data, spec_data}
 use Rattle.spec_model.specs.Cores.{guarantees_of, IsLeft, IsCore}
 use Rattle.gr1_law.proofs.CoreTrials.{left_is_core}
-use Rattle.core_min.specs.Judges.{IsCause}
 use Rattle.solve.specs.declared.fault.SolveFault.TheVariants.{TooManyStates}
 use Rattle.solve.specs.Judged.{whole_of}
 use Rattle.solve.specs.Places.{at_places, solvable}
@@ -51,7 +50,7 @@ returns-in-Ok-clause-left c =
     let is : whole_of c.in_ok-parts.parts ≡ s = c.in_ok-parts.ensures in
     let there : c.deref-in-Ok.result.now ≡ guarantees_of s = c.deref-in-Ok.ensures.value ∙ numbers in
     let items : c.in_ok-numbers_at-in-Ok.field-0.items ≡ at_places (guarantees_of s) c.in-Ok.places.items =
-        c.in_ok-numbers_at-in-Ok.ensures ∙ (ap (λ ns. at_places ns c.deref-in-Ok-2.result.now) there ∙ ap (at_places (guarantees_of s)) c.deref-in-Ok-2.ensures.value) in
+    c.in_ok-numbers_at-in-Ok.ensures ∙ (ap (λ ns. at_places ns c.deref-in-Ok-2.result.now) there ∙ ap (at_places (guarantees_of s)) c.deref-in-Ok-2.ensures.value) in
     subst (IsLeft s) (sym items) (left_numbers s (whole_of c.in_ok-parts.parts) is c.len.result count c.requires.typed c.requires.plain c.in-Ok.places.items c.in-Ok.ensures.left)
 
 pub returns-in-Ok-clause-core : goal.returns-in-Ok-clause-core
@@ -63,7 +62,7 @@ returns-in-Ok-clause-core c =
     let is : whole_of c.in_ok-parts.parts ≡ s = c.in_ok-parts.ensures in
     let there : c.deref-in-Ok.result.now ≡ guarantees_of s = c.deref-in-Ok.ensures.value ∙ numbers in
     let items : c.in_ok-numbers_at-in-Ok.field-0.items ≡ at_places (guarantees_of s) c.in-Ok.places.items =
-        c.in_ok-numbers_at-in-Ok.ensures ∙ (ap (λ ns. at_places ns c.deref-in-Ok-2.result.now) there ∙ ap (at_places (guarantees_of s)) c.deref-in-Ok-2.ensures.value) in
+    c.in_ok-numbers_at-in-Ok.ensures ∙ (ap (λ ns. at_places ns c.deref-in-Ok-2.result.now) there ∙ ap (at_places (guarantees_of s)) c.deref-in-Ok-2.ensures.value) in
     let left = left_numbers s (whole_of c.in_ok-parts.parts) is c.len.result count c.requires.typed c.requires.plain c.in-Ok.places.items c.in-Ok.ensures.left in
     subst (IsCore s) (sym items) (left_is_core s (solvable s c.requires.typed c.requires.plain) _ c.requires.lost left)
 

@@ -1,4 +1,4 @@
-use Rattle.std.proofs.Common.{rules, ◌≡◌, ◌≤◌, ◌+◌, ℕ, List, true, false, length, vec_len, vec_capacity, refl, sym, ◌∙◌, ap, subst, arith}
+use Rattle.std.proofs.Common.{◌≡◌, length, refl, ◌∙◌, ap, subst, arith}
 use Rattle.std.proofs.lemmas.Bool.{false≢true}
 use Rattle.spec_model.specs.Cores.{with_guarantees, guarantees_of}
 use Rattle.core_min.proofs.Few.{few}
@@ -30,7 +30,7 @@ returns-in-Ok-Realizable-clause-answer c =
     let s = whole_of c.args.self.now in
     let k = c.in-Ok-Realizable.field-0-0 in
     let part : c.deref.result.now ≡ at_places (guarantees_of s) c.args.kept.now =
-        c.deref.ensures.value ∙ (c.pick.ensures.picked ∙ ap (λ ns. at_places ns c.args.kept.now) c.args.self.now.numbered) in
+    c.deref.ensures.value ∙ (c.pick.ensures.picked ∙ ap (λ ns. at_places ns c.args.kept.now) c.args.self.now.numbered) in
     let found = subst (AreNumbersOf (with_guarantees s c.deref.result.now)) c.in-Ok-Realizable.field-0-is c.in-Ok-Realizable.ensures.numbers in
     let won = won_within (part_at s c.args.kept.now) k (subst (λ ns. IsWonBySystem (with_guarantees s ns) k) part found) in
     (λ yes. won, λ wins. refl)
@@ -41,7 +41,7 @@ returns-in-Ok-Unrealizable-clause-answer c =
     let n = c.in-Ok-Unrealizable.field-0-0 in
     let m = c.in-Ok-Unrealizable.field-0-1 in
     let part : c.deref.result.now ≡ at_places (guarantees_of s) c.args.kept.now =
-        c.deref.ensures.value ∙ (c.pick.ensures.picked ∙ ap (λ ns. at_places ns c.args.kept.now) c.args.self.now.numbered) in
+    c.deref.ensures.value ∙ (c.pick.ensures.picked ∙ ap (λ ns. at_places ns c.args.kept.now) c.args.self.now.numbered) in
     let found = subst (AreNumbersOf (with_guarantees s c.deref.result.now)) c.in-Ok-Unrealizable.field-0-is c.in-Ok-Unrealizable.ensures.numbers in
     let lost = lost_within (part_at s c.args.kept.now) n m (subst (λ ns. IsWonByEnvironment (with_guarantees s ns) n m) part found) in
     (λ yes. absurd (false≢true yes), λ wins. absurd (not_both (part_at s c.args.kept.now) lost wins))
