@@ -4,3 +4,4 @@ mod Lanes
 mod Bits
 mod FirstZero
 mod EqualCodes
+mod ExampleMoves
