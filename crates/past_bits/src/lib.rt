@@ -23,3 +23,6 @@ pub use tables::bits;
 
 /// Memory ran out.
 pub use std::alloc::AllocError as OutOfMemory;
+
+#[cfg(test)]
+mod tests;
