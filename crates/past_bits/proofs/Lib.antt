@@ -9,3 +9,4 @@ pub mod Cells
 pub mod Walk
 pub mod Runs
 pub mod Typed
+pub mod Made

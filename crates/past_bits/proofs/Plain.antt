@@ -32,35 +32,35 @@ abbrev mutual
 
 -- ---- from a formula's kind to those of its parts
 
-truth_holds : (b : Bool) → is_some (truth_if b) ≡ true → b ≡ true
+pub truth_holds : (b : Bool) → is_some (truth_if b) ≡ true → b ≡ true
 truth_holds true e = refl
 truth_holds false e = e
 
-some_truth : (p : Option Kind) → is_truth p ≡ true → is_some p ≡ true
+pub some_truth : (p : Option Kind) → is_truth p ≡ true → is_some p ≡ true
 some_truth (Some Truth) e = refl
 some_truth (Some (Whole a b)) e = refl
 some_truth (Some (NameOf ns)) e = refl
 some_truth (Some (OneName n)) e = refl
 some_truth None e = e
 
-both_compared : (c : Compare) (p q : Option Kind) → is_some (compared c p q) ≡ true → (is_some p ≡ true) × (is_some q ≡ true)
+pub both_compared : (c : Compare) (p q : Option Kind) → is_some (compared c p q) ≡ true → (is_some p ≡ true) × (is_some q ≡ true)
 both_compared c (Some a) (Some b) e = (refl, refl)
 both_compared c (Some a) None e = absurd (false≢true e)
 both_compared c None q e = absurd (false≢true e)
 
-both_summed : (p q : Option Kind) → is_some (summed p q) ≡ true → (is_some p ≡ true) × (is_some q ≡ true)
+pub both_summed : (p q : Option Kind) → is_some (summed p q) ≡ true → (is_some p ≡ true) × (is_some q ≡ true)
 both_summed (Some (Whole a b)) (Some (Whole c d)) e = (refl, refl)
 both_summed _ _ e = absurd (false≢true e)
 
-both_subtracted : (p q : Option Kind) → is_some (subtracted p q) ≡ true → (is_some p ≡ true) × (is_some q ≡ true)
+pub both_subtracted : (p q : Option Kind) → is_some (subtracted p q) ≡ true → (is_some p ≡ true) × (is_some q ≡ true)
 both_subtracted (Some (Whole a b)) (Some (Whole c d)) e = (refl, refl)
 both_subtracted _ _ e = absurd (false≢true e)
 
-both_multiplied : (p q : Option Kind) → is_some (multiplied p q) ≡ true → (is_some p ≡ true) × (is_some q ≡ true)
+pub both_multiplied : (p q : Option Kind) → is_some (multiplied p q) ≡ true → (is_some p ≡ true) × (is_some q ≡ true)
 both_multiplied (Some (Whole a b)) (Some (Whole c d)) e = (refl, refl)
 both_multiplied _ _ e = absurd (false≢true e)
 
-one_reduced : (p : Option Kind) (n : ℤ) → is_some (reduced p n) ≡ true → is_some p ≡ true
+pub one_reduced : (p : Option Kind) (n : ℤ) → is_some (reduced p n) ≡ true → is_some p ≡ true
 one_reduced (Some (Whole a b)) n e = refl
 one_reduced _ n e = absurd (false≢true e)
 

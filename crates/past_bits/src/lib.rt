@@ -17,7 +17,7 @@ mod operators;
 mod same;
 mod tables;
 
-pub use laws::entries_are_operators;
+pub use laws::{entries_are_operators, tables_are_made};
 pub use operators::Operators;
 pub use tables::bits;
 
