@@ -3,3 +3,4 @@ pub mod Wholly
 pub mod Places
 pub mod Served
 pub mod LostCores
+pub mod SamplesTyped

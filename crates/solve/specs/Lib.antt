@@ -6,3 +6,4 @@ pub mod Places
 pub mod Judged
 pub mod OneSpelling
 pub mod Separations
+pub mod Samples

@@ -4,7 +4,8 @@
 //! the environment. One of the two wins each game (Bloem et al. 2012, solving GR(1) games).
 //!
 //! Contract: `verdict`, whose numbers are true of all plays, and whose strategy is fresh and of that specification; `numbers`
-//! says the same and makes no strategy.
+//! says the same and makes no strategy. `core_of` gives what is left of the guarantees of an unrealizable specification, tried
+//! in text order, and that it is a core; `separated` judges the specification whose one guarantee can never be met.
 //! Path: specification → game → regions → layers → strategy → **verdict** → lines.
 #![tactic(auto)]
 
@@ -25,3 +26,6 @@ pub use deciding::{numbers, verdict, whole_numbers, whole_verdict};
 pub use fault::SolveFault;
 pub use laws::{no_specification_is_won_by_both, one_of_both_wins};
 pub use separation::{Separation, separated};
+
+#[cfg(test)]
+mod tests;
