@@ -8,14 +8,12 @@ use Rattle.std.proofs.lemmas.Grind.{flat_map-append}
 use Rattle.spec_model.specs.declared.expr.Expr.{Expr}
 use Rattle.spec_model.specs.declared.spec.Line.{Line}
 use Rattle.spec_model.specs.declared.spec.Trigger.{Trigger}
-use Rattle.spec_model.specs.Syntax.{Formula, Formulas, formulas, listed, PastOf, TriggerData, Statement, Specification}
+use Rattle.spec_model.specs.Syntax.{Formula, Formulas, formulas, listed, TriggerData, Statement}
 use Rattle.spec_model.specs.Views.{formula, regular, line_data, trigger_data}
-use Rattle.spec_model.specs.Sizes.{same_formula, past_trees, past_trees_of_all, atoms_of, formulas_of, distinct, past_operators}
+use Rattle.spec_model.specs.Sizes.{same_formula, past_trees, past_trees_of_all, atoms_of, distinct}
 use Rattle.spec_model.proofs.Restricted.{same_formula-true}
 use Rattle.game_values.specs.Safety.{formulas_in}
-use Rattle.past_bits.specs.Entries.{with_entries, each_with_entries, with_operator, added}
-use Rattle.past_bits.specs.Bits.{table_with, table_of}
-use Rattle.past_bits.specs.Tables.{first_bit}
+use Rattle.past_bits.specs.Entries.{with_entries, each_with_entries, added}
 use Rattle.past_bits.proofs.Places.{added-append, swapped}
 
 -- ---- lists of formulas

@@ -1,10 +1,10 @@
 -- The tables of a well-typed specification's operators are well made.
-use Rattle.std.proofs.Common.{◌≡◌, ℕ, zero, suc, ◌+◌, ◌*◌, ◌^◌, Bool, true, false, not, ◌&&◌, ◌||◌, ◌==◌, nat_lt, if◌then◌else◌, cond, List, [], ◌∷◌, ◌++◌, length, map, flat_map, is_some, refl, sym, ap, ◌∙◌, subst, arith, append_assoc}
+use Rattle.std.proofs.Common.{◌≡◌, ℕ, suc, ◌+◌, Bool, true, false, not, ◌&&◌, ◌||◌, ◌==◌, cond, List, [], ◌∷◌, ◌++◌, length, map, flat_map, is_some, refl, sym, ap, ◌∙◌, arith, append_assoc}
 use Rattle.std.specs.List.{list_any, list_all}
 use Rattle.std.proofs.lemmas.Bool.{and_parts, and_from, false≢true}
 use Rattle.std.proofs.lemmas.List.Folds.{list_all-append}
 use Rattle.std.proofs.lemmas.List.{map-append}
-use borrow.Author.Tests.{eqb-true, eq-eqb}
+use borrow.Author.Tests.{eqb-true}
 use Rattle.spec_model.specs.declared.expr.Past.{Past}
 use Rattle.spec_model.specs.declared.expr.Past.TheVariants.{Prev, Once, Historically, Since, Triggered}
 use Rattle.spec_model.specs.Syntax.{Formula, Constant, Variable, NextOf, Negation, Conjunction, Disjunction, Implication, Equivalence, Comparison, Sum, Difference, Product, Remainder, PastOf, Entry, Formulas, listed, Statement, Specification}
@@ -12,16 +12,14 @@ use Rattle.spec_model.specs.Values.{DomainData}
 use Rattle.spec_model.specs.Moves.{has_next, some_has_next}
 use Rattle.spec_model.specs.Sizes.{same_formula, past_trees, past_trees_of_all, formulas_of, past_operators}
 use Rattle.spec_model.specs.Typing.{Scope, kind_of, are_truths, is_truth, truth_if, compared, summed, subtracted, multiplied, reduced, has_table, count_of, operands_of}
-use Rattle.spec_model.specs.Games.{HiddenData}
-use Rattle.spec_model.specs.WellMade.{is_stepwise, are_stepwise, is_step_formula, is_state_formula, is_table, are_tables, cell_count}
+use Rattle.spec_model.specs.WellMade.{is_stepwise, are_stepwise, is_state_formula, is_table, are_tables}
 use Rattle.spec_model.specs.WellTyped.{scope_of_specification}
-use Rattle.spec_model.proofs.Restricted.{same_formula-true}
 use Rattle.past_bits.specs.Tables.{first_bit, number_of_bit, next_cells, entry_cells}
 use Rattle.past_bits.specs.Entries.{place_of, with_entries, each_with_entries, with_operator, added}
 use Rattle.past_bits.specs.Bits.{table_of, tables_of}
 use Rattle.past_bits.proofs.Plain.{is_plain, are_plain, truth_holds, some_truth, both_compared, both_summed, both_subtracted, both_multiplied, one_reduced}
 use Rattle.past_bits.proofs.Collected.{added-nil}
-use Rattle.past_bits.proofs.Ordered.{covers, is_operator, inner_trees, is_in_order, trees_in_line, AreOrdered}
+use Rattle.past_bits.proofs.Ordered.{covers, is_in_order, trees_in_line, AreOrdered}
 use Rattle.past_bits.proofs.Agreeing.{both_covered}
 
 two : {X Y Z : Type 0} (f : X → Y → Z) {a c : X} {b d : Y} → a ≡ c → b ≡ d → f a b ≡ f c d

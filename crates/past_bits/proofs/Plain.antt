@@ -1,8 +1,7 @@
 -- Formulas that the tables are made for: each past operator has its operands, `next` stands in none of them, and there is
 -- no entry.
-use Rattle.std.proofs.Common.{◌≡◌, ℕ, ℤ, Bool, true, false, not, ◌&&◌, ◌||◌, ◌==◌, List, [], ◌∷◌, ◌++◌, Option, Some, None, is_some, option_map, slice_get, refl, sym, ap, ◌∙◌, arith}
+use Rattle.std.proofs.Common.{◌≡◌, ℕ, ℤ, Bool, true, false, not, ◌&&◌, ◌==◌, Option, Some, None, is_some, refl}
 use Rattle.std.proofs.lemmas.Bool.{and_parts, and_from, false≢true}
-use Rattle.spec_model.specs.declared.value.Value.TheVariants as value
 use Rattle.spec_model.specs.declared.expr.Compare.{Compare}
 use Rattle.spec_model.specs.Syntax.{Formula, Constant, Variable, NextOf, Negation, Conjunction, Disjunction, Implication, Equivalence, Comparison, Sum, Difference, Product, Remainder, PastOf, Entry, Formulas}
 use Rattle.spec_model.specs.Typing.{Kind, Truth, Whole, NameOf, OneName, Scope, kind_of, are_truths, is_truth, truth_if, compared, summed, subtracted, multiplied, reduced, count_of, operands_of}

@@ -1,19 +1,18 @@
 -- The values and entries of the operators' tables on a run.
-use Rattle.std.proofs.Common.{◌≡◌, ℕ, zero, suc, ◌<◌, Bool, true, false, ◌&&◌, List, [], ◌∷◌, ◌++◌, length, map, flat_map, get_or, Option, Some, None, is_some, slice_get, unwrap_or, refl, sym, ap, ◌∙◌, subst, arith, append_assoc, append-nil}
-use Rattle.std.specs.Prelude.{Contains, slice_index}
+use Rattle.std.proofs.Common.{◌≡◌, ℕ, zero, suc, ◌<◌, Bool, true, false, List, [], ◌∷◌, ◌++◌, length, map, flat_map, get_or, Option, Some, is_some, slice_get, unwrap_or, refl, sym, ap, ◌∙◌, subst, arith, append_assoc, append-nil}
+use Rattle.std.specs.Prelude.{slice_index}
 use Rattle.std.specs.List.{list_any, list_all}
 use Rattle.std.proofs.lemmas.Bool.{and_parts, false≢true}
 use Rattle.std.proofs.lemmas.List.{map-append}
-use Rattle.spec_model.specs.declared.expr.Past.{Past}
-use Rattle.spec_model.specs.Syntax.{Formula, PastOf, Formulas, VariableData, Statement, Specification}
+use Rattle.spec_model.specs.Syntax.{Formula, PastOf, VariableData, Specification}
 use Rattle.spec_model.specs.Meaning.{Reading, past_of, value_at, holds_at, truths_at}
 use Rattle.spec_model.specs.Rules.{Position, Run}
 use Rattle.spec_model.specs.Moves.{nothing, value_among, reading_of}
 use Rattle.spec_model.specs.Sizes.{same_formula, past_trees, formulas_of, past_operators}
-use Rattle.spec_model.specs.Games.{GameData, HiddenData, Readout, State, cell_of, read_table, read_tables, entries_in, nothing_read, readout_of, entry_at, first_hidden, next_hidden, hidden_at, state_at, game_reading}
+use Rattle.spec_model.specs.Games.{GameData, HiddenData, Readout, cell_of, read_table, read_tables, entries_in, nothing_read, readout_of, entry_at, hidden_at, state_at, game_reading}
 use Rattle.past_bits.specs.Entries.{place_of, with_entries}
 use Rattle.past_bits.specs.Bits.{table_of, tables_of}
-use Rattle.past_bits.specs.Laws.{BeginsWithBits, IsIn, EntriesAreOperators}
+use Rattle.past_bits.specs.Laws.{BeginsWithBits, EntriesAreOperators}
 use Rattle.past_bits.proofs.Plain.{is_plain}
 use Rattle.past_bits.proofs.Ordered.{covers, trees_in_line, AreOrdered}
 use Rattle.past_bits.proofs.Agreeing.{agrees, both_covered}

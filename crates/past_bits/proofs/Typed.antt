@@ -1,10 +1,10 @@
 -- The formulas of a well-typed specification's lines are plain, and have kinds.
-use Rattle.std.proofs.Common.{◌≡◌, ℕ, zero, suc, ◌<◌, Bool, true, false, not, ◌&&◌, List, [], ◌∷◌, ◌++◌, length, Option, Some, None, is_some, option_map, unwrap_or, slice_get, refl, sym, ap, ◌∙◌}
-use Rattle.std.specs.Prelude.{nat_lt, nat_le}
+use Rattle.std.proofs.Common.{◌≡◌, ℕ, zero, suc, Bool, true, false, not, ◌&&◌, List, [], ◌∷◌, ◌++◌, length, is_some, option_map, unwrap_or, slice_get, refl, ◌∙◌}
+use Rattle.std.specs.Prelude.{nat_le}
 use Rattle.std.specs.List.{list_all}
 use Rattle.std.proofs.lemmas.Bool.{and_parts, and_from}
 use Rattle.std.proofs.lemmas.List.Folds.{list_all-append}
-use Rattle.spec_model.specs.Syntax.{Formula, Content, Initial, Safety, Recurring, PatternUse, TriggerUse, Regular, TriggerData, Statement, Specification}
+use Rattle.spec_model.specs.Syntax.{Formula, Content, Initial, Safety, Recurring, PatternUse, TriggerUse, Regular, TriggerData, Specification}
 use Rattle.spec_model.specs.Moves.{has_next, is_assumption}
 use Rattle.spec_model.specs.Sizes.{atoms_of, formulas_of}
 use Rattle.spec_model.specs.Steps.{is_output_variable}
@@ -16,7 +16,6 @@ use Rattle.past_bits.proofs.Plain.{is_plain, some_truth, typed_plain}
 all_pass : {X : Type 0} (p q : X → Bool) → ((x : X) → p x ≡ true → q x ≡ true) → (xs : List X) → list_all p xs ≡ true → list_all q xs ≡ true
 all_pass p q each [] is = refl
 all_pass p q each (x ∷ xs) is = let parts = and_parts (p x) (list_all p xs) is in and_from _ _ (each x parts.0) (all_pass p q each xs parts.1)
-
 
 -- a test that each typed formula passes
 module _ (s : Specification) (test : Formula → Bool) (passes : (e : Formula) → is_typed (scope_of_specification s) (length s.names) e ≡ true → test e ≡ true) where

@@ -1,8 +1,7 @@
 -- The tables of the operators read one after another at a position.
-use Rattle.std.proofs.Common.{◌≡◌, ℕ, zero, suc, ◌+◌, ◌*◌, ◌^◌, Bool, true, false, ◌&&◌, ◌==◌, List, [], ◌∷◌, ◌++◌, length, map, get_or, refl, sym, ap, ◌∙◌, arith, append_assoc, append-nil}
-use Rattle.std.specs.Prelude.{slice_index}
+use Rattle.std.proofs.Common.{◌≡◌, ℕ, suc, ◌+◌, ◌*◌, ◌^◌, Bool, true, false, ◌&&◌, ◌==◌, List, [], ◌∷◌, ◌++◌, length, map, get_or, refl, sym, ap, ◌∙◌, arith, append_assoc, append-nil}
 use Rattle.std.specs.List.{list_any}
-use Rattle.std.proofs.lemmas.Bool.{and_parts, false≢true, or_cases}
+use Rattle.std.proofs.lemmas.Bool.{and_parts, false≢true}
 use Rattle.std.proofs.lemmas.List.{map-append}
 use borrow.Author.Tests.{eqb-true}
 use Rattle.spec_model.specs.declared.expr.Past.{Past}
@@ -14,11 +13,11 @@ use Rattle.spec_model.specs.Sizes.{same_formula, past_trees_of_all}
 use Rattle.spec_model.specs.Typing.{count_of, operands_of}
 use Rattle.spec_model.specs.Games.{HiddenData, Readout, present_reading, letter_of, cell_of, read_table, read_tables}
 use Rattle.spec_model.proofs.Restricted.{same_formula-true}
-use Rattle.past_bits.specs.Tables.{entry_of, next_bit, bit_at, number_of_bit, entry_cells, next_cells}
+use Rattle.past_bits.specs.Tables.{entry_of, next_bit, bit_at, number_of_bit}
 use Rattle.past_bits.specs.Entries.{place_of, each_with_entries}
 use Rattle.past_bits.specs.Bits.{table_of}
 use Rattle.past_bits.proofs.Plain.{is_plain, are_plain}
-use Rattle.past_bits.proofs.Ordered.{covers, is_operator, inner_trees, is_in_order}
+use Rattle.past_bits.proofs.Ordered.{covers, is_in_order}
 use Rattle.past_bits.proofs.Agreeing.{each_agrees}
 use Rattle.past_bits.proofs.Cells.{cell_is, entry_is_operator}
 

@@ -1,5 +1,5 @@
 -- The hidden tables of a specification's past operators.
-use Rattle.std.specs.Prelude.{◌≡◌, ℕ, ◌^◌, ◌<◌, true, List, [], ◌∷◌, map, length}
+use Rattle.std.specs.Prelude.{◌≡◌, ◌^◌, ◌<◌, true, List, [], ◌∷◌, map, length}
 use Rattle.spec_model.specs.declared.expr.Expr.{Expr}
 use Rattle.spec_model.specs.declared.expr.Past.{Past}
 use Rattle.spec_model.specs.declared.game.Hidden.{Hidden}

@@ -1,5 +1,5 @@
 -- What holds of the tables of every specification's past operators, on every run.
-use Rattle.std.specs.Prelude.{◌≡◌, ℕ, true, List, [], ◌∷◌, ◌++◌, Some, slice_get, map, Contains, IsTrue}
+use Rattle.std.specs.Prelude.{◌≡◌, ℕ, true, List, ◌++◌, Some, slice_get, Contains}
 use Rattle.spec_model.specs.Syntax.{Formula, Statement, Specification}
 use Rattle.spec_model.specs.Meaning.{value_at, holds_at}
 use Rattle.spec_model.specs.Rules.{Run}
