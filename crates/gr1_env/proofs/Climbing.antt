@@ -1,9 +1,9 @@
 -- The iterates of one inner equation, while they are made.
-use Rattle.std.proofs.Common.{◌≡◌, ℕ, zero, suc, ◌+◌, ◌-◌, ◌<◌, ◌⊎◌, inl, inr, Bool, true, false, List, [], ◌∷◌, ◌++◌, map, length, None, ap, sym, ◌∙◌, refl, subst, arith}
+use Rattle.std.proofs.Common.{◌≡◌, ℕ, suc, ◌+◌, ◌-◌, ◌<◌, ◌⊎◌, inl, inr, Bool, true, false, List, [], ◌∷◌, ◌++◌, length, None, ap, sym, ◌∙◌, refl, subst, arith}
 use Rattle.spec_model.specs.Games.{GameData}
-use Rattle.spec_model.specs.Steps.{below, states_of}
+use Rattle.spec_model.specs.Steps.{states_of}
 use Rattle.spec_model.specs.Sets.{StateSet, no_states, all_states, count_in, IsPartOf}
-use Rattle.regions.specs.Kept.{Kept, MakesRegion, IsExact}
+use Rattle.regions.specs.Kept.{Kept, IsExact}
 use Rattle.regions.proofs.Holding.{set_is}
 use Rattle.gr1_sys.specs.Held.{MakesRegions}
 use Rattle.gr1_sys.proofs.Lists.{makes_more, makes_still, length_push}

@@ -1,5 +1,5 @@
 -- The greatest of several numbers, and how many iterates layers have.
-use Rattle.std.proofs.Common.{◌≡◌, ℕ, zero, suc, ◌+◌, ◌<◌, ◌≤◌, List, [], ◌∷◌, map, length, get_or, slice_get, take, sum, max, Option, Some, None, MatchOption, Vec, vec_len, ap, sym, ◌∙◌, refl, subst, arith}
+use Rattle.std.proofs.Common.{◌≡◌, ℕ, zero, suc, ◌+◌, ◌<◌, ◌≤◌, List, [], ◌∷◌, map, length, get_or, slice_get, take, max, Option, Some, None, MatchOption, ap, ◌∙◌, refl, subst, arith}
 use Rattle.gr1_law.specs.EnvLayers.{most}
 use Rattle.gr1_env.specs.Solved.{greatest}
 

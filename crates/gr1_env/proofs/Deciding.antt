@@ -1,26 +1,13 @@
 -- The layers as they are held and shown, where the environment wins and where it doesn't.
-use Rattle.std.proofs.Common.{◌≡◌, ℕ, zero, suc, ◌+◌, ◌≤◌, ◌<◌, true, false, List, [], ◌∷◌, map, length, get_or, slice_get, slice_index, sum, Option, Some, None, MatchOption, Vec, vec_len, ap, sym, ◌∙◌, refl, subst, arith}
-use Rattle.std.specs.declared.alloc.Global.{Global}
-use Rattle.spec_model.specs.Games.{GameData}
-use Rattle.spec_model.specs.Steps.{below}
-use Rattle.spec_model.specs.Sets.{StateSet, either, pre_env, environment_forces}
-use Rattle.regions.specs.Kept.{Kept, Item, Meaning, weight, Stays, IsExact}
-use Rattle.gr1_law.specs.Layers.{goal_sets, goal_set, assumption_sets, assumption_set, IsLeastNumber}
-use Rattle.gr1_law.specs.EnvLayers.{delay, EnvLayerSets, AreEnvLayers, IsLayerCount, AreDelayCounts, denial_count, most}
-use Rattle.gr1_law.proofs.EnvLayering.{env_last, env_z-one}
-use Rattle.gr1_law.proofs.EnvCounts.{most-same}
-use Rattle.spec_model.proofs.Duality.{parts_agree}
-use Rattle.gr1_sys.specs.Held.{weight_as, MakesRegions, SpendsAll}
-use Rattle.gr1_sys.proofs.Lists.{as_held, length_map, made_and_spent_all, makes_still}
-use Rattle.gr1_sys.proofs.Won.{found}
-use Rattle.gr1_sys.proofs.Givings.{all_above}
-use Rattle.gr1_env.specs.declared.layers.EnvGoal.{EnvGoal}
+use Rattle.std.proofs.Common.{◌≡◌, ℕ, ◌≤◌, true, false, List, length, Option, Some, None, MatchOption, ap, sym, ◌∙◌, subst, arith}
+use Rattle.spec_model.specs.Sets.{StateSet, environment_forces}
+use Rattle.regions.specs.Kept.{Kept, Item, Meaning, weight, IsExact}
+use Rattle.gr1_sys.specs.Held.{weight_as, MakesRegions}
+use Rattle.gr1_sys.proofs.Lists.{made_and_spent_all, makes_still}
 use Rattle.gr1_env.specs.declared.layers.EnvLayer.{EnvLayer}
-use Rattle.gr1_env.specs.declared.givens.Wanted.TheVariants.{Misses, Assumptions}
-use Rattle.gr1_env.specs.Givens.{wanted}
-use Rattle.gr1_env.specs.Solution.{at, delay_on, cover_of, hold_on, layer_on, layer_over, delay_sets}
-use Rattle.gr1_env.specs.Held.{AllOf, list_regions, list_sets, hold_regions, hold_sets, goal_regions, holds_sets, layer_regions, layer_sets, all_regions, all_sets, AreLeast, IsWholeHold, AreWholeHolds, AreWholeLayers, HaveLayers}
-use Rattle.gr1_env.specs.Solved.{goal_counts, layer_counts, counts_of, greatest, hold_count, layer_count, denials_of, ShowsLayers, WonByEnvironment, IsLost, IsForced, IsDropped, HasWon, HasLost}
+use Rattle.gr1_env.specs.Solution.{layer_on}
+use Rattle.gr1_env.specs.Held.{all_regions, all_sets, HaveLayers}
+use Rattle.gr1_env.specs.Solved.{IsForced, IsDropped, HasWon, HasLost}
 
 module _ {G R M : Type 0} (k k1 k2 : Kept R M) (last : StateSet) (misses asms : List StateSet) (ls : List (EnvLayer G R M)) where
   pub lost : IsExact k1 → k.jam ≡ None → k1.game ≡ k.game → last ≡ layer_on k.game misses asms (length ls) → HaveLayers k.game k k1 misses asms ls → IsDropped k1 k2 last (all_regions ls) → HasLost k k2 misses asms

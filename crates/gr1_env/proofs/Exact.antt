@@ -1,17 +1,18 @@
 -- The layers of the solver are those of the definitions.
-use Rattle.std.proofs.Common.{◌≡◌, ℕ, zero, suc, pred, ◌+◌, ◌<◌, ◌&&◌, ◌||◌, Bool, true, false, List, [], ◌∷◌, map, length, get_or, IsTrue, ap, sym, ◌∙◌, refl, subst, arith}
+use Rattle.std.proofs.Common.{◌≡◌, ℕ, zero, suc, ◌<◌, ◌&&◌, ◌||◌, Bool, true, false, List, length, IsTrue, ap, sym, ◌∙◌, refl, subst, arith}
 use Rattle.std.proofs.lemmas.List.{get_or-map}
 use Rattle.spec_model.specs.Games.{GameData, State}
 use Rattle.spec_model.specs.Steps.{states_of}
-use Rattle.spec_model.specs.Sets.{StateSet, no_states, all_states, both, either, rest, pre_env, IsPartOf, IsGreatest}
-use Rattle.gr1_law.specs.Layers.{goal_sets, goal_set, assumption_sets, assumption_set, union, IsLeastNumber}
-use Rattle.gr1_law.specs.EnvLayers.{delay, HasDelays, IsHold, EnvLayerSets, AreEnvLayers}
+use Rattle.spec_model.specs.Sets.{StateSet, no_states, either, rest, pre_env}
+use Rattle.gr1_law.specs.Layers.{goal_sets, goal_set, assumption_set, union}
+use Rattle.gr1_law.specs.EnvLayers.{delay, HasDelays, IsHold, AreEnvLayers}
 use Rattle.gr1_law.proofs.Holds.{delayed_inside}
 use Rattle.gr1_sys.proofs.Lists.{length_map}
 use Rattle.gr1_sys.proofs.Winning.{meet-each, meet-from}
 use Rattle.gr1_env.specs.declared.givens.Wanted.TheVariants.{Misses, Assumptions}
 use Rattle.gr1_env.specs.Givens.{wanted}
-use Rattle.gr1_env.specs.Solution.{at, rising, delay_on, last_delay_on, cover_of, hold_value_on, hold_on, base_of, hold_over, layer_over, layer_on}
+use Rattle.gr1_env.specs.Moment.{base_for, layer_number, hold_number, layers_for}
+use Rattle.gr1_env.specs.Solution.{at, rising, delay_on, last_delay_on, cover_of, hold_value_on, hold_on, hold_over}
 use Rattle.gr1_env.proofs.Rising.{delay_on-in_last}
 use Rattle.gr1_env.proofs.Holding.{cover_of-inside, hold_on-greatest}
 use Rattle.gr1_env.proofs.Joining.{union-same}
@@ -49,62 +50,44 @@ module _ (g : GameData) where
   miss_at j before = get_or-map (rest g) (goal_sets g) j no_states no_states before
 
   module _ (lower : StateSet) (j : ℕ) where
-    -- what the equations of this goal's hold rest on
-    abbrev pub base_for : StateSet
-    base_for = base_of g lower (rest g (goal_set g j))
-
-    pub delay_is : (y : StateSet) (i r : ℕ) → delay_on g (cover_of g base_for y) (assumption_set g i) r ≡ delay g lower y j i r
+    pub delay_is : (y : StateSet) (i r : ℕ) → delay_on g (cover_of g (base_for g lower j) y) (assumption_set g i) r ≡ delay g lower y j i r
     delay_is y i zero = refl
     delay_is y i (suc r) =
-        ap (rising g (cover_of g base_for y) (assumption_set g i)) (delay_is y i r) ∙
+        ap (rising g (cover_of g (base_for g lower j) y) (assumption_set g i)) (delay_is y i r) ∙
         (λ k s. turned (pre_env g (delay g lower y j i r) s) (assumption_set g i s) (pre_env g y s) (rest g (goal_set g j) s || pre_env g lower s) k)
 
-    of_value : (y : StateSet) (s : State) → IsTrue (hold_value_on g base_for asms y s) → HasDelays g lower y j s
+    of_value : (y : StateSet) (s : State) → IsTrue (hold_value_on g (base_for g lower j) asms y s) → HasDelays g lower y j s
     unfolding last_delay_on
     of_value y s e i below =
-        (length (states_of g), subst (λ (t : StateSet). IsTrue (t s)) (delay_is y i (length (states_of g))) (meet-each g (λ i. last_delay_on g (cover_of g base_for y) (at asms i)) (length asms) i below s e))
+        (length (states_of g), subst (λ (t : StateSet). IsTrue (t s)) (delay_is y i (length (states_of g))) (meet-each g (λ i. last_delay_on g (cover_of g (base_for g lower j) y) (at asms i)) (length asms) i below s e))
 
-    to_value : (y : StateSet) (s : State) → HasDelays g lower y j s → IsTrue (hold_value_on g base_for asms y s)
+    to_value : (y : StateSet) (s : State) → HasDelays g lower y j s → IsTrue (hold_value_on g (base_for g lower j) asms y s)
     to_value y s has =
-        meet-from g (λ i. last_delay_on g (cover_of g base_for y) (at asms i)) (length asms) s (delayed_inside g lower y j s has) (λ i below.
+        meet-from g (λ i. last_delay_on g (cover_of g (base_for g lower j) y) (at asms i)) (length asms) s (delayed_inside g lower y j s has) (λ i below.
         let rank = has i below in
-        delay_on-in_last g (cover_of g base_for y) (assumption_set g i) (cover_of-inside g base_for y) rank.0 s (subst (λ (t : StateSet). IsTrue (t s)) (sym (delay_is y i rank.0)) rank.1))
+        delay_on-in_last g (cover_of g (base_for g lower j) y) (assumption_set g i) (cover_of-inside g (base_for g lower j) y) rank.0 s (subst (λ (t : StateSet). IsTrue (t s)) (sym (delay_is y i rank.0)) rank.1))
 
-    pub is_hold : IsHold g lower j (hold_on g base_for asms)
+    pub is_hold : IsHold g lower j (hold_on g (base_for g lower j) asms)
     is_hold =
-        let greatest = hold_on-greatest g base_for asms in
+        let greatest = hold_on-greatest g (base_for g lower j) asms in
         record {
           solves = λ s. (
-            (λ e. of_value (hold_on g base_for asms) s (subst (λ (t : StateSet). IsTrue (t s)) greatest.solves e)),
-            λ has. subst (λ (t : StateSet). IsTrue (t s)) (sym greatest.solves) (to_value (hold_on g base_for asms) s has),
+            (λ e. of_value (hold_on g (base_for g lower j) asms) s (subst (λ (t : StateSet). IsTrue (t s)) greatest.solves e)),
+            λ has. subst (λ (t : StateSet). IsTrue (t s)) (sym greatest.solves) (to_value (hold_on g (base_for g lower j) asms) s has),
           );
           above = λ t delayed. greatest.above t (λ s e. to_value t s (delayed s e));
         }
 
   -- ---- the layers
 
-  abbrev pub layer_number : ℕ → StateSet
-  layer_number a = layer_on g (wanted g Misses) (wanted g Assumptions) a
+  pub base_is : (a j : ℕ) → j < length (goal_sets g) → either (at (wanted g Misses) j) (pre_env g (layer_number g a)) ≡ base_for g (layer_number g a) j
+  base_is a j before = ap (λ t. either t (pre_env g (layer_number g a))) (miss_at j before)
 
-  abbrev pub hold_number : ℕ → ℕ → StateSet
-  hold_number a j = hold_on g (base_for (layer_number a) j) (wanted g Assumptions)
-
-  abbrev pub layers_for : EnvLayerSets
-  layers_for =
-      record {
-        z = layer_number;
-        y = λ a j. hold_number (pred a) j;
-        x = λ a j i r. delay g (layer_number (pred a)) (hold_number (pred a) j) j i r;
-      }
-
-  pub base_is : (a j : ℕ) → j < length (goal_sets g) → either (at (wanted g Misses) j) (pre_env g (layer_number a)) ≡ base_for (layer_number a) j
-  base_is a j before = ap (λ t. either t (pre_env g (layer_number a))) (miss_at j before)
-
-  pub layers_for-layers : AreEnvLayers g layers_for
+  pub layers_for-layers : AreEnvLayers g (layers_for g)
   layers_for-layers =
       record {
         none_first = refl;
-        held = λ a j. is_hold (layer_number a) j;
+        held = λ a j. is_hold (layer_number g a) j;
         delays = λ a j i r. refl;
-        joined = λ a. union-same (hold_over g (layer_number a) (wanted g Misses) (wanted g Assumptions)) (hold_number a) (length (wanted g Misses)) (λ j before. ap (λ t. hold_on g t (wanted g Assumptions)) (base_is a j (omega (arith, before, misses_counted)))) ∙ ap (union (hold_number a)) misses_counted;
+        joined = λ a. union-same (hold_over g (layer_number g a) (wanted g Misses) (wanted g Assumptions)) (hold_number g a) (length (wanted g Misses)) (λ j before. ap (λ t. hold_on g t (wanted g Assumptions)) (base_is a j (omega (arith, before, misses_counted)))) ∙ ap (union (hold_number g a)) misses_counted;
       }

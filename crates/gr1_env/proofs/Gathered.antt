@@ -1,12 +1,11 @@
 -- Lists that are gathered, element by element.
-use Rattle.std.proofs.Common.{◌≡◌, ℕ, zero, suc, ◌+◌, ◌-◌, ◌<◌, ◌≤◌, List, [], ◌∷◌, ◌++◌, map, length, get_or, slice_get, Some, None, Vec, vec_len, ap, sym, ◌∙◌, refl, subst, arith}
+use Rattle.std.proofs.Common.{◌≡◌, ℕ, zero, suc, ◌-◌, ◌<◌, List, [], ◌∷◌, ◌++◌, map, length, get_or, slice_get, Some, ap, sym, ◌∙◌, refl, subst, arith}
 use Rattle.std.proofs.lemmas.List.{append-nil, append_assoc, map-append}
-use Rattle.std.specs.declared.alloc.Global.{Global}
 use Rattle.spec_model.specs.Steps.{below}
 use Rattle.spec_model.specs.Sets.{StateSet}
-use Rattle.regions.specs.Kept.{Kept, HasRegion, IsExact}
+use Rattle.regions.specs.Kept.{Kept, HasRegion}
 use Rattle.gr1_sys.specs.Held.{MakesRegions, HasEach}
-use Rattle.gr1_sys.proofs.Lists.{makes_both, length_push, length_map, length_both, each_append}
+use Rattle.gr1_sys.proofs.Lists.{makes_both, length_map, each_append}
 use Rattle.gr1_sys.proofs.Turned.{split_same}
 use Rattle.gr1_env.specs.Held.{gather, AllOf, last_of}
 

@@ -1,5 +1,5 @@
 -- The sets that are made first.
-use Rattle.std.proofs.Common.{◌≡◌, ℕ, ◌+◌, ◌<◌, ◌≤◌, Bool, true, false, not, ◌&&◌, List, [], ◌∷◌, ◌++◌, map, length, get_or, ap, sym, ◌∙◌, refl, arith}
+use Rattle.std.proofs.Common.{◌≡◌, ℕ, ◌<◌, ◌≤◌, Bool, true, false, not, ◌&&◌, ◌∷◌, map, length, get_or, ap, sym, ◌∙◌, refl, arith}
 use Rattle.std.proofs.lemmas.List.{get_or-map, map-append}
 use Rattle.spec_model.specs.Games.{GameData}
 use Rattle.spec_model.specs.Steps.{is_state}

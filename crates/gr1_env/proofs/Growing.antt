@@ -3,11 +3,10 @@ use Rattle.std.proofs.Common.{◌≡◌, ℕ, zero, suc, ◌+◌, ◌-◌, ◌<�
 use Rattle.std.proofs.lemmas.List.{map-append}
 use Rattle.spec_model.specs.Games.{GameData}
 use Rattle.spec_model.specs.Steps.{states_of}
-use Rattle.spec_model.specs.Sets.{StateSet, no_states, all_states, either, pre_env, count_in, IsPartOf}
+use Rattle.spec_model.specs.Sets.{StateSet, no_states, all_states, pre_env, count_in, IsPartOf}
 use Rattle.spec_model.proofs.SetLaws.{pre_env_grows}
 use Rattle.spec_model.proofs.Fixpoints.{rising-more}
 use Rattle.regions.specs.Kept.{Kept, HasRegion, IsExact}
-use Rattle.gr1_law.specs.Layers.{union}
 use Rattle.gr1_law.proofs.Greatest.{greatest_grows}
 use Rattle.gr1_sys.specs.Held.{MakesRegions, HasEach, HasTogether}
 use Rattle.gr1_sys.proofs.Greatest.{count_at_most, up-rises}

@@ -1,25 +1,25 @@
 -- The iterates of a hold for each assumption, and the value of its equation.
-use Rattle.std.proofs.Common.{◌≡◌, ℕ, zero, suc, ◌+◌, ◌<◌, ◌≤◌, List, [], ◌∷◌, ◌++◌, map, length, get_or, Vec, vec_len, IsTrue, ap, sym, ◌∙◌, refl, subst, arith}
+use Rattle.std.proofs.Common.{◌≡◌, ℕ, suc, ◌<◌, List, [], ◌∷◌, ◌++◌, map, length, get_or, Vec, vec_len, ap, sym, ◌∙◌, refl, subst, arith}
 use Rattle.std.proofs.lemmas.Bool.{and_parts}
 use Rattle.std.proofs.lemmas.List.{get_or-map}
 use Rattle.std.specs.declared.alloc.Global.{Global}
 use Rattle.spec_model.specs.Games.{GameData}
-use Rattle.spec_model.specs.Steps.{below, states_of}
-use Rattle.spec_model.specs.Sets.{StateSet, no_states, all_states, both, pre_env, IsPartOf, IsGreatest}
+use Rattle.spec_model.specs.Steps.{below}
+use Rattle.spec_model.specs.Sets.{StateSet, no_states, all_states, pre_env, IsPartOf, IsGreatest}
 use Rattle.spec_model.proofs.SetLaws.{pre_env_grows}
 use Rattle.spec_model.proofs.Fixpoints.{IsFalling, falling-last, greatest-one}
-use Rattle.regions.specs.Kept.{Kept, Item, Meaning, weight, HasRegion, MakesRegion, IsExact}
+use Rattle.regions.specs.Kept.{Kept, MakesRegion, IsExact}
 use Rattle.gr1_law.specs.Layers.{IsLeastNumber}
-use Rattle.gr1_sys.specs.Solution.{greatest_of, meet}
+use Rattle.gr1_sys.specs.Solution.{meet}
 use Rattle.gr1_sys.specs.Held.{MakesRegions}
 use Rattle.gr1_sys.proofs.Greatest.{greatest_of-greatest}
-use Rattle.gr1_sys.proofs.Lists.{as_held, length_map, length_below, length_push, set_kept, weight_as-more}
+use Rattle.gr1_sys.proofs.Lists.{as_held, length_map, length_below, weight_as-more}
 use Rattle.gr1_sys.proofs.Turned.{meet-same}
 use Rattle.gr1_sys.proofs.Winning.{both_grows, meet_grows, meet_inside}
 use Rattle.gr1_env.specs.declared.layers.EnvGoal.{EnvGoal}
 use Rattle.gr1_env.specs.declared.holds.Step.{Step}
-use Rattle.gr1_env.specs.Solution.{at, rising, delay_on, last_delay_on, cover_of, hold_value_on, hold_on, delay_sets}
-use Rattle.gr1_env.specs.Held.{gather, AllOf, last_of, list_regions, hold_regions, list_sets, hold_sets, AreLeast, HasDelays, HaveDelays, TurnsTo, last_set, IsWholeHold, HasHold, Steps}
+use Rattle.gr1_env.specs.Solution.{at, delay_on, last_delay_on, cover_of, hold_value_on, hold_on, delay_sets}
+use Rattle.gr1_env.specs.Held.{last_of, list_regions, list_sets, AreLeast, HasDelays, HaveDelays, TurnsTo, last_set, HasHold, Steps}
 use Rattle.gr1_env.proofs.Gathered.{gather-at, all_of-push, all_of-at, makes_next, last_of-map, last_of-below}
 use Rattle.gr1_env.proofs.Rising.{delay_on-last, last_delay_on-grows}
 

@@ -1,5 +1,5 @@
 -- The holds of a layer and the layers, while they are made.
-use Rattle.std.proofs.Common.{◌≡◌, ℕ, zero, suc, ◌+◌, ◌<◌, ◌≤◌, List, [], ◌∷◌, ◌++◌, map, length, get_or, Vec, vec_len, None, ap, sym, ◌∙◌, refl, subst, arith}
+use Rattle.std.proofs.Common.{◌≡◌, ℕ, zero, suc, ◌<◌, List, [], ◌∷◌, ◌++◌, map, length, get_or, Vec, vec_len, ap, sym, ◌∙◌, refl, subst, arith}
 use Rattle.std.proofs.lemmas.List.{get_or-map}
 use Rattle.std.specs.declared.alloc.Global.{Global}
 use Rattle.spec_model.specs.Games.{GameData}
@@ -11,8 +11,8 @@ use Rattle.gr1_sys.specs.Held.{MakesRegions, HasEach}
 use Rattle.gr1_sys.proofs.Lists.{as_held, length_map, length_below, length_both, one_of, set_at_is, weight_as-more}
 use Rattle.gr1_env.specs.declared.layers.EnvGoal.{EnvGoal}
 use Rattle.gr1_env.specs.declared.layers.EnvLayer.{EnvLayer}
-use Rattle.gr1_env.specs.Solution.{at, delay_on, cover_of, hold_on, hold_over, layer_over, base_of, delay_sets}
-use Rattle.gr1_env.specs.Held.{gather, AllOf, list_regions, list_sets, hold_regions, hold_sets, goal_regions, holds_sets, IsWholeHold, HasHold, AreWholeHolds, HaveHolds, HasLayer, hold_set}
+use Rattle.gr1_env.specs.Solution.{at, delay_on, cover_of, hold_on, hold_over, layer_over, delay_sets}
+use Rattle.gr1_env.specs.Held.{gather, AllOf, hold_regions, hold_sets, goal_regions, holds_sets, IsWholeHold, HasHold, HaveHolds, HasLayer, hold_set}
 use Rattle.gr1_env.proofs.Gathered.{gather-at, all_of-push, makes_next}
 
 module _ {G R M : Type 0} where

@@ -9,3 +9,6 @@ pub mod Exact
 pub mod Counting
 pub mod Deciding
 pub mod Shown
+pub mod Told
+pub mod Naming
+pub mod Settled

@@ -1,14 +1,14 @@
 -- The iterates of an inner equation rise to the least set that it allows, and grow with what it covers.
-use Rattle.std.proofs.Common.{◌≡◌, ℕ, zero, suc, ◌+◌, ◌-◌, ◌<◌, ◌≤◌, List, length, get_or, IsTrue, refl, sym, ◌∙◌, ap, subst, arith}
-use Rattle.std.proofs.lemmas.Bool.{false≢true, and_parts, and_from}
-use Rattle.spec_model.specs.Games.{GameData, State}
+use Rattle.std.proofs.Common.{◌≡◌, ℕ, zero, suc, ◌-◌, ◌<◌, length, refl, arith}
+use Rattle.std.proofs.lemmas.Bool.{and_parts}
+use Rattle.spec_model.specs.Games.{GameData}
 use Rattle.spec_model.specs.Steps.{states_of}
-use Rattle.spec_model.specs.Sets.{StateSet, no_states, all_states, both, either, pre_env, IsPartOf, count_in}
+use Rattle.spec_model.specs.Sets.{StateSet, all_states, either, pre_env, IsPartOf, count_in}
 use Rattle.spec_model.proofs.SetLaws.{pre_env_grows}
 use Rattle.spec_model.proofs.Fixpoints.{IsRising, rising-more}
 use Rattle.gr1_sys.proofs.Greatest.{count_at_most, up-rises, up-last, up-in_last}
 use Rattle.gr1_sys.proofs.Winning.{both_grows, either_grows}
-use Rattle.gr1_env.specs.Solution.{rising, delay_on, last_delay_on, cover_of}
+use Rattle.gr1_env.specs.Solution.{rising, delay_on, last_delay_on}
 
 module _ (g : GameData) (asm : StateSet) where
   -- an iterate grows with what the equation covers

@@ -1,12 +1,12 @@
 -- The layers that were made are those of the definitions.
-use Rattle.std.proofs.Common.{◌≡◌, ℕ, zero, suc, pred, ◌+◌, ◌<◌, true, false, List, [], ◌∷◌, map, length, get_or, slice_get, slice_index, sum, Some, None, Vec, vec_len, ap, sym, ◌∙◌, refl, subst, arith}
+use Rattle.std.proofs.Common.{◌≡◌, ℕ, suc, ◌+◌, ◌<◌, true, false, List, [], map, length, get_or, slice_get, slice_index, sum, Some, None, Vec, vec_len, ap, sym, ◌∙◌, subst, arith}
 use Rattle.std.specs.declared.alloc.Global.{Global}
 use Rattle.spec_model.specs.Games.{GameData}
 use Rattle.spec_model.specs.Steps.{below}
 use Rattle.spec_model.specs.Sets.{StateSet, either, pre_env, environment_forces}
 use Rattle.regions.specs.Kept.{Kept, Item, Meaning, weight, IsExact}
-use Rattle.gr1_law.specs.Layers.{goal_sets, goal_set, assumption_sets, assumption_set, IsLeastNumber}
-use Rattle.gr1_law.specs.EnvLayers.{delay, EnvLayerSets, AreEnvLayers, IsLayerCount, AreDelayCounts, denial_count, most}
+use Rattle.gr1_law.specs.Layers.{goal_sets, assumption_set, IsLeastNumber}
+use Rattle.gr1_law.specs.EnvLayers.{AreDelayCounts, denial_count, most}
 use Rattle.gr1_law.proofs.EnvLayering.{env_z-one}
 use Rattle.gr1_law.proofs.EnvCounts.{denials_told}
 use Rattle.gr1_sys.specs.Held.{weight_as, MakesRegions, SpendsAll}
@@ -18,12 +18,13 @@ use Rattle.gr1_env.specs.declared.layers.EnvGoal.{EnvGoal}
 use Rattle.gr1_env.specs.declared.layers.EnvLayer.{EnvLayer}
 use Rattle.gr1_env.specs.declared.givens.Wanted.TheVariants.{Misses, Assumptions}
 use Rattle.gr1_env.specs.Givens.{wanted}
-use Rattle.gr1_env.specs.Solution.{at, delay_on, cover_of, hold_on, layer_on, layer_over, delay_sets}
-use Rattle.gr1_env.specs.Held.{AllOf, list_regions, list_sets, hold_regions, hold_sets, goal_regions, holds_sets, layer_regions, layer_sets, all_regions, all_sets, AreLeast, IsWholeHold, AreWholeHolds, AreWholeLayers, HaveLayers}
-use Rattle.gr1_env.specs.Solved.{goal_counts, layer_counts, counts_of, greatest, hold_count, layer_count, denials_of, ShowsLayers, WonByEnvironment, IsLost, HasWon, HasLost}
+use Rattle.gr1_env.specs.Solution.{at, delay_on, cover_of, hold_on, layer_on, delay_sets}
+use Rattle.gr1_env.specs.Held.{list_regions, list_sets, hold_regions, hold_sets, goal_regions, holds_sets, layer_regions, layer_sets, all_regions, all_sets, IsWholeHold, AreWholeHolds, AreWholeLayers, HaveLayers}
+use Rattle.gr1_env.specs.Moment.{base_for, layer_number, hold_number, layers_for}
+use Rattle.gr1_env.specs.Solved.{goal_counts, counts_of, hold_count, layer_count, denials_of, ShowsLayers, WonByEnvironment, IsLost, HasWon, HasLost}
 use Rattle.gr1_env.proofs.Gathered.{gather-at, all_of-at}
 use Rattle.gr1_env.proofs.Joining.{gather-counted, hold_counted, sets_counted}
-use Rattle.gr1_env.proofs.Exact.{base_for, delay_is, misses_counted, base_is, layer_number, hold_number, layers_for, layers_for-layers}
+use Rattle.gr1_env.proofs.Exact.{delay_is, misses_counted, base_is, layers_for-layers}
 use Rattle.gr1_env.proofs.Counting.{most_is, there_at, mapped_at}
 
 module _ {G R M : Type 0} where
@@ -32,7 +33,7 @@ module _ {G R M : Type 0} where
       let rest = gather-counted (λ j (e : EnvGoal G R M). hold_regions e) (λ j (e : EnvGoal G R M). hold_sets g (either (at misses j) (pre_env g lower)) asms e) (λ j e. hold_counted g (either (at misses j) (pre_env g lower)) asms e) l.goals.items in
       omega (arith, rest)
 
-  counts_are : (ls : List (EnvLayer G R M)) (a j : ℕ) (l : EnvLayer G R M) (e : EnvGoal G R M) → slice_get ls a ≡ Some l → slice_get l.goals.items j ≡ Some e → counts_of ls (suc a) j ≡ map (λ (v : Vec R Global). vec_len v) e.x.items
+  pub counts_are : (ls : List (EnvLayer G R M)) (a j : ℕ) (l : EnvLayer G R M) (e : EnvGoal G R M) → slice_get ls a ≡ Some l → slice_get l.goals.items j ≡ Some e → counts_of ls (suc a) j ≡ map (λ (v : Vec R Global). vec_len v) e.x.items
   counts_are ls a j l e l_is e_is =
       ap (λ ns. get_or ns j []) (mapped_at (λ (l : EnvLayer G R M). goal_counts l.goals.items) [] ls a l l_is) ∙
       mapped_at (λ (e : EnvGoal G R M). map (λ (v : Vec R Global). vec_len v) e.x.items) [] l.goals.items j e e_is

@@ -1,5 +1,5 @@
 -- The regions of layers, in one list, and the sets that they stand for.
-use Rattle.std.specs.Prelude.{◌≡◌, ℕ, zero, suc, Bool, true, false, ◌<◌, List, [], ◌∷◌, ◌++◌, map, length, None, Vec}
+use Rattle.std.specs.Prelude.{◌≡◌, ℕ, suc, Bool, true, false, List, [], ◌∷◌, ◌++◌, map, length, None, Vec}
 use Rattle.std.specs.Vec.{vec_len}
 use Rattle.std.specs.declared.alloc.Global.{Global}
 use Rattle.spec_model.specs.Games.{GameData}
@@ -12,7 +12,7 @@ use Rattle.gr1_env.specs.declared.layers.EnvLayer.{EnvLayer}
 use Rattle.gr1_env.specs.declared.givens.Given.{Given}
 use Rattle.gr1_env.specs.declared.holds.Step.{Step}
 use Rattle.gr1_env.specs.declared.holds.Step.TheVariants.{Settled, Next}
-use Rattle.gr1_env.specs.Solution.{at, rising, delay_on, cover_of, hold_value_on, hold_on, base_of, hold_over, layer_over, layer_on, delay_sets}
+use Rattle.gr1_env.specs.Solution.{at, delay_on, cover_of, hold_value_on, hold_on, layer_over, layer_on, delay_sets}
 
 -- ---- lists
 

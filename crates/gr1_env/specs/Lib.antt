@@ -2,3 +2,4 @@ pub mod Solution
 pub mod Held
 pub mod Givens
 pub mod Solved
+pub mod Moment

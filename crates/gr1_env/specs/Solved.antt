@@ -1,8 +1,7 @@
 -- The environment's layers, as a solver holds them.
-use Rattle.std.specs.Prelude.{◌≡◌, ℕ, zero, suc, ◌+◌, ◌<◌, true, false, List, [], ◌∷◌, length, map, max, sum, get_or, slice_get, Some, None, Vec}
+use Rattle.std.specs.Prelude.{◌≡◌, ℕ, zero, suc, ◌+◌, true, false, List, [], ◌∷◌, length, map, max, sum, get_or, slice_get, Some, None, Vec}
 use Rattle.std.specs.Vec.{vec_len}
 use Rattle.std.specs.declared.alloc.Global.{Global}
-use Rattle.spec_model.specs.Games.{GameData}
 use Rattle.spec_model.specs.Steps.{below}
 use Rattle.spec_model.specs.Sets.{StateSet, environment_forces}
 use Rattle.regions.specs.Kept.{Kept, Item, Meaning, Stays, weight}
@@ -11,7 +10,7 @@ use Rattle.gr1_law.specs.EnvLayers.{EnvLayerSets, AreEnvLayers, IsLayerCount, Ar
 use Rattle.gr1_sys.specs.Held.{weight_as, SpendsAll}
 use Rattle.gr1_env.specs.declared.layers.EnvGoal.{EnvGoal}
 use Rattle.gr1_env.specs.declared.layers.EnvLayer.{EnvLayer}
-use Rattle.gr1_env.specs.Held.{all_regions, last_z, HaveLayers}
+use Rattle.gr1_env.specs.Held.{all_regions, HaveLayers}
 use Rattle.gr1_env.specs.Solution.{layer_on}
 
 -- ---- numbers

@@ -1,11 +1,13 @@
 //! The iterates of one inner equation, from no states up.
 
-ghost use Rattle.std.specs.Prelude.{◌≡◌, [], None, IfOk, OnErr};
+ghost use Rattle.std.specs.Prelude.{◌≡◌, ℕ, [], None, IfOk, IfErr, OnErr};
+ghost use Rattle.spec_model.specs.Games.{GameData};
 ghost use Rattle.spec_model.specs.Sets.{no_states};
 ghost use Rattle.regions.specs.Kept.{HasRegion, HoldsBesides, MakesRegion, IsSameGame};
 ghost use Rattle.gr1_sys.specs.Held.{HasTogether, HoldsWithoutAll};
 ghost use Rattle.gr1_env.specs.Solution.{rising};
 ghost use Rattle.gr1_env.specs.Held.{last_of, Grows, HasDelays};
+ghost use Rattle.gr1_env.specs.Moment.{Moment, delay_at, AreOfDelay, TellsHalt};
 
 use gr1_sys::{and_in, or_in, spend_all};
 use regions::{Halt, Regions};
@@ -29,6 +31,7 @@ fn next_delay<G: Regions>(g: &mut G, cover: &G::R, asm: &G::R, t: &G::R) -> Resu
     requires t { HasRegion (G.kept g.old) t.now }
     ensures made { let k = G.kept g.old in IfOk result (λ r. MakesRegion k (G.kept g.new) r (rising k.game (k.set cover.now) (k.set asm.now) (k.set t.now))) }
     ensures halted { OnErr result (HoldsBesides (G.kept g.old) (G.kept g.new) []) }
+    ensures told { let k = G.kept g.old in (game : GameData) (m : Moment) (a j i r : ℕ) → k.game ≡ game → AreOfDelay game m a j i (k.set cover.now) (k.set asm.now) → k.set t.now ≡ delay_at game m a j i r → IfErr result (TellsHalt game k (G.kept g.new) m) }
     ensures same { IsSameGame (G.kept g.old) (G.kept g.new) }
 {
     let forced = g.pre_env(t)?;
@@ -53,6 +56,8 @@ fn grow<G: Regions>(
     ensures grown { let k = G.kept g.old in let last = k.set (last_of none.now rs.items) in
         IfOk result (λ r. Grows k (G.kept g.new) last (rising k.game (k.set cover.now) (k.set asm.now) last) rs.items r.0.items r.1) }
     ensures halted { OnErr result (HoldsWithoutAll (G.kept g.old) (G.kept g.new) rs.items) }
+    ensures told { let k = G.kept g.old in (game : GameData) (m : Moment) (a j i r : ℕ) → k.game ≡ game → AreOfDelay game m a j i (k.set cover.now) (k.set asm.now) →
+        k.set (last_of none.now rs.items) ≡ delay_at game m a j i r → IfErr result (TellsHalt game k (G.kept g.new) m) }
     ensures same { IsSameGame (G.kept g.old) (G.kept g.new) }
 {
     if rs.reserve(1).is_err() {
@@ -91,6 +96,7 @@ pub fn delays<G: Regions>(
     requires empty { (G.kept g.old).set none.now ≡ no_states }
     ensures made { let k = G.kept g.old in IfOk result (λ rs. HasDelays k.game k (G.kept g.new) (k.set cover.now) (k.set asm.now) rs.items) }
     ensures halted { OnErr result (HoldsBesides (G.kept g.old) (G.kept g.new) []) }
+    ensures told { let k = G.kept g.old in (game : GameData) (m : Moment) (a j i : ℕ) → k.game ≡ game → AreOfDelay game m a j i (k.set cover.now) (k.set asm.now) → IfErr result (TellsHalt game k (G.kept g.new) m) }
     ensures same { IsSameGame (G.kept g.old) (G.kept g.new) }
 {
     let mut rs = Vec::new(alloc);

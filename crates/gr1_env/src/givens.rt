@@ -1,10 +1,12 @@
 //! The regions that the solver makes first and keeps to its end.
 
-ghost use Rattle.std.specs.Prelude.{◌≡◌, ◌<◌, ◌∷◌, [], None, IfOk, OnErr, length, get_or};
+ghost use Rattle.std.specs.Prelude.{◌≡◌, ◌<◌, ◌∷◌, [], None, IfOk, IfErr, OnErr, length, get_or};
+ghost use Rattle.spec_model.specs.Games.{GameData};
 ghost use Rattle.spec_model.specs.Sets.{no_states};
 ghost use Rattle.regions.specs.Kept.{HasRegion, HoldsBesides, MakesRegion, IsSameGame};
 ghost use Rattle.gr1_sys.specs.Held.{HasTogether, MakesRegions, SpendsAll};
 ghost use Rattle.gr1_env.specs.Givens.{wanted, given_regions, given_sets};
+ghost use Rattle.gr1_env.specs.Moment.{Moment, TellsHalt};
 
 use gr1_sys::spend_all;
 use regions::{Halt, Recur, Regions};
@@ -43,6 +45,7 @@ fn miss_region<G: Regions>(g: &mut G, j: usize) -> Result<G::R, Halt>
     requires there { j < length (wanted (G.kept g.old).game Wanted.Misses) }
     ensures made { let k = G.kept g.old in IfOk result (λ r. MakesRegion k (G.kept g.new) r (get_or (wanted k.game Wanted.Misses) j no_states)) }
     ensures halted { OnErr result (HoldsBesides (G.kept g.old) (G.kept g.new) []) }
+    ensures told { let k = G.kept g.old in (game : GameData) (m : Moment) → k.game ≡ game → IfErr result (TellsHalt game k (G.kept g.new) m) }
     ensures same { IsSameGame (G.kept g.old) (G.kept g.new) }
 {
     if g.game().goals.is_empty() {
@@ -67,6 +70,7 @@ fn assumption_region<G: Regions>(g: &mut G, i: usize) -> Result<G::R, Halt>
     requires there { i < length (wanted (G.kept g.old).game Wanted.Assumptions) }
     ensures made { let k = G.kept g.old in IfOk result (λ r. MakesRegion k (G.kept g.new) r (get_or (wanted k.game Wanted.Assumptions) i no_states)) }
     ensures halted { OnErr result (HoldsBesides (G.kept g.old) (G.kept g.new) []) }
+    ensures told { let k = G.kept g.old in (game : GameData) (m : Moment) → k.game ≡ game → IfErr result (TellsHalt game k (G.kept g.new) m) }
     ensures same { IsSameGame (G.kept g.old) (G.kept g.new) }
 {
     if g.game().assume.is_empty() {
@@ -82,6 +86,7 @@ fn region_of<G: Regions>(g: &mut G, kind: Wanted, i: usize) -> Result<G::R, Halt
     requires there { i < length (wanted (G.kept g.old).game kind) }
     ensures made { let k = G.kept g.old in IfOk result (λ r. MakesRegion k (G.kept g.new) r (get_or (wanted k.game kind) i no_states)) }
     ensures halted { OnErr result (HoldsBesides (G.kept g.old) (G.kept g.new) []) }
+    ensures told { let k = G.kept g.old in (game : GameData) (m : Moment) → k.game ≡ game → IfErr result (TellsHalt game k (G.kept g.new) m) }
     ensures same { IsSameGame (G.kept g.old) (G.kept g.new) }
 {
     match kind {
@@ -95,6 +100,7 @@ fn regions_of<G: Regions>(alloc: Global, g: &mut G, kind: Wanted) -> Result<Vec<
     requires free { (G.kept g.old).jam ≡ None }
     ensures made { let k = G.kept g.old in IfOk result (λ rs. MakesRegions k (G.kept g.new) rs.items (wanted k.game kind)) }
     ensures halted { OnErr result (HoldsBesides (G.kept g.old) (G.kept g.new) []) }
+    ensures told { let k = G.kept g.old in (game : GameData) (m : Moment) → k.game ≡ game → IfErr result (TellsHalt game k (G.kept g.new) m) }
     ensures same { IsSameGame (G.kept g.old) (G.kept g.new) }
 {
     let n = count(g, kind);
@@ -119,6 +125,7 @@ pub fn give<G: Regions>(alloc: Global, g: &mut G) -> Result<Given<G>, Halt>
     ensures made { let k = G.kept g.old in IfOk result (λ given. MakesRegions k (G.kept g.new) (given_regions given) (given_sets k.game)) }
     ensures counted { let k = G.kept g.old in IfOk result (λ given. length given.misses.items ≡ length (wanted k.game Wanted.Misses)) }
     ensures halted { OnErr result (HoldsBesides (G.kept g.old) (G.kept g.new) []) }
+    ensures told { let k = G.kept g.old in (game : GameData) (m : Moment) → k.game ≡ game → IfErr result (TellsHalt game k (G.kept g.new) m) }
     ensures same { IsSameGame (G.kept g.old) (G.kept g.new) }
 {
     let misses = regions_of(alloc, g, Wanted::Misses)?;
@@ -136,6 +143,7 @@ fn with_misses<G: Regions>(alloc: Global, g: &mut G) -> Result<(G::R, Vec<G::R>)
     requires free { (G.kept g.old).jam ≡ None }
     ensures made { let k = G.kept g.old in IfOk result (λ r. MakesRegions k (G.kept g.new) (r.0 ∷ r.1.items) (no_states ∷ wanted k.game Wanted.Assumptions)) }
     ensures halted { OnErr result (HoldsBesides (G.kept g.old) (G.kept g.new) []) }
+    ensures told { let k = G.kept g.old in (game : GameData) (m : Moment) → k.game ≡ game → IfErr result (TellsHalt game k (G.kept g.new) m) }
     ensures same { IsSameGame (G.kept g.old) (G.kept g.new) }
 {
     let asms = regions_of(alloc, g, Wanted::Assumptions)?;

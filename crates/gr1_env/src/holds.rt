@@ -1,12 +1,17 @@
 //! The hold of one goal above a layer.
 
-ghost use Rattle.std.specs.Prelude.{◌≡◌, [], ◌∷◌, None, IfOk, OnErr, length, map};
+ghost use Rattle.std.specs.Prelude.{◌≡◌, ◌<◌, ◌≤◌, ℕ, [], ◌∷◌, None, IfOk, IfErr, OnErr, length, map};
+ghost use Rattle.spec_model.specs.Games.{GameData};
+ghost use Rattle.spec_model.specs.Steps.{states_of};
 ghost use Rattle.spec_model.specs.Sets.{all_states, no_states};
 ghost use Rattle.regions.specs.Kept.{Region, States, HasRegion, HoldsBesides, HoldsWithout, MakesRegion, IsSameGame};
+ghost use Rattle.gr1_law.specs.Layers.{assumption_sets};
 ghost use Rattle.gr1_sys.specs.Solution.{meet};
+ghost use Rattle.gr1_sys.specs.Moment.{IsGoal};
 ghost use Rattle.gr1_sys.specs.Held.{HasEach};
 ghost use Rattle.gr1_env.specs.Solution.{cover_of};
 ghost use Rattle.gr1_env.specs.Held.{list_regions, last_set, HaveDelays, TurnsTo, Steps, HasHold};
+ghost use Rattle.gr1_env.specs.Moment.{Moment, cover_at, delay_at, base_for, layer_number, AreOfHold, TellsHalt, TellsHold};
 
 use crate::delays::{delays, last_or};
 use crate::layers::EnvGoal;
@@ -30,6 +35,7 @@ fn all_delays<G: Regions>(
     requires empty { (G.kept g.old).set none.now ≡ no_states }
     ensures made { let k = G.kept g.old in IfOk result (λ xs. HaveDelays k.game k (G.kept g.new) (k.set cover.now) (map k.set asms.now) xs.items) }
     ensures halted { OnErr result (HoldsBesides (G.kept g.old) (G.kept g.new) []) }
+    ensures told { let k = G.kept g.old in (game : GameData) (m : Moment) (a j : ℕ) → k.game ≡ game → IsGoal game j → k.set cover.now ≡ cover_at game m a j → map k.set asms.now ≡ assumption_sets game → IfErr result (TellsHalt game k (G.kept g.new) m) }
     ensures same { IsSameGame (G.kept g.old) (G.kept g.new) }
 {
     let Ok(mut xs) = Vec::with_capacity(alloc, asms.len()) else {
@@ -64,6 +70,7 @@ fn delays_for<G: Regions>(
     requires empty { (G.kept g.old).set none.now ≡ no_states }
     ensures made { let k = G.kept g.old in IfOk result (λ xs. HaveDelays k.game k (G.kept g.new) (cover_of k.game (k.set base.now) (k.set y.now)) (map k.set asms.now) xs.items) }
     ensures halted { OnErr result (HoldsBesides (G.kept g.old) (G.kept g.new) []) }
+    ensures told { let k = G.kept g.old in (game : GameData) (m : Moment) (a j : ℕ) → k.game ≡ game → AreOfHold game m a j (k.set base.now) (k.set y.now) (map k.set asms.now) → IfErr result (TellsHalt game k (G.kept g.new) m) }
     ensures same { IsSameGame (G.kept g.old) (G.kept g.new) }
 {
     let forced = g.pre_env(y)?;
@@ -87,6 +94,8 @@ fn common<G: Regions>(g: &mut G, none: &G::R, xs: &[Vec<G::R>]) -> Result<G::R, 
     requires xs { HasEach (G.kept g.old) (list_regions xs.now) }
     ensures made { let k = G.kept g.old in IfOk result (λ r. MakesRegion k (G.kept g.new) r (meet k.game (last_set k none.now xs.now) (length xs.now))) }
     ensures halted { OnErr result (HoldsBesides (G.kept g.old) (G.kept g.new) []) }
+    ensures told { let k = G.kept g.old in (game : GameData) (m : Moment) (a j : ℕ) → k.game ≡ game → IsGoal game j → length xs.now ≤ length (assumption_sets game) →
+        ((i : ℕ) → i < length xs.now → last_set k none.now xs.now i ≡ delay_at game m a j i (length (states_of game))) → IfErr result (TellsHalt game k (G.kept g.new) m) }
     ensures same { IsSameGame (G.kept g.old) (G.kept g.new) }
 {
     let mut met = g.all()?;
@@ -113,6 +122,7 @@ fn turn<G: Regions>(
     requires empty { (G.kept g.old).set none.now ≡ no_states }
     ensures turned { let k = G.kept g.old in IfOk result (λ r. TurnsTo k.game k (G.kept g.new) (k.set base.now) (k.set y.now) (map k.set asms.now) r.0.items r.1) }
     ensures halted { OnErr result (HoldsBesides (G.kept g.old) (G.kept g.new) []) }
+    ensures told { let k = G.kept g.old in (game : GameData) (m : Moment) (a j : ℕ) → k.game ≡ game → AreOfHold game m a j (k.set base.now) (k.set y.now) (map k.set asms.now) → IfErr result (TellsHalt game k (G.kept g.new) m) }
     ensures same { IsSameGame (G.kept g.old) (G.kept g.new) }
 {
     let xs = delays_for(alloc, g, base, y, asms, none)?;
@@ -151,6 +161,7 @@ fn one_value<G: Regions>(
     requires empty { (G.kept g.old).set none.now ≡ no_states }
     ensures steps { let k = G.kept g.old in IfOk result (λ s. Steps k.game k (G.kept g.new) (k.set base.now) (map k.set asms.now) y (k.set y) s) }
     ensures halted { let k = G.kept g.old in OnErr result (HoldsWithout k (G.kept g.new) (Region y) (States (k.set y))) }
+    ensures told { let k = G.kept g.old in (game : GameData) (m : Moment) (a j : ℕ) → k.game ≡ game → AreOfHold game m a j (k.set base.now) (k.set y) (map k.set asms.now) → IfErr result (TellsHalt game k (G.kept g.new) m) }
     ensures same { IsSameGame (G.kept g.old) (G.kept g.new) }
 {
     match turn(alloc, g, base, &y, asms, none) {
@@ -186,6 +197,8 @@ pub fn hold<G: Regions>(
     requires empty { (G.kept g.old).set none.now ≡ no_states }
     ensures made { let k = G.kept g.old in IfOk result (λ e. HasHold k.game k (G.kept g.new) (k.set base.now) (map k.set asms.now) e) }
     ensures halted { OnErr result (HoldsBesides (G.kept g.old) (G.kept g.new) []) }
+    ensures told { let k = G.kept g.old in (game : GameData) (a j : ℕ) → k.game ≡ game → IsGoal game j → k.set base.now ≡ base_for game (layer_number game a) j → map k.set asms.now ≡ assumption_sets game →
+        IfErr result (TellsHold game k (G.kept g.new) a j) }
     ensures same { IsSameGame (G.kept g.old) (G.kept g.new) }
 {
     let mut y = g.all()?;

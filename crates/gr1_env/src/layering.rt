@@ -1,12 +1,15 @@
 //! The layers, from the first to the last.
 
-ghost use Rattle.std.specs.Prelude.{◌≡◌, [], ◌∷◌, None, IfOk, OnErr, length, map};
-ghost use Rattle.spec_model.specs.Sets.{either, pre_env};
+ghost use Rattle.std.specs.Prelude.{◌≡◌, ◌<◌, ◌≤◌, ℕ, suc, [], ◌∷◌, None, IfOk, IfErr, OnErr, length, map};
+ghost use Rattle.spec_model.specs.Games.{GameData};
+ghost use Rattle.spec_model.specs.Sets.{either, rest, pre_env};
 ghost use Rattle.regions.specs.Kept.{HasRegion, HoldsBesides, MakesRegion, IsSameGame};
-ghost use Rattle.gr1_law.specs.Layers.{union};
+ghost use Rattle.gr1_law.specs.Layers.{goal_set, goal_sets, assumption_sets, union};
 ghost use Rattle.gr1_sys.specs.Held.{HasEach, HasTogether, HoldsWithoutAll};
+ghost use Rattle.gr1_sys.specs.Moment.{IsGoal};
 ghost use Rattle.gr1_env.specs.Solution.{layer_on};
 ghost use Rattle.gr1_env.specs.Held.{goal_regions, all_regions, last_z, hold_set, IsGiven, HasHold, HaveHolds, HasLayer, GrowsLayers, HaveLayers};
+ghost use Rattle.gr1_env.specs.Moment.{Moment, layer_number, AreGiven, TellsHalt, TellsHold, TellsLayer, TellsLayers};
 
 use crate::givens::Given;
 use crate::holds::hold;
@@ -30,6 +33,8 @@ fn hold_above<G: Regions>(
     requires given { IsGiven (G.kept g.old) given.now }
     ensures made { let k = G.kept g.old in IfOk result (λ e. HasHold k.game k (G.kept g.new) (either (k.set miss.now) (k.set forced.now)) (map k.set given.now.asms.items) e) }
     ensures halted { OnErr result (HoldsBesides (G.kept g.old) (G.kept g.new) []) }
+    ensures told { let k = G.kept g.old in (game : GameData) (a j : ℕ) → k.game ≡ game → IsGoal game j → k.set miss.now ≡ rest game (goal_set game j) → k.set forced.now ≡ pre_env game (layer_number game a) →
+        map k.set given.now.asms.items ≡ assumption_sets game → IfErr result (TellsHold game k (G.kept g.new) a j) }
     ensures same { IsSameGame (G.kept g.old) (G.kept g.new) }
 {
     let base = g.or(miss, forced)?;
@@ -57,6 +62,7 @@ fn holds_above<G: Regions>(
     requires given { IsGiven (G.kept g.old) given.now }
     ensures made { let k = G.kept g.old in IfOk result (λ goals. HaveHolds k.game k (G.kept g.new) (k.set forced.now) (map k.set given.now.misses.items) (map k.set given.now.asms.items) goals.items) }
     ensures halted { OnErr result (HoldsBesides (G.kept g.old) (G.kept g.new) []) }
+    ensures told { let k = G.kept g.old in (game : GameData) (a : ℕ) → k.game ≡ game → k.set forced.now ≡ pre_env game (layer_number game a) → AreGiven game (map k.set given.now.misses.items) (map k.set given.now.asms.items) → IfErr result (TellsLayer game k (G.kept g.new) a) }
     ensures same { IsSameGame (G.kept g.old) (G.kept g.new) }
 {
     let Ok(mut goals) = Vec::with_capacity(alloc, given.misses.len()) else {
@@ -86,6 +92,7 @@ fn holds_over<G: Regions>(
     requires given { IsGiven (G.kept g.old) given.now }
     ensures made { let k = G.kept g.old in IfOk result (λ goals. HaveHolds k.game k (G.kept g.new) (pre_env k.game (k.set lower.now)) (map k.set given.now.misses.items) (map k.set given.now.asms.items) goals.items) }
     ensures halted { OnErr result (HoldsBesides (G.kept g.old) (G.kept g.new) []) }
+    ensures told { let k = G.kept g.old in (game : GameData) (a : ℕ) → k.game ≡ game → k.set lower.now ≡ layer_number game a → AreGiven game (map k.set given.now.misses.items) (map k.set given.now.asms.items) → IfErr result (TellsLayer game k (G.kept g.new) a) }
     ensures same { IsSameGame (G.kept g.old) (G.kept g.new) }
 {
     let forced = g.pre_env(lower)?;
@@ -107,6 +114,7 @@ fn union_of<G: Regions>(g: &mut G, goals: &[EnvGoal<G>]) -> Result<G::R, Halt>
     requires goals { HasEach (G.kept g.old) (goal_regions goals.now) }
     ensures made { let k = G.kept g.old in IfOk result (λ r. MakesRegion k (G.kept g.new) r (union (hold_set k goals.now) (length goals.now))) }
     ensures halted { OnErr result (HoldsBesides (G.kept g.old) (G.kept g.new) []) }
+    ensures told { let k = G.kept g.old in (game : GameData) (m : Moment) (a : ℕ) → k.game ≡ game → length goals.now ≤ length (goal_sets game) → ((j : ℕ) → j < length goals.now → hold_set k goals.now j ≡ m.value (suc a) j) → IfErr result (TellsHalt game k (G.kept g.new) m) }
     ensures same { IsSameGame (G.kept g.old) (G.kept g.new) }
 {
     let mut joined = g.none()?;
@@ -128,6 +136,7 @@ fn layer_above<G: Regions>(
     requires given { IsGiven (G.kept g.old) given.now }
     ensures made { let k = G.kept g.old in IfOk result (λ l. HasLayer k.game k (G.kept g.new) (k.set lower.now) (map k.set given.now.misses.items) (map k.set given.now.asms.items) l) }
     ensures halted { OnErr result (HoldsBesides (G.kept g.old) (G.kept g.new) []) }
+    ensures told { let k = G.kept g.old in (game : GameData) (a : ℕ) → k.game ≡ game → k.set lower.now ≡ layer_number game a → AreGiven game (map k.set given.now.misses.items) (map k.set given.now.asms.items) → IfErr result (TellsLayer game k (G.kept g.new) a) }
     ensures same { IsSameGame (G.kept g.old) (G.kept g.new) }
 {
     let goals = holds_over(alloc, g, lower, given)?;
@@ -163,6 +172,7 @@ fn grow<G: Regions>(
     ensures grown { let k = G.kept g.old in
         IfOk result (λ r. GrowsLayers k.game k (G.kept g.new) (k.set (last_z given.now.none layers.items)) (map k.set given.now.misses.items) (map k.set given.now.asms.items) layers.items r.0.items r.1) }
     ensures halted { OnErr result (HoldsWithoutAll (G.kept g.old) (G.kept g.new) (all_regions layers.items)) }
+    ensures told { let k = G.kept g.old in (game : GameData) (a : ℕ) → k.game ≡ game → k.set (last_z given.now.none layers.items) ≡ layer_number game a → AreGiven game (map k.set given.now.misses.items) (map k.set given.now.asms.items) → IfErr result (TellsLayer game k (G.kept g.new) a) }
     ensures same { IsSameGame (G.kept g.old) (G.kept g.new) }
 {
     if layers.reserve(1).is_err() {
@@ -197,6 +207,7 @@ pub fn all_layers<G: Regions>(
     ensures made { let k = G.kept g.old in IfOk result (λ layers. HaveLayers k.game k (G.kept g.new) (map k.set given.now.misses.items) (map k.set given.now.asms.items) layers.items) }
     ensures last { let k = G.kept g.old in IfOk result (λ layers. (G.kept g.new).set (last_z given.now.none layers.items) ≡ layer_on k.game (map k.set given.now.misses.items) (map k.set given.now.asms.items) (length layers.items)) }
     ensures halted { OnErr result (HoldsBesides (G.kept g.old) (G.kept g.new) []) }
+    ensures told { let k = G.kept g.old in (game : GameData) → k.game ≡ game → AreGiven game (map k.set given.now.misses.items) (map k.set given.now.asms.items) → IfErr result (TellsLayers game k (G.kept g.new)) }
     ensures same { IsSameGame (G.kept g.old) (G.kept g.new) }
 {
     let mut layers = Vec::new(alloc);

@@ -4,8 +4,8 @@
 //! the solver has the iterates of a least set for each assumption (Könighofer et al. 2009, counterstrategies). Those of
 //! earlier values are spent, and each iteration begins at all states or at none.
 //!
-//! Contract: `solve_env`, `EnvLayers::n` and `EnvLayers::m`. Not proved yet: what is held when a budget runs out, as named
-//! sets of one moment; after a halt all is spent, and nothing more is said. Path: regions → **layers** → counterstrategy.
+//! Contract: `solve_env`, `EnvLayers::n` and `EnvLayers::m`. Where a budget runs out, what is told of it are sets of one
+//! moment, at which each hold has one value. Path: regions → **layers** → counterstrategy.
 #![tactic(auto)]
 
 mod delays;

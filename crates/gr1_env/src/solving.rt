@@ -1,10 +1,13 @@
 //! The environment's layers, where they win.
 
-ghost use Rattle.std.specs.Prelude.{◌≡◌, [], None, IfOk, OnErr, MatchOption, map};
+ghost use Rattle.std.specs.Prelude.{◌≡◌, ℕ, [], None, IfOk, IfErr, IfSome, OnErr, MatchOption, map};
+ghost use Rattle.spec_model.specs.Games.{GameData};
 ghost use Rattle.regions.specs.Kept.{HoldsBesides, IsSameGame, Stays};
+ghost use Rattle.gr1_law.specs.EnvLayers.{IsLayerCount};
 ghost use Rattle.gr1_sys.specs.Held.{HasTogether, HoldsWithoutAll};
 ghost use Rattle.gr1_env.specs.Held.{IsGiven, all_regions, last_z};
 ghost use Rattle.gr1_env.specs.Solved.{IsForced, IsDropped, IsLost, HasWon, HasLost, WonByEnvironment};
+ghost use Rattle.gr1_env.specs.Moment.{Moment, AreGiven, AreOfOneMoment, TellsHalt, TellsLayers, TellsOneMoment};
 
 use crate::givens::{Given, give, spend_given};
 use crate::layering::{all_layers, last_layer};
@@ -20,6 +23,7 @@ fn counted<G: Regions>(g: &mut G, layers: Vec<EnvLayer<G>>) -> Result<EnvLayers<
     ensures layers { IfOk result (λ l. l.layers.items ≡ layers.items) }
     ensures stays { IfOk result (λ _. Stays (G.kept g.old) (G.kept g.new)) }
     ensures halted { OnErr result (HoldsWithoutAll (G.kept g.old) (G.kept g.new) (all_regions layers.items)) }
+    ensures told { IfErr result (λ halt. (halt ≡ Halt.Memory) × ((G.kept g.new).jam ≡ (G.kept g.old).jam)) }
     ensures same { IsSameGame (G.kept g.old) (G.kept g.new) }
 {
     if denials::<G>(&layers).is_some() {
@@ -42,6 +46,7 @@ fn decide<G: Regions>(
     ensures decided { let k = G.kept g.old in let last = k.set (last_z given.now.none layers.items) in
         IfOk result (λ o. MatchOption o (IsDropped k (G.kept g.new) last (all_regions layers.items)) (λ l. (l.layers.items ≡ layers.items) × IsForced k (G.kept g.new) last)) }
     ensures halted { OnErr result (HoldsWithoutAll (G.kept g.old) (G.kept g.new) (all_regions layers.items)) }
+    ensures told { let k = G.kept g.old in (game : GameData) (m : Moment) (n : ℕ) → k.game ≡ game → IsLayerCount m.layers n → k.set (last_z given.now.none layers.items) ≡ m.layers.z n → IfErr result (TellsHalt game k (G.kept g.new) m) }
     ensures same { IsSameGame (G.kept g.old) (G.kept g.new) }
 {
     match g.start_env(last_layer::<G>(&given.none, &layers)) {
@@ -71,6 +76,7 @@ fn winning<G: Regions>(
     ensures won { let k = G.kept g.old in let misses = map k.set given.now.misses.items in let asms = map k.set given.now.asms.items in
         IfOk result (λ o. MatchOption o (HasLost k (G.kept g.new) misses asms) (λ l. HasWon k (G.kept g.new) misses asms l.layers.items)) }
     ensures halted { OnErr result (HoldsBesides (G.kept g.old) (G.kept g.new) []) }
+    ensures told { let k = G.kept g.old in (game : GameData) → k.game ≡ game → AreGiven game (map k.set given.now.misses.items) (map k.set given.now.asms.items) → IfErr result (TellsLayers game k (G.kept g.new)) }
     ensures same { IsSameGame (G.kept g.old) (G.kept g.new) }
 {
     let layers = all_layers(alloc, g, given)?;
@@ -80,11 +86,14 @@ fn winning<G: Regions>(
 /// The layers of the environment's winning states, which must be spent; none exactly where no legal first input has all its
 /// legal first outputs in the last layer. Nothing else is held after the call than before.
 ///
-/// `Budget`: a call of `g` answered it. `Memory`: none was given, or M passes 2^64 - 1.
+/// `Budget`: a call of `g` answered it, and what it tells was held then are, besides what was held before, sets of one
+/// moment: each hold has one value of Y, and each set is of its equations. `Memory`: none was given, or M passes 2^64 - 1.
 pub fn solve_env<G: Regions>(alloc: Global, g: &mut G) -> Result<Option<EnvLayers<G>>, Halt>
     requires free { (G.kept g.old).jam ≡ None }
     ensures solved { let k = G.kept g.old in IfOk result (λ o. MatchOption o (IsLost k (G.kept g.new)) (λ l. (sets : _) × WonByEnvironment k (G.kept g.new) l.layers.items sets)) }
+    ensures moment { let k = G.kept g.old in IfOk result (λ o. IfSome o (λ l. (sets : _) → WonByEnvironment k (G.kept g.new) l.layers.items sets → AreOfOneMoment k.game (G.kept g.new) l.layers.items sets)) }
     ensures halted { OnErr result (HoldsBesides (G.kept g.old) (G.kept g.new) []) }
+    ensures told { IfErr result (TellsOneMoment (G.kept g.old) (G.kept g.new)) }
     ensures same { IsSameGame (G.kept g.old) (G.kept g.new) }
 {
     let given = give(alloc, g)?;

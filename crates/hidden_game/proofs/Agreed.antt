@@ -15,7 +15,7 @@ use Rattle.hidden_game.specs.GameOf.{game_of}
 use Rattle.hidden_game.proofs.Plain.{state_of, IsLast, HasPlainLines}
 use Rattle.hidden_game.proofs.Agreeing.{moves_agree}
 use Rattle.hidden_game.proofs.Recurrences.{goals_agree}
-use Rattle.hidden_game.proofs.Breaking.{breaks_agree}
+use Rattle.hidden_game.proofs.Breaking.{breaks_agree, answers_agree}
 use Rattle.hidden_game.proofs.StateCounts.{states_few}
 use Rattle.hidden_game.proofs.MadeGames.{plain_lines, lines_rise}
 
@@ -69,5 +69,6 @@ game_agrees s typed none made =
       variables = refl;
       rules = rules_agree s (plain_lines s none) made;
       broken = λ h x. ap (option_map line_label) (breaks_agree s made (lines_rise s typed) h (last_state (game_of s) h) (state_is_last s h) x);
+      broken_output = λ h x y. ap (option_map line_label) (answers_agree s made (lines_rise s typed) h (last_state (game_of s) h) (state_is_last s h) x y);
       few_states = states_few s (plain_lines s none);
     }

@@ -203,13 +203,13 @@ module _ (s : Specification) (x y : Assignment) (h : Run) (b : Before) (last : I
       (λ is. let waits = or_none (has_next e) (reads_output s.variables [] e) is in (step, ap not waits.1, refl, ap not waits.0))
       (λ is. (step, refl, parts.1, refl))
 
-  gar_first : (e : Formula) → is_state_formula (scope_of (game_of s)) e ≡ true →
+  pub gar_first : (e : Formula) → is_state_formula (scope_of (game_of s)) e ≡ true →
       not (broken_by_output s (after h x y) (length h) (Initial e)) ≡ (is_some b || line_holds (game_of s) false b (reached (game_of s) b x y) e)
   gar_first e made =
       let state = parts_of_state_formula s e made in
       first_judged s x y y true (λ is. refl) h b last e (state.0, refl, refl, ap not state.1)
 
-  gar_always : (e : Formula) → is_step_formula (scope_of (game_of s)) e ≡ true →
+  pub gar_always : (e : Formula) → is_step_formula (scope_of (game_of s)) e ≡ true →
       not (broken_by_output s (after h x y) (length h) (Safety e)) ≡ line_holds (game_of s) (has_next e) b (reached (game_of s) b x y) e
   gar_always e made =
       let step = (and_parts _ (is_stepwise false e) made).1 in

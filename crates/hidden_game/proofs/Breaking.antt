@@ -1,21 +1,22 @@
--- The first line of a specification that an input breaks is the line of its game with the least number.
+-- The first line of a specification that an input or an output breaks is the line of its game with the least number.
 use Rattle.std.proofs.Common.{◌≡◌, ℕ, ◌<◌, Bool, true, false, not, ◌&&◌, ◌||◌, if◌then◌else◌, List, [], ◌∷◌, ◌++◌, length, find, cond, Option, Some, None, is_some, option_map, refl, sym, ap, ◌∙◌, arith, All}
 use Rattle.std.specs.List.{list_all}
 use Rattle.std.proofs.lemmas.Bool.{and_parts}
 use Rattle.std.proofs.lemmas.List.Elements.{All-head, All-tail}
 use Rattle.spec_model.specs.Syntax.{Formula, Content, Initial, Safety, Recurring, PatternUse, TriggerUse, Statement, Specification}
 use Rattle.spec_model.specs.Values.{Assignment}
-use Rattle.spec_model.specs.Rules.{Run, after_input}
-use Rattle.spec_model.specs.Moves.{broken_assumption, broken_by_input}
+use Rattle.spec_model.specs.Rules.{Run, after, after_input}
+use Rattle.spec_model.specs.Moves.{has_next, broken_assumption, broken_guarantee, broken_by_input, broken_by_output}
 use Rattle.spec_model.specs.Steps.{Before, reached, are_hidden_values, line_holds, waits_for_output}
-use Rattle.spec_model.specs.WellMade.{WellMade, is_initial_assumption, is_safety_assumption}
+use Rattle.spec_model.specs.WellMade.{WellMade, is_step_formula, is_state_formula, is_initial_assumption, is_safety_assumption, scope_of}
 use Rattle.spec_model.specs.Laws.{NumbersRise}
-use Rattle.hidden_game.specs.declared.expanding.Player.TheVariants.{Environment}
+use Rattle.hidden_game.specs.declared.expanding.Player.{Player}
+use Rattle.hidden_game.specs.declared.expanding.Player.TheVariants.{Environment, System}
 use Rattle.hidden_game.specs.declared.expanding.Time.TheVariants.{First, Always}
 use Rattle.hidden_game.specs.GameOf.{game_of, binds, said, numbered, lines_for}
-use Rattle.spec_model.specs.FirstBroken.{numbers_where, breaks, broken_by, lesser, least}
+use Rattle.spec_model.specs.FirstBroken.{numbers_where, breaks, broken_by, broken_with, lesser, least}
 use Rattle.hidden_game.proofs.Plain.{IsLast}
-use Rattle.hidden_game.proofs.Agreeing.{asm_first, asm_always}
+use Rattle.hidden_game.proofs.Agreeing.{asm_first, asm_always, gar_first, gar_always}
 use Rattle.hidden_game.proofs.Least.{lesser-assoc, least-append}
 use Rattle.hidden_game.proofs.FirstBroken.{initial_breaks, safety_breaks}
 
@@ -39,7 +40,7 @@ not_held : (broken held : Bool) → not broken ≡ held → broken ≡ not held
 not_held true held e = ap not e
 not_held false held e = ap not e
 
-module _ (broken : Content → Bool) (over : Bool)
+module _ (player : Player) (broken : Content → Bool) (over : Bool)
     (made_first made_always first always : Formula → Bool)
     (initial_breaks : (e : Formula) → made_first e ≡ true → broken (Initial e) ≡ (not over && first e))
     (safety_breaks : (e : Formula) → made_always e ≡ true → broken (Safety e) ≡ always e)
@@ -87,32 +88,36 @@ module _ (broken : Content → Bool) (over : Bool)
   one true n (PatternUse p es) fs ss rest mf ma low ih = ap (λ b. if b then Some n else rest) (pattern_never p es) ∙ ih mf ma
   one true n (TriggerUse t) fs ss rest mf ma low ih = ap (λ b. if b then Some n else rest) (trigger_never t) ∙ ih mf ma
 
-  pub found_is : (ls : List Statement) → NumbersRise ls → Each made_first (lines_for Environment First ls) ≡ true → Each made_always (lines_for Environment Always ls) ≡ true →
-      option_map (λ (l : Statement). l.number) (find (λ (l : Statement). binds Environment l.role && broken l.content) ls) ≡ Least (lines_for Environment First ls) (lines_for Environment Always ls)
+  pub found_is : (ls : List Statement) → NumbersRise ls → Each made_first (lines_for player First ls) ≡ true → Each made_always (lines_for player Always ls) ≡ true →
+      option_map (λ (l : Statement). l.number) (find (λ (l : Statement). binds player l.role && broken l.content) ls) ≡ Least (lines_for player First ls) (lines_for player Always ls)
   found_is [] rise mf ma = nothing over
     where
       nothing : (o : Bool) → None ≡ lesser (least (if o then [] else [])) None
       nothing true = refl
       nothing false = refl
   found_is (l ∷ ls) rise mf ma =
-      number_of (binds Environment l.role && broken l.content)
-      ∙ one (binds Environment l.role) l.number l.content (lines_for Environment First ls) (lines_for Environment Always ls)
-      (option_map (λ (l : Statement). l.number) (find (λ (l : Statement). binds Environment l.role && broken l.content) ls)) mf ma
-      (below_found l.number (λ (l : Statement). binds Environment l.role && broken l.content) ls rise.0) (found_is ls rise.1)
+      number_of (binds player l.role && broken l.content)
+      ∙ one (binds player l.role) l.number l.content (lines_for player First ls) (lines_for player Always ls)
+      (option_map (λ (l : Statement). l.number) (find (λ (l : Statement). binds player l.role && broken l.content) ls)) mf ma
+      (below_found l.number (λ (l : Statement). binds player l.role && broken l.content) ls rise.0) (found_is ls rise.1)
     where
-      number_of : (b : Bool) → option_map (λ (l : Statement). l.number) (cond b (Some l) (find (λ (l : Statement). binds Environment l.role && broken l.content) ls))
-          ≡ (if b then Some l.number else option_map (λ (l : Statement). l.number) (find (λ (l : Statement). binds Environment l.role && broken l.content) ls))
+      number_of : (b : Bool) → option_map (λ (l : Statement). l.number) (cond b (Some l) (find (λ (l : Statement). binds player l.role && broken l.content) ls))
+          ≡ (if b then Some l.number else option_map (λ (l : Statement). l.number) (find (λ (l : Statement). binds player l.role && broken l.content) ls))
       number_of true = refl
       number_of false = refl
 
 -- ---- the specification
+
+turn : (o t : Bool) → not (o || t) ≡ (not o && not t)
+turn true t = refl
+turn false t = refl
 
 -- the least number of an assumption that the input breaks is that of the first line that it breaks
 pub breaks_agree : (s : Specification) → WellMade (game_of s) → NumbersRise s.lines → (h : Run) (b : Before) → IsLast h b → (x : Assignment) →
     least (broken_by (game_of s) b x) ≡ broken_assumption s h x
 breaks_agree s made rise h b last x =
     least-append (if is_some b then [] else numbers_where (breaks (game_of s) false b x) (game_of s).initial_asm) (numbers_where (λ e. breaks (game_of s) (waits_for_output (game_of s) e) b x e) (game_of s).safe_asm)
-    ∙ sym (found_is (broken_by_input s (after_input h x) (length h)) (is_some b)
+    ∙ sym (found_is Environment (broken_by_input s (after_input h x) (length h)) (is_some b)
     (is_initial_assumption (game_of s)) (is_safety_assumption (game_of s))
     (breaks (game_of s) false b x) (λ e. breaks (game_of s) (waits_for_output (game_of s) e) b x e)
     initial safety (λ e. refl) (λ p es. refl) (λ t. refl) s.lines rise made.initial_asm made.safe_asm)
@@ -126,12 +131,31 @@ breaks_agree s made rise h b last x =
         not_held (broken_by_input s (after_input h x) (length h) (Initial e)) (is_some b || line_holds (game_of s) false b (reached (game_of s) b x []) e) (asm_first s x [] h b last e good)
         ∙ (turn (is_some b) (line_holds (game_of s) false b (reached (game_of s) b x []) e)
         ∙ ap (λ t. not (is_some b) && t) (sym (initial_breaks (game_of s) made b x [] (hidden b) e good)))
-      where
-        turn : (o t : Bool) → not (o || t) ≡ (not o && not t)
-        turn true t = refl
-        turn false t = refl
 
     safety : (e : Formula) → is_safety_assumption (game_of s) e ≡ true → broken_by_input s (after_input h x) (length h) (Safety e) ≡ breaks (game_of s) (waits_for_output (game_of s) e) b x e
     safety e good =
         not_held (broken_by_input s (after_input h x) (length h) (Safety e)) (line_holds (game_of s) (waits_for_output (game_of s) e) b (reached (game_of s) b x []) e) (asm_always s x [] h b last e good)
         ∙ sym (safety_breaks (game_of s) made b x [] (hidden b) e good)
+
+-- and so is that of a guarantee or monitor's line that the output breaks
+pub answers_agree : (s : Specification) → WellMade (game_of s) → NumbersRise s.lines → (h : Run) (b : Before) → IsLast h b → (x y : Assignment) →
+    least (broken_with (game_of s) b x y) ≡ broken_guarantee s h x y
+answers_agree s made rise h b last x y =
+    least-append (if is_some b then [] else numbers_where first (game_of s).initial_gar) (numbers_where always (game_of s).safe_gar)
+    ∙ sym (found_is System (broken_by_output s (after h x y) (length h)) (is_some b)
+    (is_state_formula (scope_of (game_of s))) (is_step_formula (scope_of (game_of s))) first always
+    initial safety (λ e. refl) (λ p es. refl) (λ t. refl) s.lines rise made.initial_gar made.safe_gar)
+  where
+    first : Formula → Bool
+    first e = not (line_holds (game_of s) false b (reached (game_of s) b x y) e)
+
+    always : Formula → Bool
+    always e = not (line_holds (game_of s) (has_next e) b (reached (game_of s) b x y) e)
+
+    initial : (e : Formula) → is_state_formula (scope_of (game_of s)) e ≡ true → broken_by_output s (after h x y) (length h) (Initial e) ≡ (not (is_some b) && first e)
+    initial e good =
+        not_held (broken_by_output s (after h x y) (length h) (Initial e)) (is_some b || line_holds (game_of s) false b (reached (game_of s) b x y) e) (gar_first s x y h b last e good)
+        ∙ turn (is_some b) (line_holds (game_of s) false b (reached (game_of s) b x y) e)
+
+    safety : (e : Formula) → is_step_formula (scope_of (game_of s)) e ≡ true → broken_by_output s (after h x y) (length h) (Safety e) ≡ always e
+    safety e good = not_held (broken_by_output s (after h x y) (length h) (Safety e)) (line_holds (game_of s) (has_next e) b (reached (game_of s) b x y) e) (gar_always s x y h b last e good)

@@ -45,14 +45,14 @@ module _ (good : Formula → Bool) where
   one_number n false broken ms ns is same = rw is (ap (λ ks. n ∷ ks) same)
 
   -- the false lines are the broken ones
-  late_numbers : (test : Bool → Formula → Bool) (late broken : Formula → Bool) → ((e : Formula) → good e ≡ true → broken e ≡ not (test (late e) e)) → (ls : List (ℕ × Formula)) → AreGood ls →
+  pub late_numbers : (test : Bool → Formula → Bool) (late broken : Formula → Bool) → ((e : Formula) → good e ≡ true → broken e ≡ not (test (late e) e)) → (ls : List (ℕ × Formula)) → AreGood ls →
       numbers_false test (map (λ (l : ℕ × Formula). late l.1) ls) ls ≡ numbers_where broken ls
   late_numbers test late broken is [] made = refl
   late_numbers test late broken is (l ∷ ls) made =
       let parts = and_parts (good l.1) (list_all (λ (l : ℕ × Formula). good l.1) ls) made in
       one_number l.0 (test (late l.1) l.1) (broken l.1) _ _ (is l.1 parts.0) (late_numbers test late broken is ls parts.1)
 
-  prompt_numbers : (test : Bool → Formula → Bool) (broken : Formula → Bool) → ((e : Formula) → good e ≡ true → broken e ≡ not (test false e)) → (ls : List (ℕ × Formula)) → AreGood ls →
+  pub prompt_numbers : (test : Bool → Formula → Bool) (broken : Formula → Bool) → ((e : Formula) → good e ≡ true → broken e ≡ not (test false e)) → (ls : List (ℕ × Formula)) → AreGood ls →
       numbers_false test [] ls ≡ numbers_where broken ls
   prompt_numbers test broken is [] made = refl
   prompt_numbers test broken is (l ∷ ls) made =
@@ -60,7 +60,7 @@ module _ (good : Formula → Bool) where
       one_number l.0 (test false l.1) (broken l.1) _ _ (is l.1 parts.0) (prompt_numbers test broken is ls parts.1)
 
   -- no line is broken where each is true
-  none_where : (test broken : Formula → Bool) → ((e : Formula) → good e ≡ true → broken e ≡ not (test e)) → (ls : List (ℕ × Formula)) → AreGood ls → is_none (least (numbers_where broken ls)) ≡ list_all (λ (l : ℕ × Formula). test l.1) ls
+  pub none_where : (test broken : Formula → Bool) → ((e : Formula) → good e ≡ true → broken e ≡ not (test e)) → (ls : List (ℕ × Formula)) → AreGood ls → is_none (least (numbers_where broken ls)) ≡ list_all (λ (l : ℕ × Formula). test l.1) ls
   none_where test broken is [] made = refl
   none_where test broken is (l ∷ ls) made =
       let parts = and_parts (good l.1) (list_all (λ (l : ℕ × Formula). good l.1) ls) made in
@@ -75,12 +75,12 @@ module _ (good : Formula → Bool) where
       at true b is rest = rw is rest
       at false b is rest = rw is (some l.0 (least (numbers_where broken ls)))
 
-none-lesser : (a b : Option ℕ) → is_none (lesser a b) ≡ (is_none a && is_none b)
+pub none-lesser : (a b : Option ℕ) → is_none (lesser a b) ≡ (is_none a && is_none b)
 none-lesser None b = refl
 none-lesser (Some m) None = refl
 none-lesser (Some m) (Some n) = refl
 
-none-labelled : (a : Option ℕ) → is_none (option_map line_label a) ≡ is_none a
+pub none-labelled : (a : Option ℕ) → is_none (option_map line_label a) ≡ is_none a
 none-labelled None = refl
 none-labelled (Some n) = refl
 

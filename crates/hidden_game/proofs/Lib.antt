@@ -10,6 +10,7 @@ pub mod Tables
 pub mod Least
 pub mod AnyOutput
 pub mod FirstBroken
+pub mod FirstAnswer
 pub mod SeenMoves
 pub mod Breaking
 pub mod Stepwise

@@ -1,4 +1,4 @@
--- Which assumption an input breaks first in a game.
+-- Which assumption an input breaks first in a game, and which guarantee or monitor's line an output does.
 use Rattle.std.specs.Prelude.{ℕ, ◌≡◌, Bool, true, false, ◌++◌, if◌then◌else◌, List, [], ◌∷◌, get_or, drop, map, Option, Some, None, option_map, IfSome, IsTrue}
 use Rattle.std.specs.List.{AllByRecursion}
 use Rattle.spec_model.specs.declared.expr.Expr.{Expr}
@@ -6,11 +6,13 @@ use Rattle.spec_model.specs.Syntax.{Formula}
 use Rattle.spec_model.specs.Views.{formula, variable_data}
 use Rattle.spec_model.specs.GameViews.{hidden_data}
 use Rattle.spec_model.specs.Meaning.{Reading, holds_at}
+use Rattle.spec_model.specs.Moves.{has_next}
 use Rattle.spec_model.specs.Games.{GameData}
 use Rattle.spec_model.specs.Steps.{waits_for_output, is_output}
 use Rattle.game_values.specs.Safety.{IsSafe}
 use Rattle.hidden_game.specs.declared.judging.Move.{Move}
 use Rattle.hidden_game.specs.declared.judging.InputJudge.{InputJudge}
+use Rattle.hidden_game.specs.declared.answering.OutputJudge.{OutputJudge}
 use Rattle.hidden_game.specs.declared.made.Made.{Made}
 use Rattle.hidden_game.specs.Sights.{reading_in, reading_at}
 
@@ -47,3 +49,7 @@ AreSafeIn m ls = AllByRecursion (λ l. IsSafeIn m (formula l.1)) ls
 pub record IsJudgeOf (g : GameData) (j : InputJudge) : Type 0 where
   pub waits : j.waits.items ≡ map (λ l. waits_for_output g l.1) g.safe_asm
   pub output : IsTrue (is_output g j.output.items)
+
+-- it knows which guarantees and monitors' lines read a next value
+pub record IsOutputJudgeOf (g : GameData) (j : OutputJudge) : Type 0 where
+  pub nexts : j.nexts.items ≡ map (λ l. has_next l.1) g.safe_gar

@@ -67,7 +67,7 @@ fn first_output(alloc: Global, vars: &[Var]) -> Result<Vec<Value>, AllocError>
 }
 
 /// The lesser of two numbers, as far as there are any.
-fn lesser_of(a: Option<u32>, b: Option<u32>) -> Option<u32>
+pub fn lesser_of(a: Option<u32>, b: Option<u32>) -> Option<u32>
     ensures { result ≡ lesser a b }
 {
     match (a, b) {
@@ -98,7 +98,7 @@ fn is_kept(e: &Expr, late: bool, m: &Move) -> bool
 }
 
 /// The least number of a line that is false. Which of them are late is given beside them; where nothing is given, none is.
-fn least_false(lines: &[(u32, Expr)], late: &[bool], m: &Move) -> Option<u32>
+pub fn least_false(lines: &[(u32, Expr)], late: &[bool], m: &Move) -> Option<u32>
     requires { AreSafeIn m.now lines.now }
     ensures { result ≡ least_lem (numbers_false (judged_in m.now) late.now (map (λ l. (l.0, formula l.1)) lines.now)) }
 {
@@ -140,7 +140,7 @@ fn false_at_start(game: &Game, late: &[bool], made: Made) -> Option<u32>
 }
 
 /// What is seen of the position that an input and an output make, where it has these hidden values.
-fn made_position<'a>(
+pub fn made_position<'a>(
     game: &'a Game,
     numbers: &'a [Value],
     input: &'a [Value],
@@ -160,7 +160,7 @@ fn made_position<'a>(
 }
 
 /// What is seen of a state and the next input, where the cells of the tables at the state are these.
-fn last_position<'a>(
+pub fn last_position<'a>(
     game: &'a Game,
     state: &'a [Value],
     cells: &'a [Value],
@@ -184,7 +184,7 @@ fn last_position<'a>(
 }
 
 /// The label of a line with one part.
-fn label_of(line: Option<u32>) -> Option<Label>
+pub fn label_of(line: Option<u32>) -> Option<Label>
     ensures { result ≡ option_map line_label line }
 {
     match line {

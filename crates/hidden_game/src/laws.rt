@@ -9,7 +9,8 @@ ghost use Rattle.spec_model.specs.WellTyped.{WellTyped, all_hidden};
 ghost use Rattle.hidden_game.specs.GameOf.{game_of};
 
 /// The game of a well-typed specification that needs no hidden tables is well made, and agrees with it: after each run, by
-/// the state that the hidden values give, it has its legal moves, its recurring goals and its first broken assumption.
+/// the state that the hidden values give, it has its legal moves, its recurring goals, and its first broken assumption and
+/// guarantee or monitor's line.
 pub fn games_agree()
     ensures made { (s : Specification) → WellTyped s → all_hidden s ≡ 0 → WellMade (game_of s) }
     ensures agrees { (s : Specification) → WellTyped s → all_hidden s ≡ 0 → Agrees s (game_of s) }

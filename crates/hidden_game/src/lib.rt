@@ -4,15 +4,17 @@
 //! its lines in text order. After every run the game has the same legal moves as the specification, by the state that the
 //! hidden values give, and the same goals recur (Bloem et al. 2012, games of initial, safety and recurring lines).
 //!
-//! While a game is played, `first_hidden` and `next_hidden` write the values of its hidden tables, and an `InputJudge` names
-//! the assumption with the least number that an input breaks. Neither takes memory. A line that reads no present output
+//! While a game is played, `first_hidden` and `next_hidden` write the values of its hidden tables, an `InputJudge` names
+//! the assumption with the least number that an input breaks, and an `OutputJudge` the guarantee or monitor's line with the
+//! least number that an output breaks. None takes memory. A line that reads no present output
 //! has one value whatever output follows the input, so one output is looked at for all. Of the position that the input makes
 //! only those entries are read that a line asks for.
 //!
-//! Contract: `expand` gives a well-made game that agrees with a well-typed specification; `InputJudge`.
+//! Contract: `expand` gives a well-made game that agrees with a well-typed specification; `InputJudge` and `OutputJudge`.
 //! Path: specification → **game** → regions.
 #![tactic(auto)]
 
+mod answering;
 mod expanding;
 mod judging;
 mod laws;
@@ -20,6 +22,7 @@ mod made;
 mod reading;
 mod sight;
 
+pub use answering::OutputJudge;
 pub use expanding::expand;
 pub use judging::InputJudge;
 pub use laws::{games_agree, lines_rise};

@@ -1,9 +1,8 @@
 -- A talk of the system's side, as inputs read and outputs written.
-use Rattle.std.proofs.Common.{◌≡◌, ℕ, ◌+◌, ◌≤◌, Bool, true, false, not, List, [], ◌∷◌, ◌++◌, length, filter, cond, Option, Some, None, is_none, option_map, refl, sym, ap, subst, ◌∙◌, arith, append_assoc, append-nil, length-append}
+use Rattle.std.proofs.Common.{◌≡◌, ℕ, ◌+◌, Bool, true, false, not, List, [], ◌∷◌, ◌++◌, length, filter, cond, Option, Some, None, is_none, option_map, refl, sym, ap, subst, ◌∙◌, arith, append_assoc, append-nil, length-append}
 use Rattle.std.proofs.lemmas.Bool.{and_parts, and_from}
-use Rattle.spec_model.specs.declared.game.Label.{Label}
 use Rattle.spec_model.specs.declared.value.Owner.{Owner}
-use Rattle.spec_model.specs.Values.{Assignment, DomainData, is_assignment}
+use Rattle.spec_model.specs.Values.{Assignment, is_assignment}
 use Rattle.spec_model.specs.Syntax.{VariableData, Specification}
 use Rattle.spec_model.specs.Rules.{Run, after}
 use Rattle.spec_model.specs.Plays.{IsPlay, nothing, more}
@@ -11,11 +10,10 @@ use Rattle.spec_model.specs.Realizable.{Kept}
 use Rattle.spec_model.specs.Moves.{is_env, domains_of, input_domains, output_domains, broken_assumption, broken_guarantee, legal_input, legal_output, rules_of}
 use Rattle.spec_model.specs.FirstBroken.{line_label}
 use Rattle.session_lines.specs.Shown.{inputs_of, outputs_of}
-use Rattle.session_lines.specs.Reading.{Reads}
 use Rattle.session_lines.specs.Room.{domains}
 use Rattle.session.specs.declared.talking.End.{End}
 use Rattle.session.specs.Exchanges.{Ends, Wrote, Exchanges, opened, answered, Talk}
-use Rattle.session.specs.Talks.{ReadsInput, shown_output, AreInputs, shown_outputs, first_broken_after, EndsSo, RunTalk, RunState, run_terms}
+use Rattle.session.specs.Talks.{ReadsInput, shown_output, AreInputs, shown_outputs, first_broken_after, RunTalk, RunState, run_terms}
 use Rattle.session.proofs.Fitting.{read_fits}
 use Rattle.session.proofs.Turns.{ends_weaker}
 
@@ -45,7 +43,7 @@ pub output_fits : (s : Specification) (h : Run) (x y : Assignment) (vs : List Va
 output_fits s h x y vs are legal = ap (λ ds. is_assignment ds y) (ap domains are ∙ output_domains_are s) ∙ (and_parts (is_assignment (output_domains s) y) (is_none (broken_guarantee s h x y)) legal).0
 
 -- what has no label is nothing
-is_none-labelled : (n : Option ℕ) → is_none n ≡ is_none (option_map line_label n)
+pub is_none-labelled : (n : Option ℕ) → is_none n ≡ is_none (option_map line_label n)
 is_none-labelled None = refl
 is_none-labelled (Some n) = refl
 
@@ -65,7 +63,7 @@ shown_more : (s : Specification) (h : Run) (x y : Assignment) → shown_outputs 
 shown_more s [] x y = sym (append-nil (shown_output s y))
 shown_more s (p ∷ h) x y = append_assoc (shown_output s p.output) (shown_outputs s h) (shown_output s y) ∙ ap (λ l. shown_output s p.output ++ l) (shown_more s h x y)
 
-length_more : (h : Run) (x y : Assignment) → length (after h x y) ≡ length h + 1
+pub length_more : (h : Run) (x y : Assignment) → length (after h x y) ≡ length h + 1
 length_more h x y = length-append h (record { input = x; output = y } ∷ [])
 
 -- ---- the exchanges of a run

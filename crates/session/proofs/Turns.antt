@@ -1,5 +1,5 @@
 -- One line more of a talk, and how a talk ends.
-use Rattle.std.proofs.Common.{◌≡◌, ℕ, ◌+◌, ◌<◌, ◌≤◌, true, false, List, [], ◌∷◌, ◌++◌, length, map, take, Option, Some, None, refl, sym, ap, subst, ◌∙◌, arith, append-nil, length-append}
+use Rattle.std.proofs.Common.{◌≡◌, ℕ, ◌+◌, ◌<◌, ◌≤◌, List, [], ◌∷◌, ◌++◌, length, take, Option, Some, None, refl, sym, subst, ◌∙◌, arith, append-nil, length-append}
 use Rattle.std.proofs.KnownBytes.{Appends-nil, Appends-trans}
 use Rattle.std.specs.Io.KnownBytes.{Appends}
 use Rattle.std.proofs.Math.Seq.{take-append-add}
@@ -10,7 +10,7 @@ use Rattle.spec_model.specs.Values.{Assignment}
 use Rattle.session_lines.specs.declared.reader.Taken.{Taken}
 use Rattle.session_lines.specs.declared.reader.Taken.TheVariants as taken
 use Rattle.session_lines.specs.Taking.{Takes}
-use Rattle.session_lines.specs.Handing.{IsNext, AreFirst, Hands}
+use Rattle.session_lines.specs.Handing.{IsNext}
 use Rattle.session_lines.proofs.HandingLemmas.{first_with, none_handed, handed_first, given_now, taken_now, hands_more, line_next, last_ended, last_told, last_next, end_ended, end_told, fault_told, long_next}
 use Rattle.session.specs.declared.talking.End.{End}
 use Rattle.session.specs.declared.talking.End.TheVariants as ends
@@ -22,7 +22,7 @@ one_longer handed line = length-append handed (line ∷ [])
 nothing_more : (a b c : Option (List ℕ)) (text : List ℕ) → Appends a b text → Appends b c [] → Appends a c text
 nothing_more a b c text first second = subst (Appends a c) (append-nil text) (Appends-trans a b c text [] first second)
 
-front_more : (a b c : Option (List ℕ)) (text more : List ℕ) → Appends a b text → AppendsFront b c more → AppendsFront a c (text ++ more)
+pub front_more : (a b c : Option (List ℕ)) (text more : List ℕ) → Appends a b text → AppendsFront b c more → AppendsFront a c (text ++ more)
 front_more a b c text more first front = (
   length text + front.0,
   subst (Appends a c) (sym (take-append-add text more front.0)) (Appends-trans a b c text (take front.0 more) first front.1),

@@ -21,13 +21,16 @@ pub(crate) trait Protocol {
     /// What is told of the exchanges of a specification.
     ghost terms: { Specification → Terms State };
 
-    /// The states that it stands for.
+    /// The states that it stands for before the opening is written.
+    ghost begins: { Self → Specification → State → Type 0 };
+
+    /// The states that it stands for from then on.
     ghost stands: { Self → Specification → State → Type 0 };
 
     /// Writes what stands before the first line is read.
     fn open<O: Sink>(&mut self, lines: &mut Lines, output: &mut O) -> Result<(), Failed>
-        requires { Serves terms (stands self.old) lines.old }
-        ensures opens { (s : Specification) (st : State) → Suits lines.old (terms s) → stands self.old s st →
+        requires { Serves terms (begins self.old) lines.old }
+        ensures opens { (s : Specification) (st : State) → Suits lines.old (terms s) → begins self.old s st →
             HasOpened (terms s) (stands self.new s) st (O.written output.old) (O.written output.new) result }
         ensures cause { HasCause (O.faults output.old) (O.faults output.new) result }
         ensures keeps { KeepsTables lines.old lines.new }

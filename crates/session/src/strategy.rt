@@ -58,6 +58,8 @@ impl<G: Regions> Protocol for Controller<G> {
 
     ghost terms = { run_terms };
 
+    ghost begins = { λ c s st. PlaysFor G.kept c s st.rounds st.play };
+
     ghost stands = { λ c s st. PlaysFor G.kept c s st.rounds st.play };
 
     // The environment moves first.

@@ -130,8 +130,8 @@ pub(crate) fn talk<P: Protocol, I: Source, O: Sink>(
     limit: u64,
 ) -> End
     requires fresh { pending_of lines.old ≡ [] }
-    requires serves { Serves P.terms (P.stands play.old) lines.old }
-    ensures talk { (s : Specification) (first : P.State) → Suits lines.old (P.terms s) → P.stands play.old s first →
+    requires serves { Serves P.terms (P.begins play.old) lines.old }
+    ensures talk { (s : Specification) (first : P.State) → Suits lines.old (P.terms s) → P.begins play.old s first →
         HasEnded (P.terms s) (P.stands play.new s) first limit (I.left input.old) (I.left input.new) (O.written output.old) (O.written output.new)
         (Rose (I.faults input.old) (I.faults input.new)) (Rose (O.faults output.old) (O.faults output.new)) result }
     ensures later_in { I.faults input.old ≤ I.faults input.new }

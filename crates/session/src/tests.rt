@@ -21,6 +21,8 @@ impl Protocol for Parrot {
 
     ghost terms = { parrot_terms };
 
+    ghost begins = { λ p s st. Unit {0} };
+
     ghost stands = { λ p s st. Unit {0} };
 
     fn open<O: Sink>(&mut self, lines: &mut Lines, output: &mut O) -> Result<(), Failed> {

@@ -1,5 +1,5 @@
 -- What contracts see of the lines of plays.
-use Rattle.std.specs.Prelude.{◌≡◌, ℕ, List, map, string_bytes}
+use Rattle.std.specs.Prelude.{◌≡◌, ℕ, List, [], ◌++◌, map, string_bytes}
 use Rattle.spec_model.specs.Values.{Assignment}
 use Rattle.spec_model.specs.Syntax.{VariableData, Specification}
 use Rattle.spec_model.specs.Views.{variable_data}
@@ -40,6 +40,10 @@ pub record AreOver (l : Lines) (ns : List (List ℕ)) (vs us : List VariableData
 -- the lines of plays of this specification, where inputs are read and outputs are shown
 abbrev pub AreFor : Lines → Specification → Type 0
 AreFor l s = AreOver l s.names (inputs_of s) (outputs_of s)
+
+-- the lines of logs of it, where all variables are read, the inputs before the outputs
+abbrev pub AreForLogs : Lines → Specification → Type 0
+AreForLogs l s = AreOver l s.names (inputs_of s ++ outputs_of s) []
 
 -- what is wanted and what is shown change places
 pub record TurnsRound (old new : Lines) : Type 0 where

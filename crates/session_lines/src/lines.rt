@@ -43,16 +43,35 @@ impl Lines {
     ghost use Rattle.session_lines.specs.Reading.{Reads};
     ghost use Rattle.session_lines.specs.Room.{domains};
     ghost use Rattle.session_lines.specs.Taking.{Takes};
-    ghost use Rattle.session_lines.specs.Views.{pending_of, line_of, names_of, wanted_variables, shown_variables, read_of, shown_of, AreFor, TurnsRound, KeepsTables, KeepsReader, KeepsMoves};
+    ghost use Rattle.session_lines.specs.Views.{pending_of, line_of, names_of, wanted_variables, shown_variables, read_of, shown_of, AreOver, AreFor, AreForLogs, TurnsRound, KeepsTables, KeepsReader, KeepsMoves};
 
     /// The lines of plays of a specification, before any byte was taken. It takes every buffer that later calls use.
     pub fn make(alloc: Global, spec: &Spec) -> Result<Lines, OutOfMemory>
         ensures for_spec { IfOk result (λ lines. AreFor lines (spec_data spec.now)) }
         ensures fresh { IfOk result (λ lines. pending_of lines ≡ []) }
     {
-        let names = copy_names(alloc, &spec.names)?;
         let wanted = Row::make(alloc, &spec.vars, Owner::Env)?;
         let shown = Row::make(alloc, &spec.vars, Owner::Sys)?;
+        Lines::over(alloc, &spec.names, wanted, shown)
+    }
+
+    /// Likewise the lines of logs of a specification: all variables are wanted, the inputs before the outputs, and none is
+    /// shown.
+    pub fn make_for_logs(alloc: Global, spec: &Spec) -> Result<Lines, OutOfMemory>
+        ensures for_spec { IfOk result (λ lines. AreForLogs lines (spec_data spec.now)) }
+        ensures fresh { IfOk result (λ lines. pending_of lines ≡ []) }
+    {
+        let wanted = Row::make_for_all(alloc, &spec.vars)?;
+        let shown = Row::make_for_none(alloc)?;
+        Lines::over(alloc, &spec.names, wanted, shown)
+    }
+
+    // Lines over the variables of two rows.
+    fn over(alloc: Global, names: &[String], wanted: Row, shown: Row) -> Result<Lines, OutOfMemory>
+        ensures over { IfOk result (λ lines. AreOver lines (map string_bytes names.now) (map variable_data wanted.vars.items) (map variable_data shown.vars.items)) }
+        ensures fresh { IfOk result (λ lines. pending_of lines ≡ []) }
+    {
+        let names = copy_names(alloc, names)?;
         let room = room_for(&names, &wanted.vars)?.max(room_for(&names, &shown.vars)?);
         Ok(Lines {
             names,

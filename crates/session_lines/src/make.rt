@@ -1,6 +1,6 @@
 //! What the lines of plays keep of a specification, and how much room they want.
 
-ghost use Rattle.std.specs.Prelude.{◌≡◌, ◌+◌, List, ℕ, map, filter, string_bytes, IfOk};
+ghost use Rattle.std.specs.Prelude.{◌≡◌, ◌+◌, ◌++◌, List, ℕ, map, filter, string_bytes, IfOk, OnOk};
 ghost use Rattle.spec_model.specs.Moves.{is_of};
 ghost use Rattle.spec_model.specs.Values.{WholeNumbers, Enumeration};
 ghost use Rattle.spec_model.specs.Views.{domain_data, variable_data};
@@ -24,17 +24,21 @@ pub fn copy_names(alloc: Global, names: &[String]) -> Result<Vec<String>, OutOfM
     Ok(copies)
 }
 
-/// Copies the variables of an owner.
-pub fn copy_vars_of(alloc: Global, vars: &[Var], owner: Owner) -> Result<Vec<Var>, OutOfMemory>
-    ensures { IfOk result (λ copies. map variable_data copies.items ≡ filter (λ v. is_of owner v.owner) (map variable_data vars.now)) }
+/// Adds copies of the variables of an owner.
+pub fn push_vars_of(
+    alloc: Global,
+    copies: &mut Vec<Var>,
+    vars: &[Var],
+    owner: Owner,
+) -> Result<(), OutOfMemory>
+    ensures { OnOk result (map variable_data copies.new.items ≡ map variable_data copies.old.items ++ filter (λ v. is_of owner v.owner) (map variable_data vars.now)) }
 {
-    let mut copies = Vec::new(alloc);
     for var in vars {
         if var.owner == owner {
             copies.push(copy_var(alloc, var)?)?;
         }
     }
-    Ok(copies)
+    Ok(())
 }
 
 // The length of the longest text of a name of an enumeration.

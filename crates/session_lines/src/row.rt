@@ -1,10 +1,10 @@
 //! Variables with a value for each.
 
-ghost use Rattle.std.specs.Prelude.{◌≡◌, map, vec_len, IfOk};
-ghost use Rattle.spec_model.specs.Moves.{is_of};
+ghost use Rattle.std.specs.Prelude.{◌≡◌, ◌++◌, [], map, vec_len, IfOk};
+ghost use Rattle.spec_model.specs.Moves.{is_env, is_of};
 ghost use Rattle.spec_model.specs.Views.{variable_data};
 
-use crate::make::copy_vars_of;
+use crate::make::push_vars_of;
 use sp_outside::OutOfMemory;
 use spec_model::value::{Owner, Value, Var};
 use std::alloc::Global;
@@ -18,13 +18,38 @@ pub struct Row {
 }
 
 impl Row {
-    ghost use Rattle.std.specs.Prelude.{filter};
+    ghost use Rattle.std.specs.Prelude.{filter, not};
 
     /// The variables of an owner, each with some value.
     pub fn make(alloc: Global, vars: &[Var], owner: Owner) -> Result<Row, OutOfMemory>
         ensures { IfOk result (λ row. map variable_data row.vars.items ≡ filter (λ v. is_of owner v.owner) (map variable_data vars.now)) }
     {
-        let vars = copy_vars_of(alloc, vars, owner)?;
+        let mut copies = Vec::new(alloc);
+        push_vars_of(alloc, &mut copies, vars, owner)?;
+        Row::of(alloc, copies)
+    }
+
+    /// All variables, the inputs before the outputs, each with some value.
+    pub fn make_for_all(alloc: Global, vars: &[Var]) -> Result<Row, OutOfMemory>
+        ensures { IfOk result (λ row. map variable_data row.vars.items ≡ filter (λ v. is_env v.owner) (map variable_data vars.now) ++ filter (λ v. not (is_env v.owner)) (map variable_data vars.now)) }
+    {
+        let mut copies = Vec::new(alloc);
+        push_vars_of(alloc, &mut copies, vars, Owner::Env)?;
+        push_vars_of(alloc, &mut copies, vars, Owner::Sys)?;
+        Row::of(alloc, copies)
+    }
+
+    /// No variables.
+    pub fn make_for_none(alloc: Global) -> Result<Row, OutOfMemory>
+        ensures { IfOk result (λ row. map variable_data row.vars.items ≡ []) }
+    {
+        Row::of(alloc, Vec::new(alloc))
+    }
+
+    // The variables, each with some value.
+    fn of(alloc: Global, vars: Vec<Var>) -> Result<Row, OutOfMemory>
+        ensures { IfOk result (λ row. row.vars.items ≡ vars.items) }
+    {
         let values = vec![in alloc; Value::Bool(false); vars.len()]?;
         Ok(Row { vars, values })
     }

@@ -1,9 +1,10 @@
--- Which assumption an input breaks first in a game.
+-- Which assumption an input breaks first in a game, and which guarantee or monitor's line an output does.
 use Rattle.std.specs.Prelude.{ℕ, Bool, false, not, ◌++◌, if◌then◌else◌, min, List, [], ◌∷◌, Option, Some, None, is_some, option_map}
 use Rattle.std.specs.List.{list_any}
 use Rattle.spec_model.specs.declared.game.Label.{Label}
 use Rattle.spec_model.specs.Values.{Assignment}
 use Rattle.spec_model.specs.Syntax.{Formula}
+use Rattle.spec_model.specs.Moves.{has_next}
 use Rattle.spec_model.specs.Games.{GameData, outputs_of}
 use Rattle.spec_model.specs.Steps.{Before, reached, line_holds, waits_for_output}
 
@@ -39,3 +40,15 @@ line_label n = record { line = n; part = 0 }
 -- the first assumption that the input breaks: numbers rise in text order
 abbrev pub first_broken : GameData → Before → Assignment → Option Label
 first_broken g b x = option_map line_label (least (broken_by g b x))
+
+-- ---- outputs
+
+-- the numbers of the guarantees and monitors' lines that the output breaks: an initial one at the first move alone
+abbrev pub broken_with : GameData → Before → Assignment → Assignment → List ℕ
+broken_with g b x y =
+    (if is_some b then [] else numbers_where (λ e. not (line_holds g false b (reached g b x y) e)) g.initial_gar)
+    ++ numbers_where (λ e. not (line_holds g (has_next e) b (reached g b x y) e)) g.safe_gar
+
+-- the first of them that the output breaks after the input
+abbrev pub first_broken_output : GameData → Before → Assignment → Assignment → Option Label
+first_broken_output g b x y = option_map line_label (least (broken_with g b x y))

@@ -35,5 +35,4 @@ pub mod NotingOrder
 pub mod NotingRanks
 pub mod Settled
 pub mod ReadArguments
-pub mod SampleTyped
 pub mod Spare

@@ -7,4 +7,3 @@ pub mod FactsViews
 pub mod TableViews
 pub mod Signatures
 pub mod Noting
-pub mod Samples

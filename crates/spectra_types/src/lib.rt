@@ -18,7 +18,6 @@ mod meaning;
 mod notes;
 mod reads;
 mod resolving;
-mod restricting;
 mod sizes;
 mod statements;
 mod tables;
@@ -26,8 +25,4 @@ mod tables;
 pub use fault::TypeFault;
 pub use laws::faultless_texts_are_well_typed;
 pub use resolving::resolve;
-pub use restricting::{forced, without};
-pub use std::alloc::AllocError as OutOfMemory;
-
-#[cfg(test)]
-mod tests;
+pub use spec_parts::{OutOfMemory, forced, without};

@@ -1,14 +1,17 @@
-//! Four games. In `crossed` the inputs are a and b, and the output g; elsewhere an input r and an output g.
+//! Five games. In `crossed` the inputs are a and b, and the output g; in `spent` the inputs a, b and c, and the outputs g, p
+//! and q; elsewhere an input r and an output g.
 //!
 //! ```text
 //! foretold   gar alw g <-> next(r);
 //! blocked    gar alw g -> r; gar alwEv g;
 //! crossed    asm alwEv a; asm alwEv b; asm alw !(a & b); gar alwEv g; gar alw !g;
 //! granted    gar alw r -> g; gar alwEv g;
+//! spent      asm alwEv a; asm alwEv b; asm alwEv c; asm alw !(a & b); asm alw !(a & c); asm alw !(b & c); gar alwEv g;
+//!            gar alwEv q; gar alw next(p) -> p; gar alw next(q) -> q; gar alw next(g) -> p & !next(p) | q & !next(q);
 //! ```
 
 ghost use Rattle.std.specs.Prelude.{◌≡◌, [], ◌∷◌, map, codes, IfOk};
-ghost use Rattle.spec_model.specs.Syntax.{Variable, NextOf, Negation, Conjunction, Implication, Equivalence, formulas};
+ghost use Rattle.spec_model.specs.Syntax.{Variable, NextOf, Negation, Conjunction, Disjunction, Implication, Equivalence, formulas};
 ghost use Rattle.spec_model.specs.Views.{formula, variable_data};
 ghost use Rattle.spec_model.specs.GameViews.{game_data, goal_data};
 ghost use Rattle.gr1_sys.specs.Examples.{boolean as boolean_lem, game_with, goal as goal_lem, two_variables};
@@ -137,4 +140,82 @@ pub fn crossed(alloc: Global) -> Result<Game, AllocError>
     let assume = vec![in alloc; goal(1, Expr::Var(0)), goal(2, Expr::Var(1))]?;
     let goals = vec![in alloc; goal(4, Expr::Var(2))]?;
     game(alloc, three_variables(alloc)?, apart, off, assume, goals)
+}
+
+// ---- spent
+
+fn six_variables(alloc: Global) -> Result<Vec<Var>, AllocError>
+    ensures { IfOk result (λ vs. map variable_data vs.items ≡ boolean_lem (codes "a") Owner.Env ∷ boolean_lem (codes "b") Owner.Env ∷ boolean_lem (codes "c") Owner.Env ∷ boolean_lem (codes "g") Owner.Sys ∷ boolean_lem (codes "p") Owner.Sys ∷ boolean_lem (codes "q") Owner.Sys ∷ []) }
+{
+    let a = boolean(alloc, "a", Owner::Env)?;
+    let b = boolean(alloc, "b", Owner::Env)?;
+    let c = boolean(alloc, "c", Owner::Env)?;
+    let g = boolean(alloc, "g", Owner::Sys)?;
+    let p = boolean(alloc, "p", Owner::Sys)?;
+    let q = boolean(alloc, "q", Owner::Sys)?;
+    Ok(vec![in alloc; a, b, c, g, p, q]?)
+}
+
+fn next(alloc: Global, k: u32) -> Result<Expr, AllocError>
+    ensures { IfOk result (λ n. formula n ≡ NextOf (Variable k)) }
+{
+    Ok(Expr::Next(Box::new(alloc, Expr::Var(k))?))
+}
+
+/// Not both.
+fn apart(alloc: Global, i: u32, j: u32) -> Result<Expr, AllocError>
+    ensures { IfOk result (λ e. formula e ≡ Negation (Conjunction (formulas (Variable i ∷ Variable j ∷ [])))) }
+{
+    not(
+        alloc,
+        Expr::And(vec![in alloc; Expr::Var(i), Expr::Var(j)]?),
+    )
+}
+
+/// It never rises.
+fn falls(alloc: Global, k: u32) -> Result<Expr, AllocError>
+    ensures { IfOk result (λ e. formula e ≡ Implication (NextOf (Variable k)) (Variable k)) }
+{
+    implies(alloc, next(alloc, k)?, Expr::Var(k))
+}
+
+/// It is given up.
+fn given_up(alloc: Global, k: u32) -> Result<Expr, AllocError>
+    ensures { IfOk result (λ e. formula e ≡ Conjunction (formulas (Variable k ∷ Negation (NextOf (Variable k)) ∷ []))) }
+{
+    let later = not(alloc, next(alloc, k)?)?;
+    Ok(Expr::And(vec![in alloc; Expr::Var(k), later]?))
+}
+
+fn costs(alloc: Global) -> Result<Expr, AllocError>
+    ensures { IfOk result (λ e. formula e ≡ Implication (NextOf (Variable 3)) (Disjunction (formulas (Conjunction (formulas (Variable 4 ∷ Negation (NextOf (Variable 4)) ∷ [])) ∷ Conjunction (formulas (Variable 5 ∷ Negation (NextOf (Variable 5)) ∷ [])) ∷ [])))) }
+{
+    let p = given_up(alloc, 4)?;
+    let q = given_up(alloc, 5)?;
+    implies(alloc, next(alloc, 3)?, Expr::Or(vec![in alloc; p, q]?))
+}
+
+pub fn spent(alloc: Global) -> Result<Game, AllocError>
+    ensures { IfOk result (λ g. game_data g ≡ game_with (boolean_lem (codes "a") Owner.Env ∷ boolean_lem (codes "b") Owner.Env ∷ boolean_lem (codes "c") Owner.Env ∷ boolean_lem (codes "g") Owner.Sys ∷ boolean_lem (codes "p") Owner.Sys ∷ boolean_lem (codes "q") Owner.Sys ∷ [])
+        ((4, Negation (Conjunction (formulas (Variable 0 ∷ Variable 1 ∷ [])))) ∷ (5, Negation (Conjunction (formulas (Variable 0 ∷ Variable 2 ∷ [])))) ∷ (6, Negation (Conjunction (formulas (Variable 1 ∷ Variable 2 ∷ [])))) ∷ [])
+        ((9, Implication (NextOf (Variable 4)) (Variable 4)) ∷ (10, Implication (NextOf (Variable 5)) (Variable 5)) ∷ (11, Implication (NextOf (Variable 3)) (Disjunction (formulas (Conjunction (formulas (Variable 4 ∷ Negation (NextOf (Variable 4)) ∷ [])) ∷ Conjunction (formulas (Variable 5 ∷ Negation (NextOf (Variable 5)) ∷ [])) ∷ [])))) ∷ [])
+        (goal_lem 1 (Variable 0) ∷ goal_lem 2 (Variable 1) ∷ goal_lem 3 (Variable 2) ∷ []) (goal_lem 7 (Variable 3) ∷ goal_lem 8 (Variable 5) ∷ [])) }
+{
+    let one = vec![in alloc;
+        (4, apart(alloc, 0, 1)?),
+        (5, apart(alloc, 0, 2)?),
+        (6, apart(alloc, 1, 2)?),
+    ]?;
+    let kept = vec![in alloc;
+        (9, falls(alloc, 4)?),
+        (10, falls(alloc, 5)?),
+        (11, costs(alloc)?),
+    ]?;
+    let assume = vec![in alloc;
+        goal(1, Expr::Var(0)),
+        goal(2, Expr::Var(1)),
+        goal(3, Expr::Var(2)),
+    ]?;
+    let goals = vec![in alloc; goal(7, Expr::Var(3)), goal(8, Expr::Var(5))]?;
+    game(alloc, six_variables(alloc)?, one, kept, assume, goals)
 }

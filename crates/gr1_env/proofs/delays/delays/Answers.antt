@@ -1,10 +1,13 @@
-use Rattle.std.proofs.Common.{◌∙◌, length, subst, refl, arith, suc, sym}
-use Rattle.regions.specs.Kept.{weight}
+use Rattle.std.proofs.Common.{◌∙◌, length, subst, refl, arith, suc}
 use Rattle.gr1_env.specs.Solution.{delay_on}
 use Rattle.gr1_env.specs.Held.{Grows, last_of}
 use Rattle.gr1_sys.proofs.Holdings.{on_err, same_then}
 use Rattle.gr1_sys.proofs.Lists.{region_stays, set_kept, together_as, made_and_taken_all}
 use Rattle.gr1_env.proofs.Climbing.{climbs_first, climbs_next, climbs_fewer, climbed, grows_at}
+use Rattle.gr1_env.specs.Solution.{delay_sets}
+use Rattle.gr1_env.specs.Moment.{AreOfDelay, TellsHalt}
+use Rattle.gr1_env.proofs.Told.{handed_on, past_many}
+use Rattle.gr1_env.proofs.Naming.{delay_stands, delays_named}
 use Rattle.gr1_env.proofs.delays.delays.Goals as goal
 
 pub loop-more-init : goal.loop-more-init
@@ -96,3 +99,20 @@ returns-then-settled-clause-made g c =
     let grown = grows_at first.game k new c.args.cover.now c.args.asm.now (last_of c.args.none.now rs) cover asm (delay_on first.game cover asm (length rs)) rs c.in_ok-more.more.items c.in_ok-more.settled inv.same.game cover_is asm_is inv.climbs.last c.in_ok-more.ensures.grown in
     climbed first.game first k new c.args.none.now cover asm rs c.in_ok-more.more.items inv.climbs
     (subst (Grows k new (delay_on first.game cover asm (length rs)) (delay_on first.game cover asm (suc (length rs))) rs c.in_ok-more.more.items) c.if-settled.true grown)
+
+pub returns-in_err-more-clause-told : goal.returns-in_err-more-clause-told
+returns-in_err-more-clause-told g c = λ game m a j i same are.
+    let kept = g.G.Regions.kept in
+    let first = kept c.args.g.now in
+    let k = kept c.loop-more.g in
+    let new = kept c.grow.new.g in
+    let inv = c.loop-more.invariant in
+    let rs = c.loop-more.rs.items in
+    let cover = first.set c.args.cover.now in
+    let asm = first.set c.args.asm.now in
+    let cover_is = set_kept first k c.args.cover.now (g.met.G.Regions.exact _) (λ w. omega (arith, inv.climbs.made.held w)) c.requires.cover in
+    let asm_is = set_kept first k c.args.asm.now (g.met.G.Regions.exact _) (λ w. omega (arith, inv.climbs.made.held w)) c.requires.asm in
+    let now : AreOfDelay game m a j i (k.set c.args.cover.now) (k.set c.args.asm.now) = record { goal_in = are.goal_in; index_in = are.index_in; cover_is = cover_is ∙ are.cover_is; asm_is = asm_is ∙ are.asm_is } in
+    handed_on c.from_residual.result c.in_err-more.field-0.0 (TellsHalt game first new m) c.from_residual.ensures.1
+    (past_many game m first k new new rs (delay_sets first.game cover asm (length rs)) c.in_err-more.field-0.0 inv.climbs.made (delays_named game m first.game a j i (length rs) cover asm same are) refl
+    (c.in_err-more.ensures.told game m a j i (length rs) (inv.same.game ∙ same) now (inv.climbs.last ∙ delay_stands game m first.game a j i (length rs) cover asm same are)))

@@ -1,4 +1,4 @@
-use Rattle.std.proofs.Common.{◌≡◌, ◌-◌, ℕ, suc, ◌<◌, length}
+use Rattle.std.proofs.Common.{◌-◌, length}
 use Rattle.spec_model.specs.Steps.{states_of}
 use Rattle.spec_model.specs.Sets.{count_in}
 use Rattle.regions.specs.Kept.{IsSameGame}

@@ -7,6 +7,7 @@ use Rattle.gr1_sys.proofs.Lists.{together_each, together_stays, takes_all, regio
 use Rattle.gr1_env.specs.Solution.{rising}
 use Rattle.gr1_env.specs.Held.{last_of}
 use Rattle.gr1_env.proofs.Gathered.{last_held}
+use Rattle.gr1_env.proofs.Told.{still_told}
 use Rattle.gr1_env.proofs.delays.grow.Goals as goal
 
 pub next_delay-requires-clause-t : goal.next_delay-requires-clause-t
@@ -71,3 +72,10 @@ returns-in-Err-clause-halted g c =
     let kept = g.G.Regions.kept in
     takes_all (kept c.args.g.now) (kept c.next_delay.new.g) (kept c.spend_all-in-Err.new.g) c.args.rs.items (g.met.G.Regions.exact _) c.requires.rs c.in-Err.ensures.halted
     (subst (λ (rs : List _). SpendsAll (kept c.next_delay.new.g) (kept c.spend_all-in-Err.new.g) rs) c.reserve.ensures.items c.spend_all-in-Err.ensures.spends)
+
+pub returns-in-Err-clause-told : goal.returns-in-Err-clause-told
+returns-in-Err-clause-told g c = λ game m a j i r same are is.
+    let kept = g.G.Regions.kept in
+    let k = kept c.args.g.now in
+    let below_is = c.last_or.ensures ∙ ap (last_of c.args.none.now) (c.deref.ensures.value ∙ c.reserve.ensures.items) in
+    still_told game m k (kept c.next_delay.new.g) (kept c.spend_all-in-Err.new.g) c.in-Err.halt c.spend_all-in-Err.ensures.spends.jam (c.in-Err.ensures.told game m a j i r same are (ap k.set below_is ∙ is))

@@ -3,6 +3,7 @@ use Rattle.std.proofs.lemmas.Result.{IfOk-weaker, IfErr-weaker}
 use Rattle.regions.specs.Kept.{MakesRegion}
 use Rattle.gr1_sys.proofs.Givings.{assumption_alone, assumption_there}
 use Rattle.regions.specs.Kept.{Holding}
+use Rattle.gr1_env.proofs.Told.{told, told_all}
 use Rattle.gr1_env.proofs.givens.assumption_region.Goals as goal
 
 pub returns-then-is_empty-clause-made : goal.returns-then-is_empty-clause-made
@@ -19,3 +20,13 @@ returns-else-is_empty-clause-made g c =
     let kept = g.G.Regions.kept in
     let k = kept c.args.g.now in
     IfOk-weaker c.holding.result _ _ (λ r made. subst (MakesRegion k (kept c.holding.new.self) r) (assumption_there c.game.result.now k.game c.game.ensures (sym c.is_empty.ensures ∙ c.if-is_empty.false) c.args.i c.requires.there).1 made) c.holding.ensures.made
+
+pub returns-then-is_empty-clause-told : goal.returns-then-is_empty-clause-told
+returns-then-is_empty-clause-told g c = λ game m same.
+    let kept = g.G.Regions.kept in
+    told_all game m (kept c.args.g.now) (kept c.all.new.self) c.all.result c.all.ensures.halted
+
+pub returns-else-is_empty-clause-told : goal.returns-else-is_empty-clause-told
+returns-else-is_empty-clause-told g c = λ game m same.
+    let kept = g.G.Regions.kept in
+    IfErr-weaker c.holding.result _ _ (λ halt halts. told game m (kept c.args.g.now) (kept c.holding.new.self) Holding [] halt halts.jam tt tt) c.holding.ensures.halted

@@ -1,9 +1,12 @@
-use Rattle.std.proofs.Common.{◌∷◌, subst, arith}
+use Rattle.std.proofs.Common.{◌∷◌, subst, arith, sym, ◌∙◌}
 use Rattle.spec_model.specs.Sets.{no_states}
 use Rattle.gr1_env.specs.declared.givens.Wanted.TheVariants.{Misses, Assumptions}
 use Rattle.gr1_sys.specs.Held.{MakesRegions}
 use Rattle.gr1_env.specs.Givens.{wanted}
 use Rattle.gr1_sys.proofs.Lists.{together_as, made_and_spent_all, makes_both}
+use Rattle.gr1_env.specs.Moment.{TellsHalt}
+use Rattle.gr1_env.proofs.Told.{handed_on, AreNamed, past_many}
+use Rattle.gr1_env.proofs.Naming.{wanted_named}
 use Rattle.gr1_env.proofs.givens.give.Goals as goal
 
 pub spend_all-requires : goal.spend_all-requires
@@ -27,3 +30,15 @@ returns-in-Err-clause-halted g c =
 
 pub returns-in-Ok-clause-counted : goal.returns-in-Ok-clause-counted
 returns-in-Ok-clause-counted g c = c.in_ok-misses.ensures.made.counted
+
+pub returns-in_err-misses-clause-told : goal.returns-in_err-misses-clause-told
+returns-in_err-misses-clause-told g c = λ game m same.
+    let kept = g.G.Regions.kept in
+    handed_on c.from_residual.result c.in_err-misses.field-0.0 (TellsHalt game (kept c.args.g.now) (kept c.regions_of.new.g) m) c.from_residual.ensures.1 (c.in_err-misses.ensures.told game m same)
+
+pub returns-in-Err-clause-told : goal.returns-in-Err-clause-told
+returns-in-Err-clause-told g c = λ game m same.
+    let kept = g.G.Regions.kept in
+    let k = kept c.args.g.now in
+    past_many game m k (kept c.regions_of.new.g) (kept c.with_misses.new.g) (kept c.spend_all.new.g) c.in_ok-misses.misses.items (wanted k.game Misses) c.in-Err.halt c.in_ok-misses.ensures.made
+    (subst (λ h. AreNamed game m (wanted h Misses)) (sym same) (wanted_named game m Misses)) c.spend_all.ensures.spends.jam (c.in-Err.ensures.told game m (c.regions_of.ensures.same.game ∙ same))

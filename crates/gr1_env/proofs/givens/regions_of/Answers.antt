@@ -8,6 +8,8 @@ use Rattle.gr1_sys.proofs.Holdings.{same_then}
 use Rattle.gr1_sys.proofs.Lists.{together_as, makes_more, made_and_spent_all}
 use Rattle.gr1_sys.proofs.Parted.{nothing_made, map_below-more}
 use Rattle.gr1_sys.proofs.Givings.{listed}
+use Rattle.gr1_env.proofs.Told.{AreNamed, past_many}
+use Rattle.gr1_env.proofs.Naming.{some_wanted}
 use Rattle.gr1_env.proofs.givens.regions_of.Goals as goal
 
 pub loop-i-init : goal.loop-i-init
@@ -59,3 +61,11 @@ returns-clause-made g c =
     let first = kept c.args.g.now in
     let last : c.loop-i.i ≡ length (wanted first.game c.args.kind) = omega (arith, c.count-n.ensures, c.loop-i-test.false, c.loop-i.auto) in
     subst (MakesRegions first (kept c.loop-i.g) c.loop-i.rs.items) (listed (wanted first.game c.args.kind) c.loop-i.i last) c.loop-i.invariant.made
+
+pub returns-in-Err-clause-told : goal.returns-in-Err-clause-told
+returns-in-Err-clause-told g c = λ game m same.
+    let kept = g.G.Regions.kept in
+    let first = kept c.args.g.now in
+    let inv = c.loop-i.invariant in
+    let named = subst (λ h. AreNamed game m (map (λ i. get_or (wanted h c.args.kind) i no_states) (below c.loop-i.i))) (sym same) (some_wanted game m c.args.kind c.loop-i.i) in
+    past_many game m first (kept c.loop-i.g) (kept c.region_of.new.g) (kept c.spend_all.new.g) c.loop-i.rs.items _ c.in-Err.halt inv.made named c.spend_all.ensures.spends.jam (c.in-Err.ensures.told game m (inv.same.game ∙ same))

@@ -1,9 +1,13 @@
-use Rattle.std.proofs.Common.{arith, []}
+use Rattle.std.proofs.Common.{arith, [], subst, sym}
 use Rattle.gr1_sys.proofs.Lists.{together_as, made_and_spent_all}
 use Rattle.gr1_sys.proofs.Givings.{one_before}
 use Rattle.regions.specs.Kept.{NoStates}
 use Rattle.gr1_env.specs.Givens.{wanted}
 use Rattle.gr1_env.specs.declared.givens.Wanted.TheVariants.{Assumptions}
+use Rattle.regions.specs.Kept.{NoStates}
+use Rattle.gr1_env.specs.Moment.{TellsHalt}
+use Rattle.gr1_env.proofs.Told.{handed_on, AreNamed, told, past_many}
+use Rattle.gr1_env.proofs.Naming.{wanted_named}
 use Rattle.gr1_env.proofs.givens.with_misses.Goals as goal
 
 pub spend_all-requires : goal.spend_all-requires
@@ -20,3 +24,17 @@ pub returns-in-Err-clause-halted : goal.returns-in-Err-clause-halted
 returns-in-Err-clause-halted g c =
     let kept = g.G.Regions.kept in
     made_and_spent_all (kept c.args.g.now) (kept c.regions_of.new.g) (kept c.none.new.self) (kept c.spend_all.new.g) c.in_ok-asms.asms.items _ (g.met.G.Regions.exact _) c.in_ok-asms.ensures.made c.in-Err.ensures.halted.held c.spend_all.ensures.spends
+
+pub returns-in_err-asms-clause-told : goal.returns-in_err-asms-clause-told
+returns-in_err-asms-clause-told g c = λ game m same.
+    let kept = g.G.Regions.kept in
+    handed_on c.from_residual.result c.in_err-asms.field-0.0 (TellsHalt game (kept c.args.g.now) (kept c.regions_of.new.g) m) c.from_residual.ensures.1 (c.in_err-asms.ensures.told game m same)
+
+pub returns-in-Err-clause-told : goal.returns-in-Err-clause-told
+returns-in-Err-clause-told g c = λ game m same.
+    let kept = g.G.Regions.kept in
+    let k = kept c.args.g.now in
+    let k1 = kept c.regions_of.new.g in
+    past_many game m k k1 (kept c.none.new.self) (kept c.spend_all.new.g) c.in_ok-asms.asms.items (wanted k.game Assumptions) c.in-Err.halt c.in_ok-asms.ensures.made
+    (subst (λ h. AreNamed game m (wanted h Assumptions)) (sym same) (wanted_named game m Assumptions)) c.spend_all.ensures.spends.jam
+    (told game m k1 (kept c.none.new.self) NoStates [] c.in-Err.halt c.in-Err.ensures.halted.jam tt tt)

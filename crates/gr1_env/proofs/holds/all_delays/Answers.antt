@@ -1,11 +1,14 @@
 use Rattle.std.proofs.Common.{◌≡◌, ◌∙◌, ◌+◌, [], List, length, map, ap, subst, sym, refl, arith}
 use Rattle.gr1_sys.specs.Held.{MakesRegions}
 use Rattle.gr1_env.specs.Solution.{at}
-use Rattle.gr1_env.specs.Held.{list_regions, list_sets, AreLeast, HasDelays}
+use Rattle.gr1_env.specs.Held.{list_regions, list_sets, AreLeast}
 use Rattle.gr1_sys.proofs.Holdings.{same_then}
 use Rattle.gr1_sys.proofs.Lists.{one_of, set_at_is, region_stays, set_kept, together_as, made_and_spent_all, length_map}
 use Rattle.gr1_sys.proofs.Parted.{nothing_made}
 use Rattle.gr1_env.proofs.Holding.{delays_at, more_made, more_least}
+use Rattle.gr1_env.specs.Moment.{AreOfDelay}
+use Rattle.gr1_env.proofs.Told.{past_many}
+use Rattle.gr1_env.proofs.Naming.{of_one, lists_named}
 use Rattle.gr1_env.proofs.holds.all_delays.Goals as goal
 
 pub loop-asm-init : goal.loop-asm-init
@@ -84,3 +87,23 @@ returns-clause-made g c =
       counted = omega (arith, c.loop-asm.invariant.counted, c.loop-asm-test.false, c.loop-asm.auto, length_map first.set c.args.asms.now);
       least = c.loop-asm.invariant.least;
     }
+
+pub returns-in-Err-clause-told : goal.returns-in-Err-clause-told
+returns-in-Err-clause-told g c = λ game m a j same goal_in cover_of_hold asms_are.
+    let kept = g.G.Regions.kept in
+    let first = kept c.args.g.now in
+    let k = kept c.loop-asm.g in
+    let inv = c.loop-asm.invariant in
+    let cover = first.set c.args.cover.now in
+    let asms = map first.set c.args.asms.now in
+    let i = c.loop-asm.asm-index in
+    let item = c.asm-item.result in
+    let here = one_of first c.args.asms.now i item c.requires.asms c.loop-asm-test.true c.asm-item.is in
+    let cover_is = set_kept first k c.args.cover.now (g.met.G.Regions.exact _) (λ w. omega (arith, inv.made.held w)) c.requires.cover in
+    let asm_is = set_kept first k item (g.met.G.Regions.exact _) (λ w. omega (arith, inv.made.held w)) here ∙ sym (set_at_is first c.args.asms.now i item c.loop-asm-test.true c.asm-item.is) in
+    let counted = length_map first.set c.args.asms.now in
+    let are = of_one game m a j i cover asms goal_in cover_of_hold asms_are (omega (arith, counted, c.loop-asm-test.true)) in
+    let now : AreOfDelay game m a j i (k.set c.args.cover.now) (k.set item) = record { goal_in = goal_in; index_in = are.index_in; cover_is = cover_is ∙ cover_of_hold; asm_is = asm_is ∙ are.asm_is } in
+    past_many game m first k (kept c.delays.new.g) (kept c.spend_lists.new.g) (list_regions c.loop-asm.xs.items) _ c.in-Err.halt inv.made
+    (lists_named game m first.game a j cover asms c.loop-asm.xs.items same goal_in cover_of_hold asms_are (omega (arith, inv.counted, counted, c.loop-asm-test.true))) c.spend_lists.ensures.spends.jam
+    (c.in-Err.ensures.told game m a j i (inv.same.game ∙ same) now)

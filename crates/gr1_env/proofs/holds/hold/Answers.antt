@@ -1,4 +1,4 @@
-use Rattle.std.proofs.Common.{◌∙◌, ap, sym, subst, arith, map}
+use Rattle.std.proofs.Common.{◌∙◌, ap, sym, subst, arith, map, refl, suc, []}
 use Rattle.spec_model.proofs.Fixpoints.{IsFalling, falling-first, falling-next, falling-fewer}
 use Rattle.regions.proofs.Holding.{made_is, replaced_is}
 use Rattle.gr1_env.specs.Solution.{hold_value_on}
@@ -6,6 +6,11 @@ use Rattle.gr1_env.specs.Held.{Steps}
 use Rattle.gr1_sys.proofs.Holdings.{same_then}
 use Rattle.gr1_sys.proofs.Lists.{region_stays, set_kept, each_stays, sets_stay}
 use Rattle.gr1_env.proofs.Holding.{hold_value_on-grows, hold_value_on-inside, hold_made, steps_at}
+use Rattle.spec_model.specs.Sets.{all_states}
+use Rattle.gr1_env.specs.Moment.{AreOfHold, TellsHold, iterated, value as value_named, layer_number, moment_at}
+use Rattle.gr1_env.proofs.Told.{handed_on, told, past_one, at_hold}
+use Rattle.gr1_env.proofs.Naming.{value_here, value_stands}
+use Rattle.regions.specs.Kept.{All}
 use Rattle.gr1_env.proofs.holds.hold.Goals as goal
 
 pub loop-e-init : goal.loop-e-init
@@ -20,6 +25,7 @@ loop-e-init g c =
       made = is.1;
       same = c.all.ensures.same;
       falling = subst (IsFalling first.game value) (sym is.0) (falling-first first.game value (hold_value_on-grows first.game base asms) (hold_value_on-inside first.game base asms));
+      iterates = (0, is.0);
     }
 
 pub one_value-requires-clause-base : goal.one_value-requires-clause-base
@@ -60,6 +66,7 @@ loop-e-preserved g c =
       made = is.1;
       same = same_then first k new inv.same c.one_value.ensures.same;
       falling = subst (IsFalling first.game value) (sym is.0) (falling-next first.game value (hold_value_on-grows first.game base asms) (hold_value_on-inside first.game base asms) (k.set c.loop-e.y) inv.falling);
+      iterates = (suc inv.iterates.0, is.0 ∙ ap value inv.iterates.1);
     }
 
 pub loop-e-smaller : goal.loop-e-smaller
@@ -92,3 +99,32 @@ returns-in-Settled-clause-made g c =
     let asms_are = sets_stay first k c.args.asms.now (g.met.G.Regions.exact _) (λ w. omega (arith, inv.made.held w)) c.requires.asms in
     let steps = subst (Steps first.game k new base asms c.loop-e.y (k.set c.loop-e.y)) c.in-Settled.is (steps_at first.game k new _ base _ asms c.loop-e.y (k.set c.loop-e.y) _ inv.same.game base_is asms_are c.in_ok-e.ensures.steps) in
     hold_made first.game first k new base asms c.loop-e.y c.in-Settled.e inv.made inv.falling steps.0 steps.1.0 steps.1.1
+
+pub returns-in_err-y-clause-told : goal.returns-in_err-y-clause-told
+returns-in_err-y-clause-told g c = λ game a j same goal_in base_is asms_are.
+    let kept = g.G.Regions.kept in
+    let first = kept c.args.g.now in
+    let new = kept c.all.new.self in
+    let y = all_states game in
+    let halt = c.in_err-y.field-0.0 in
+    handed_on c.from_residual.result halt (TellsHold game first new a j) c.from_residual.ensures.1
+    (at_hold game first first new new a j y halt (0, refl) (told game (moment_at game a j y) first new All [] halt c.in_err-y.ensures.halted.jam tt tt))
+
+pub returns-in_err-e-clause-told : goal.returns-in_err-e-clause-told
+returns-in_err-e-clause-told g c = λ game a j same goal_in base_is asms_are.
+    let kept = g.G.Regions.kept in
+    let first = kept c.args.g.now in
+    let k = kept c.loop-e.g in
+    let new = kept c.one_value.new.g in
+    let inv = c.loop-e.invariant in
+    let y = k.set c.loop-e.y in
+    let m = moment_at game a j y in
+    let halt = c.in_err-e.field-0.0 in
+    let base_kept = set_kept first k c.args.base.now (g.met.G.Regions.exact _) (λ w. omega (arith, inv.made.held w)) c.requires.base in
+    let asms_kept = sets_stay first k c.args.asms.now (g.met.G.Regions.exact _) (λ w. omega (arith, inv.made.held w)) c.requires.asms in
+    let value_is = sym (value_here game a j y) in
+    let now : AreOfHold game m a j (k.set c.args.base.now) y (map k.set c.args.asms.now) = record { goal_in = goal_in; base_is = base_kept ∙ base_is; value_is = value_is; asms_are = asms_kept ∙ asms_are } in
+    let is = value_stands game first.game (layer_number game a) j inv.iterates.0 (first.set c.args.base.now) y (map first.set c.args.asms.now) same base_is asms_are inv.iterates.1 in
+    handed_on c.from_residual-in_err-e.result halt (TellsHold game first new a j) c.from_residual-in_err-e.ensures.1
+    (at_hold game first k new new a j y halt is
+    (past_one game m first k new new c.loop-e.y y halt inv.made (iterated (value_named a j goal_in value_is)) refl (c.in_err-e.ensures.told game m a j (inv.same.game ∙ same) now)))

@@ -1,8 +1,9 @@
-use Rattle.std.proofs.Common.{map}
+use Rattle.std.proofs.Common.{◌≡◌, ℕ, map}
 use Rattle.spec_model.specs.Steps.{states_of}
 use Rattle.spec_model.specs.Sets.{count_in}
 use Rattle.spec_model.proofs.Fixpoints.{IsFalling}
 use Rattle.regions.specs.Kept.{MakesRegion, IsSameGame}
+use Rattle.gr1_sys.specs.Solution.{iterate}
 use Rattle.gr1_env.specs.Solution.{hold_value_on}
 use Rattle.gr1_env.proofs.holds.hold.Given as goal
 
@@ -16,6 +17,7 @@ invariant-loop-e g l =
       made : MakesRegion first (kept l.g) l.y y;
       same : IsSameGame first (kept l.g);
       falling : IsFalling first.game (hold_value_on first.game (first.set l.base) (map first.set l.asms)) y;
+      iterates : (n : ℕ) × (y ≡ iterate first.game (hold_value_on first.game (first.set l.base) (map first.set l.asms)) n);
     }
 
 -- how many states are left

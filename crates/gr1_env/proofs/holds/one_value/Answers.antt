@@ -5,6 +5,7 @@ use Rattle.gr1_env.specs.Held.{list_regions, list_sets}
 use Rattle.gr1_sys.proofs.Holdings.{replaces, takes}
 use Rattle.gr1_sys.proofs.Lists.{region_stays}
 use Rattle.gr1_sys.proofs.Rounds.{first_held, others_together, others_left, first_left, compared}
+use Rattle.gr1_env.proofs.Told.{still_told}
 use Rattle.gr1_env.proofs.holds.one_value.Goals as goal
 
 pub same-requires-clause-b : goal.same-requires-clause-b
@@ -68,3 +69,8 @@ pub returns-in-Err-clause-halted : goal.returns-in-Err-clause-halted
 returns-in-Err-clause-halted g c =
     let kept = g.G.Regions.kept in
     takes (kept c.args.g.now) (kept c.turn.new.g) (kept c.spend-in-Err.new.self) c.args.y (g.met.G.Regions.exact _) c.requires.y c.in-Err.ensures.halted c.spend-in-Err.ensures.spends
+
+pub returns-in-Err-clause-told : goal.returns-in-Err-clause-told
+returns-in-Err-clause-told g c = λ game m a j same are.
+    let kept = g.G.Regions.kept in
+    still_told game m (kept c.args.g.now) (kept c.turn.new.g) (kept c.spend-in-Err.new.self) c.in-Err.halt c.spend-in-Err.ensures.spends.jam (c.in-Err.ensures.told game m a j same are)

@@ -2,9 +2,13 @@ use Rattle.std.proofs.Common.{◌∙◌, length, map, subst, refl, arith}
 use Rattle.gr1_env.specs.Solution.{layer_on}
 use Rattle.gr1_env.specs.Held.{GrowsLayers, all_regions, last_z}
 use Rattle.gr1_sys.proofs.Holdings.{on_err, same_then}
-use Rattle.gr1_sys.proofs.Lists.{set_kept, sets_stay, together_as, made_and_taken_all}
+use Rattle.gr1_sys.proofs.Lists.{sets_stay, together_as, made_and_taken_all}
 use Rattle.gr1_env.proofs.Givings.{given_stays}
 use Rattle.gr1_env.proofs.Growing.{climbs_first, climbs_next, climbs_fewer, climbed, last_stays, grows_at}
+use Rattle.gr1_env.specs.Held.{all_sets}
+use Rattle.gr1_env.specs.Moment.{AreGiven, TellsLayers, moment_at}
+use Rattle.gr1_env.proofs.Told.{handed_on, at_layers, layer_past}
+use Rattle.gr1_env.proofs.Naming.{value_other, layer_is, layers_named}
 use Rattle.gr1_env.proofs.layering.all_layers.Goals as goal
 
 pub loop-more-init : goal.loop-more-init
@@ -105,3 +109,25 @@ returns-then-settled-clause-last g c =
     let grown = grows_at first.game k new (k.set (last_z given.none ls)) (layer_on first.game misses asms (length ls)) _ misses _ asms ls c.in_ok-more.more.items c.in_ok-more.settled inv.same.game inv.climbs.last misses_are asms_are c.in_ok-more.ensures.grown in
     last_stays first.game first k new given.none misses asms ls c.in_ok-more.more.items inv.climbs (g.met.G.Regions.exact _) c.requires.given.none
     (subst (GrowsLayers first.game k new (layer_on first.game misses asms (length ls)) misses asms ls c.in_ok-more.more.items) c.if-settled.true grown)
+
+pub returns-in_err-more-clause-told : goal.returns-in_err-more-clause-told
+returns-in_err-more-clause-told g c = λ game same are.
+    let kept = g.G.Regions.kept in
+    let first = kept c.args.g.now in
+    let k = kept c.loop-more.g in
+    let new = kept c.grow.new.g in
+    let inv = c.loop-more.invariant in
+    let ls = c.loop-more.layers.items in
+    let n = length ls in
+    let given = c.args.given.now in
+    let misses = map first.set given.misses.items in
+    let asms = map first.set given.asms.items in
+    let halt = c.in_err-more.field-0.0 in
+    let misses_now = sets_stay first k given.misses.items (g.met.G.Regions.exact _) (λ w. omega (arith, inv.climbs.made.held w)) c.requires.given.misses in
+    let asms_now = sets_stay first k given.asms.items (g.met.G.Regions.exact _) (λ w. omega (arith, inv.climbs.made.held w)) c.requires.given.asms in
+    let now : AreGiven game (map k.set given.misses.items) (map k.set given.asms.items) = record { misses_are = misses_now ∙ are.misses_are; asms_are = asms_now ∙ are.asms_are } in
+    handed_on c.from_residual.result halt (TellsLayers game first new) c.from_residual.ensures.1
+    (at_layers game first k new new n halt
+    (layer_past game first k new new n (all_regions ls) (all_sets first.game misses asms ls) halt inv.climbs.made
+    (λ j y. layers_named game (moment_at game n j y).value first.game n misses asms ls same are (omega arith) (λ b i before. value_other game n j y b i (λ same' _. absurd (omega (arith, before, same')))) inv.climbs.whole) refl
+    (c.in_err-more.ensures.told game n (inv.same.game ∙ same) (inv.climbs.last ∙ layer_is game first.game misses asms n same are) now)))

@@ -6,6 +6,7 @@ use Rattle.gr1_sys.proofs.Lists.{together_each, together_stays, takes_all, regio
 use Rattle.gr1_sys.proofs.Climbed.{next_spent}
 use Rattle.gr1_env.specs.Held.{HasLayer, layer_regions, all_regions, last_z}
 use Rattle.gr1_env.proofs.Growing.{last_z_held, layer_held, z_is}
+use Rattle.gr1_env.proofs.Told.{layer_still}
 use Rattle.gr1_env.proofs.layering.grow.Goals as goal
 
 pub layer_above-requires-clause-lower : goal.layer_above-requires-clause-lower
@@ -81,3 +82,10 @@ returns-in-Err-clause-halted g c =
     let kept = g.G.Regions.kept in
     takes_all (kept c.args.g.now) (kept c.layer_above.new.g) (kept c.spend_layers-in-Err.new.g) (all_regions c.args.layers.items) (g.met.G.Regions.exact _) c.requires.layers c.in-Err.ensures.halted
     (subst (λ (ls : List _). SpendsAll (kept c.layer_above.new.g) (kept c.spend_layers-in-Err.new.g) (all_regions ls)) c.reserve.ensures.items c.spend_layers-in-Err.ensures.spends)
+
+pub returns-in-Err-clause-told : goal.returns-in-Err-clause-told
+returns-in-Err-clause-told g c = λ game a same last_is are.
+    let kept = g.G.Regions.kept in
+    let k = kept c.args.g.now in
+    let below_is = c.last_layer.ensures ∙ ap (last_z c.args.given.now.none) (c.deref.ensures.value ∙ c.reserve.ensures.items) in
+    layer_still game k (kept c.layer_above.new.g) (kept c.spend_layers-in-Err.new.g) a c.in-Err.halt c.spend_layers-in-Err.ensures.spends.jam (c.in-Err.ensures.told game a same (ap k.set below_is ∙ last_is) are)

@@ -1,13 +1,20 @@
-use Rattle.std.proofs.Common.{◌≡◌, ◌<◌, ◌∙◌, ◌+◌, [], List, length, map, get_or, ap, subst, sym, refl, arith}
+use Rattle.std.proofs.Common.{◌≡◌, ◌∙◌, ◌+◌, [], List, length, map, ap, subst, sym, refl, arith}
 use Rattle.spec_model.specs.Sets.{either}
 use Rattle.gr1_sys.specs.Held.{MakesRegions}
 use Rattle.gr1_env.specs.Solution.{at}
 use Rattle.gr1_env.specs.Held.{goal_regions, holds_sets, AllOf, IsWholeHold}
 use Rattle.gr1_sys.proofs.Holdings.{same_then}
-use Rattle.gr1_sys.proofs.Lists.{one_of, set_at_is, region_stays, set_kept, sets_stay, together_as, made_and_spent_all, length_map}
+use Rattle.gr1_sys.proofs.Lists.{region_stays, set_kept, sets_stay, together_as, made_and_spent_all, length_map}
 use Rattle.gr1_sys.proofs.Parted.{nothing_made}
 use Rattle.gr1_env.proofs.Givings.{given_stays}
 use Rattle.gr1_env.proofs.Joining.{hold_at, more_holds, more_whole, miss_is}
+use Rattle.spec_model.specs.Sets.{rest}
+use Rattle.gr1_law.specs.Layers.{goal_set}
+use Rattle.gr1_sys.specs.Moment.{IsGoal}
+use Rattle.gr1_env.specs.Moment.{moment_at}
+use Rattle.gr1_env.proofs.Exact.{misses_counted, miss_at}
+use Rattle.gr1_env.proofs.Told.{at_layer, hold_past}
+use Rattle.gr1_env.proofs.Naming.{value_other, goals_named}
 use Rattle.gr1_env.proofs.layering.holds_above.Goals as goal
 
 pub loop-miss-init : goal.loop-miss-init
@@ -91,3 +98,30 @@ returns-clause-made g c =
         whole = c.loop-miss.invariant.whole;
       };
     }
+
+pub returns-in-Err-clause-told : goal.returns-in-Err-clause-told
+returns-in-Err-clause-told g c = λ game a same forced_is are.
+    let kept = g.G.Regions.kept in
+    let first = kept c.args.g.now in
+    let k = kept c.loop-miss.g in
+    let inv = c.loop-miss.invariant in
+    let misses = map first.set c.args.given.now.misses.items in
+    let asms = map first.set c.args.given.now.asms.items in
+    let f = first.set c.args.forced.now in
+    let goals = c.loop-miss.goals.items in
+    let j = c.loop-miss.miss-index in
+    let item = c.miss-item.result in
+    let is = miss_is first c.args.given.now.misses.items c.deref-miss-items.result.now item j c.requires.given.misses c.deref-miss-items.ensures.value c.loop-miss-test.true c.miss-item.is in
+    let listed = ap (λ (rs : List _). length rs) c.deref-miss-items.ensures.value in
+    let mapped = length_map first.set c.args.given.now.misses.items in
+    let wanted_few = ap (λ (ss : List _). length ss) are.misses_are in
+    let goal_in : IsGoal game j = omega (arith, c.loop-miss-test.true, listed, mapped, wanted_few, misses_counted game) in
+    let item_is : k.set item ≡ rest game (goal_set game j) =
+    set_kept first k item (g.met.G.Regions.exact _) (λ w. omega (arith, inv.made.held w)) is.0 ∙ (is.1 ∙ (ap (λ ss. at ss j) are.misses_are ∙ miss_at game j goal_in)) in
+    let forced_now = set_kept first k c.args.forced.now (g.met.G.Regions.exact _) (λ w. omega (arith, inv.made.held w)) c.requires.forced in
+    let asms_now = sets_stay first k c.args.given.now.asms.items (g.met.G.Regions.exact _) (λ w. omega (arith, inv.made.held w)) c.requires.given.asms in
+    at_layer game first k (kept c.spend_holds.new.g) (kept c.spend_holds.new.g) a j c.in-Err.halt goal_in
+    (hold_past game first k (kept c.hold_above.new.g) (kept c.spend_holds.new.g) a j (goal_regions goals) (holds_sets first.game f misses asms goals) c.in-Err.halt inv.made
+    (λ y. goals_named game (moment_at game a j y).value first.game a f misses asms goals same forced_is are (omega (arith, inv.counted, goal_in))
+    (λ i before. value_other game a j y a i (λ _ same'. absurd (omega (arith, inv.counted, before, same')))) inv.whole) c.spend_holds.ensures.spends.jam
+    (c.in-Err.ensures.told game a j (inv.same.game ∙ same) goal_in item_is (forced_now ∙ forced_is) (asms_now ∙ are.asms_are)))

@@ -1,4 +1,4 @@
-use Rattle.std.proofs.Common.{◌≡◌, ◌<◌, ◌+◌, List, suc, MatchOption, map, sum, take, vec_len, ap, sym, ◌∙◌, subst, arith}
+use Rattle.std.proofs.Common.{◌≡◌, ◌<◌, ◌+◌, List, suc, MatchOption, take, ap, sym, ◌∙◌, subst, arith}
 use Rattle.gr1_env.specs.Solved.{greatest, hold_count, layer_count}
 use Rattle.gr1_env.proofs.Counting.{greatest-next, greatest-at}
 use Rattle.gr1_env.proofs.numbers.denials.Goals as goal

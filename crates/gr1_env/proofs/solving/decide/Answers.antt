@@ -1,11 +1,14 @@
-use Rattle.std.proofs.Common.{◌∙◌, List, None, ap, subst, sym, arith}
+use Rattle.std.proofs.Common.{◌∙◌, None, ap, subst, sym, arith, [], ◌∷◌}
 use Rattle.spec_model.specs.Sets.{environment_forces}
 use Rattle.regions.specs.Kept.{HasRegion}
 use Rattle.gr1_sys.proofs.Lists.{together_each, together_stays, takes_all}
 use Rattle.gr1_sys.proofs.Rounds.{without_later, spent_later}
-use Rattle.gr1_sys.proofs.Walked.{stays_then, together_still}
+use Rattle.gr1_sys.proofs.Walked.{together_still}
 use Rattle.gr1_env.specs.Held.{all_regions, last_z}
 use Rattle.gr1_env.proofs.Growing.{last_z_held}
+use Rattle.regions.specs.Kept.{StartEnv, States}
+use Rattle.gr1_env.specs.Moment.{TellsHalt, iterated, layer}
+use Rattle.gr1_env.proofs.Told.{told, still_told}
 use Rattle.gr1_env.proofs.solving.decide.Goals as goal
 
 pub start_env-requires-clause-t : goal.start_env-requires-clause-t
@@ -47,3 +50,20 @@ pub returns-in-Err-clause-halted : goal.returns-in-Err-clause-halted
 returns-in-Err-clause-halted g c =
     let kept = g.G.Regions.kept in
     takes_all (kept c.args.g.now) (kept c.start_env.new.self) (kept c.spend_layers-in-Err.new.g) (all_regions c.args.layers.items) (g.met.G.Regions.exact _) c.requires.held c.in-Err.ensures.halted.held c.spend_layers-in-Err.ensures.spends
+
+pub returns-in-Err-counted-clause-told : goal.returns-in-Err-counted-clause-told
+returns-in-Err-counted-clause-told g c = λ game m n same last last_is.
+    let kept = g.G.Regions.kept in
+    let k = kept c.args.g.now in
+    let refused = c.in-Err-counted.ensures.told in
+    subst (TellsHalt game k (kept c.counted.new.g) m) (sym refused.0) (refused.1 ∙ (c.in-Ok-true.ensures.stays.jam ∙ c.requires.free))
+
+pub returns-in-Err-clause-told : goal.returns-in-Err-clause-told
+returns-in-Err-clause-told g c = λ game m n same last last_is.
+    let kept = g.G.Regions.kept in
+    let k = kept c.args.g.now in
+    let k1 = kept c.start_env.new.self in
+    let asked = c.last_layer.result.now in
+    let asked_is = ap k.set (c.last_layer.ensures ∙ ap (last_z c.args.given.now.none) c.deref.ensures.value) ∙ last_is in
+    still_told game m k k1 (kept c.spend_layers-in-Err.new.g) c.in-Err.halt c.spend_layers-in-Err.ensures.spends.jam
+    (told game m k k1 StartEnv (States (k.set asked) ∷ []) c.in-Err.halt c.in-Err.ensures.halted.jam (iterated (layer n asked_is), tt) (n, (last, ap (λ t. States t ∷ []) asked_is)))

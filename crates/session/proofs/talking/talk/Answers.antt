@@ -1,4 +1,4 @@
-use Rattle.std.proofs.Common.{◌≡◌, ◌∙◌, arith}
+use Rattle.std.proofs.Common.{◌∙◌, arith}
 use Rattle.session.proofs.Fitting.{over_after}
 use Rattle.session.proofs.Turns.{begun, cut_at_once, ended_since}
 use Rattle.session.proofs.talking.talk.Goals as goal

@@ -1,0 +1,4 @@
+pub mod Removed
+pub mod Turns
+pub mod Answered
+pub mod Few

@@ -1,0 +1,17 @@
+mod Moving
+mod Forcing
+mod Settling
+mod Labelling
+mod Adding
+mod Stepping
+mod Turning
+mod Sounding
+mod Chaining
+mod Begun
+mod Turned
+mod Replying
+mod Completing
+mod Erring
+mod Filling
+pub mod Serving
+mod ExampleMoves

@@ -1,0 +1,12 @@
+pub mod Alike
+pub mod Places
+pub mod Collected
+pub mod Plain
+pub mod Ordered
+pub mod Agreeing
+pub mod Folded
+pub mod Cells
+pub mod Walk
+pub mod Runs
+pub mod Typed
+pub mod Made

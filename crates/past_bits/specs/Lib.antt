@@ -1,0 +1,4 @@
+pub mod Tables
+pub mod Entries
+pub mod Bits
+pub mod Laws

@@ -1,0 +1,12 @@
+pub mod Values
+pub mod Steps
+pub mod Stepwise
+pub mod Seen
+pub mod Lines
+pub mod Scans
+pub mod Letters
+pub mod Sizes
+pub mod Cells
+pub mod Runs
+pub mod Handed
+pub mod Examples

@@ -1,0 +1,5 @@
+pub mod Patterns
+pub mod Rows
+pub mod Sights
+pub mod Laws
+pub mod Examples

@@ -1,0 +1,60 @@
+use Rattle.std.proofs.Common.{◌≡◌, refl, arith}
+use Rattle.session.proofs.Fitting.{over_after, kept_on}
+use Rattle.session.proofs.Turns.{rose_earlier}
+use Rattle.session.proofs.Logging.{room_at_first, nothing_read, at_limit, audit_weaker}
+use Rattle.session.proofs.auditing.audit_lines.Goals as goal
+
+pub loop-count-init : goal.loop-count-init
+loop-count-init g c =
+    let of = c.requires.one_specification.2 in
+    record {
+      so = λ s left suits so. so;
+      room = room_at_first c.args.audit.now of.0 of.2;
+      keeps = record { names = refl; wanted = refl; shown = refl };
+      later = omega arith;
+    }
+
+pub turn-requires-clause-serves : goal.turn-requires-clause-serves
+turn-requires-clause-serves g c =
+    let inv = c.loop-count.invariant in
+    let some = c.requires.one_specification in
+    let so = inv.so some.0 _ some.1 (nothing_read some.0 c.args.audit.now _ _ c.requires.nothing_taken some.2) in
+    record {
+      spec = some.0;
+      log = so.log;
+      suits = over_after c.args.lines.now c.loop-count.lines _ _ _ some.1 inv.keeps;
+      stands = so.stands;
+      counted = so.counted;
+    }
+
+pub loop-count-preserved : goal.loop-count-preserved
+loop-count-preserved g c =
+    let inv = c.loop-count.invariant in
+    let some = c.requires.one_specification in
+    let one = inv.so some.0 _ some.1 (nothing_read some.0 c.args.audit.now _ _ c.requires.nothing_taken some.2) in
+    record {
+      so = λ s left suits so. (c.in_default.ensures.reads_on s left (over_after c.args.lines.now c.loop-count.lines _ _ _ suits inv.keeps) (inv.so s left suits so)).0;
+      room = (c.in_default.ensures.reads_on some.0 _ (over_after c.args.lines.now c.loop-count.lines _ _ _ some.1 inv.keeps) one).1;
+      keeps = kept_on c.args.lines.now c.loop-count.lines c.turn.new.lines inv.keeps c.turn.ensures.keeps;
+      later = omega (arith, inv.later, c.turn.ensures.later);
+    }
+
+pub returns-in-Some-clause-talk : goal.returns-in-Some-clause-talk
+returns-in-Some-clause-talk g c = λ s suits of.
+    let inv = c.loop-count.invariant in
+    let so = inv.so s _ suits (nothing_read s c.args.audit.now _ _ c.requires.nothing_taken of) in
+    audit_weaker s c.args.limit _ _ _ _ c.in-Some.end (rose_earlier _ _ _ inv.later) (c.in-Some.ensures.reads_on s _ (over_after c.args.lines.now c.loop-count.lines _ _ _ suits inv.keeps) so)
+
+pub told-requires : goal.told-requires
+told-requires g c =
+    let inv = c.loop-count.invariant in
+    let some = c.requires.one_specification in
+    let so = inv.so some.0 _ some.1 (nothing_read some.0 c.args.audit.now _ _ c.requires.nothing_taken some.2) in
+    (some.0, so.log, so.stands)
+
+pub returns-clause-talk : goal.returns-clause-talk
+returns-clause-talk g c = λ s suits of.
+    let inv = c.loop-count.invariant in
+    let so = inv.so s _ suits (nothing_read s c.args.audit.now _ _ c.requires.nothing_taken of) in
+    let reached : c.loop-count.count ≡ c.args.limit = omega (arith, c.loop-count-test.false, c.loop-count.auto.count-end) in
+    at_limit s c.loop-count.audit c.args.limit c.loop-count.count _ _ _ _ c.told.result reached so (c.told.ensures s so.log so.stands)

@@ -1,0 +1,6 @@
+pub mod Found
+pub mod Wholly
+pub mod Places
+pub mod Served
+pub mod LostCores
+pub mod SamplesTyped

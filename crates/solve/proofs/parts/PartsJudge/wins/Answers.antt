@@ -1,0 +1,47 @@
+use Rattle.std.proofs.Common.{◌≡◌, length, refl, ◌∙◌, ap, subst, arith}
+use Rattle.std.proofs.lemmas.Bool.{false≢true}
+use Rattle.spec_model.specs.Cores.{with_guarantees, guarantees_of}
+use Rattle.core_min.proofs.Few.{few}
+use Rattle.solve.specs.Winners.{IsWonBySystem, IsWonByEnvironment}
+use Rattle.solve.specs.Verdicts.{AreNumbersOf}
+use Rattle.solve.specs.Judged.{whole_of}
+use Rattle.solve.specs.Places.{at_places, part_at}
+use Rattle.solve.proofs.Wholly.{won_within, lost_within, not_both}
+use Rattle.solve.proofs.parts.PartsJudge.wins.Goals as goal
+
+pub pick-requires-clause-room : goal.pick-requires-clause-room
+pick-requires-clause-room c =
+    let short = few (length (guarantees_of (whole_of c.args.self.now))) c.args.kept.now c.requires.set in
+    let same = ap length c.args.self.now.numbered in
+    let room = c.args.self.now.part_room in
+    omega (arith, short, same, room)
+
+pub unwrap-requires : goal.unwrap-requires
+unwrap-requires c =
+    let short = few (length (guarantees_of (whole_of c.args.self.now))) c.args.kept.now c.requires.set in
+    let same = ap length c.args.self.now.numbered in
+    let room = c.args.self.now.asked_room in
+    let kept = c.clear.ensures.capacity in
+    let none = c.clear.ensures.len in
+    c.extend_from_slice.ensures.succeeds (omega (arith, short, same, room, kept, none))
+
+pub returns-in-Ok-Realizable-clause-answer : goal.returns-in-Ok-Realizable-clause-answer
+returns-in-Ok-Realizable-clause-answer c =
+    let s = whole_of c.args.self.now in
+    let k = c.in-Ok-Realizable.field-0-0 in
+    let part : c.deref.result.now ≡ at_places (guarantees_of s) c.args.kept.now =
+    c.deref.ensures.value ∙ (c.pick.ensures.picked ∙ ap (λ ns. at_places ns c.args.kept.now) c.args.self.now.numbered) in
+    let found = subst (AreNumbersOf (with_guarantees s c.deref.result.now)) c.in-Ok-Realizable.field-0-is c.in-Ok-Realizable.ensures.numbers in
+    let won = won_within (part_at s c.args.kept.now) k (subst (λ ns. IsWonBySystem (with_guarantees s ns) k) part found) in
+    (λ yes. won, λ wins. refl)
+
+pub returns-in-Ok-Unrealizable-clause-answer : goal.returns-in-Ok-Unrealizable-clause-answer
+returns-in-Ok-Unrealizable-clause-answer c =
+    let s = whole_of c.args.self.now in
+    let n = c.in-Ok-Unrealizable.field-0-0 in
+    let m = c.in-Ok-Unrealizable.field-0-1 in
+    let part : c.deref.result.now ≡ at_places (guarantees_of s) c.args.kept.now =
+    c.deref.ensures.value ∙ (c.pick.ensures.picked ∙ ap (λ ns. at_places ns c.args.kept.now) c.args.self.now.numbered) in
+    let found = subst (AreNumbersOf (with_guarantees s c.deref.result.now)) c.in-Ok-Unrealizable.field-0-is c.in-Ok-Unrealizable.ensures.numbers in
+    let lost = lost_within (part_at s c.args.kept.now) n m (subst (λ ns. IsWonByEnvironment (with_guarantees s ns) n m) part found) in
+    (λ yes. absurd (false≢true yes), λ wins. absurd (not_both (part_at s c.args.kept.now) lost wins))

@@ -1,0 +1,15 @@
+use Rattle.std.proofs.Common.{sym, ap, subst, ◌∙◌}
+use Rattle.spec_model.specs.Agreement.{Agrees}
+use Rattle.gr1_law.specs.Layers.{round_count}
+use Rattle.gr1_sys.specs.Held.{ranks_of}
+use Rattle.solve.proofs.playing.system_play.Goals as goal
+
+pub returns-in-Ok-clause-plays : goal.returns-in-Ok-clause-plays
+returns-in-Ok-clause-plays g c =
+    let begins = c.in-Ok.ensures.begins c.requires.won.0 c.requires.won.1 in
+    λ s agrees. record {
+      fresh = begins.not_started;
+      stands = (_, _, _, _, _, begins.stands);
+      agrees = subst (Agrees s) (sym begins.game.game) agrees;
+      rounds = c.k-k.ensures ∙ ap (λ layers. round_count (ranks_of layers)) (sym begins.same_layers);
+    }

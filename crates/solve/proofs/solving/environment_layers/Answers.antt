@@ -1,0 +1,13 @@
+use Rattle.std.proofs.Common.{refl}
+use Rattle.solve.proofs.Found.{solved_env_layers, not_unforced}
+use Rattle.solve.proofs.solving.environment_layers.Goals as goal
+
+pub returns-in-Ok-Some-clause-solved : goal.returns-in-Ok-Some-clause-solved
+returns-in-Ok-Some-clause-solved g c =
+    let h = rw c.in-Ok-Some.field-0-is at c.in-Ok-Some.ensures in
+    (h.solved.0, solved_env_layers _ _ _ _ h.same h.solved.1)
+
+pub unreachable-requires : goal.unreachable-requires
+unreachable-requires g c =
+    let h = rw c.in-Ok-None.field-0-is at c.in-Ok-None.ensures in
+    not_unforced _ _ refl c.requires.forces h.solved.escapes

@@ -1,0 +1,15 @@
+use Rattle.std.proofs.Common.{sym, subst}
+use Rattle.spec_model.specs.WellMade.{WellMade}
+use Rattle.controller.proofs.Serving.{solved_layers}
+use Rattle.solve.proofs.Found.{forced_where_lost}
+use Rattle.solve.proofs.solving.solve_game.Goals as goal
+
+pub returns-in-Ok-Some-clause-holds : goal.returns-in-Ok-Some-clause-holds
+returns-in-Ok-Some-clause-holds g c =
+    let h = rw c.in-Ok-Some.field-0-is at c.in-Ok-Some.ensures in
+    (h.solved.0, solved_layers _ _ _ _ _ c.requires.made h.same h.solved.1)
+
+pub environment_layers-requires-clause-forces : goal.environment_layers-requires-clause-forces
+environment_layers-requires-clause-forces g c =
+    let h = rw c.in-Ok-None.field-0-is at c.in-Ok-None.ensures in
+    forced_where_lost _ _ (sym h.same.game) (subst WellMade (sym h.same.game) c.requires.made) h.solved.escapes

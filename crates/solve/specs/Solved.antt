@@ -1,0 +1,29 @@
+-- A game that is solved: the layers of the side that wins are held.
+use Rattle.std.specs.Prelude.{◌≡◌, true, List, length, None}
+use Rattle.spec_model.specs.Sets.{environment_forces}
+use Rattle.regions.specs.Kept.{Kept}
+use Rattle.regions.specs.declared.regions.Regions.{Ghosts}
+use Rattle.gr1_law.specs.Layers.{LayerSets}
+use Rattle.gr1_law.specs.EnvLayers.{EnvLayerSets, AreEnvLayers, IsLayerCount, AreDelayCounts, denial_count}
+use Rattle.gr1_sys.specs.Held.{HasTogether}
+use Rattle.gr1_env.specs.declared.layers.EnvLayer.{EnvLayer}
+use Rattle.gr1_env.specs.Held.{all_regions}
+use Rattle.gr1_env.specs.Solved.{counts_of, denials_of}
+use Rattle.controller.specs.Made.{AreLayersOf}
+use Rattle.solve.specs.declared.solving.Solved.{Solved}
+use Rattle.solve.specs.declared.solving.Solved.TheVariants.{BySystem, ByEnvironment}
+
+module _ {G R M : Type 0} where
+  -- The environment wins, and these regions are held for its layers.
+  pub record AreEnvLayersOf (k : Kept R M) (layers : List (EnvLayer G R M)) (e : EnvLayerSets) : Type 0 where
+    pub held : HasTogether k (all_regions layers)
+    pub are_layers : AreEnvLayers k.game e
+    pub last : IsLayerCount e (length layers)
+    pub forced : environment_forces k.game (e.z (length layers)) None ≡ true
+    pub counts : AreDelayCounts k.game e (length layers) (counts_of layers)
+    pub denials : denials_of layers ≡ denial_count k.game (length layers) (counts_of layers)
+
+  -- the layers of the side that wins
+  abbrev pub HoldsLayers : {ghosts : Ghosts G R M} → Kept R M → Solved G R M ghosts → Type 0
+  HoldsLayers k (BySystem layers) = (l : LayerSets) × AreLayersOf k layers.z layers.goals.items l
+  HoldsLayers k (ByEnvironment layers) = (e : EnvLayerSets) × AreEnvLayersOf k layers.layers.items e

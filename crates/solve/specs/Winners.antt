@@ -1,0 +1,62 @@
+-- Who wins a specification, and with which numbers.
+use Rattle.std.specs.Prelude.{◌≡◌, ◌⊎◌, ℕ, true, List, None}
+use Rattle.spec_model.specs.Syntax.{Specification}
+use Rattle.spec_model.specs.Games.{GameData}
+use Rattle.spec_model.specs.Sets.{StateSet, system_forces, environment_forces}
+use Rattle.spec_model.specs.Verdicts.{SystemWins, EnvironmentWins}
+use Rattle.hidden_game.specs.GameOf.{game_of}
+use Rattle.gr1_law.specs.Layers.{LayerSets, IsWinning, AreGreatestRanks, round_count}
+use Rattle.gr1_law.specs.EnvLayers.{EnvLayerSets, AreEnvLayers, IsLayerCount, AreDelayCounts, denial_count}
+
+-- ---- games
+
+-- The system wins: it forces the first state into the winning states, and K is one more than the greatest ranks together.
+pub record IsWonGame (g : GameData) (k : ℕ) : Type 0 where
+  pub winning_states : StateSet
+  pub layers : LayerSets
+  pub ranks : List ℕ
+  pub winning : IsWinning g winning_states layers
+  pub greatest : AreGreatestRanks g layers ranks
+  pub forced : system_forces g winning_states None ≡ true
+  pub rounds : k ≡ round_count ranks
+
+-- The environment wins: it forces the first state into its last layer. N is the number of that layer, and M one more than the
+-- greatest ranks together, of the layer from 1 to N and the goal for which they are most.
+pub record IsLostGame (g : GameData) (n m : ℕ) : Type 0 where
+  pub layers : EnvLayerSets
+  pub counts : ℕ → ℕ → List ℕ
+  pub are_layers : AreEnvLayers g layers
+  pub last : IsLayerCount layers n
+  pub greatest : AreDelayCounts g layers n counts
+  pub forced : environment_forces g (layers.z n) None ≡ true
+  pub denials : m ≡ denial_count g n counts
+
+-- it does so, whichever its layers are
+abbrev pub EnvironmentForces : GameData → Type 0
+EnvironmentForces g = (e : EnvLayerSets) (n : ℕ) → AreEnvLayers g e → IsLayerCount e n → environment_forces g (e.z n) None ≡ true
+
+-- ---- the budget of nodes
+
+-- rows take no nodes, so that no budget of nodes is too small for them
+abbrev pub FillsRows : Type 0
+FillsRows = ⊥
+
+-- ---- specifications
+
+-- The system wins the specification with K, the number of its game.
+pub record IsWonBySystem (s : Specification) (k : ℕ) : Type 0 where
+  pub game : IsWonGame (game_of s) k
+  pub wins : SystemWins s k
+
+-- The environment wins it with N and M, the numbers of its game.
+pub record IsWonByEnvironment (s : Specification) (n m : ℕ) : Type 0 where
+  pub game : IsLostGame (game_of s) n m
+  pub wins : EnvironmentWins s n m
+
+-- no specification is won by both, whatever the numbers
+abbrev pub NeverBoth : Specification → Type 0
+NeverBoth s = (k n m : ℕ) → IsWonBySystem s k → IsWonByEnvironment s n m → ⊥
+
+-- and one of the two wins it
+abbrev pub OneOfBoth : Specification → Type 0
+OneOfBoth s = ((k : ℕ) × IsWonBySystem s k) ⊎ ((n : ℕ) × (m : ℕ) × IsWonByEnvironment s n m)

@@ -1,0 +1,27 @@
+//! Who wins, as it is answered.
+
+use controller::Controller;
+use region_rows::RegionRows;
+
+/// Who wins, with the numbers.
+#[derive(Clone, Copy, Debug, PartialEq, Eq)]
+pub enum Numbers {
+    /// The system, with K rounds.
+    Realizable { k: u64 },
+    /// The environment, with N shifts and M denials in a row.
+    Unrealizable { n: u64, m: u64 },
+}
+
+/// Who wins, with the numbers and a strategy that has made no move.
+pub enum Verdict {
+    /// The system, with K rounds. The play must be closed.
+    Realizable {
+        k: u64,
+        play: Controller<RegionRows>,
+    },
+    /// The environment, with N shifts and M denials in a row.
+    Unrealizable {
+        n: u64,
+        m: u64,
+    },
+}

@@ -1,0 +1,31 @@
+//! Who wins a specification, with which numbers, and by which strategy.
+//!
+//! The game of a specification is solved over sets of its states, as rows: first for the system, and where it doesn't win, for
+//! the environment. One of the two wins each game (Bloem et al. 2012, solving GR(1) games).
+//!
+//! Contract: `verdict`, whose numbers are true of all plays, and whose strategy is fresh and of that specification; `numbers`
+//! says the same and makes no strategy. `core_of` gives what is left of the guarantees of an unrealizable specification, tried
+//! in text order, and that it is a core; `separated` judges the specification whose one guarantee can never be met.
+//! Path: specification → game → regions → layers → strategy → **verdict** → lines.
+#![tactic(auto)]
+
+mod answers;
+mod cores;
+mod deciding;
+mod fault;
+mod laws;
+mod parts;
+mod playing;
+mod rows;
+mod separation;
+mod solving;
+
+pub use answers::{Numbers, Verdict};
+pub use cores::{core_of, core_of_lost};
+pub use deciding::{numbers, verdict, whole_numbers, whole_verdict};
+pub use fault::SolveFault;
+pub use laws::{no_specification_is_won_by_both, one_of_both_wins};
+pub use separation::{Separation, separated};
+
+#[cfg(test)]
+mod tests;

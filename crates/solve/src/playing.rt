@@ -1,0 +1,32 @@
+//! The winner's strategy, by its layers.
+
+ghost use Rattle.std.specs.Prelude.{◌≡◌, None, IfOk};
+ghost use Rattle.spec_model.specs.Syntax.{Specification};
+ghost use Rattle.spec_model.specs.Agreement.{Agrees};
+ghost use Rattle.gr1_law.specs.Layers.{LayerSets};
+ghost use Rattle.controller.specs.Made.{AreLayersOf};
+ghost use Rattle.solve.specs.Winners.{IsWonGame};
+ghost use Rattle.solve.specs.Verdicts.{IsPlayFor};
+
+use controller::Controller;
+use gr1_sys::SysLayers;
+use regions::{Halt, MakeRefusal, Regions};
+use std::alloc::Global;
+
+/// K, and the system's strategy, which has made no move.
+pub fn system_play<G: Regions + Drop>(
+    alloc: Global,
+    g: G,
+    layers: SysLayers<G>,
+) -> Result<(u64, Controller<G>), Halt>
+    requires free { (G.kept g).jam ≡ None }
+    requires won { (l : LayerSets) × AreLayersOf (G.kept g) layers.z layers.goals.items l }
+    ensures won { IfOk result (λ p. IsWonGame (G.kept g).game p.0) }
+    ensures plays { IfOk result (λ p. (s : Specification) → Agrees s (G.kept g).game → IsPlayFor G.kept s p.0 p.1) }
+{
+    let k = layers.k();
+    match Controller::make(alloc, g, layers) {
+        Ok(play) => Ok((k, play)),
+        Err(MakeRefusal { halt, g: _g }) => Err(halt),
+    }
+}

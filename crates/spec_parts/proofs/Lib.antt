@@ -1,0 +1,2 @@
+mod SampleTyped
+pub mod FewerHidden
