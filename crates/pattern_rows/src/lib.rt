@@ -19,3 +19,6 @@ mod sight;
 pub use fault::RowFault;
 pub use filling::rows;
 pub use laws::tables_are_patterns;
+
+#[cfg(test)]
+mod tests;
