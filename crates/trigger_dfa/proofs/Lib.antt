@@ -1,0 +1,9 @@
+mod Stretches
+mod Sets
+mod Paths
+mod Phases
+mod Different
+mod Letters
+mod Reached
+mod Formulas
+mod Tables

@@ -1,0 +1,3 @@
+pub mod Reads
+pub mod Standings
+pub mod Laws

@@ -1,0 +1,4 @@
+//! The hidden table of a trigger.
+#![tactic(auto)]
+
+pub mod laws;
