@@ -7,3 +7,12 @@ mod Letters
 mod Reached
 mod Formulas
 mod Tables
+mod Alike
+mod WordLemmas
+mod Parts
+mod LaidParts
+mod PositionCounts
+mod MaskWords
+mod LaidLists
+mod MetSets
+mod Walked

@@ -5,7 +5,8 @@ use Rattle.spec_model.specs.Syntax.{Formula}
 use Rattle.spec_model.specs.Meaning.{Reading, holds_at}
 use Rattle.spec_model.specs.TriggerStates.{Written, Bracket, Empty, Then, Either, Star, brackets, is_skipped, firsts, lasts, has, followers}
 use Rattle.trigger_dfa.specs.Reads.{InPieces, Reads}
-use Rattle.trigger_dfa.proofs.Sets.{has_cases, has_left, has_right, has_where, has_if, tells, tells_range, tells_left, tells_right, tells_cases, InRange, firsts_range, lasts_range, followers_range}
+use Rattle.trigger_dfa.specs.Words.{tells}
+use Rattle.trigger_dfa.proofs.Sets.{has_cases, has_left, has_right, has_where, has_if, tells_range, tells_left, tells_right, tells_cases, InRange, firsts_range, lasts_range, followers_range}
 
 -- whether the formula of the position holds at a position of the run
 abbrev pub true_at : Reading → Written → ℕ → ℕ → ℕ → Bool

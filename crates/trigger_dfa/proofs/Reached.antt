@@ -5,6 +5,7 @@ use Rattle.std.proofs.lemmas.List.{length-map}
 use Rattle.std.proofs.lemmas.List.Concat.{flat_map-append}
 use Rattle.spec_model.specs.Syntax.{Formula}
 use Rattle.spec_model.specs.TriggerStates.{Written, Positions, brackets, firsts, followers, members, read_of, letters, said_by, sets_from, has_last, sets_after, different, reached_sets}
+use Rattle.trigger_dfa.specs.Standings.{all_sets}
 use Rattle.trigger_dfa.proofs.Different.{among, same, same-true, same-refl, among_cases, among_left, among_right, among_flat, flat_among, AllDiffer, among_different, different_among, different_differ, no_longer, different-append, different_kept, different_within, different_once, different_middle}
 use Rattle.trigger_dfa.proofs.Letters.{length-letters, letter_among}
 
@@ -56,11 +57,7 @@ module _ (atoms : List Formula) (w : Written) where
   abbrev pub from_start : List Positions
   from_start = sets_from atoms w (firsts 0 w)
 
-  -- every set that is reached
-  abbrev pub all_sets : List Positions
-  all_sets = reached_sets atoms w (2 ^ length (brackets w))
-
-  sized_from : (ps : List ℕ) (x : Positions) → among x (sets_from atoms w ps) ≡ true → length x ≡ length (brackets w)
+  pub sized_from : (ps : List ℕ) (x : Positions) → among x (sets_from atoms w ps) ≡ true → length x ≡ length (brackets w)
   sized_from ps x e =
       let l = among_map (λ letter. read_of (said_by atoms letter) ps 0 (brackets w)) x (letters (length atoms)) e in
       ap length l.2 ∙ length-read (said_by atoms l.0) ps 0 (brackets w)
@@ -123,7 +120,7 @@ module _ (atoms : List Formula) (w : Written) where
       ]
 
   -- what follows one of all sets is one of them
-  pub all_closed : (x : Positions) → among x (after all_sets) ≡ true → among x all_sets ≡ true
+  pub all_closed : (x : Positions) → among x (after (all_sets atoms w)) ≡ true → among x (all_sets atoms w) ≡ true
   all_closed =
       elim (closed_or_longer (2 ^ length (brackets w))) [
         | inl c ↦ c
@@ -156,20 +153,20 @@ module _ (atoms : List Formula) (w : Written) where
       among_right' : (rk : List Positions) (x : Positions) → among x (after rk) ≡ true → among x (from_start ++ after rk) ≡ true
       among_right' rk x e = among_right x from_start (after rk) e
 
-  pub all_from_start : all_sets ≡ different (from_start ++ after all_sets)
+  pub all_from_start : (all_sets atoms w) ≡ different (from_start ++ after (all_sets atoms w))
   all_from_start = sym (closed_stays (2 ^ length (brackets w)) all_closed) ∙ next_from_start (2 ^ length (brackets w))
 
   -- the sets that are met once the start and the first few sets were looked at
   abbrev pub met_by : ℕ → List Positions
-  met_by i = different (from_start ++ after (take i all_sets))
+  met_by i = different (from_start ++ after (take i (all_sets atoms w)))
 
-  pub met_first : (i : ℕ) → (more : List Positions) × (all_sets ≡ met_by i ++ more)
+  pub met_first : (i : ℕ) → (more : List Positions) × ((all_sets atoms w) ≡ met_by i ++ more)
   met_first i =
-      let parts : after all_sets ≡ after (take i all_sets) ++ after (drop i all_sets) =
-      ap after (sym (take-append-drop i all_sets)) ∙ flat_map-append (sets_after atoms w) (take i all_sets) (drop i all_sets) in (
-        filter (λ y. not (among y (from_start ++ after (take i all_sets)))) (different (after (drop i all_sets))),
+      let parts : after (all_sets atoms w) ≡ after (take i (all_sets atoms w)) ++ after (drop i (all_sets atoms w)) =
+      ap after (sym (take-append-drop i (all_sets atoms w))) ∙ flat_map-append (sets_after atoms w) (take i (all_sets atoms w)) (drop i (all_sets atoms w)) in (
+        filter (λ y. not (among y (from_start ++ after (take i (all_sets atoms w))))) (different (after (drop i (all_sets atoms w)))),
         all_from_start
             ∙ ap (λ (l : List Positions). different (from_start ++ l)) parts
-            ∙ ap different (sym (append_assoc from_start (after (take i all_sets)) (after (drop i all_sets))))
-            ∙ different-append (from_start ++ after (take i all_sets)) (after (drop i all_sets)),
+            ∙ ap different (sym (append_assoc from_start (after (take i (all_sets atoms w))) (after (drop i (all_sets atoms w)))))
+            ∙ different-append (from_start ++ after (take i (all_sets atoms w))) (after (drop i (all_sets atoms w))),
       )

@@ -4,6 +4,7 @@ use Rattle.std.proofs.lemmas.Bool.{and_parts, and_from, or_cases, or_left, or_ri
 use Rattle.std.proofs.lemmas.List.Folds.{list_any-append}
 use Rattle.std.specs.List.{list_any}
 use Rattle.spec_model.specs.Syntax.{Formula}
+use Rattle.trigger_dfa.specs.Words.{tells}
 use Rattle.spec_model.specs.TriggerStates.{Written, Bracket, Empty, Then, Either, Star, Positions, brackets, is_skipped, firsts, lasts, has, followers, members, read_of, has_last}
 
 -- ---- membership
@@ -42,11 +43,6 @@ flat_has f (x ∷ xs) q p e h =
     ]
 
 -- ---- the formula of a position
-
--- whether it passes the test, where the first of all has this number
-abbrev pub tells : (Formula → Bool) → ℕ → List Formula → ℕ → Bool
-tells test n [] p = false
-tells test n (e ∷ es) p = (n == p && test e) || tells test (suc n) es p
 
 pub tells_range : (test : Formula → Bool) (n : ℕ) (es : List Formula) (p : ℕ) → tells test n es p ≡ true → (n ≤ p) × (p < n + length es)
 tells_range test n [] p e = absurd (false≢true e)

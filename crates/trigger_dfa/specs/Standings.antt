@@ -44,9 +44,13 @@ standing_along r tr (suc t) = standing_after tr (λ e. holds_at r e t) (standing
 
 -- ---- values
 
--- the sets of a side that are values: breadth first, by rising letters
+-- every set that is reached: breadth first, by rising letters
+abbrev pub all_sets : List Formula → Written → List Positions
+all_sets atoms w = reached_sets atoms w (2 ^ length (brackets w))
+
+-- those of them that are values
 abbrev pub value_sets : List Formula → Written → List Positions
-value_sets atoms w = filter (λ set. not (has_last w set)) (reached_sets atoms w (2 ^ length (brackets w)))
+value_sets atoms w = filter (λ set. not (has_last w set)) (all_sets atoms w)
 
 abbrev pub side_standings : TriggerData → Bool → List Standing
 side_standings tr waits = at_start waits ∷ map (at_set waits) (value_sets (trigger_atoms tr) (side_of tr waits))
