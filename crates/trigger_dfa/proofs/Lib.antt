@@ -16,3 +16,6 @@ mod MaskWords
 mod LaidLists
 mod MetSets
 mod Walked
+mod Collected
+mod TableRows
+mod WholeTable

@@ -95,11 +95,10 @@ module _ (tr : TriggerData) where
   -- ---- what follows a value is one
 
   module _ (waits : Bool) (letter : List Bool) (known : among letter (letters (length (trigger_atoms tr))) ≡ true) where
-    next_set : List ℕ → Positions
+    abbrev pub next_set : List ℕ → Positions
     next_set ps = read_of (said_by (trigger_atoms tr) letter) ps 0 (brackets (side_of tr waits))
 
     set_from : (ps : List ℕ) → among (next_set ps) (sets_from (trigger_atoms tr) (side_of tr waits) ps) ≡ true
-    unfolding next_set
     set_from ps = map_among (λ letter. read_of (said_by (trigger_atoms tr) letter) ps 0 (brackets (side_of tr waits))) letter (letters (length (trigger_atoms tr))) known
 
     set_after : (set : Positions) → has_last (side_of tr waits) set ≡ false → among (next_set (flat_map (followers 0 (side_of tr waits)) (members 0 set))) (sets_after (trigger_atoms tr) (side_of tr waits) set) ≡ true
@@ -107,7 +106,7 @@ module _ (tr : TriggerData) where
         subst (λ (b : Bool). among (next_set (flat_map (followers 0 (side_of tr waits)) (members 0 set))) (cond b [] (sets_from (trigger_atoms tr) (side_of tr waits) (flat_map (followers 0 (side_of tr waits)) (members 0 set)))) ≡ true)
         (sym open_still) (set_from (flat_map (followers 0 (side_of tr waits)) (members 0 set)))
 
-    reached_next : (o : Option Positions) → IsValue waits o → among (next_set (next_positions (side_of tr waits) o)) (all_sets (trigger_atoms tr) (side_of tr waits)) ≡ true
+    pub reached_next : (o : Option Positions) → IsValue waits o → among (next_set (next_positions (side_of tr waits) o)) (all_sets (trigger_atoms tr) (side_of tr waits)) ≡ true
     reached_next None v =
         let atoms = trigger_atoms tr in let w = side_of tr waits in
         subst (λ (sets : List Positions). among (next_set (firsts 0 w)) sets ≡ true) (sym (all_from_start atoms w))
@@ -131,7 +130,6 @@ module _ (tr : TriggerData) where
       at false is = filter_among (λ set. not (has_last (side_of tr waits) set)) set (all_sets (trigger_atoms tr) (side_of tr waits)) e (not_from_false (has_last (side_of tr waits) set) is)
 
   pub after_valued : (s : Standing) (letter : List Bool) → among letter (letters (length (trigger_atoms tr))) ≡ true → Valued s → Valued (standing_after tr (said_by (trigger_atoms tr) letter) s)
-  unfolding next_set
   after_valued s letter known v =
       settled_valued s.waits (read_of (said_by (trigger_atoms tr) letter) (next_positions (side_of tr s.waits) s.read) 0 (brackets (side_of tr s.waits)))
       (reached_next s.waits letter known s.read v)
