@@ -1,0 +1,15 @@
+mod Moving
+mod Forcing
+mod Settling
+mod Labelling
+mod Adding
+mod Stepping
+mod Turning
+mod Sounding
+mod Chaining
+mod Begun
+mod Serving
+mod Replying
+mod Completing
+mod Erring
+mod Filling
