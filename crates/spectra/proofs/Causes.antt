@@ -5,15 +5,17 @@ use Rattle.sp_outside.specs.Files.{Files}
 use Rattle.spec_model.specs.Syntax.{Specification}
 use Rattle.session.specs.declared.talking.End.{End}
 use Rattle.session.specs.declared.talking.End.TheVariants as ends
-use Rattle.session.specs.Talks.{RunTalk}
+use Rattle.session.specs.declared.auditing.AuditEnd.{AuditEnd}
+use Rattle.session.specs.declared.auditing.AuditEnd.TheVariants as audits
+use Rattle.session.specs.AuditTalks.{AuditTalk}
 use Rattle.spectra_words.specs.declared.words.Command.{Command}
 use Rattle.spectra.specs.declared.status.Status.{Status}
 use Rattle.spectra.specs.declared.status.Status.TheVariants.{Done, Other, Words, Refused, ShelfFault, NoFile}
-use Rattle.spectra.specs.Endings.{status_of}
+use Rattle.spectra.specs.Endings.{Ending, status_of, realizable}
 use Rattle.spectra.specs.Streams.{Moment, Writes, whole, cut, WantsMemory}
 use Rattle.spectra.specs.Sessions as sessions
-use Rattle.spectra.specs.Sessions.{most_positions, ending_after, Closes, Holds, session, cut_at_once}
-use Rattle.spectra.specs.Top.{DecidesSpecification, ServesSpecification, ServesText, ServesFile, ServesWords, IsCaused}
+use Rattle.spectra.specs.Sessions.{Talk, Closes, HoldsSession, session, cut_at_once, ending_after, RunTalks, most_positions, audit_ending_after}
+use Rattle.spectra.specs.Top.{Decides, ServesSpecification, ServesText, ServesFile, ServesWords, IsCaused}
 use Rattle.spectra.specs.Top as top
 
 module _ (failed : Type 0) (before after : Moment) where
@@ -27,28 +29,42 @@ module _ (failed : Type 0) (before after : Moment) where
   by_wanting : (status : Status) → WantsMemory before after status → Caused status
   by_wanting status wants = subst (IsCaused failed before after) (sym wants.is) (subst (WantsMemory before after) wants.is wants)
 
-  by_ending : (s : Specification) (k : ℕ) (greeted talked : Option (List ℕ)) (end : End) →
-      RunTalk s k most_positions before.left after.left greeted talked (Rose before.read_faults after.read_faults) (Rose before.write_faults after.write_faults) end → Caused (status_of (ending_after end))
-  by_ending s k greeted talked ends.Finished talk = tt
-  by_ending s k greeted talked (ends.Broken label) talk = tt
-  by_ending s k greeted talked (ends.BadLine n) talk = tt
-  by_ending s k greeted talked ends.StateLimit talk = tt
-  by_ending s k greeted talked ends.ReadFault talk = talk.ends.0
-  by_ending s k greeted talked ends.WriteFault talk = talk.ends.0
+  by_closing : (last : Ending) (talked : Option (List ℕ)) (status : Status) → Caused (status_of last) → Closes last talked after.written (Rose before.write_faults after.write_faults) status → Caused status
+  by_closing last talked _ given (sessions.whole is) = given
+  by_closing last talked _ given (sessions.cut part rose) = rose
 
-  by_closing : (end : End) (talked : Option (List ℕ)) (status : Status) → Caused (status_of (ending_after end)) → Closes end talked after.written (Rose before.write_faults after.write_faults) status → Caused status
-  by_closing end talked _ given (sessions.whole is) = given
-  by_closing end talked _ given (sessions.cut part rose) = rose
+  by_session : (verdict : Ending) (Talks : Talk) (ending_of : End → Ending) (status : Status) →
+      ((end : End) (greeted talked : Option (List ℕ)) → Talks before.left after.left greeted talked (Rose before.read_faults after.read_faults) (Rose before.write_faults after.write_faults) end → Caused (status_of (ending_of end))) →
+      HoldsSession verdict Talks ending_of before after status → Caused status
+  by_session verdict Talks ending_of status by_talk (session held) = by_closing (ending_of held.end) held.talked status (by_talk held.end held.greeted held.talked held.talk) held.closes
+  by_session verdict Talks ending_of _ by_talk (cut_at_once unread part rose) = rose
 
-  by_holding : (s : Specification) (k : ℕ) (status : Status) → Holds s k before after status → Caused status
-  by_holding s k status (session held) = by_closing held.end held.talked status (by_ending s k held.greeted held.talked held.end held.talk) held.closes
-  by_holding s k _ (cut_at_once unread part rose) = rose
+  by_run : (s : Specification) (k : ℕ) (end : End) (greeted talked : Option (List ℕ)) →
+      RunTalks s k before.left after.left greeted talked (Rose before.read_faults after.read_faults) (Rose before.write_faults after.write_faults) end → Caused (status_of (ending_after end))
+  by_run s k ends.Finished greeted talked talk = tt
+  by_run s k (ends.Broken label) greeted talked talk = tt
+  by_run s k (ends.BadLine n) greeted talked talk = tt
+  by_run s k ends.StateLimit greeted talked talk = tt
+  by_run s k ends.ReadFault greeted talked talk = talk.ends.0
+  by_run s k ends.WriteFault greeted talked talk = talk.ends.0
+
+  by_audit : (s : Specification) (end : AuditEnd) → AuditTalk s most_positions before.left after.left (Rose before.read_faults after.read_faults) end → Caused (status_of (audit_ending_after end))
+  by_audit s (audits.Whole n) talk = tt
+  by_audit s (audits.Broken finding) talk = tt
+  by_audit s (audits.BadLine n) talk = tt
+  by_audit s audits.StateLimit talk = tt
+  by_audit s audits.ReadFault talk = talk.ends.1.0
 
   module _ (command : Command) (nodes : ℕ) where
-    by_deciding : (s : Specification) (status : Status) → DecidesSpecification command nodes s before after status → Caused status
+    by_deciding : (s : Specification) (status : Status) → Decides command nodes s before after status → Caused status
     by_deciding s status (top.won k is wins writes) = by_writing _ Done status tt writes
-    by_deciding s status (top.held k is wins holds) = by_holding s k status holds
-    by_deciding s status (top.lost n m loses writes) = by_writing _ Other status tt writes
+    by_deciding s status (top.held k is wins holds) = by_session (realizable k) (RunTalks s k) ending_after status (by_run s k) holds
+    by_deciding s status (top.lost n m is loses writes) = by_writing _ Other status tt writes
+    by_deciding s status (top.no_core k is wins writes) = by_writing _ Other status tt writes
+    by_deciding s status (top.has_core n m core is loses left is_core writes) = by_writing _ Done status tt writes
+    by_deciding s status (top.separates n m is loses writes) = by_writing _ Done status tt writes
+    by_deciding s status (top.separates_not k is wins writes) = by_writing _ Other status tt writes
+    by_deciding s status (top.audits is audit) = by_closing (audit_ending_after audit.end) before.written status (by_audit s audit.end audit.talk) audit.closes
     by_deciding s status (top.budget filled writes) = absurd filled
     by_deciding s status (top.no_memory wants) = by_wanting status wants
 

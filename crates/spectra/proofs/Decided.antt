@@ -1,108 +1,83 @@
--- What is done for a game, a specification and a file, from what was done for its parts.
-use Rattle.std.proofs.Common.{◌≡◌, ◌⊎◌, ℕ, List, Option, Ok, Err, inl, inr, refl, ap, sym, subst}
-use Rattle.std.specs.Result.{IsErrOf}
+-- What is done for a specification and a file, from what was done for its parts.
+use Rattle.std.proofs.Common.{◌≡◌, ◌⊎◌, ℕ, List, Option, inl, inr, refl, sym, subst}
 use Rattle.std.proofs.KnownBytes.{Appends-nil}
 use Rattle.sp_outside.specs.Files.{Files, HasNoFile}
 use Rattle.spec_model.specs.Syntax.{Specification}
-use Rattle.spec_model.specs.WellMade.{WellMade}
+use Rattle.spec_model.specs.Cores.{forced, IsLeft, IsCore}
 use Rattle.spectra_lexer.specs.declared.token.Token.{Token}
 use Rattle.spectra_lexer.specs.Tokens.{AreTokens}
 use Rattle.spectra_trees.specs.Lexemes.{lexemes}
 use Rattle.spectra_exprs.specs.declared.fault.SyntaxFault.{SyntaxFault}
 use Rattle.spectra_parser.specs.Texts.{Explains}
 use Rattle.spectra_lexer.specs.Faults.{IsNotUtf8At, IsBadAt, IsTooLong}
-use Rattle.hidden_game.specs.GameOf.{game_of}
-use Rattle.spec_model.specs.Agreement.{Agrees}
-use Rattle.spec_model.specs.Laws.{NumbersRise}
+use Rattle.solve.specs.declared.fault.SolveFault.{SolveFault}
+use Rattle.solve.specs.declared.fault.SolveFault.TheVariants.{TooManyStates, Memory as NoMemory}
+use Rattle.solve.specs.Winners.{IsWonBySystem, IsWonByEnvironment}
 use Rattle.spectra_words.specs.declared.words.Command.{Command}
-use Rattle.spectra_words.specs.declared.words.Command.TheVariants.{Synth, Run}
+use Rattle.spectra_words.specs.declared.words.Command.TheVariants.{Synth, Run, Core, Separate, Audit}
 use Rattle.spectra_words.specs.Commands.{AskNothing}
 use Rattle.spectra.specs.declared.status.Status.{Status}
 use Rattle.spectra.specs.declared.status.Status.TheVariants.{Memory}
-use Rattle.spectra.specs.Endings.{usage, no_file, shelf_fault, refused, realizable, unrealizable, node_budget}
-use Rattle.spectra.specs.Streams.{Moment, moment, Ends, WantsMemory, SaysHalt}
-use Rattle.regions.specs.declared.types.Halt.{Halt}
-use Rattle.regions.specs.declared.types.Halt.TheVariants as halts
-use Rattle.spectra.specs.Sessions.{HoldsOrNot}
-use Rattle.spectra.specs.Reading.{HasTypeFault, HasManyStates}
-use Rattle.spectra.specs.Verdict.{IsWonGame, IsLostGame}
-use Rattle.spectra.specs.Top.{Decides, won, held, lost, budget, no_memory, DecidesGame, DecidesSpecification, IsSaidOfSyntax, ServesSpecification, ServesText, ServesFile, ServesWords}
+use Rattle.spectra.specs.Endings.{usage, no_file, shelf_fault, refused, realizable, unrealizable, realizable_instead, with_core, separated, not_separated}
+use Rattle.spectra.specs.Streams.{Moment, moment, Ends, WantsMemory, SaysNoVerdict}
+use Rattle.spectra.specs.Sessions.{Holds, Audits}
+use Rattle.spectra.specs.Reading.{HasTypeFault}
+use Rattle.spectra.specs.Top.{won, held, lost, no_core, has_core, separates, separates_not, audits, IsSmall, IsLarge, IsSaidOfSyntax, ServesSpecification, ServesText, ServesFile, ServesWords}
 use Rattle.spectra.specs.Top as top
-use Rattle.spectra.proofs.Found.{won_found, lost_found}
 
 -- nothing was done: no memory was given
 pub nothing_done : (m : Moment) → WantsMemory m m Memory
 nothing_done m = record { is = refl; nothing_written = Appends-nil m.written; unread = refl }
 
--- what is said of a halt is said of the one that it is
-pub halt_said : (halt is : Halt) → halt ≡ is → (nodes : ℕ) (before after : Moment) (status : Status) → SaysHalt is nodes before after status → SaysHalt halt nodes before after status
-halt_said halt is same nodes before after status said = subst (λ (h : Halt). SaysHalt h nodes before after status) (sym same) said
-
--- ---- for a game
-
-module _ (command : Command) (nodes : ℕ) (s : Specification) (Won : ℕ → Type 0) (Lost : ℕ → ℕ → Type 0) (Filled : Type 0) (before after : Moment) (status : Status) where
-  won_by : (k : ℕ) → command ≡ Synth → Won k → Ends (realizable k) before after status ⊎ WantsMemory before after status → Decides command nodes s Won Lost Filled before after status
-  won_by k is wins (inl writes) = won k is wins writes
-  won_by k is wins (inr wants) = no_memory wants
-
-  held_by : (k : ℕ) → command ≡ Run → Won k → HoldsOrNot s k nodes Filled before after status → Decides command nodes s Won Lost Filled before after status
-  held_by k is wins (inl holds) = held k is wins holds
-  held_by k is wins (inr (inl full)) = budget full.0 full.1
-  held_by k is wins (inr (inr wants)) = no_memory wants
-
-  lost_by : (n m : ℕ) → Lost n m → Ends (unrealizable n m) before after status ⊎ WantsMemory before after status → Decides command nodes s Won Lost Filled before after status
-  lost_by n m loses (inl writes) = lost n m loses writes
-  lost_by n m loses (inr wants) = no_memory wants
-
-  filled_by : Filled → Ends (node_budget nodes) before after status ⊎ WantsMemory before after status → Decides command nodes s Won Lost Filled before after status
-  filled_by is (inl writes) = budget is writes
-  filled_by is (inr wants) = no_memory wants
-
-module _ (command : Command) (nodes : ℕ) (s : Specification) (Filled : Type 0) (before after : Moment) (status : Status) where
-  pub synth_won : (k : ℕ) → command ≡ Synth → IsWonGame (game_of s) k → Ends (realizable k) before after status ⊎ WantsMemory before after status → DecidesGame command nodes s Filled before after status
-  synth_won = won_by command nodes s (IsWonGame (game_of s)) (IsLostGame (game_of s)) Filled before after status
-
-  pub run_held : (k : ℕ) → command ≡ Run → IsWonGame (game_of s) k → HoldsOrNot s k nodes Filled before after status → DecidesGame command nodes s Filled before after status
-  run_held = held_by command nodes s (IsWonGame (game_of s)) (IsLostGame (game_of s)) Filled before after status
-
-  pub is_lost : (n m : ℕ) → IsLostGame (game_of s) n m → Ends (unrealizable n m) before after status ⊎ WantsMemory before after status → DecidesGame command nodes s Filled before after status
-  is_lost = lost_by command nodes s (IsWonGame (game_of s)) (IsLostGame (game_of s)) Filled before after status
-
-  is_filled : Filled → Ends (node_budget nodes) before after status ⊎ WantsMemory before after status → DecidesGame command nodes s Filled before after status
-  is_filled = filled_by command nodes s (IsWonGame (game_of s)) (IsLostGame (game_of s)) Filled before after status
-
-  pub is_halted : (halt : Halt) → (halt ≡ halts.Budget → Filled) → SaysHalt halt nodes before after status → DecidesGame command nodes s Filled before after status
-  is_halted halts.Budget filled said = is_filled (filled refl) said
-  is_halted halts.Memory filled said = no_memory said
-
--- no session was held
-pub not_held : (s : Specification) (k nodes : ℕ) (Filled : Type 0) (before after : Moment) (status : Status) (halt : Halt) → (halt ≡ halts.Budget → Filled) → SaysHalt halt nodes before after status → HoldsOrNot s k nodes Filled before after status
-not_held s k nodes Filled before after status halts.Budget filled (inl writes) = inr (inl (filled refl, writes))
-not_held s k nodes Filled before after status halts.Budget filled (inr wants) = inr (inr wants)
-not_held s k nodes Filled before after status halts.Memory filled wants = inr (inr wants)
+-- what is said where there is no verdict
+pub no_verdict_said : (fault is : SolveFault) → fault ≡ is → (name : List ℕ) (before after : Moment) (status : Status) → SaysNoVerdict is name before after status → SaysNoVerdict fault name before after status
+no_verdict_said fault is same name before after status said = subst (λ (f : SolveFault). SaysNoVerdict f name before after status) (sym same) said
 
 -- ---- for a specification
 
--- a result that is none of a fault, and one that is
-pub not_err : {T E : Type 0} (x : T) (e : E) → IsErrOf (Ok x) e → ⊥
-not_err x e same = absurd (cc)
+module _ (command : Command) (nodes : ℕ) (name : List ℕ) (s : Specification) (before after : Moment) (status : Status) where
+  pub synth_won : (k : ℕ) → command ≡ Synth → IsWonBySystem s k → IsSmall command s → Ends (realizable k) before after status ⊎ WantsMemory before after status → ServesSpecification command nodes name before after s status
+  synth_won k is wins few (inl writes) = top.few few (won k is wins writes)
+  synth_won k is wins few (inr wants) = top.no_memory wants
 
-pub err_of : {T E : Type 0} (e f : E) → e ≡ f → IsErrOf {T = T} (Err e) f
-err_of e f same = ap (λ x. Err x) same
+  pub run_held : (k : ℕ) → command ≡ Run → IsWonBySystem s k → IsSmall command s → Holds s k before after status ⊎ WantsMemory before after status → ServesSpecification command nodes name before after s status
+  run_held k is wins few (inl holds) = top.few few (held k is wins holds)
+  run_held k is wins few (inr wants) = top.no_memory wants
 
-pub too_many : (command : Command) (nodes : ℕ) (name : List ℕ) (before after : Moment) (s : Specification) (status : Status) → HasManyStates s →
-    Ends (refused name 1 1 24) before after status ⊎ WantsMemory before after status → ServesSpecification command nodes name before after s status
-too_many command nodes name before after s status more (inl writes) = top.too_many more writes
-too_many command nodes name before after s status more (inr wants) = top.no_memory wants
+  pub is_lost : (n m : ℕ) → (command ≡ Synth) ⊎ (command ≡ Run) → IsWonByEnvironment s n m → IsSmall command s → Ends (unrealizable n m) before after status ⊎ WantsMemory before after status → ServesSpecification command nodes name before after s status
+  is_lost n m is wins few (inl writes) = top.few few (lost n m is wins writes)
+  is_lost n m is wins few (inr wants) = top.no_memory wants
 
--- rows never ran out of nodes
-module _ (command : Command) (nodes : ℕ) (s : Specification) (agrees : Agrees s (game_of s)) (made : WellMade (game_of s)) (rise : NumbersRise s.lines) (Filled : Type 0) (never : ¬ Filled) (before after : Moment) where
-  pub decided : (status : Status) → DecidesGame command nodes s Filled before after status → DecidesSpecification command nodes s before after status
-  decided status (won k is wins writes) = won k is (won_found s agrees made k wins) writes
-  decided status (held k is wins holds) = held k is (won_found s agrees made k wins) holds
-  decided status (lost n m loses writes) = lost n m (lost_found s agrees made rise n m loses) writes
-  decided status (budget filled writes) = absurd (never filled)
-  decided status (no_memory wants) = no_memory wants
+  pub is_kept : (k : ℕ) → command ≡ Core → IsWonBySystem s k → IsSmall command s → Ends (realizable_instead k) before after status ⊎ WantsMemory before after status → ServesSpecification command nodes name before after s status
+  is_kept k is wins few (inl writes) = top.few few (no_core k is wins writes)
+  is_kept k is wins few (inr wants) = top.no_memory wants
+
+  pub core_found : (n m : ℕ) (core : List ℕ) → command ≡ Core → IsWonByEnvironment s n m → IsLeft s core → IsCore s core → IsSmall command s → Ends (with_core n m core) before after status ⊎ WantsMemory before after status →
+      ServesSpecification command nodes name before after s status
+  core_found n m core is wins left is_core few (inl writes) = top.few few (has_core n m core is wins left is_core writes)
+  core_found n m core is wins left is_core few (inr wants) = top.no_memory wants
+
+  pub is_separated : (n m : ℕ) → command ≡ Separate → IsWonByEnvironment (forced s) n m → IsSmall command s → Ends (separated n m) before after status ⊎ WantsMemory before after status → ServesSpecification command nodes name before after s status
+  is_separated n m is wins few (inl writes) = top.few few (separates n m is wins writes)
+  is_separated n m is wins few (inr wants) = top.no_memory wants
+
+  pub is_not_separated : (k : ℕ) → command ≡ Separate → IsWonBySystem (forced s) k → IsSmall command s → Ends (not_separated k) before after status ⊎ WantsMemory before after status → ServesSpecification command nodes name before after s status
+  is_not_separated k is wins few (inl writes) = top.few few (separates_not k is wins writes)
+  is_not_separated k is wins few (inr wants) = top.no_memory wants
+
+  pub is_audited : command ≡ Audit → Audits s before after status ⊎ WantsMemory before after status → ServesSpecification command nodes name before after s status
+  is_audited is (inl audit) = top.few (subst (λ (c : Command). IsSmall c s) (sym is) tt) (audits is audit)
+  is_audited is (inr wants) = top.no_memory wants
+
+  -- there is no verdict
+  pub not_decided : (fault : SolveFault) → (fault ≡ TooManyStates → IsLarge command s) → SaysNoVerdict fault name before after status → ServesSpecification command nodes name before after s status
+  not_decided TooManyStates many (inl writes) = top.too_many (many refl) writes
+  not_decided TooManyStates many (inr wants) = top.no_memory wants
+  not_decided NoMemory many wants = top.no_memory wants
+
+-- what is served for the command that it is
+pub served_as : (command is : Command) → command ≡ is → (nodes : ℕ) (name : List ℕ) (s : Specification) (before after : Moment) (status : Status) → ServesSpecification is nodes name before after s status → ServesSpecification command nodes name before after s status
+served_as command is same nodes name s before after status serves = subst (λ (c : Command). ServesSpecification c nodes name before after s status) (sym same) serves
 
 -- ---- for a text
 

@@ -3,8 +3,6 @@ use Rattle.std.proofs.Common.{◌≡◌, ℕ, ◌+◌, List, length, take, drop,
 use Rattle.std.proofs.lemmas.List.{take-append-drop}
 use Rattle.sp_outside.specs.Files.{Files, told_file, HasFile, HasNoFile}
 use Rattle.spec_model.specs.Syntax.{Specification}
-use Rattle.spec_model.specs.Steps.{states_of}
-use Rattle.hidden_game.specs.GameOf.{game_of}
 use Rattle.spectra_lexer.specs.declared.token.Token.{Token}
 use Rattle.spectra_lexer.specs.Tokens.{AreTokens}
 use Rattle.spectra_lexer.specs.Faults.{IsTooLong}
@@ -23,10 +21,11 @@ use Rattle.spectra_types.specs.Meanings.{faults_of}
 use Rattle.spectra_words.specs.declared.words.Command.{Command}
 use Rattle.spectra.specs.declared.status.Status.{Status}
 use Rattle.spectra.specs.Streams.{Moment}
-use Rattle.spectra.specs.Reading.{Reads, HasTypeFault, HasFewStates, named_by}
-use Rattle.spectra.specs.Top.{DecidesSpecification, ServesSpecification, ServesText, ServesFile, ServesWords, DecidesWhatReads}
+use Rattle.spectra.specs.Reading.{Reads, HasTypeFault, named_by}
+use Rattle.spectra.specs.Top.{Decides, ServesSpecification, ServesText, ServesFile, ServesWords, DecidesWhatReads, IsSmall}
 use Rattle.spectra.specs.Top as top
 use Rattle.spectra.proofs.Readings.{one_meaning}
+use Rattle.spectra.proofs.SameStates.{small_or_large}
 use Rattle.spectra.proofs.Requests.{one_file, one_command, one_budget}
 
 -- ---- tokens with a tree, whose forms are built, have no fault
@@ -64,13 +63,13 @@ module _ (text : List ℕ) (s : Specification) (reads : Reads text s) where
 
   -- ---- and gets its decision
 
-  module _ (few : HasFewStates s) (command : Command) (nodes : ℕ) (name : List ℕ) (before after : Moment) (status : Status) where
-    of_specification : (other : Specification) → Reads text other → ServesSpecification command nodes name before after other status → DecidesSpecification command nodes s before after status
-    of_specification other also (top.too_many many writes) = absurd (let e = ap (λ (t : Specification). length (states_of (game_of t))) (one_meaning text s other reads also) in omega (arith, e, few, many))
-    of_specification other also (top.few is decides) = subst (λ (t : Specification). DecidesSpecification command nodes t before after status) (one_meaning text other s also reads) decides
+  module _ (command : Command) (few : IsSmall command s) (nodes : ℕ) (name : List ℕ) (before after : Moment) (status : Status) where
+    of_specification : (other : Specification) → Reads text other → ServesSpecification command nodes name before after other status → Decides command nodes s before after status
+    of_specification other also (top.too_many many writes) = absurd (small_or_large command other (subst (IsSmall command) (one_meaning text s other reads also) few) many)
+    of_specification other also (top.few is decides) = subst (λ (t : Specification). Decides command nodes t before after status) (one_meaning text other s also reads) decides
     of_specification other also (top.no_memory wants) = top.no_memory wants
 
-    of_text : ServesText command nodes name before after text status → DecidesSpecification command nodes s before after status
+    of_text : ServesText command nodes name before after text status → Decides command nodes s before after status
     of_text (top.not_utf8 line column is writes) = absurd (broken_is_no_utf8 text line column is reads.lexed.utf8)
     of_text (top.bad_character line column is writes) = absurd (reads_or_fails reads.lexed.lexed is.fails)
     of_text (top.too_long is writes) = absurd (is_long_not is)
@@ -79,7 +78,7 @@ module _ (text : List ℕ) (s : Specification) (reads : Reads text s) where
     of_text (top.means other also serves) = of_specification other also serves
     of_text (top.no_memory wants) = top.no_memory wants
 
-    of_file : (told : Option (Option (List ℕ))) → told ≡ Some (Some text) → (failed : Type 0) → ¬ failed → ServesFile command nodes name before after told failed status → DecidesSpecification command nodes s before after status
+    of_file : (told : Option (Option (List ℕ))) → told ≡ Some (Some text) → (failed : Type 0) → ¬ failed → ServesFile command nodes name before after told failed status → Decides command nodes s before after status
     of_file told is failed stood (top.missing none writes) = absurd (let none = subst HasNoFile is none in cc)
     of_file told is failed stood (top.fault rose writes) = absurd (stood rose)
     of_file told is failed stood (top.of_text other has serves) =
@@ -93,6 +92,6 @@ decides_what_reads words files failed before after status (top.asked command' na
     let same_name : name' ≡ name = one_file words command command' name name' nodes nodes' asks asks' in
     let same_command : command' ≡ command = one_command words command command' name name' nodes nodes' asks asks' in
     let same_nodes : nodes' ≡ nodes = one_budget words command command' name name' nodes nodes' asks asks' in
-    let decides = of_file text s reads few command' nodes' name' before after status (told_file files name') (ap (told_file files) same_name ∙ told) failed stood serves in
-    subst (λ (n : ℕ). DecidesSpecification command n s before after status) same_nodes (subst (λ (c : Command). DecidesSpecification c nodes' s before after status) same_command decides)
+    let decides = of_file text s reads command' (subst (λ (c : Command). IsSmall c s) (sym same_command) few) nodes' name' before after status (told_file files name') (ap (told_file files) same_name ∙ told) failed stood serves in
+    subst (λ (n : ℕ). Decides command n s before after status) same_nodes (subst (λ (c : Command). Decides c nodes' s before after status) same_command decides)
 decides_what_reads words files failed before after status (top.no_memory wants) = λ command name nodes text s asks told reads few stood. top.no_memory wants

@@ -6,13 +6,12 @@ use Rattle.sp_outside.specs.Causes.{Rose}
 use Rattle.sp_outside.specs.Written.{AppendsFront}
 use Rattle.spec_model.specs.Syntax.{Specification}
 use Rattle.session.specs.declared.talking.End.{End}
-use Rattle.session.specs.Talks.{RunTalk}
 use Rattle.session.proofs.RunTalks.{weaker}
 use Rattle.spectra.specs.declared.status.Status.{Status}
 use Rattle.spectra.specs.declared.status.Status.TheVariants.{OutputFault}
-use Rattle.spectra.specs.Endings.{Ending, line_of, status_of, realizable}
+use Rattle.spectra.specs.Endings.{Ending, line_of, status_of}
 use Rattle.spectra.specs.Streams.{moment, Writes, OverOutput, IsSaid}
-use Rattle.spectra.specs.Sessions.{most_positions, ending_after, Closes, whole, cut, Holds, session}
+use Rattle.spectra.specs.Sessions.{most_positions, Talk, Closes, whole, cut, HoldsSession, session, RunTalks}
 
 -- a line that is written is said, where it is the one that is due
 pub is_said : {O : Type 0} (written : O → Option (List ℕ)) (faults : O → ℕ) (e : Ending) (given : List ℕ) (status : Status) (old new : O) → given ≡ line_of e →
@@ -21,13 +20,13 @@ is_said written faults e given status old new same writes = λ left n.
     inl (subst (λ (l : List ℕ). Writes l (status_of e) (moment left (written old) n (faults old)) (moment left (written new) n (faults new)) status) same (writes left n))
 
 -- what was told of the last line closes the session
-pub closes_by : {T E : Type 0} (end is : End) → end ≡ is → (before after : Option (List ℕ)) (rose : Type 0) (result : Result T E) (status : Status) →
-    OnOk result (Appends before after (line_of (ending_after is))) → OnErr result (AppendsFront before after (line_of (ending_after is))) → OnErr result rose →
-    OnOk result (status ≡ status_of (ending_after is)) → OnErr result (status ≡ OutputFault) → Closes end before after rose status
-closes_by end is same before after rose (Ok x) status written part cause told cut_short =
-    subst (λ (s : Status). Closes end before after rose s) (sym told) (subst (λ (e : End). Closes e before after rose (status_of (ending_after is))) (sym same) (whole written))
-closes_by end is same before after rose (Err x) status written part cause told cut_short =
-    subst (λ (s : Status). Closes end before after rose s) (sym cut_short) (cut (subst (λ (e : End). AppendsFront before after (line_of (ending_after e))) (sym same) part) cause)
+pub closes_by : {X T E : Type 0} (ending_of : X → Ending) (end is : X) → end ≡ is → (before after : Option (List ℕ)) (rose : Type 0) (result : Result T E) (status : Status) →
+    OnOk result (Appends before after (line_of (ending_of is))) → OnErr result (AppendsFront before after (line_of (ending_of is))) → OnErr result rose →
+    OnOk result (status ≡ status_of (ending_of is)) → OnErr result (status ≡ OutputFault) → Closes (ending_of end) before after rose status
+closes_by {X} ending_of end is same before after rose (Ok x) status written part cause told cut_short =
+    subst (λ (s : Status). Closes (ending_of end) before after rose s) (sym told) (subst (λ (e : X). Closes (ending_of e) before after rose (status_of (ending_of is))) (sym same) (whole written))
+closes_by {X} ending_of end is same before after rose (Err x) status written part cause told cut_short =
+    subst (λ (s : Status). Closes (ending_of end) before after rose s) (sym cut_short) (cut (subst (λ (e : X). AppendsFront before after (line_of (ending_of e))) (sym same) part) cause)
 
 -- ---- sessions
 
@@ -35,21 +34,26 @@ closes_by end is same before after rose (Err x) status written part cause told c
 rose_between : (first before now last : ℕ) → first ≤ before → now ≤ last → Rose before now → Rose first last
 rose_between first before now last earlier later rose = omega (arith, earlier, later, rose)
 
-closes_later : (end : End) (before after : Option (List ℕ)) (rose rose' : Type 0) (status : Status) → (rose → rose') → Closes end before after rose status → Closes end before after rose' status
-closes_later end before after rose rose' _ from (whole is) = whole is
-closes_later end before after rose rose' _ from (cut part is) = cut part (from is)
+pub closes_later : (last : Ending) (before after : Option (List ℕ)) (rose rose' : Type 0) (status : Status) → (rose → rose') → Closes last before after rose status → Closes last before after rose' status
+closes_later last before after rose rose' _ from (whole is) = whole is
+closes_later last before after rose rose' _ from (cut part is) = cut part (from is)
 
--- the verdict line, a talk and its last line are a session
-pub session_held : (s : Specification) (k : ℕ) (left left' written greeted talked written' : Option (List ℕ)) (reads reads' writes writes1 writes2 writes' : ℕ) (end : End) (status : Status) →
-    Appends written greeted (line_of (realizable k)) → RunTalk s k most_positions left left' greeted talked (Rose reads reads') (Rose writes1 writes2) end → Closes end talked written' (Rose writes2 writes') status →
-    writes ≤ writes1 → writes1 ≤ writes2 → writes2 ≤ writes' → Holds s k (moment left written reads writes) (moment left' written' reads' writes') status
-session_held s k left left' written greeted talked written' reads reads' writes writes1 writes2 writes' end status verdict talk closes first second third =
+-- The verdict line, a talk and its last line are a session. Where the output's count rose in the talk, it rose in the session.
+pub session_held : (verdict : Ending) (Talks : Talk) (ending_of : End → Ending) (left left' written greeted talked written' : Option (List ℕ)) (reads reads' writes writes1 writes2 writes' : ℕ) (end : End) (status : Status) →
+    ((rose rose' : Type 0) → (rose → rose') → Talks left left' greeted talked (Rose reads reads') rose end → Talks left left' greeted talked (Rose reads reads') rose' end) → Appends written greeted (line_of verdict) →
+    Talks left left' greeted talked (Rose reads reads') (Rose writes1 writes2) end → Closes (ending_of end) talked written' (Rose writes2 writes') status → writes ≤ writes1 → writes1 ≤ writes2 → writes2 ≤ writes' →
+    HoldsSession verdict Talks ending_of (moment left written reads writes) (moment left' written' reads' writes') status
+session_held verdict Talks ending_of left left' written greeted talked written' reads reads' writes writes1 writes2 writes' end status weaker told talk closes first second third =
     session
     (record {
       end = end;
       greeted = greeted;
       talked = talked;
-      verdict = verdict;
-      talk = weaker s k most_positions left left' greeted talked (Rose reads reads') (Rose writes1 writes2) (Rose reads reads') (Rose writes writes') end (λ rose. rose) (rose_between writes writes1 writes2 writes' first third) talk;
-      closes = closes_later end talked written' (Rose writes2 writes') (Rose writes writes') status (rose_between writes writes2 writes' writes' (omega (arith, first, second)) (omega arith)) closes;
+      verdict_line = told;
+      talk = weaker (Rose writes1 writes2) (Rose writes writes') (rose_between writes writes1 writes2 writes' first third) talk;
+      closes = closes_later (ending_of end) talked written' (Rose writes2 writes') (Rose writes writes') status (rose_between writes writes2 writes' writes' (omega (arith, first, second)) (omega arith)) closes;
     })
+
+-- the talk of the system's side does not depend on more than that
+pub run_weaker : (s : Specification) (k : ℕ) (left left' written written' : Option (List ℕ)) (rose_in rose rose' : Type 0) (end : End) → (rose → rose') → RunTalks s k left left' written written' rose_in rose end → RunTalks s k left left' written written' rose_in rose' end
+run_weaker s k left left' written written' rose_in rose rose' end from talk = weaker s k most_positions left left' written written' rose_in rose rose_in rose' end (λ is. is) from talk

@@ -3,7 +3,7 @@ mod BuiltExpressions
 mod TextTokens
 mod SpelledTokens
 mod BuiltTexts
-mod Found
+mod SameStates
 mod Placed
 mod Readings
 mod Requests

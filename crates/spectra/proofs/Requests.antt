@@ -1,15 +1,34 @@
 -- Words ask for one thing alone.
-use Rattle.std.proofs.Common.{◌≡◌, ℕ, List, Option, Some, None, sym, ◌∙◌}
+use Rattle.std.proofs.Common.{◌≡◌, ℕ, List, Option, Some, None, sum, refl, sym, ap, arith, ◌∙◌}
 use Rattle.spectra_words.specs.declared.words.Command.{Command}
-use Rattle.spectra_words.specs.declared.words.Command.TheVariants.{Synth, Run}
+use Rattle.spectra_words.specs.declared.words.Command.TheVariants.{Synth, Run, Core, Separate, Audit}
 use Rattle.spectra_words.specs.Commands.{Asks, IsBudget, word_of}
-use Rattle.std.proofs.Common.{refl}
+
+-- the codes of each word have another sum
+abbrev sum_of : Command → ℕ
+sum_of Synth = 566
+sum_of Run = 341
+sum_of Core = 425
+sum_of Separate = 853
+sum_of Audit = 535
+
+summed : (command : Command) → sum (word_of command) ≡ sum_of command
+summed Synth = refl
+summed Run = refl
+summed Core = refl
+summed Separate = refl
+summed Audit = refl
+
+one_sum : (command other : Command) → sum_of command ≡ sum_of other → command ≡ other
+one_sum Synth Synth same = refl
+one_sum Run Run same = refl
+one_sum Core Core same = refl
+one_sum Separate Separate same = refl
+one_sum Audit Audit same = refl
+one_sum _ _ same = absurd (omega arith)
 
 one_word : (command other : Command) → word_of command ≡ word_of other → command ≡ other
-one_word Synth Synth same = refl
-one_word Synth Run same = absurd (cc)
-one_word Run Synth same = absurd (cc)
-one_word Run Run same = refl
+one_word command other same = one_sum command other (sym (summed command) ∙ ap sum same ∙ summed other)
 
 one_number : (word : Option (List ℕ)) (n m : ℕ) → IsBudget word n → IsBudget word m → n ≡ m
 one_number None n m is also = is ∙ sym also

@@ -1,8 +1,6 @@
 -- Which status there is, by what is asked and told.
 use Rattle.std.proofs.Common.{◌≡◌, ℕ, List, Option, Some, None, inl, inr, refl, length, ap, sym, subst, arith, ◌∙◌}
 use Rattle.spec_model.specs.Syntax.{Specification}
-use Rattle.spec_model.specs.Steps.{states_of}
-use Rattle.hidden_game.specs.GameOf.{game_of}
 use Rattle.sp_outside.specs.Files.{Files, told_file, HasFile, HasNoFile}
 use Rattle.spectra_words.specs.declared.words.Command.{Command}
 use Rattle.spectra.specs.declared.status.Status.{Status}
@@ -10,10 +8,10 @@ use Rattle.spectra.specs.declared.status.Status.TheVariants.{Words, Refused, She
 use Rattle.spectra.specs.Endings.{IsCutShort, IsUnlessCut, IsUnlessFault}
 use Rattle.spectra_words.specs.Commands.{Asks, AskNothing}
 use Rattle.spectra.specs.Streams.{Moment, Writes, whole, cut, WantsMemory}
-use Rattle.spectra.specs.Reading.{IsRefused}
 use Rattle.spectra.proofs.Readings.{one_meaning}
-use Rattle.spectra.proofs.Requests.{one_file}
-use Rattle.spectra.specs.Top.{ServesSpecification, ServesText, ServesFile, ServesWords, Refuses}
+use Rattle.spectra.proofs.SameStates.{small_or_large}
+use Rattle.spectra.proofs.Requests.{one_file, one_command}
+use Rattle.spectra.specs.Top.{ServesSpecification, ServesText, ServesFile, ServesWords, Refuses, IsRefused, IsLarge}
 use Rattle.spectra.specs.Top as top
 
 module _ (before after : Moment) where
@@ -36,7 +34,7 @@ module _ (before after : Moment) where
   words_status words files failed status (top.no_memory wants) none = wanted Words status wants
 
   -- a text that is refused is refused, unless something failed
-  module _ (command : Command) (nodes : ℕ) (name text : List ℕ) (refuses : IsRefused text) where
+  module _ (command : Command) (nodes : ℕ) (name text : List ℕ) (refuses : IsRefused command text) where
     of_text : (status : Status) → ServesText command nodes name before after text status → IsUnlessFault Refused status
     of_text status (top.not_utf8 line column is writes) = or_fault Refused status (written _ Refused status writes)
     of_text status (top.bad_character line column is writes) = or_fault Refused status (written _ Refused status writes)
@@ -46,11 +44,11 @@ module _ (before after : Moment) where
     of_text status (top.no_memory wants) = or_fault Refused status (wanted Refused status wants)
     of_text status (top.means s reads serves) = by refuses serves
       where
-        by : IsRefused text → ServesSpecification command nodes name before after s status → IsUnlessFault Refused status
+        by : IsRefused command text → ServesSpecification command nodes name before after s status → IsUnlessFault Refused status
         by (inl none) serves = absurd (none s reads)
         by (inr many) (top.too_many more writes) = or_fault Refused status (written _ Refused status writes)
         by (inr many) (top.no_memory wants) = or_fault Refused status (wanted Refused status wants)
-        by (inr many) (top.few few decides) = absurd (let e = ap (λ (s : Specification). length (states_of (game_of s))) (one_meaning text many.0 s many.1 reads) in let more = many.2 in omega arith)
+        by (inr many) (top.few few decides) = absurd (small_or_large command s few (subst (IsLarge command) (one_meaning text many.0 s many.1 reads) many.2))
 
     of_told : (told : Option (Option (List ℕ))) → told ≡ Some (Some text) → (failed : Type 0) (status : Status) → ServesFile command nodes name before after told failed status → IsUnlessFault Refused status
     of_told told is failed status (top.missing none writes) = absurd (let none = subst HasNoFile is none in cc)
@@ -77,11 +75,12 @@ module _ (before after : Moment) where
 
   -- what was asked is served for the file that is asked for
   module _ (words : List (List ℕ)) (files : Option Files) (failed : Type 0) (command : Command) (name : List ℕ) (nodes : ℕ) (asks : Asks words command name nodes) where
-    refused_status : (text : List ℕ) → told_file files name ≡ Some (Some text) → IsRefused text → (status : Status) → ServesWords words files failed before after status → IsUnlessFault Refused status
+    refused_status : (text : List ℕ) → told_file files name ≡ Some (Some text) → IsRefused command text → (status : Status) → ServesWords words files failed before after status → IsUnlessFault Refused status
     refused_status text told refuses status (top.no_command nothing writes) = absurd (nothing command name nodes asks)
     refused_status text told refuses status (top.asked command' name' nodes' asks' serves) =
         let same = one_file words command command' name name' nodes nodes' asks asks' in
-        of_told command' nodes' name' text refuses (told_file files name') (ap (told_file files) same ∙ told) failed status serves
+        let same_command = one_command words command command' name name' nodes nodes' asks asks' in
+        of_told command' nodes' name' text (subst (λ (c : Command). IsRefused c text) (sym same_command) refuses) (told_file files name') (ap (told_file files) same ∙ told) failed status serves
     refused_status text told refuses status (top.no_memory wants) = or_fault Refused status (wanted Refused status wants)
 
     no_file_status : told_file files name ≡ Some None → (status : Status) → ServesWords words files failed before after status → IsUnlessFault NoFile status

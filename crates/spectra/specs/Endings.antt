@@ -1,5 +1,5 @@
 -- How the program ends: its statuses, and the lines that it may write last.
-use Rattle.std.specs.Prelude.{◌≡◌, ◌⊎◌, ℕ, ◌==◌, List, [], ◌∷◌, ◌++◌, codes, if◌then◌else◌}
+use Rattle.std.specs.Prelude.{◌≡◌, ◌⊎◌, ℕ, ◌==◌, List, [], ◌∷◌, ◌++◌, length, codes, if◌then◌else◌}
 use Rattle.std.specs.Fmt.{decimal}
 use Rattle.spectra.specs.declared.status.Status.{Status}
 use Rattle.spectra.specs.declared.status.Status.TheVariants.{Done, Other, Words, Refused, Assumption, Budget, BadLine, ShelfFault, InputFault, OutputFault, Memory, NoFile, Limit}
@@ -62,6 +62,23 @@ fault_text n =
     else if n == 23 then codes "23 Unsupported"
     else codes "24 TooManyStates"
 
+-- ---- verdicts and cores
+
+abbrev pub realizable_text : ℕ → List ℕ
+realizable_text k = codes "realizable K=" ++ (decimal k ++ 10 ∷ [])
+
+abbrev pub unrealizable_text : (n m : ℕ) → List ℕ
+unrealizable_text n m = codes "unrealizable N=" ++ (decimal n ++ (codes " M=" ++ (decimal m ++ 10 ∷ [])))
+
+-- the numbers of lines, one on each line
+abbrev pub numbers_text : List ℕ → List ℕ
+numbers_text [] = []
+numbers_text (n ∷ ns) = 35 ∷ (decimal n ++ (10 ∷ numbers_text ns))
+
+-- how many lines a core has, and their numbers
+abbrev pub core_text : List ℕ → List ℕ
+core_text core = codes "core " ++ (decimal (length core) ++ (10 ∷ numbers_text core))
+
 -- ---- endings
 
 -- How a run ends that neither the output nor memory cuts short.
@@ -72,10 +89,16 @@ pub data Ending : Type 0 where
   refused : (name : List ℕ) (line column number : ℕ) → Ending
   realizable : (k : ℕ) → Ending
   unrealizable : (n m : ℕ) → Ending
+  realizable_instead : (k : ℕ) → Ending
+  with_core : (n m : ℕ) (core : List ℕ) → Ending
+  separated : (n m : ℕ) → Ending
+  not_separated : (k : ℕ) → Ending
   node_budget : (nodes : ℕ) → Ending
   all_answered : Ending
   broken : (line : ℕ) → Ending
   bad_line : (line : ℕ) → Ending
+  audited : (positions : ℕ) → Ending
+  audit_broken : (line position : ℕ) → Ending
   state_limit : Ending
   input_fault : Ending
   output_fault : Ending
@@ -86,12 +109,18 @@ row usage = (codes "usage: spectra COMMAND FILE [--nodes N]\n", Words)
 row (no_file name) = (codes "no such file: " ++ name ++ 10 ∷ [], NoFile)
 row (shelf_fault name) = (codes "file fault: " ++ name ++ 10 ∷ [], ShelfFault)
 row (refused name line column number) = (name ++ 58 ∷ (decimal line ++ 58 ∷ (decimal column ++ (codes ": fault " ++ (fault_text number ++ 10 ∷ [])))), Refused)
-row (realizable k) = (codes "realizable K=" ++ (decimal k ++ 10 ∷ []), Done)
-row (unrealizable n m) = (codes "unrealizable N=" ++ (decimal n ++ (codes " M=" ++ (decimal m ++ 10 ∷ []))), Other)
+row (realizable k) = (realizable_text k, Done)
+row (unrealizable n m) = (unrealizable_text n m, Other)
+row (realizable_instead k) = (realizable_text k, Other)
+row (with_core n m core) = (unrealizable_text n m ++ core_text core, Done)
+row (separated n m) = (codes "separated N=" ++ (decimal n ++ (codes " M=" ++ (decimal m ++ 10 ∷ []))), Done)
+row (not_separated k) = (codes "not separated K=" ++ (decimal k ++ 10 ∷ []), Other)
 row (node_budget nodes) = (codes "node budget " ++ (decimal nodes ++ codes " reached\n"), Budget)
 row all_answered = ([], Done)
 row (broken line) = (codes "assumption broken #" ++ (decimal line ++ codes "\n"), Assumption)
 row (bad_line line) = (codes "line " ++ (decimal line ++ codes " refused\n"), BadLine)
+row (audited positions) = (codes "audit ok " ++ (decimal positions ++ codes "\n"), Done)
+row (audit_broken line position) = (codes "audit broken #" ++ (decimal line ++ (codes " line " ++ (decimal position ++ codes "\n"))), Other)
 row state_limit = (codes "state limit reached\n", Limit)
 row input_fault = (codes "input fault\n", InputFault)
 row output_fault = ([], OutputFault)

@@ -1,7 +1,6 @@
 -- Which specification a text means, if it means one.
-use Rattle.std.specs.Prelude.{◌≡◌, ◌⊎◌, ℕ, ◌<◌, ◌≤◌, List, length, Option, Some, None, option_map, unwrap_or, slice_get}
+use Rattle.std.specs.Prelude.{◌≡◌, ℕ, List, Option, Some, None, option_map, unwrap_or, slice_get}
 use Rattle.spec_model.specs.Syntax.{Specification}
-use Rattle.spec_model.specs.Steps.{states_of}
 use Rattle.spectra_lexer.specs.declared.token.Token.{Token}
 use Rattle.spectra_lexer.specs.Tokens.{AreTokens}
 use Rattle.spectra_trees.specs.Data.{TreeData}
@@ -13,7 +12,6 @@ use Rattle.spectra_parser.specs.Texts as parsing
 use Rattle.spectra_names.specs.Findings.{fault, first_of_faults}
 use Rattle.spectra_types.specs.Meanings.{faults_of}
 use Rattle.spectra_types.specs.Resolved.{Means}
-use Rattle.hidden_game.specs.GameOf.{game_of}
 use Rattle.spectra.specs.declared.reading.ReadFault.{ReadFault}
 use Rattle.spectra.specs.declared.reading.ReadFault.TheVariants.{Syntax, Types, Memory}
 
@@ -54,17 +52,3 @@ named_by syntax.Memory = None
 -- the line and the column of a token, by its number
 abbrev pub place_of_token : List Token → ℕ → ℕ × ℕ
 place_of_token tokens at = unwrap_or (option_map (λ t. (t.line, t.column)) (slice_get tokens at)) (1, 1)
-
--- how many states a game may have as long as they are numbered one by one
-abbrev pub most_states : ℕ
-most_states = 1024
-
-abbrev pub HasFewStates : Specification → Type 0
-HasFewStates s = length (states_of (game_of s)) ≤ most_states
-
-abbrev pub HasManyStates : Specification → Type 0
-HasManyStates s = most_states < length (states_of (game_of s))
-
--- the text gets no verdict
-abbrev pub IsRefused : List ℕ → Type 0
-IsRefused text = MeansNothing text ⊎ ((s : Specification) × Reads text s × HasManyStates s)

@@ -1,22 +1,55 @@
 -- Sessions that the program held.
-use Rattle.std.specs.Prelude.{◌≡◌, ◌⊎◌, ℕ, List, Option}
+use Rattle.std.specs.Prelude.{◌≡◌, ℕ, List, Option}
 use Rattle.std.specs.Io.KnownBytes.{Appends}
 use Rattle.sp_outside.specs.Causes.{Rose}
 use Rattle.sp_outside.specs.Written.{AppendsFront}
 use Rattle.spec_model.specs.Syntax.{Specification}
 use Rattle.session.specs.declared.talking.End.{End}
 use Rattle.session.specs.declared.talking.End.TheVariants as ends
+use Rattle.session.specs.declared.auditing.AuditEnd.{AuditEnd}
+use Rattle.session.specs.declared.auditing.AuditEnd.TheVariants as audits
 use Rattle.session.specs.Talks.{RunTalk}
+use Rattle.session.specs.AuditTalks.{AuditTalk}
 use Rattle.spectra.specs.declared.status.Status.{Status}
 use Rattle.spectra.specs.declared.status.Status.TheVariants.{OutputFault}
-use Rattle.spectra.specs.Endings.{Ending, line_of, status_of, realizable, node_budget, all_answered, broken, bad_line, state_limit, input_fault, output_fault}
-use Rattle.spectra.specs.Streams.{Moment, Ends, WantsMemory}
+use Rattle.spectra.specs.Endings.{Ending, line_of, status_of, realizable, all_answered, broken, bad_line, audited, audit_broken, state_limit, input_fault, output_fault}
+use Rattle.spectra.specs.Streams.{Moment}
 
 -- how many positions a session may have
 abbrev pub most_positions : ℕ
 most_positions = 1000000000
 
--- what ends a run after each end of a talk
+-- A talk, by what is told of the input and the output before and after it, whether the input's count and the output's rose,
+-- and its end.
+abbrev pub Talk : Type 1
+Talk = (left_old left_new written_old written_new : Option (List ℕ)) → (rose_in rose_out : Type 0) → End → Type 0
+
+-- ---- any session
+
+-- the last line is written, or the output failed and a front of it is written
+module _ (last : Ending) (before after : Option (List ℕ)) (rose_out : Type 0) where
+  pub data Closes : Status → Type 0 where
+    whole : Appends before after (line_of last) → Closes (status_of last)
+    cut : AppendsFront before after (line_of last) → rose_out → Closes OutputFault
+
+module _ (verdict : Ending) (Talks : Talk) (ending_of : End → Ending) (before after : Moment) where
+  -- The session: the verdict line was written, then a talk was held, and its end was told.
+  pub record IsSession (status : Status) : Type 0 where
+    pub end : End
+    pub greeted : Option (List ℕ)
+    pub talked : Option (List ℕ)
+    pub verdict_line : Appends before.written greeted (line_of verdict)
+    pub talk : Talks before.left after.left greeted talked (Rose before.read_faults after.read_faults) (Rose before.write_faults after.write_faults) end
+    pub closes : Closes (ending_of end) talked after.written (Rose before.write_faults after.write_faults) status
+
+  -- a session was held, or the output failed at the verdict line and the input was not read
+  pub data HoldsSession : Status → Type 0 where
+    session : {status : Status} → IsSession status → HoldsSession status
+    cut_at_once : after.left ≡ before.left → AppendsFront before.written after.written (line_of verdict) → Rose before.write_faults after.write_faults → HoldsSession OutputFault
+
+-- ---- the session of the side that wins
+
+-- what ends `run` after each end of its talk
 abbrev pub ending_after : End → Ending
 ending_after ends.Finished = all_answered
 ending_after (ends.Broken label) = broken label.line
@@ -25,26 +58,25 @@ ending_after ends.StateLimit = state_limit
 ending_after ends.ReadFault = input_fault
 ending_after ends.WriteFault = output_fault
 
--- the last line of the end is written, or the output failed and a front of it is written
-module _ (end : End) (before after : Option (List ℕ)) (rose_out : Type 0) where
-  pub data Closes : Status → Type 0 where
-    whole : Appends before after (line_of (ending_after end)) → Closes (status_of (ending_after end))
-    cut : AppendsFront before after (line_of (ending_after end)) → rose_out → Closes OutputFault
+-- the system's side answers the lines
+abbrev pub RunTalks : Specification → (k : ℕ) → Talk
+RunTalks s k = RunTalk s k most_positions
 
--- The session: the verdict line was written, then a talk was held, and its end was told.
-pub record IsSession (s : Specification) (k : ℕ) (before after : Moment) (status : Status) : Type 0 where
-  pub end : End
-  pub greeted : Option (List ℕ)
-  pub talked : Option (List ℕ)
-  pub verdict : Appends before.written greeted (line_of (realizable k))
-  pub talk : RunTalk s k most_positions before.left after.left greeted talked (Rose before.read_faults after.read_faults) (Rose before.write_faults after.write_faults) end
-  pub closes : Closes end talked after.written (Rose before.write_faults after.write_faults) status
+abbrev pub Holds : Specification → (k : ℕ) → (before after : Moment) → Status → Type 0
+Holds s k = HoldsSession (realizable k) (RunTalks s k) ending_after
 
--- a session was held, or the output failed at the verdict line and the input was not read
-pub data Holds (s : Specification) (k : ℕ) (before after : Moment) : Status → Type 0 where
-  session : {status : Status} → IsSession s k before after status → Holds s k before after status
-  cut_at_once : after.left ≡ before.left → AppendsFront before.written after.written (line_of (realizable k)) → Rose before.write_faults after.write_faults → Holds s k before after OutputFault
+-- ---- audits
 
--- a session was held, or so many nodes were too few for it, or no memory was given
-abbrev pub HoldsOrNot : Specification → (k nodes : ℕ) → (Filled : Type 0) → (before after : Moment) → Status → Type 0
-HoldsOrNot s k nodes Filled before after status = Holds s k before after status ⊎ ((Filled × Ends (node_budget nodes) before after status) ⊎ WantsMemory before after status)
+-- what ends `audit` after each of its ends
+abbrev pub audit_ending_after : AuditEnd → Ending
+audit_ending_after (audits.Whole n) = audited n
+audit_ending_after (audits.Broken finding) = audit_broken finding.label.line finding.position
+audit_ending_after (audits.BadLine n) = bad_line n
+audit_ending_after audits.StateLimit = state_limit
+audit_ending_after audits.ReadFault = input_fault
+
+-- The log was read, and the end of its audit was told.
+pub record Audits (s : Specification) (before after : Moment) (status : Status) : Type 0 where
+  pub end : AuditEnd
+  pub talk : AuditTalk s most_positions before.left after.left (Rose before.read_faults after.read_faults) end
+  pub closes : Closes (audit_ending_after end) before.written after.written (Rose before.write_faults after.write_faults) status

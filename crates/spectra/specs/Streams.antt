@@ -3,11 +3,11 @@ use Rattle.std.specs.Prelude.{◌≡◌, ◌⊎◌, ℕ, List, [], Option}
 use Rattle.std.specs.Io.KnownBytes.{Appends}
 use Rattle.sp_outside.specs.Causes.{Rose}
 use Rattle.sp_outside.specs.Written.{AppendsFront}
-use Rattle.regions.specs.declared.types.Halt.{Halt}
-use Rattle.regions.specs.declared.types.Halt.TheVariants as halts
+use Rattle.solve.specs.declared.fault.SolveFault.{SolveFault}
+use Rattle.solve.specs.declared.fault.SolveFault.TheVariants.{TooManyStates, Memory as NoMemory}
 use Rattle.spectra.specs.declared.status.Status.{Status}
 use Rattle.spectra.specs.declared.status.Status.TheVariants.{OutputFault, Memory}
-use Rattle.spectra.specs.Endings.{Ending, line_of, status_of, node_budget}
+use Rattle.spectra.specs.Endings.{Ending, line_of, status_of, refused}
 
 -- What is told of the input and the output: the bytes to come, the bytes written, and how often each of them failed.
 pub record Moment : Type 0 where
@@ -47,7 +47,7 @@ OverOutput written faults old new Does = (left : Option (List ℕ)) (read_faults
 abbrev pub IsSaid : {O : Type 0} → (O → Option (List ℕ)) → (O → ℕ) → Ending → (old new : O) → Status → Type 0
 IsSaid written faults e old new status = OverOutput written faults old new (λ before after. Ends e before after status ⊎ WantsMemory before after status)
 
--- where a call on regions gave up: the run ends by its budget of nodes, or no memory was given
-abbrev pub SaysHalt : Halt → (nodes : ℕ) → (before after : Moment) → Status → Type 0
-SaysHalt halts.Budget nodes before after status = Ends (node_budget nodes) before after status ⊎ WantsMemory before after status
-SaysHalt halts.Memory nodes before after status = WantsMemory before after status
+-- where there is no verdict on the specification in the file of this name: it has too many states, or no memory was given
+abbrev pub SaysNoVerdict : SolveFault → (name : List ℕ) → (before after : Moment) → Status → Type 0
+SaysNoVerdict TooManyStates name before after status = Ends (refused name 1 1 24) before after status ⊎ WantsMemory before after status
+SaysNoVerdict NoMemory name before after status = WantsMemory before after status

@@ -3,23 +3,24 @@ use Rattle.std.specs.Prelude.{◌≡◌, ◌⊎◌, ℕ, List, Option, Some, Non
 use Rattle.sp_outside.specs.Causes.{Rose}
 use Rattle.sp_outside.specs.Files.{Files, told_file, HasNoFile, HasFile}
 use Rattle.spec_model.specs.Syntax.{Specification}
+use Rattle.spec_model.specs.Cores.{forced, IsLeft, IsCore}
 use Rattle.spectra_lexer.specs.declared.token.Token.{Token}
 use Rattle.spectra_lexer.specs.Tokens.{AreTokens}
 use Rattle.spectra_trees.specs.Lexemes.{lexemes}
 use Rattle.spectra_exprs.specs.declared.fault.SyntaxFault.{SyntaxFault}
 use Rattle.spectra_parser.specs.Texts.{Explains}
 use Rattle.spectra_lexer.specs.Faults.{IsNotUtf8At, IsBadAt, IsTooLong}
-use Rattle.hidden_game.specs.GameOf.{game_of}
+use Rattle.solve.specs.States.{HasFewStates, HasManyStates}
+use Rattle.solve.specs.Winners.{IsWonBySystem, IsWonByEnvironment, FillsRows}
 use Rattle.spectra_words.specs.declared.words.Command.{Command}
-use Rattle.spectra_words.specs.declared.words.Command.TheVariants.{Synth, Run}
+use Rattle.spectra_words.specs.declared.words.Command.TheVariants.{Synth, Run, Core, Separate, Audit}
 use Rattle.spectra_words.specs.Commands.{Asks, AskNothing}
 use Rattle.spectra.specs.declared.status.Status.{Status}
 use Rattle.spectra.specs.declared.status.Status.TheVariants.{Words, Refused, ShelfFault, InputFault, OutputFault, Memory, NoFile}
-use Rattle.spectra.specs.Endings.{IsUnlessCut, IsUnlessFault, usage, no_file, shelf_fault, refused, realizable, unrealizable, node_budget}
+use Rattle.spectra.specs.Endings.{IsUnlessCut, IsUnlessFault, usage, no_file, shelf_fault, refused, realizable, unrealizable, realizable_instead, with_core, separated, not_separated, node_budget}
 use Rattle.spectra.specs.Streams.{Moment, Ends, WantsMemory, OverOutput}
-use Rattle.spectra.specs.Sessions.{Holds}
-use Rattle.spectra.specs.Reading.{Reads, HasTypeFault, IsRefused, HasFewStates, HasManyStates, named_by, place_of_token}
-use Rattle.spectra.specs.Verdict.{IsWonGame, IsLostGame, IsWonBySystem, IsWonByEnvironment, FillsRows}
+use Rattle.spectra.specs.Sessions.{Holds, Audits}
+use Rattle.spectra.specs.Reading.{Reads, HasTypeFault, MeansNothing, named_by, place_of_token}
 
 -- the text of the tokens is refused by the fault, at the place of the token that it names
 abbrev pub RefusesSyntax : (name : List ℕ) → List Token → SyntaxFault → (before after : Moment) → Status → Type 0
@@ -32,30 +33,42 @@ IsSaidOfSyntax written faults name tokens fault old new status = OverOutput writ
 
 -- ---- what is done for a command, with so many nodes
 
+-- The commands that decide who wins are for specifications with few states, and `audit` is for all.
+abbrev pub IsSmall : Command → Specification → Type 0
+IsSmall Audit s = Unit {0}
+IsSmall _ s = HasFewStates s
+
+abbrev pub IsLarge : Command → Specification → Type 0
+IsLarge Audit s = ⊥
+IsLarge _ s = HasManyStates s
+
+-- the text gets no decision
+abbrev pub IsRefused : Command → List ℕ → Type 0
+IsRefused command text = MeansNothing text ⊎ ((s : Specification) × Reads text s × IsLarge command s)
+
 module _ (command : Command) (nodes : ℕ) where
-  -- By who wins: `synth` writes the verdict, and so does `run` where the system doesn't win; where it does, `run` holds a
-  -- session. The number K is one that makes `Won` hold, N and M are ones that make `Lost` hold. The nodes are too few only
-  -- where `Filled` holds.
-  module _ (s : Specification) (Won : ℕ → Type 0) (Lost : ℕ → ℕ → Type 0) (Filled : Type 0) (before after : Moment) where
+  -- By who wins. `synth` writes the verdict, and so do `run` and `core` where the other side wins than they are for. Where the
+  -- system wins, `run` holds a session, and where the environment does, `core` writes what trying the guarantees in order
+  -- leaves, which is a core. `separate` says who wins with a guarantee that can never be met alone. `audit` reads a log,
+  -- whoever wins. The nodes are too few only where rows fill them.
+  module _ (s : Specification) (before after : Moment) where
     pub data Decides : Status → Type 0 where
-      won : {status : Status} (k : ℕ) → command ≡ Synth → Won k → Ends (realizable k) before after status → Decides status
-      held : {status : Status} (k : ℕ) → command ≡ Run → Won k → Holds s k before after status → Decides status
-      lost : {status : Status} (n m : ℕ) → Lost n m → Ends (unrealizable n m) before after status → Decides status
-      budget : {status : Status} → Filled → Ends (node_budget nodes) before after status → Decides status
+      won : {status : Status} (k : ℕ) → command ≡ Synth → IsWonBySystem s k → Ends (realizable k) before after status → Decides status
+      held : {status : Status} (k : ℕ) → command ≡ Run → IsWonBySystem s k → Holds s k before after status → Decides status
+      lost : {status : Status} (n m : ℕ) → (command ≡ Synth) ⊎ (command ≡ Run) → IsWonByEnvironment s n m → Ends (unrealizable n m) before after status → Decides status
+      no_core : {status : Status} (k : ℕ) → command ≡ Core → IsWonBySystem s k → Ends (realizable_instead k) before after status → Decides status
+      has_core : {status : Status} (n m : ℕ) (core : List ℕ) → command ≡ Core → IsWonByEnvironment s n m → IsLeft s core → IsCore s core → Ends (with_core n m core) before after status → Decides status
+      separates : {status : Status} (n m : ℕ) → command ≡ Separate → IsWonByEnvironment (forced s) n m → Ends (separated n m) before after status → Decides status
+      separates_not : {status : Status} (k : ℕ) → command ≡ Separate → IsWonBySystem (forced s) k → Ends (not_separated k) before after status → Decides status
+      audits : {status : Status} → command ≡ Audit → Audits s before after status → Decides status
+      budget : {status : Status} → FillsRows → Ends (node_budget nodes) before after status → Decides status
       no_memory : {status : Status} → WantsMemory before after status → Decides status
-
-  -- for a game, and for a specification with few states
-  abbrev pub DecidesGame : Specification → (Filled : Type 0) → Moment → Moment → Status → Type 0
-  DecidesGame s Filled before after status = Decides s (IsWonGame (game_of s)) (IsLostGame (game_of s)) Filled before after status
-
-  abbrev pub DecidesSpecification : Specification → Moment → Moment → Status → Type 0
-  DecidesSpecification s before after status = Decides s (IsWonBySystem s) (IsWonByEnvironment s) FillsRows before after status
 
   module _ (name : List ℕ) (before after : Moment) where
     -- for a specification, in a file of this name
     pub data ServesSpecification (s : Specification) : Status → Type 0 where
-      too_many : {status : Status} → HasManyStates s → Ends (refused name 1 1 24) before after status → ServesSpecification s status
-      few : {status : Status} → HasFewStates s → DecidesSpecification s before after status → ServesSpecification s status
+      too_many : {status : Status} → IsLarge command s → Ends (refused name 1 1 24) before after status → ServesSpecification s status
+      few : {status : Status} → IsSmall command s → Decides s before after status → ServesSpecification s status
       no_memory : {status : Status} → WantsMemory before after status → ServesSpecification s status
 
     -- for a text: one that has no tokens, or whose tokens are no text of the grammar or have a form that isn't built, is refused
@@ -85,18 +98,18 @@ module _ (words : List (List ℕ)) (files : Option Files) (shelf_failed : Type 0
     asked : {status : Status} (command : Command) (name : List ℕ) (nodes : ℕ) → Asks words command name nodes → ServesFile command nodes name before after (told_file files name) shelf_failed status → ServesWords status
     no_memory : {status : Status} → WantsMemory before after status → ServesWords status
 
-  -- a told file whose text reads, as a specification with few states, is decided, unless the shelf failed
+  -- a told file whose text reads, as a specification with few states where the command decides who wins, is decided, unless the shelf failed
   abbrev pub DecidesWhatReads : Status → Type 0
   DecidesWhatReads status =
-      (command : Command) (name : List ℕ) (nodes : ℕ) (text : List ℕ) (s : Specification) → Asks words command name nodes → told_file files name ≡ Some (Some text) → Reads text s → HasFewStates s → ¬ shelf_failed →
-      DecidesSpecification command nodes s before after status
+      (command : Command) (name : List ℕ) (nodes : ℕ) (text : List ℕ) (s : Specification) → Asks words command name nodes → told_file files name ≡ Some (Some text) → Reads text s → IsSmall command s → ¬ shelf_failed →
+      Decides command nodes s before after status
 
 -- Words that are no command get their status, and so do names of no file and texts that are refused.
 module _ (words : List (List ℕ)) (files : Option Files) where
   pub record Refuses (status : Status) : Type 0 where
     pub nothing_asked : AskNothing words → IsUnlessCut Words status
     pub no_such_file : (command : Command) (name : List ℕ) (nodes : ℕ) → Asks words command name nodes → told_file files name ≡ Some None → IsUnlessFault NoFile status
-    pub refused_text : (command : Command) (name : List ℕ) (nodes : ℕ) (text : List ℕ) → Asks words command name nodes → told_file files name ≡ Some (Some text) → IsRefused text → IsUnlessFault Refused status
+    pub refused_text : (command : Command) (name : List ℕ) (nodes : ℕ) (text : List ℕ) → Asks words command name nodes → told_file files name ≡ Some (Some text) → IsRefused command text → IsUnlessFault Refused status
 
 -- each status that tells of a failure comes only where there was one
 module _ (shelf_failed : Type 0) (before after : Moment) where

@@ -1,135 +1,124 @@
-//! Who wins a specification, and what is done then.
+//! What is done with a specification, by the command.
 
-ghost use Rattle.std.specs.Prelude.{◌≡◌, None};
+ghost use Rattle.std.specs.Prelude.{◌≡◌};
 ghost use Rattle.spec_model.specs.Views.{spec_data};
-ghost use Rattle.spec_model.specs.WellMade.{WellMade};
-ghost use Rattle.spec_model.specs.GameViews.{game_data};
-ghost use Rattle.hidden_game.specs.GameOf.{game_of};
-ghost use Rattle.spec_model.specs.Agreement.{Agrees};
-ghost use Rattle.spec_model.specs.Laws.{NumbersRise};
-ghost use Rattle.gr1_law.specs.Layers.{LayerSets};
-ghost use Rattle.controller.specs.Made.{AreLayersOf};
 ghost use Rattle.spec_model.specs.WellTyped.{WellTyped, all_hidden};
-ghost use Rattle.spectra.specs.Verdict.{EnvironmentForces, RunsOut};
-ghost use Rattle.spectra.specs.Streams.{moments};
-ghost use Rattle.spectra.specs.Top.{DecidesGame, ServesSpecification};
+ghost use Rattle.spec_model.specs.Cores.{HasRoomForOne};
+ghost use Rattle.solve.specs.States.{HasFewStates};
+ghost use Rattle.solve.specs.Winners.{IsWonByEnvironment};
+ghost use Rattle.spectra_words.specs.declared.words.Command.TheVariants as commands;
+ghost use Rattle.spectra.specs.Streams.{moments, OverOutput, SaysNoVerdict};
+ghost use Rattle.spectra.specs.Top.{ServesSpecification};
 
+use crate::auditing::audit;
 use crate::holding::hold;
-use crate::saying::{say_fault, say_halt, say_realizable, say_unrealizable};
+use crate::saying::{
+    say_core, say_fault, say_not_separated, say_realizable, say_realizable_instead, say_separated,
+    say_unrealizable,
+};
 use crate::status::Status;
-use gr1_env::solve_env;
-use gr1_sys::{SysLayers, solve_sys};
-use hidden_game::expand;
-use region_rows::{RegionRows, RowsRefusal};
-use regions::Regions;
+use solve::{
+    Numbers, Separation, SolveFault, Verdict, core_of_lost, separated, whole_numbers, whole_verdict,
+};
 use sp_outside::{Sink, Source};
-use spec_model::game::Game;
 use spec_model::spec::Spec;
 use spectra_words::{Command, Request};
 use std::alloc::Global;
 
-// Does what the command wants where the system wins with these layers.
-fn do_won<G: Regions + Drop, I: Source, O: Sink>(
-    alloc: Global,
-    request: Request<'_>,
-    spec: &Spec,
-    g: G,
-    layers: SysLayers<G>,
-    input: &mut I,
-    output: &mut O,
-) -> Status
-    requires free { (G.kept g).jam ≡ None }
-    requires game { (G.kept g).game ≡ game_of (spec_data spec.now) }
-    requires agrees { Agrees (spec_data spec.now) (game_of (spec_data spec.now)) }
-    requires won { (l : LayerSets) × AreLayersOf (G.kept g) layers.z layers.goals.items l }
-    ensures { let at = moments I.left O.written I.faults O.faults in
-        DecidesGame request.entry.command request.entry.nodes (spec_data spec.now) (RunsOut G.kept) (at input.old output.old) (at input.new output.new) result }
+// Says why there is no verdict on the specification in the file of this name, where that is a line.
+fn say_no_verdict<O: Sink>(alloc: Global, name: &str, fault: SolveFault, output: &mut O) -> Status
+    ensures { OverOutput O.written O.faults output.old output.new (λ before after. SaysNoVerdict fault name.now before after result) }
 {
-    match request.command {
-        Command::Synth => {
-            let k = layers.k();
-            let mut g = g;
-            layers.spend_all(&mut g);
-            say_realizable(alloc, k, output)
-        }
-        Command::Run => hold(alloc, request.nodes, spec, g, layers, input, output),
+    match fault {
+        SolveFault::TooManyStates => say_fault(alloc, name, 1, 1, 24, output),
+        SolveFault::Memory => Status::Memory,
     }
 }
 
-// Says by how much the environment wins where the system doesn't.
-fn do_lost<G: Regions + Drop, I: Source, O: Sink>(
-    alloc: Global,
-    request: Request<'_>,
-    spec: &Spec,
-    g: G,
-    input: &mut I,
-    output: &mut O,
-) -> Status
-    requires free { (G.kept g).jam ≡ None }
-    requires game { (G.kept g).game ≡ game_of (spec_data spec.now) }
-    requires lost { EnvironmentForces (game_of (spec_data spec.now)) }
-    ensures { let at = moments I.left O.written I.faults O.faults in
-        DecidesGame request.entry.command request.entry.nodes (spec_data spec.now) (RunsOut G.kept) (at input.old output.old) (at input.new output.new) result }
+// `synth`: says who wins.
+fn serve_synth<O: Sink>(alloc: Global, request: Request<'_>, spec: &Spec, output: &mut O) -> Status
+    requires typed { WellTyped (spec_data spec.now) }
+    requires plain { all_hidden (spec_data spec.now) ≡ 0 }
+    ensures { OverOutput O.written O.faults output.old output.new (λ before after. ServesSpecification commands.Synth request.entry.nodes request.entry.file.now before after (spec_data spec.now) result) }
 {
-    let mut g = g;
-    match solve_env(alloc, &mut g) {
-        Ok(Some(layers)) => {
-            let n = layers.n();
-            let m = layers.m();
-            layers.spend_all(&mut g);
-            say_unrealizable(alloc, n, m, output)
-        }
-        // One of the two wins each game.
-        Ok(None) => unreachable!(),
-        // No clause of this solver tells a budget that ran out, and rows have none.
-        Err(_) => Status::Memory,
+    match whole_numbers(alloc, spec) {
+        Ok(Numbers::Realizable { k }) => say_realizable(alloc, k, output),
+        Ok(Numbers::Unrealizable { n, m }) => say_unrealizable(alloc, n, m, output),
+        Err(fault) => say_no_verdict(alloc, request.file, fault, output),
     }
 }
 
-// Solves the game that these regions are of, and does what the command wants.
-fn decide<G: Regions + Drop, I: Source, O: Sink>(
+// `run`: holds a session where the system wins.
+fn serve_run<I: Source, O: Sink>(
     alloc: Global,
     request: Request<'_>,
     spec: &Spec,
-    g: G,
     input: &mut I,
     output: &mut O,
 ) -> Status
-    requires free { (G.kept g).jam ≡ None }
-    requires game { (G.kept g).game ≡ game_of (spec_data spec.now) }
-    requires agrees { Agrees (spec_data spec.now) (game_of (spec_data spec.now)) }
-    requires made { WellMade (game_of (spec_data spec.now)) }
+    requires typed { WellTyped (spec_data spec.now) }
+    requires plain { all_hidden (spec_data spec.now) ≡ 0 }
     ensures { let at = moments I.left O.written I.faults O.faults in
-        DecidesGame request.entry.command request.entry.nodes (spec_data spec.now) (RunsOut G.kept) (at input.old output.old) (at input.new output.new) result }
+        ServesSpecification commands.Run request.entry.nodes request.entry.file.now (at input.old output.old) (at input.new output.new) (spec_data spec.now) result }
 {
-    let mut g = g;
-    match solve_sys(alloc, &mut g) {
-        Ok(Some(layers)) => do_won(alloc, request, spec, g, layers, input, output),
-        Ok(None) => do_lost(alloc, request, spec, g, input, output),
-        Err(halt) => say_halt(alloc, request.nodes, halt, output),
+    match whole_verdict(alloc, spec) {
+        Ok(Verdict::Realizable { k, play }) => hold(alloc, spec, k, play, input, output),
+        Ok(Verdict::Unrealizable { n, m }) => say_unrealizable(alloc, n, m, output),
+        Err(fault) => say_no_verdict(alloc, request.file, fault, output),
     }
 }
 
-// Does what the command wants with a specification and its game.
-fn serve_game<I: Source, O: Sink>(
+// Says which guarantees are the reason why the environment wins, with N and M.
+fn serve_lost_core<O: Sink>(
     alloc: Global,
     request: Request<'_>,
     spec: &Spec,
-    game: Game,
-    input: &mut I,
+    n: u64,
+    m: u64,
     output: &mut O,
 ) -> Status
-    requires game { game_data game ≡ game_of (spec_data spec.now) }
-    requires agrees { Agrees (spec_data spec.now) (game_of (spec_data spec.now)) }
-    requires made { WellMade (game_of (spec_data spec.now)) }
-    requires rising { NumbersRise (spec_data spec.now).lines }
-    ensures { let at = moments I.left O.written I.faults O.faults in
-        ServesSpecification request.entry.command request.entry.nodes request.entry.file.now (at input.old output.old) (at input.new output.new) (spec_data spec.now) result }
+    requires typed { WellTyped (spec_data spec.now) }
+    requires plain { all_hidden (spec_data spec.now) ≡ 0 }
+    requires few { HasFewStates (spec_data spec.now) }
+    requires lost { IsWonByEnvironment (spec_data spec.now) n m }
+    ensures { OverOutput O.written O.faults output.old output.new (λ before after. ServesSpecification commands.Core request.entry.nodes request.entry.file.now before after (spec_data spec.now) result) }
 {
-    match RegionRows::make(alloc, game) {
-        Ok(rows) => decide(alloc, request, spec, rows, input, output),
-        Err(RowsRefusal::TooManyStates) => say_fault(alloc, request.file, 1, 1, 24, output),
-        Err(RowsRefusal::Memory) => Status::Memory,
+    match core_of_lost(alloc, spec) {
+        Ok(core) => say_core(alloc, n, m, &core, output),
+        Err(fault) => say_no_verdict(alloc, request.file, fault, output),
+    }
+}
+
+// `core`: says who wins, and where the environment does, because of which guarantees. The core is found before a line is
+// written.
+fn serve_core<O: Sink>(alloc: Global, request: Request<'_>, spec: &Spec, output: &mut O) -> Status
+    requires typed { WellTyped (spec_data spec.now) }
+    requires plain { all_hidden (spec_data spec.now) ≡ 0 }
+    ensures { OverOutput O.written O.faults output.old output.new (λ before after. ServesSpecification commands.Core request.entry.nodes request.entry.file.now before after (spec_data spec.now) result) }
+{
+    match whole_numbers(alloc, spec) {
+        Ok(Numbers::Realizable { k }) => say_realizable_instead(alloc, k, output),
+        Ok(Numbers::Unrealizable { n, m }) => serve_lost_core(alloc, request, spec, n, m, output),
+        Err(fault) => say_no_verdict(alloc, request.file, fault, output),
+    }
+}
+
+// `separate`: says who wins where the one guarantee can never be met.
+fn serve_separate<O: Sink>(
+    alloc: Global,
+    request: Request<'_>,
+    spec: &Spec,
+    output: &mut O,
+) -> Status
+    requires typed { WellTyped (spec_data spec.now) }
+    requires plain { all_hidden (spec_data spec.now) ≡ 0 }
+    requires room { HasRoomForOne (spec_data spec.now) }
+    ensures { OverOutput O.written O.faults output.old output.new (λ before after. ServesSpecification commands.Separate request.entry.nodes request.entry.file.now before after (spec_data spec.now) result) }
+{
+    match separated(alloc, spec) {
+        Ok(Separation::Separated { n, m }) => say_separated(alloc, n, m, output),
+        Ok(Separation::Forced { k }) => say_not_separated(alloc, k, output),
+        Err(fault) => say_no_verdict(alloc, request.file, fault, output),
     }
 }
 
@@ -143,11 +132,15 @@ pub fn serve_specification<I: Source, O: Sink>(
 ) -> Status
     requires typed { WellTyped (spec_data spec.now) }
     requires plain { all_hidden (spec_data spec.now) ≡ 0 }
+    requires room { HasRoomForOne (spec_data spec.now) }
     ensures { let at = moments I.left O.written I.faults O.faults in
         ServesSpecification request.entry.command request.entry.nodes request.entry.file.now (at input.old output.old) (at input.new output.new) (spec_data spec.now) result }
 {
-    match expand(alloc, spec) {
-        Ok(game) => serve_game(alloc, request, spec, game, input, output),
-        Err(_) => Status::Memory,
+    match request.command {
+        Command::Synth => serve_synth(alloc, request, spec, output),
+        Command::Run => serve_run(alloc, request, spec, input, output),
+        Command::Core => serve_core(alloc, request, spec, output),
+        Command::Separate => serve_separate(alloc, request, spec, output),
+        Command::Audit => audit(alloc, spec, input, output),
     }
 }

@@ -1,25 +1,21 @@
 //! A session: the verdict line, the talk, and the last line.
 
-ghost use Rattle.std.specs.Prelude.{◌≡◌, [], None, IfOk, string_bytes};
+ghost use Rattle.std.specs.Prelude.{◌≡◌, ◌⊎◌, [], IfOk, string_bytes};
 ghost use Rattle.spec_model.specs.Syntax.{Specification};
 ghost use Rattle.spec_model.specs.Views.{spec_data};
-ghost use Rattle.spec_model.specs.Agreement.{Agrees};
-ghost use Rattle.gr1_law.specs.Layers.{LayerSets, round_count};
-ghost use Rattle.gr1_sys.specs.Held.{ranks_of};
-ghost use Rattle.controller.specs.Made.{AreLayersOf};
 ghost use Rattle.controller.specs.Objects.{IsFresh, Stands};
+ghost use Rattle.solve.specs.Verdicts.{IsPlayFor};
 ghost use Rattle.session_lines.specs.Views.{AreFor, pending_of};
 ghost use Rattle.session.specs.Strategies.{rounds_of, IsOf};
 ghost use Rattle.spectra.specs.Endings.{line_of, realizable};
-ghost use Rattle.spectra.specs.Streams.{moments};
-ghost use Rattle.spectra.specs.Sessions.{Holds, HoldsOrNot};
-ghost use Rattle.spectra.specs.Verdict.{RunsOut};
+ghost use Rattle.spectra.specs.Streams.{moments, WantsMemory};
+ghost use Rattle.spectra.specs.Sessions.{Holds};
 
-use crate::saying::{close, realizable_line, say_halt};
+use crate::closing::close;
+use crate::saying::realizable_line;
 use crate::status::Status;
 use controller::Controller;
-use gr1_sys::SysLayers;
-use regions::{MakeRefusal, Regions};
+use regions::Regions;
 use session::{Lines, run_lines};
 use sp_outside::{OutOfMemory, Sink, Source, write_line};
 use spec_model::spec::Spec;
@@ -95,30 +91,25 @@ fn held<G: Regions + Drop, I: Source, O: Sink>(
     status
 }
 
-/// Holds the session of a specification that the system wins with these layers, and says how it ended. All the room is taken
-/// before the verdict line is written.
+/// Holds the session of a specification by the system's strategy, which has made no move, and says how it ended. All the room
+/// is taken before the verdict line is written.
 pub fn hold<G: Regions + Drop, I: Source, O: Sink>(
     alloc: Global,
-    nodes: u32,
     spec: &Spec,
-    g: G,
-    layers: SysLayers<G>,
+    k: u64,
+    play: Controller<G>,
     input: &mut I,
     output: &mut O,
 ) -> Status
-    requires free { (G.kept g).jam ≡ None }
-    requires agrees { Agrees (spec_data spec.now) (G.kept g).game }
-    requires won { (l : LayerSets) × AreLayersOf (G.kept g) layers.z layers.goals.items l }
+    requires plays { IsPlayFor G.kept (spec_data spec.now) k play }
     ensures holds { let at = moments I.left O.written I.faults O.faults in
-        HoldsOrNot (spec_data spec.now) (round_count (ranks_of layers.goals.items)) nodes (RunsOut G.kept) (at input.old output.old) (at input.new output.new) result }
+        Holds (spec_data spec.now) k (at input.old output.old) (at input.new output.new) result ⊎ WantsMemory (at input.old output.old) (at input.new output.new) result }
 {
-    let mut g = g;
-    let Ok(room) = room_for(alloc, spec, layers.k()) else {
-        layers.spend_all(&mut g);
-        return Status::Memory;
-    };
-    match Controller::make(alloc, g, layers) {
-        Ok(play) => held(room, play, input, output),
-        Err(MakeRefusal { halt, g: _g }) => say_halt(alloc, nodes, halt, output),
+    match room_for(alloc, spec, k) {
+        Ok(room) => held(room, play, input, output),
+        Err(_) => {
+            let _g = play.close();
+            Status::Memory
+        }
     }
 }

@@ -2,12 +2,17 @@
 //!
 //! `synth FILE` reads a specification over Booleans, whole numbers and enums, whose lines are initial, hold or recur, and
 //! says whether it is realizable. `run FILE` says the same and, where the system wins, answers each line of the input by one
-//! line, so that the exchanged lines are one play of legal moves that keeps what recurs within the printed K rounds. The
-//! verdict is decided over sets of its game's states.
+//! line, so that the exchanged lines are one play of legal moves that keeps what recurs within the printed K rounds. Where the
+//! environment wins, `core FILE` names the guarantees of an unrealizable core. `separate FILE` says whether the environment,
+//! by its assumptions alone, beats a system that can never meet its guarantee. `audit FILE`
+//! reads a log of positions, and says which line of the specification is broken first, and where. The verdict is decided over sets of its game's
+//! states.
 //!
 //! Contract: `top::spectra`. Path: words and bytes → tokens → trees → specification → verdict → **lines and status**.
 #![tactic(auto)]
 
+mod auditing;
+mod closing;
 mod deciding;
 mod holding;
 mod laws;

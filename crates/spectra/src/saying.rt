@@ -1,15 +1,12 @@
 //! The lines that may be written last, each with its status: one function a row.
 
-ghost use Rattle.std.specs.Prelude.{◌≡◌, ◌≤◌, IfOk, OnOk, OnErr, string_bytes};
-ghost use Rattle.sp_outside.specs.Causes.{Rose};
-ghost use Rattle.spectra.specs.Endings.{line_of, fault_text as fault_text_lem, usage, no_file, shelf_fault, refused, realizable, unrealizable, node_budget};
-ghost use Rattle.spectra.specs.Streams.{Writes, IsSaid, OverOutput, SaysHalt};
-ghost use Rattle.spectra.specs.Sessions.{Closes};
+ghost use Rattle.std.specs.Prelude.{◌≡◌, ◌++◌, [], ◌∷◌, IfOk, codes, string_bytes};
+ghost use Rattle.std.specs.Fmt.{decimal};
+ghost use Rattle.spectra.specs.Endings.{line_of, fault_text as fault_text_lem, usage, no_file, shelf_fault, refused, realizable, unrealizable, realizable_instead, with_core, separated, not_separated};
+ghost use Rattle.spectra.specs.Streams.{Writes, IsSaid, OverOutput};
 
 use crate::status::Status;
-use regions::Halt;
-use session::{End, Lines};
-use sp_outside::{Failed, OutOfMemory, Sink, write_line};
+use sp_outside::{OutOfMemory, Sink, write_line};
 use std::alloc::Global;
 
 // Writes a line, and says with which status. It takes no memory.
@@ -121,67 +118,89 @@ pub fn say_realizable<O: Sink>(alloc: Global, k: u64, output: &mut O) -> Status
     }
 }
 
+/// The line of a specification that the environment wins with N and M.
+pub fn unrealizable_line(alloc: Global, n: u64, m: u64) -> Result<String, OutOfMemory>
+    ensures { IfOk result (λ line. string_bytes line ≡ line_of (unrealizable n m)) }
+{
+    format!(in alloc; "unrealizable N={n} M={m}\n")
+}
+
 /// Says that the environment wins with N and M.
 pub fn say_unrealizable<O: Sink>(alloc: Global, n: u64, m: u64, output: &mut O) -> Status
     ensures { IsSaid O.written O.faults (unrealizable n m) output.old output.new result }
 {
-    match format!(in alloc; "unrealizable N={n} M={m}\n") {
+    match unrealizable_line(alloc, n, m) {
         Ok(line) => say(output, line.as_bytes(), Status::Other),
         Err(_) => Status::Memory,
     }
 }
 
-// Says that so many nodes were too few.
-fn say_budget<O: Sink>(alloc: Global, nodes: u32, output: &mut O) -> Status
-    ensures { IsSaid O.written O.faults (node_budget nodes) output.old output.new result }
+/// Says that the system wins with K, where the other verdict is asked for.
+pub fn say_realizable_instead<O: Sink>(alloc: Global, k: u64, output: &mut O) -> Status
+    ensures { IsSaid O.written O.faults (realizable_instead k) output.old output.new result }
 {
-    match format!(in alloc; "node budget {nodes} reached\n") {
-        Ok(line) => say(output, line.as_bytes(), Status::Budget),
+    match realizable_line(alloc, k) {
+        Ok(line) => say(output, line.as_bytes(), Status::Other),
         Err(_) => Status::Memory,
     }
 }
 
-/// Says why a call on regions gave up, where that is a line.
-pub fn say_halt<O: Sink>(alloc: Global, nodes: u32, halt: Halt, output: &mut O) -> Status
-    ensures { OverOutput O.written O.faults output.old output.new (λ before after. SaysHalt halt nodes before after result) }
+// ---- cores
+
+// How many lines a core has.
+fn core_line(alloc: Global, count: usize) -> Result<String, OutOfMemory>
+    ensures { IfOk result (λ line. string_bytes line ≡ codes "core " ++ (decimal count ++ 10 ∷ [])) }
 {
-    match halt {
-        Halt::Budget => say_budget(alloc, nodes, output),
-        Halt::Memory => Status::Memory,
+    format!(in alloc; "core {count}\n")
+}
+
+// The number of a line.
+fn number_line(alloc: Global, number: u32) -> Result<String, OutOfMemory>
+    ensures { IfOk result (λ line. string_bytes line ≡ 35 ∷ (decimal number ++ 10 ∷ [])) }
+{
+    format!(in alloc; "#{number}\n")
+}
+
+// The verdict, how many lines a core has, and their numbers.
+fn core_lines(alloc: Global, n: u64, m: u64, core: &[u32]) -> Result<String, OutOfMemory>
+    ensures { IfOk result (λ text. string_bytes text ≡ line_of (with_core n m core.now)) }
+{
+    let mut text = unrealizable_line(alloc, n, m)?;
+    let count = core_line(alloc, core.len())?;
+    text.push_str(&count)?;
+    for &number in core {
+        let line = number_line(alloc, number)?;
+        text.push_str(&line)?;
+    }
+    Ok(text)
+}
+
+/// Says that the environment wins with N and M, and because of which lines.
+pub fn say_core<O: Sink>(alloc: Global, n: u64, m: u64, core: &[u32], output: &mut O) -> Status
+    ensures { IsSaid O.written O.faults (with_core n m core.now) output.old output.new result }
+{
+    match core_lines(alloc, n, m, core) {
+        Ok(text) => say(output, text.as_bytes(), Status::Done),
+        Err(_) => Status::Memory,
     }
 }
 
-// ---- sessions, whose room is taken before the first line
-
-// The status of a line that was to be written last.
-fn told(written: Result<(), Failed>, status: Status) -> Status
-    ensures whole { OnOk written (result ≡ status) }
-    ensures part { OnErr written (result ≡ Status.OutputFault) }
+/// Says that the environment beats the system by the assumptions alone, with N and M.
+pub fn say_separated<O: Sink>(alloc: Global, n: u64, m: u64, output: &mut O) -> Status
+    ensures { IsSaid O.written O.faults (separated n m) output.old output.new result }
 {
-    match written {
-        Err(_) => Status::OutputFault,
-        Ok(_) => status,
+    match format!(in alloc; "separated N={n} M={m}\n") {
+        Ok(line) => say(output, line.as_bytes(), Status::Done),
+        Err(_) => Status::Memory,
     }
 }
 
-/// Writes how a talk ended, where that is a line, and says with which status. It takes no memory.
-pub fn close<O: Sink>(lines: &mut Lines, end: End, output: &mut O) -> Status
-    ensures closes { Closes end (O.written output.old) (O.written output.new) (Rose (O.faults output.old) (O.faults output.new)) result }
-    ensures later { O.faults output.old ≤ O.faults output.new }
+/// Says that the system may force the environment from its assumptions, with K.
+pub fn say_not_separated<O: Sink>(alloc: Global, k: u64, output: &mut O) -> Status
+    ensures { IsSaid O.written O.faults (not_separated k) output.old output.new result }
 {
-    match end {
-        End::Finished => Status::Done,
-        End::Broken(label) => {
-            let line = u64::from(label.line);
-            let written = lines.write_numbered(b"assumption broken #", line, b"\n", output);
-            told(written, Status::Assumption)
-        }
-        End::BadLine(n) => {
-            let written = lines.write_numbered(b"line ", n, b" refused\n", output);
-            told(written, Status::BadLine)
-        }
-        End::StateLimit => told(write_line(output, b"state limit reached\n"), Status::Limit),
-        End::ReadFault => told(write_line(output, b"input fault\n"), Status::InputFault),
-        End::WriteFault => Status::OutputFault,
+    match format!(in alloc; "not separated K={k}\n") {
+        Ok(line) => say(output, line.as_bytes(), Status::Other),
+        Err(_) => Status::Memory,
     }
 }

@@ -1,6 +1,7 @@
 //! Whole runs over files, input and output in memory. Lines and statuses are worked out by hand from the rules of
 //! reading, of first moves and of layers.
 
+use self::cores::CORES;
 use self::forms::FORMS;
 use self::kinds::KINDS;
 use self::names::NAMES;
@@ -11,7 +12,9 @@ use std::alloc::Global;
 use std::process::Abort;
 use std::test::Fail;
 
+mod audits;
 mod chains;
+mod cores;
 mod forms;
 mod kinds;
 mod limits;
@@ -122,6 +125,21 @@ fn each_sound_text_has_its_verdict(rt: HostRuntime) -> Result<(), Fail> {
         let text = format!(in alloc; "spec X\n{statements}\n")?;
         let line = format!(in alloc; "{verdict}\n")?;
         synth_writes(&rt, alloc, &text, &line, number)?;
+    }
+    Ok(())
+}
+
+#[test]
+fn each_core_and_each_separation_is_told(rt: HostRuntime) -> Result<(), Fail> {
+    let alloc = rt.alloc();
+    for case in &CORES {
+        let (command, rest) = parts(&rt, case);
+        let (statements, rest) = parts(&rt, rest);
+        let (written, status) = parts(&rt, rest);
+        let words = format!(in alloc; "spectra {command} t.spectra")?;
+        let text = format!(in alloc; "spec X\n{statements}\n")?;
+        let number = status.parse::<u8>().expect(&rt, "a status");
+        Run::of(&words, text.as_bytes(), "").writes(&rt, alloc, written, number)?;
     }
     Ok(())
 }

@@ -26,6 +26,9 @@ fn words_ask_for_a_command_a_file_and_a_budget(rt: HostRuntime) -> Result<(), Fa
         ("--help run a", Command::Run, "a", usual),
         // The first positional word is the command, and the second the file, whatever it says.
         ("spectra run synth", Command::Run, "synth", usual),
+        ("spectra core a", Command::Core, "a", usual),
+        ("spectra separate a", Command::Separate, "a", usual),
+        ("spectra audit a", Command::Audit, "a", usual),
         ("spectra run a=b/é", Command::Run, "a=b/é", usual),
         ("spectra run ", Command::Run, "", usual),
         // A budget is digits, from 2 to 134,217,728.

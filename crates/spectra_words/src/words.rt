@@ -16,6 +16,12 @@ pub enum Command {
     Synth,
     /// To write the verdict and, where the system wins, to answer the lines of the input.
     Run,
+    /// To write the verdict and, where the environment wins, the guarantees of an unrealizable core.
+    Core,
+    /// To write whether the assumptions keep the system from a guarantee that can never be met.
+    Separate,
+    /// To read a log and to write whether each position of it is legal.
+    Audit,
 }
 
 /// A command, the name of the file that it is for, and the most nodes that may be held at a time.
@@ -33,6 +39,9 @@ fn command_of(word: &str) -> Option<Command>
     match word {
         "synth" => Some(Command::Synth),
         "run" => Some(Command::Run),
+        "core" => Some(Command::Core),
+        "separate" => Some(Command::Separate),
+        "audit" => Some(Command::Audit),
         _ => None,
     }
 }

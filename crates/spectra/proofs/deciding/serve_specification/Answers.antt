@@ -1,20 +1,17 @@
-use Rattle.std.proofs.Common.{subst}
-use Rattle.spec_model.specs.Views.{spec_data}
-use Rattle.spec_model.specs.Agreement.{Agrees}
-use Rattle.spec_model.specs.WellMade.{WellMade}
-use Rattle.hidden_game.proofs.MadeGames as made_games
-use Rattle.spectra.specs.Top as top
-use Rattle.spectra.proofs.Decided.{nothing_done}
+use Rattle.spectra.proofs.Decided.{served_as, is_audited}
 use Rattle.spectra.proofs.deciding.serve_specification.Goals as goal
 
-pub serve_game-requires-clause-agrees : goal.serve_game-requires-clause-agrees
-serve_game-requires-clause-agrees g c = subst (Agrees (spec_data c.args.spec.now)) c.in-Ok.ensures.game c.in-Ok.ensures.agrees
+pub returns-in-Synth : goal.returns-in-Synth
+returns-in-Synth g c = served_as _ _ c.in-Synth.is _ _ _ _ _ _ (c.serve_synth.ensures _ _)
 
-pub serve_game-requires-clause-made : goal.serve_game-requires-clause-made
-serve_game-requires-clause-made g c = subst WellMade c.in-Ok.ensures.game c.in-Ok.ensures.made
+pub returns-in-Run : goal.returns-in-Run
+returns-in-Run g c = served_as _ _ c.in-Run.is _ _ _ _ _ _ c.serve_run.ensures
 
-pub serve_game-requires-clause-rising : goal.serve_game-requires-clause-rising
-serve_game-requires-clause-rising g c = made_games.lines_rise (spec_data c.args.spec.now) c.requires.typed
+pub returns-in-Core : goal.returns-in-Core
+returns-in-Core g c = served_as _ _ c.in-Core.is _ _ _ _ _ _ (c.serve_core.ensures _ _)
 
-pub returns-in-Err : goal.returns-in-Err
-returns-in-Err g c = top.no_memory (nothing_done _)
+pub returns-in-Separate : goal.returns-in-Separate
+returns-in-Separate g c = served_as _ _ c.in-Separate.is _ _ _ _ _ _ (c.serve_separate.ensures _ _)
+
+pub returns-in-Audit : goal.returns-in-Audit
+returns-in-Audit g c = is_audited _ _ _ _ _ _ _ c.in-Audit.is c.audit.ensures

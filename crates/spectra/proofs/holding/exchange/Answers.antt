@@ -3,15 +3,15 @@ use Rattle.std.specs.Io.KnownBytes.{Appends}
 use Rattle.sp_outside.specs.Written.{AppendsFront}
 use Rattle.session.specs.Strategies.{rounds_of}
 use Rattle.spectra.specs.Endings.{line_of, realizable}
-use Rattle.spectra.specs.Sessions.{cut_at_once}
-use Rattle.spectra.proofs.Exchanges.{session_held}
+use Rattle.spectra.specs.Sessions.{cut_at_once, ending_after, RunTalks}
+use Rattle.spectra.proofs.Exchanges.{session_held, run_weaker}
 use Rattle.spectra.proofs.holding.exchange.Goals as goal
 
 pub returns-in-Ok-clause-holds : goal.returns-in-Ok-clause-holds
 returns-in-Ok-clause-holds g c =
     let line : c.as_bytes.result.now ≡ line_of (realizable (rounds_of c.args.play.now)) = c.as_bytes.ensures.value ∙ c.requires.verdict in
     λ s for_spec is_of.
-    session_held s (rounds_of c.args.play.now) _ _ _ _ _ _ _ _ _ _ _ _ _ _
+    session_held (realizable (rounds_of c.args.play.now)) (RunTalks s (rounds_of c.args.play.now)) ending_after _ _ _ _ _ _ _ _ _ _ _ _ _ _ (λ rose rose' from talk. run_weaker s (rounds_of c.args.play.now) _ _ _ _ _ rose rose' _ from talk)
     (subst (λ (l : List ℕ). Appends (g.O.Sink.written c.args.output.now) (g.O.Sink.written c.write_line.new.output) l) line c.in-Ok.ensures.whole)
     (c.run_lines-end.ensures.talk s for_spec is_of) c.close.ensures.closes c.write_line.ensures.cause.later c.run_lines-end.ensures.later_out c.close.ensures.later
 

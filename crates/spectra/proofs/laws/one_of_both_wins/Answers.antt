@@ -1,7 +1,0 @@
-use Rattle.hidden_game.proofs.MadeGames as made
-use Rattle.hidden_game.proofs.Agreed.{game_agrees}
-use Rattle.spectra.proofs.Found.{one_found}
-use Rattle.spectra.proofs.laws.one_of_both_wins.Goals as goal
-
-pub returns : goal.returns
-returns c s typed plain = let games = made.typed_games_made s typed plain in one_found s (game_agrees s typed plain games) games (made.lines_rise s typed)

@@ -1,0 +1,92 @@
+//! Audits of logs. Ends are worked out by hand from the lines.
+
+use crate::tests::{Run, parts};
+use std::test::Fail;
+
+// The statements after `spec X`, the log, what is written, and the status.
+const AUDITS: [&str; 12] = [
+    // The assumption reads the present g, so that it is judged at the second position.
+    "env boolean a; sys boolean g; asm alw g -> a; gar alw g; => a=false g=true\na=true g=true\n => audit broken #1 line 2\n => 1",
+    "env boolean a; sys boolean g; asm alw g -> a; gar alw g; => a=false g=false\na=true g=true\n => audit broken #2 line 1\n => 1",
+    "env boolean a; sys boolean g; asm alw g -> a; gar alw g; => a=true g=true\na=false g=true\n => audit ok 2\n => 0",
+    "env boolean a; sys boolean g; asm alw g -> a; gar alw g; =>  => audit ok 0\n => 0",
+    // A position has all variables, in any order.
+    "env boolean a; sys boolean g; asm alw g -> a; gar alw g; => g=true a=true\n => audit ok 1\n => 0",
+    "env boolean a; sys boolean g; asm alw g -> a; gar alw g; => g=true\n => line 1 refused\n => 6",
+    // Of one position the assumption comes first.
+    "env boolean a; sys boolean g; gar ini g; asm ini a; => a=false g=false\n => audit broken #2 line 1\n => 1",
+    // A refused line ends the log: a line that is broken before it comes first, and one behind it is not read.
+    "sys boolean g; gar alw g; => g=false\nnonsense\n => audit broken #1 line 1\n => 1",
+    "sys boolean g; gar alw g; => g=true\nnonsense\ng=false\n => line 2 refused\n => 6",
+    // What recurs is not judged, nor who wins, nor how many states there are.
+    "sys boolean g; gar alwEv g; => g=false\n => audit ok 1\n => 0",
+    "sys Int(0..1024) x; gar ini x = 1; => x=2\n => audit broken #1 line 1\n => 1",
+    "gar alw; =>  => t.spectra:2:8: fault 4 Unexpected\n => 3",
+];
+
+#[test]
+fn each_log_is_audited(rt: HostRuntime) -> Result<(), Fail> {
+    let alloc = rt.alloc();
+    for case in &AUDITS {
+        let (statements, rest) = parts(&rt, case);
+        let (log, rest) = parts(&rt, rest);
+        let (written, status) = parts(&rt, rest);
+        let text = format!(in alloc; "spec X\n{statements}\n")?;
+        let number = status.parse::<u8>().expect(&rt, "a status");
+        Run::of("spectra audit t.spectra", text.as_bytes(), log).writes(
+            &rt, alloc, written, number,
+        )?;
+    }
+    Ok(())
+}
+
+#[test]
+fn a_long_log_is_audited_in_pieces(rt: HostRuntime) -> Result<(), Fail> {
+    let alloc = rt.alloc();
+    // the line that is broken, what is written, and the status
+    for (broken, written, number) in [
+        (0usize, "audit ok 5000\n", 0u8),
+        (4_096, "audit broken #1 line 4096\n", 1),
+        (4_097, "audit broken #1 line 4097\n", 1),
+    ] {
+        let mut log = String::new(alloc);
+        for line in 1..=5_000usize {
+            log.push_str(if line == broken {
+                "g=false\n"
+            } else {
+                "g=true\n"
+            })?;
+        }
+        Run::of(
+            "spectra audit t.spectra",
+            b"spec X sys boolean g; gar alw g;",
+            &log,
+        )
+        .writes(&rt, alloc, written, number)?;
+    }
+    Ok(())
+}
+
+#[test]
+fn each_failing_call_ends_the_audit(rt: HostRuntime) -> Result<(), Fail> {
+    // the log, the calls of the input and of the output that fail, what is written, and the status
+    let cases: [(&str, &[u64], &[u64], &str, u8); 4] = [
+        ("g=true\n", &[1], &[], "input fault\n", 8),
+        ("g=true\n", &[2], &[], "input fault\n", 8),
+        // A line that is broken comes before the fault.
+        ("g=false\n", &[2], &[], "audit broken #1 line 1\n", 1),
+        ("g=true\n", &[], &[1], "", 9),
+    ];
+    for (log, reads, writes, written, number) in cases {
+        let run = Run {
+            fails: [&[], reads, writes],
+            ..Run::of(
+                "spectra audit t.spectra",
+                b"spec X sys boolean g; gar alw g;",
+                log,
+            )
+        };
+        run.writes(&rt, rt.alloc(), written, number)?;
+    }
+    Ok(())
+}
