@@ -1,6 +1,7 @@
 //! Who wins, as it is answered.
 
 use controller::Controller;
+use counterstrategy::Counterstrategy;
 use region_rows::RegionRows;
 
 /// Who wins, with the numbers.
