@@ -1,0 +1,7 @@
+pub mod Forced
+pub mod Places
+pub mod Settled
+pub mod Turns
+pub mod Owned
+pub mod Made
+pub mod Objects

@@ -1,0 +1,227 @@
+//! The environment's strategy over any regions.
+
+ghost use Rattle.std.specs.Prelude.{◌≡◌, length, IsTrue, IfOk, IfErr, None, is_none};
+ghost use Rattle.std.specs.Bool.{OnTrue, OnFalse};
+ghost use Rattle.spec_model.specs.Steps.{is_output, legal_output};
+ghost use Rattle.spec_model.specs.GameViews.{game_data};
+ghost use Rattle.spec_model.specs.WellMade.{WellMade};
+ghost use Rattle.spec_model.specs.FirstBroken.{first_broken_output};
+ghost use Rattle.regions.specs.Rules.{input_count};
+ghost use Rattle.hidden_game.specs.Judged.{IsOutputJudgeOf};
+ghost use Rattle.gr1_law.specs.EnvLayers.{EnvLayerSets};
+ghost use Rattle.gr1_law.specs.Counter.{CounterMemory, first_counter, note_of};
+ghost use Rattle.counterstrategy.specs.Made.{AreLayersOf, IsRefused};
+ghost use Rattle.counterstrategy.specs.Places.{IsAt, memory_at};
+ghost use Rattle.counterstrategy.specs.Objects.{IsFresh, HasGiven, given_by, game_of, Stands, InEachPlay, Begins, Completes, Gives, GoesOn, HoldsTheSame, GivesBack, note_data};
+
+use crate::equipping::equip;
+use crate::giving::give;
+use crate::kit::{Kit, spend_kit};
+use crate::noting::{label_of, note_position};
+use crate::place::Place;
+use gr1_env::{EnvLayer, EnvLayers};
+use hidden_game::OutputJudge;
+use regions::{Halt, MakeRefusal, Regions};
+use spec_model::game::{Game, Label};
+use spec_model::value::Value;
+use spec_model::variables::count_inputs;
+use std::alloc::{AllocError, Global};
+
+/// What is noted of a position: that the play shifts, or that it denies the goal with this label.
+#[derive(Clone, Copy, Debug, PartialEq, Eq)]
+pub enum Note {
+    Shift,
+    Deny(Label),
+}
+
+/// A play of the environment's strategy. It must be closed.
+pub struct Counterstrategy<G: Regions> {
+    g: G,
+    layers: Vec<EnvLayer<G>>,
+    kit: Kit<G>,
+    place: Place,
+    /// Whether an input was given, and the one that was given last.
+    has_given: bool,
+    given: Vec<Value>,
+    judge: OutputJudge,
+}
+
+/// Before the first position, room for an input, and a judge of the outputs. `AllocError`: no memory was given.
+fn prepared(
+    alloc: Global,
+    game: &Game,
+) -> Result<(Place, Vec<Value>, OutputJudge), AllocError>
+    requires { WellMade (game_data game.now) }
+    ensures place { IfOk result (λ p. IsAt (game_data game.now) p.0 None first_counter) }
+    ensures room { IfOk result (λ p. length p.1.items ≡ input_count (game_data game.now)) }
+    ensures judge { IfOk result (λ p. IsOutputJudgeOf (game_data game.now) p.2) }
+{
+    let place = Place::make(alloc, game)?;
+    let given = vec![in alloc; Value::Bool(false); count_inputs(&game.vars)]?;
+    let judge = OutputJudge::make(alloc, game)?;
+    Ok((place, given, judge))
+}
+
+impl<G: Regions> Counterstrategy<G> {
+    /// A strategy that has given no input, for the layers that `gr1_env::solve_env` gave for this `g`. They are taken.
+    ///
+    /// `Budget`: a call of `g` answered it, for the states of a goal or an assumption, for no states, for first moves into a
+    /// layer, or for later ones into a layer or an iterate of one; layer 0 has no states. `Memory`: none was given. Then the
+    /// layers are spent, and nothing else is held.
+    pub fn make(
+        alloc: Global,
+        g: G,
+        layers: EnvLayers<G>,
+    ) -> Result<Counterstrategy<G>, MakeRefusal<G>>
+        requires free { (G.kept g).jam ≡ None }
+        requires lost { (e : EnvLayerSets) × AreLayersOf (G.kept g) layers.layers.items e }
+        ensures begins { (e : EnvLayerSets) → AreLayersOf (G.kept g) layers.layers.items e → IfOk result (Begins G.kept (G.kept g) layers.layers.items e) }
+        ensures refused { IfErr result (λ r. IsRefused (G.kept g) (G.kept r.g) layers.layers.items r.halt) }
+    {
+        let mut g = g;
+        let Ok((place, given, judge)) = prepared(alloc, g.game()) else {
+            layers.spend_all(&mut g);
+            return Err(MakeRefusal {
+                halt: Halt::Memory,
+                g,
+            });
+        };
+        match equip(alloc, &mut g, &layers.layers) {
+            Ok(kit) => {
+                let EnvLayers { layers } = layers;
+                Ok(Counterstrategy {
+                    g,
+                    layers,
+                    kit,
+                    place,
+                    has_given: false,
+                    given,
+                    judge,
+                })
+            }
+            Err(halt) => {
+                layers.spend_all(&mut g);
+                Err(MakeRefusal { halt, g })
+            }
+        }
+    }
+
+    /// The first guarantee or monitor's line, in text order, that the output breaks after the play and the input that was
+    /// given; where it breaks none it is legal. It takes no memory.
+    pub fn legal(&self, out: &[Value]) -> Option<Label>
+        requires stands { Stands G.kept self.now }
+        requires given { HasGiven self.now }
+        requires output { IsTrue (is_output (game_of G.kept self.now) out.now) }
+        ensures first { InEachPlay G.kept self.now (λ e h notes b k. result ≡ first_broken_output (game_of G.kept self.now) b (given_by self.now) out.now) }
+        ensures none { InEachPlay G.kept self.now (λ e h notes b k. is_none result ≡ legal_output (game_of G.kept self.now) b (given_by self.now) out.now) }
+    {
+        let game = self.g.game();
+        let last = &self.place.position;
+        if last.started {
+            self.judge.first_broken_after(
+                game,
+                &last.state,
+                &last.cells,
+                &last.next,
+                &self.given,
+                out,
+            )
+        } else {
+            self.judge
+                .first_broken_at_start(game, &last.next, &self.given, out)
+        }
+    }
+
+    /// Whether an input was given.
+    pub fn is_started(&self) -> bool
+        ensures given { OnTrue result (HasGiven self.now) }
+        ensures fresh { OnFalse result (IsFresh self.now) }
+    {
+        self.has_given
+    }
+
+    /// Writes the first input that is given.
+    pub fn first(&mut self, input: &mut [Value])
+        requires stands { Stands G.kept self.old }
+        requires fresh { IsFresh self.old }
+        requires room { length input.old ≡ input_count (game_of G.kept self.old) }
+        ensures given { InEachPlay G.kept self.old (λ e h notes b k. Gives G.kept self.new e h notes b k input.new) }
+        ensures same { HoldsTheSame G.kept self.old self.new }
+    {
+        self.give_next();
+        input.copy_from_slice(&self.given);
+    }
+
+    /// Notes the position that the output completes, and writes the next input that is given.
+    pub fn reply(&mut self, out: &[Value], input: &mut [Value]) -> Note
+        requires stands { Stands G.kept self.old }
+        requires given { HasGiven self.old }
+        requires output { IsTrue (is_output (game_of G.kept self.old) out.now) }
+        requires legal { InEachPlay G.kept self.old (λ e h notes b k. IsTrue (legal_output (game_of G.kept self.old) b (given_by self.old) out.now)) }
+        requires room { length input.old ≡ input_count (game_of G.kept self.old) }
+        ensures answered { InEachPlay G.kept self.old (λ e h notes b k. (next : CounterMemory) × GoesOn G.kept self.old self.new e h notes b k out.now result next input.new) }
+        ensures same { HoldsTheSame G.kept self.old self.new }
+    {
+        let note = self.complete(out);
+        self.give_next();
+        input.copy_from_slice(&self.given);
+        note
+    }
+
+    /// Goes on to the position that the output completes, and notes it.
+    fn complete(&mut self, out: &[Value]) -> Note
+        requires stands { Stands G.kept self.old }
+        requires given { HasGiven self.old }
+        requires output { IsTrue (is_output (game_of G.kept self.old) out.now) }
+        requires legal { InEachPlay G.kept self.old (λ e h notes b k. IsTrue (legal_output (game_of G.kept self.old) b (given_by self.old) out.now)) }
+        ensures completed { InEachPlay G.kept self.old (λ e h notes b k. (next : CounterMemory) × Completes G.kept self.old self.new e h notes b k out.now result next) }
+        ensures same { HoldsTheSame G.kept self.old self.new }
+    {
+        let place = &mut self.place;
+        place.position.go_on(self.g.game(), &self.given, out);
+        note_position(&mut self.g, &self.layers, &self.kit, place);
+        self.has_given = false;
+        self.note()
+    }
+
+    /// The note of the last position.
+    fn note(&self) -> Note
+        ensures { note_data result ≡ note_of (game_of G.kept self.now) (memory_at self.now.place) }
+    {
+        if self.place.denying {
+            Note::Deny(label_of(&self.g.game().goals, self.place.goal))
+        } else {
+            Note::Shift
+        }
+    }
+
+    /// Gives the input that follows.
+    fn give_next(&mut self)
+        requires stands { Stands G.kept self.old }
+        requires fresh { IsFresh self.old }
+        ensures given { InEachPlay G.kept self.old (λ e h notes b k. Gives G.kept self.new e h notes b k (given_by self.new)) }
+        ensures same { HoldsTheSame G.kept self.old self.new }
+    {
+        give(&mut self.g, &self.kit, &self.place, &mut self.given);
+        self.has_given = true;
+    }
+
+    /// Ends the play: all that it owns is spent.
+    pub fn close(self) -> G
+        requires { Stands G.kept self }
+        ensures { GivesBack G.kept self result }
+    {
+        let Counterstrategy {
+            mut g,
+            layers,
+            kit,
+            place: _place,
+            has_given: _has_given,
+            given: _given,
+            judge: _judge,
+        } = self;
+        EnvLayers { layers }.spend_all(&mut g);
+        spend_kit(&mut g, kit);
+        g
+    }
+}

@@ -1,0 +1,4 @@
+pub mod Holdings
+pub mod Placing
+pub mod Owning
+pub mod Telling

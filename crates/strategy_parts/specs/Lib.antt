@@ -1,0 +1,4 @@
+pub mod Owned
+pub mod Told
+pub mod Positions
+pub mod Wanted
