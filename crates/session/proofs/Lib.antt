@@ -2,5 +2,7 @@ mod Fitting
 pub mod Turns
 pub mod RunTalks
 pub mod CounterTalks
+mod Noting
 mod Strategic
+mod Countering
 pub mod Logging

@@ -22,7 +22,7 @@ one_longer handed line = length-append handed (line ∷ [])
 nothing_more : (a b c : Option (List ℕ)) (text : List ℕ) → Appends a b text → Appends b c [] → Appends a c text
 nothing_more a b c text first second = subst (Appends a c) (append-nil text) (Appends-trans a b c text [] first second)
 
-front_more : (a b c : Option (List ℕ)) (text more : List ℕ) → Appends a b text → AppendsFront b c more → AppendsFront a c (text ++ more)
+pub front_more : (a b c : Option (List ℕ)) (text more : List ℕ) → Appends a b text → AppendsFront b c more → AppendsFront a c (text ++ more)
 front_more a b c text more first front = (
   length text + front.0,
   subst (Appends a c) (sym (take-append-add text more front.0)) (Appends-trans a b c text (take front.0 more) first front.1),

@@ -4,5 +4,6 @@ pub mod Talks
 pub mod CounterTalks
 pub mod AuditTalks
 pub mod Strategies
+pub mod Counters
 pub mod Audits
 pub mod Parrots
