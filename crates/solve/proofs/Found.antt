@@ -8,7 +8,7 @@ use Rattle.spec_model.specs.WellMade.{WellMade}
 use Rattle.hidden_game.specs.GameOf.{game_of}
 use Rattle.std.specs.declared.alloc.Global.{Global}
 use Rattle.regions.specs.Kept.{Kept, IsSameGame}
-use Rattle.gr1_law.specs.Layers.{LayerSets, IsWinning, round_count}
+use Rattle.gr1_law.specs.Layers.{LayerSets, IsWinning, round_count, goal_sets}
 use Rattle.gr1_law.specs.EnvLayers.{EnvLayerSets, AreEnvLayers, IsLayerCount, AreDelayCounts, denial_count}
 use Rattle.gr1_sys.specs.declared.layers.SysLayer.{SysLayer}
 use Rattle.gr1_sys.specs.Held.{ranks_of}

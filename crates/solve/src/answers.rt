@@ -20,9 +20,10 @@ pub enum Verdict {
         k: u64,
         play: Controller<RegionRows>,
     },
-    /// The environment, with N shifts and M denials in a row.
+    /// The environment, with N shifts and M denials in a row. The play must be closed.
     Unrealizable {
         n: u64,
         m: u64,
+        play: Counterstrategy<RegionRows>,
     },
 }
