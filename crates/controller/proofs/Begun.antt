@@ -17,12 +17,14 @@ use Rattle.gr1_law.specs.Choice.{Memory, ChosenPlay, first_memory}
 use Rattle.gr1_sys.specs.declared.layers.SysLayer.{SysLayer}
 use Rattle.gr1_sys.specs.Held.{HasEach, layer_regions, goal_regions, all_regions, ranks_of, AllHaveParts, HaveParts as LayersHaveParts}
 use Rattle.controller.specs.declared.aims.Aim.{Aim}
-use Rattle.controller.specs.Aims.{RegionsAre, MovesLead, AimsLead, GoalsLead, LayersAre, AllLayersAre}
+use Rattle.strategy_parts.specs.Owned.{RegionsAre, weight_as, HasAll, MakesAll, region_items, move_items}
+use Rattle.controller.specs.Aims.{MovesLead, AimsLead, GoalsLead, LayersAre, AllLayersAre}
 use Rattle.controller.specs.Turns.{HaveParts}
-use Rattle.controller.specs.Owned.{weight_as, HasAll, MakesAll, region_items, move_items, aim_items, aims_items, all_aims_items, made_items, layer_items}
+use Rattle.controller.specs.Owned.{aim_items, aims_items, all_aims_items, made_items, layer_items}
 use Rattle.controller.specs.Made.{leadings, parts_for, regions_for, AreLike, AreAllLike, first_layers, move_meanings, made_meanings, AreLayersOf}
 use Rattle.controller.specs.Objects.{AreSound, AllAimsHaveParts, AreAlike, IsFirstOf}
-use Rattle.controller.proofs.Owning.{length_map, length_both, weight_as-append, weight_as-more, all_as, together_regions, together_each, sets_as-more}
+use Rattle.strategy_parts.proofs.Owning.{length_map, length_both, weight_as-append, weight_as-more, all_as, together_regions, together_each, sets_as-more}
+use Rattle.strategy_parts.proofs.Standing.{AreSets, are_sets, regions_are, regions_held, each_parts}
 use Rattle.controller.proofs.Makings.{later_regions, some_goal}
 
 -- a play without a state has no position
@@ -30,27 +32,7 @@ pub none_yet : (g : GameData) (l : LayerSets) (h : Run) (b : Before) (m : Memory
 none_yet g l h b m ChosenPlay.nothing e = (refl, refl, refl)
 none_yet g l h b m (ChosenPlay.more q c n x y next play input legal chosen) e = absurd (false≢true (sym e))
 
--- the numbers from 0 on, the first apart
-map_below-suc : (f : ℕ → StateSet) (n : ℕ) → map f (below (suc n)) ≡ f 0 ∷ map (λ i. f (suc i)) (below n)
-map_below-suc f zero = refl
-map_below-suc f (suc n) =
-    map-append f (below (suc n)) (suc n ∷ []) ∙ (ap (λ ss. ss ++ f (suc n) ∷ []) (map_below-suc f n) ∙ ap (λ ss. f 0 ∷ ss) (sym (map-append (λ i. f (suc i)) (below n) (n ∷ []))))
-
 module _ {R M : Type 0} where
-  -- the regions stand for the sets, one after the other
-  abbrev AreSets : Kept R M → List R → (ℕ → StateSet) → Type 0
-  AreSets k [] sets = Unit {0}
-  AreSets k (r ∷ rs) sets = (k.set r ≡ sets 0) × AreSets k rs (λ i. sets (suc i))
-
-  are_sets : (k : Kept R M) (rs : List R) (sets : ℕ → StateSet) (n : ℕ) → map k.set rs ≡ map sets (below n) → AreSets k rs sets
-  are_sets k [] sets n e = tt
-  are_sets k (r ∷ rs) sets zero e = absurd (let none = ap (λ (ss : List StateSet). length ss) e in omega (arith, none))
-  are_sets k (r ∷ rs) sets (suc n) e =
-      let both : k.set r ∷ map k.set rs ≡ sets 0 ∷ map (λ i. sets (suc i)) (below n) = e ∙ map_below-suc sets n in
-      let first : k.set r ≡ sets 0 = cc (both) in
-      let others : map k.set rs ≡ map (λ i. sets (suc i)) (below n) = cc (both) in
-      (first, are_sets k rs (λ i. sets (suc i)) n others)
-
   module _ (old new : Kept R M) (same : IsSameGame old new) where
     held_leading : (when : When) (m : M) (s t : StateSet) → s ≡ t → ((w : Item R M → Meaning → ℕ) → w (Move m) (Outputs when s) ≤ weight new w) → IsHeldAs new (Move m) (Outputs when t)
     held_leading when m s t e held = subst (λ (u : StateSet). IsHeldAs new (Move m) (Outputs when u)) e held
@@ -62,26 +44,6 @@ module _ {R M : Type 0} where
       held_leading when m (old.set r) (sets 0) are.0 (λ w. omega (arith, held w, weight_as-more (Move m) (move_items ms) (Outputs when (old.set r)) (leadings old when rs) w)),
       moves_lead when ms rs (λ i. sets (suc i)) (omega arith) (λ w. omega (arith, held w, weight_as-more (Move m) (move_items ms) (Outputs when (old.set r)) (leadings old when rs) w)) are.1,
     )
-
-  module _ (old new : Kept R M) (more : (w : Item R M → Meaning → ℕ) → weight old w ≤ weight new w) where
-    regions_are : (rs : List R) (sets : ℕ → StateSet) → HasEach old rs → AreSets old rs sets → RegionsAre new rs sets
-    regions_are [] sets each are = tt
-    regions_are (r ∷ rs) sets each are = (
-      subst (λ (s : StateSet). IsHeldAs new (Region r) (States s)) are.0 (λ w. omega (arith, held_as old (Region r) each.0 w, more w)),
-      regions_are rs (λ i. sets (suc i)) each.1 are.1,
-    )
-
-  regions_held : (new : Kept R M) (rs : List R) (ss : List StateSet) (sets : ℕ → StateSet) → length rs ≡ length ss → ((w : Item R M → Meaning → ℕ) → weight_as (region_items rs) (map States ss) w ≤ weight new w) → ((i : ℕ) → get_or ss i no_states ≡ sets i) → RegionsAre new rs sets
-  regions_held new [] ss sets e held are = tt
-  regions_held new (r ∷ rs) [] sets e held are = absurd (omega arith)
-  regions_held new (r ∷ rs) (s ∷ ss) sets e held are = (
-    subst (λ (t : StateSet). IsHeldAs new (Region r) (States t)) (are 0) (λ w. omega (arith, held w, weight_as-more (Region r) (region_items rs) (States s) (map States ss) w)),
-    regions_held new rs ss (λ i. sets (suc i)) (omega arith) (λ w. omega (arith, held w, weight_as-more (Region r) (region_items rs) (States s) (map States ss) w)) (λ i. are (suc i)),
-  )
-
-  each_parts : (k : Kept R M) (rs qs : List R) → HasEach k (rs ++ qs) → HasEach k rs × HasEach k qs
-  each_parts k [] qs each = (tt, each)
-  each_parts k (r ∷ rs) qs each = let rest = each_parts k rs qs each.1 in ((each.0, rest.0), rest.1)
 
 module _ {G R M : Type 0} where
   -- the layers of a goal stand for these sets

@@ -13,25 +13,8 @@ use Rattle.regions.specs.Rules.{outputs_into, is_time}
 use Rattle.gr1_law.specs.Layers.{LayerSets, goal_set, goal_sets}
 use Rattle.gr1_law.specs.Choice.{Memory, can_lead, waits, goal_stays, goal_aimed, next_goal}
 use Rattle.gr1_law.proofs.Searching.{some-found}
+use Rattle.strategy_parts.proofs.Searching.{find-same, every_from, none_found, differs}
 use Rattle.controller.specs.Turns.{first_into, IsFirstReached, IsTurn}
-
--- tests that agree on each element find the same
-find-same : {X : Type 0} (p q : X → Bool) (xs : List X) → Every (λ x. p x ≡ q x) xs → find p xs ≡ find q xs
-find-same p q [] each = refl
-find-same p q (x ∷ xs) each = ap (λ b. cond b (Some x) (find p xs)) each.0 ∙ ap (cond (q x) (Some x)) (find-same p q xs each.1)
-
-every_from : {X : Type 0} (P Q : X → Type 0) → ((x : X) → P x → Q x) → (xs : List X) → Every P xs → Every Q xs
-every_from P Q f [] each = tt
-every_from P Q f (x ∷ xs) each = (f x each.0, every_from P Q f xs each.1)
-
--- where no element passes, none is found
-none_found : {X : Type 0} (p : X → Bool) (xs : List X) → (list_any p xs ≡ true → ⊥) → find p xs ≡ None
-none_found p [] none = refl
-none_found p (x ∷ xs) none = at (p x) none (none_found p xs)
-  where
-    at : (b : Bool) → ((b || list_any p xs) ≡ true → ⊥) → ((list_any p xs ≡ true → ⊥) → find p xs ≡ None) → cond b (Some x) (find p xs) ≡ None
-    at true none rest = absurd (none refl)
-    at false none rest = rest none
 
 module _ (g : GameData) (when : When) (b : Before) (x : Assignment) (time : is_time g when b ≡ true) (input : is_input g x ≡ true) (legal : legal_input g b x ≡ true) where
   pub into_is : (t : StateSet) → first_into g when t b x ≡ find (output_into g t b x) (outputs_of g)
@@ -81,13 +64,6 @@ module _ (g : GameData) (when : When) (l : LayerSets) (b : Before) (m : Memory) 
       found (l.x m.goal m.rank m.index) ∙ (ap (λ d. find (output_into g (if d then l.x m.goal m.rank m.index else l.y m'.goal m'.rank) b x) (outputs_of g)) (sym on) ∙ turn.chosen.output)
 
 -- ---- the goal aimed at
-
-differs : (a b : ℕ) → (a ≡ b → ⊥) → (a == b) ≡ false
-differs a b apart = at (a == b) refl
-  where
-    at : (d : Bool) → (a == b) ≡ d → d ≡ false
-    at true e = absurd (apart (eqb-true a b e))
-    at false e = refl
 
 -- a goal that stays is aimed at
 pub kept_goal : (g : GameData) (s : State) (m : Memory) → goal_stays g (Some s) m ≡ true → goal_aimed g (Some s) m ≡ m.goal

@@ -17,8 +17,9 @@ use Rattle.gr1_law.proofs.Trails.{played}
 use Rattle.gr1_sys.specs.declared.layers.SysLayer.{SysLayer}
 use Rattle.gr1_sys.specs.Held.{ranks_of}
 use Rattle.controller.specs.declared.aims.Aim.{Aim}
-use Rattle.controller.specs.Aims.{RegionsAre}
-use Rattle.controller.specs.Turns.{IsTurn, IsWholeBefore, IsLater}
+use Rattle.strategy_parts.specs.Owned.{RegionsAre}
+use Rattle.strategy_parts.specs.Positions.{IsWholeBefore}
+use Rattle.controller.specs.Turns.{IsTurn, IsLater}
 use Rattle.controller.specs.Objects.{AreSound}
 use Rattle.controller.proofs.Sounding.{sound_stays, alike_counted, goal_high}
 use Rattle.controller.proofs.Turned.{later_turn}

@@ -2,7 +2,6 @@ mod Holdings
 mod Reaching
 mod Chosen
 mod Leading
-mod Placing
 mod Settled
 mod Playing
 mod Sounding

@@ -11,7 +11,8 @@ use Rattle.gr1_law.specs.Choice.{Memory, IsChosen, ChosenPlay, can_lead}
 use Rattle.gr1_law.proofs.Standing.{rank_some}
 use Rattle.gr1_law.proofs.Choosing.{choice_exists, chosen_output, last_leads}
 use Rattle.gr1_law.proofs.Trails.{Played, played}
-use Rattle.controller.specs.Turns.{IsTurn, IsWholeBefore}
+use Rattle.strategy_parts.specs.Positions.{IsWholeBefore}
+use Rattle.controller.specs.Turns.{IsTurn}
 
 closed_at : (g : GameData) → IsClosed g → (b : Before) → IsWholeBefore g b → (x y : Assignment) → is_input g x ≡ true → is_output g y ≡ true → is_state g (reached g b x y) ≡ true
 closed_at g closed None whole x y input output = closed.first x y input output

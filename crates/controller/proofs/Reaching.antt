@@ -13,12 +13,12 @@ use Rattle.regions.proofs.Holding.{choice_is, set_is}
 use Rattle.gr1_law.specs.Layers.{IsLeastNumber, goal_set}
 use Rattle.gr1_law.specs.Choice.{Memory}
 use Rattle.controller.specs.declared.aims.Aim.{Aim}
-use Rattle.controller.specs.Aims.{AimsLead, RegionsAre, LeadSomewhere, AreSomewhere}
+use Rattle.strategy_parts.specs.Owned.{RegionsAre, AreSomewhere}
+use Rattle.controller.specs.Aims.{AimsLead, LeadSomewhere}
 use Rattle.controller.specs.Turns.{first_into, IsFirstReached}
-use Rattle.controller.proofs.Holdings.{nothing_done, same_game, held_stays, has_move, has_region, gives, aim_at, region_at}
-
-next_or_here : (n r : ℕ) → n ≤ r → (n + 1 ≤ r) ⊎ (n ≡ r)
-next_or_here n r le = grind (arith, le)
+use Rattle.strategy_parts.proofs.Holdings.{nothing_done, same_game, held_stays, has_move, has_region, region_at}
+use Rattle.strategy_parts.proofs.Reaching.{next_or_here, has_at}
+use Rattle.controller.proofs.Holdings.{gives, aim_at}
 
 -- what is written is what there is
 pub found_only : {o : Option Assignment} (answer : Bool) (out reply : Assignment) → Found answer out o → o ≡ Some reply → out ≡ reply
@@ -65,38 +65,9 @@ module _ {G R M : Type 0} (first k : Kept R M) (exact : IsExact k) (stays : Stay
         (aim_at first when aims y x lead n below d).0))
         (subst (λ (g : GameData). AreBefore g when b values) (sym same.game) before))
 
-module _ {R M : Type 0} (first k : Kept R M) (exact : IsExact k) (stays : Stays first k) (same : IsSameGame first k) where
-  module _ (rs : List R) (n : ℕ) (below : n < length rs) (r : R) (is : r ≡ get_or rs n r) where
-    pub region_held : AreSomewhere first rs → HasRegion k r
-    region_held some = has_region k r (States (some.0 n)) (held_stays first k (Region r) (States (some.0 n)) stays (region_at first rs some.0 some.1 n below r is))
-
-    pub has_at : (sets : ℕ → StateSet) (s : State) (values : List Value) (answer : Bool) →
-        ((s : State) → is_state k.game s ≡ true → listed s ≡ values → answer ≡ k.set r s) →
-        RegionsAre first rs sets → is_state first.game s ≡ true → listed s ≡ values → answer ≡ sets n s
-    has_at sets s values answer call are inside lists =
-        call s (subst (λ (g : GameData). is_state g s ≡ true) (sym same.game) inside) lists
-        ∙ ap (λ (t : StateSet). t s) (set_is k r (sets n) exact (held_stays first k (Region r) (States (sets n)) stays (region_at first rs sets are n below r is)))
-
 -- whether the goal remembered holds
 pub has_goal : {R M : Type 0} (k : Kept R M) → IsExact k → (rs : List R) (n : ℕ) → n < length rs → (r : R) → r ≡ get_or rs n r → (s : State) (m : Memory) → m.goal ≡ n → (values : List Value) (answer : Bool) →
     ((s : State) → is_state k.game s ≡ true → listed s ≡ values → answer ≡ k.set r s) →
     RegionsAre k rs (goal_set k.game) → is_state k.game s ≡ true → listed s ≡ values → answer ≡ goal_set k.game m.goal s
 has_goal k exact rs n below r is s m goal_is values answer call are inside lists =
     has_at k k exact (nothing_done k) (same_game k) rs n below r is (goal_set k.game) s values answer call are inside lists ∙ ap (λ j. goal_set k.game j s) (sym goal_is)
-
--- ---- the least of several parts that has a state
-
-module _ (sets : ℕ → StateSet) (s : State) (i n : ℕ) (least : IsLeastNumber (λ m. IsTrue (sets m s)) i) (le : n ≤ i) where
-  pub later_part : (answer : Bool) → answer ≡ false → answer ≡ sets n s → n + 1 ≤ i
-  later_part answer not_so is =
-      elim (next_or_here n i le) [
-        | inl more ↦ more
-        | inr here ↦ absurd (false≢true (sym not_so ∙ (is ∙ (ap (λ (m : ℕ). sets m s) here ∙ least.here))))
-      ]
-
-  pub this_part : (answer : Bool) → answer ≡ true → answer ≡ sets n s → n ≡ i
-  this_part answer so is =
-      elim (next_or_here n i le) [
-        | inl more ↦ absurd (least.none_before n (omega (arith, more)) (sym is ∙ so))
-        | inr here ↦ here
-      ]

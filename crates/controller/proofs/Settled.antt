@@ -10,7 +10,8 @@ use Rattle.gr1_law.specs.Choice.{Memory}
 use Rattle.gr1_sys.specs.declared.layers.SysLayer.{SysLayer}
 use Rattle.gr1_sys.specs.Held.{HaveParts, AllHaveParts}
 use Rattle.controller.specs.declared.place.Place.{Place}
-use Rattle.controller.specs.Aims.{RegionsAre, LayersAre, AllLayersAre}
+use Rattle.strategy_parts.specs.Owned.{RegionsAre}
+use Rattle.controller.specs.Aims.{LayersAre, AllLayersAre}
 use Rattle.controller.specs.Settled.{Settles}
 
 module _ {G R M : Type 0} where

@@ -15,12 +15,14 @@ use Rattle.gr1_sys.specs.declared.layers.SysLayer.{SysLayer}
 use Rattle.gr1_sys.specs.Held.{AllHaveParts, ranks_of}
 use Rattle.controller.specs.declared.aims.Aim.{Aim}
 use Rattle.controller.specs.declared.place.Place.{Place}
-use Rattle.controller.specs.Aims.{AimsLead, GoalsLead, RegionsAre, LayersAre, AllLayersAre}
+use Rattle.strategy_parts.specs.Owned.{RegionsAre}
+use Rattle.controller.specs.Aims.{AimsLead, GoalsLead, LayersAre, AllLayersAre}
 use Rattle.controller.specs.Places.{IsAt}
 use Rattle.controller.specs.Turns.{IsTurn, HaveParts}
 use Rattle.controller.specs.Settled.{Settles}
 use Rattle.controller.specs.Objects.{AreSound, AllAimsHaveParts, AreAlike, IsFirstOf}
-use Rattle.controller.proofs.Holdings.{held_stays, moves_stay, regions_stay}
+use Rattle.strategy_parts.proofs.Holdings.{held_stays, regions_stay}
+use Rattle.controller.proofs.Holdings.{moves_stay}
 
 module _ {G R M : Type 0} (k k1 : Kept R M) (stays : Stays k k1) (same : IsSameGame k k1) where
   aims_stay : (when : When) (aims : List (Aim G R M)) (y : ℕ → StateSet) (x : ℕ → ℕ → StateSet) → AimsLead k when aims y x → AimsLead k1 when aims y x
@@ -102,13 +104,7 @@ pub remembered : (g : GameData) (p : Place) (b : Before) (m : Memory) (goal rank
     IsAt g (record p { goal = goal; rank = rank; index = index }) b next
 remembered g p b m goal rank index next here goal_is rank_is index_is =
     record {
-      started = here.started;
-      listed = here.listed;
-      read = here.read;
-      cells = here.cells;
-      next = here.next;
-      tables = here.tables;
-      room = here.room;
+      position = here.position;
       memory = ap (λ (j : ℕ). memory j rank index) goal_is ∙ (ap (λ (r : ℕ). memory next.goal r index) rank_is ∙ ap (λ (i : ℕ). memory next.goal next.rank i) index_is);
     }
   where

@@ -12,8 +12,9 @@ use Rattle.gr1_law.specs.Choice.{Memory, IsChosen, ChosenPlay}
 use Rattle.gr1_sys.specs.declared.layers.SysLayer.{SysLayer}
 use Rattle.controller.specs.declared.aims.Aim.{Aim}
 use Rattle.controller.specs.declared.place.Place.{Place}
-use Rattle.controller.specs.Places.{IsAt, IsClosedAt}
-use Rattle.controller.specs.Turns.{IsTurn, IsWholeBefore}
+use Rattle.strategy_parts.specs.Positions.{IsClosedAt, IsWholeBefore}
+use Rattle.controller.specs.Places.{IsAt}
+use Rattle.controller.specs.Turns.{IsTurn}
 use Rattle.controller.specs.Objects.{AreSound}
 use Rattle.controller.proofs.Sounding.{sound_stays}
 

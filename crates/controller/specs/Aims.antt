@@ -4,23 +4,16 @@ use Rattle.std.specs.declared.alloc.Global.{Global}
 use Rattle.spec_model.specs.Sets.{StateSet}
 use Rattle.regions.specs.declared.types.When.{When}
 use Rattle.regions.specs.declared.types.When.TheVariants.{Later}
-use Rattle.regions.specs.Kept.{Kept, Region, Move, States, Outputs, IsHeldAs}
+use Rattle.regions.specs.Kept.{Kept, Move, Outputs, IsHeldAs}
+use Rattle.strategy_parts.specs.Owned.{RegionsAre}
 use Rattle.gr1_sys.specs.declared.layers.SysLayer.{SysLayer}
 use Rattle.controller.specs.declared.aims.Aim.{Aim}
 
 module _ {R M : Type 0} where
-  -- the regions are held as the sets, one after the other
-  abbrev pub RegionsAre : Kept R M → List R → (ℕ → StateSet) → Type 0
-  RegionsAre k [] sets = Unit {0}
-  RegionsAre k (r ∷ rs) sets = IsHeldAs k (Region r) (States (sets 0)) × RegionsAre k rs (λ i. sets (suc i))
-
   -- the moves are held as those into the sets
   abbrev pub MovesLead : Kept R M → When → List M → (ℕ → StateSet) → Type 0
   MovesLead k when [] sets = Unit {0}
   MovesLead k when (m ∷ ms) sets = IsHeldAs k (Move m) (Outputs when (sets 0)) × MovesLead k when ms (λ i. sets (suc i))
-
-  abbrev pub AreSomewhere : Kept R M → List R → Type 0
-  AreSomewhere k rs = (sets : ℕ → StateSet) × RegionsAre k rs sets
 
 module _ {G R M : Type 0} where
   -- for each rank from the first on: the moves into the layer, and those into its parts

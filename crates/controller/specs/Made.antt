@@ -1,66 +1,40 @@
 -- What is asked for to make a strategy, what is made, and what is told where it isn't.
 use Rattle.std.specs.Prelude.{◌≡◌, ◌⊎◌, ℕ, suc, ◌+◌, true, List, [], ◌∷◌, ◌++◌, map, length, slice_get, Some, None, Vec}
 use Rattle.std.specs.declared.alloc.Global.{Global}
+use Rattle.spec_model.specs.declared.value.Owner.TheVariants.{Sys}
 use Rattle.spec_model.specs.Games.{GameData}
 use Rattle.spec_model.specs.Steps.{below}
 use Rattle.spec_model.specs.Sets.{StateSet, system_forces}
 use Rattle.spec_model.specs.WellMade.{WellMade}
 use Rattle.regions.specs.declared.types.Halt.{Halt}
-use Rattle.regions.specs.declared.types.Halt.TheVariants.{Budget, Memory}
 use Rattle.regions.specs.declared.types.When.{When}
 use Rattle.regions.specs.declared.types.When.TheVariants.{First, Later}
-use Rattle.regions.specs.Kept.{Kept, Meaning, States, Outputs, Each, Call, All, Holding, OutMoves, Jam, IsSameGame, weigh, weight}
+use Rattle.regions.specs.Kept.{Kept, Meaning, States, Outputs, IsSameGame}
 use Rattle.gr1_law.specs.Layers.{LayerSets, IsWinning, AreGreatestRanks, goal_sets, assumption_sets}
 use Rattle.gr1_sys.specs.declared.layers.SysLayer.{SysLayer}
 use Rattle.gr1_sys.specs.Held.{HasTogether, HoldsWithoutAll, all_regions, ranks_of}
+use Rattle.strategy_parts.specs.Owned.{Every}
+use Rattle.strategy_parts.specs.Told.{Tale, IsIn, TellsHalt as HaltIsTold}
 use Rattle.controller.specs.declared.aims.Aim.{Aim}
 
--- something holds of each of a list
-abbrev pub Every : {X : Type 0} → (X → Type 0) → List X → Type 0
-Every P [] = Unit {0}
-Every P (x ∷ xs) = P x × Every P xs
-
 -- ---- what is told of
-
--- it is one of them
-abbrev pub IsIn : StateSet → List StateSet → Type 0
-IsIn s [] = ⊥
-IsIn s (t ∷ ts) = (s ≡ t) ⊎ IsIn s ts
 
 -- The sets that first moves lead into, and later ones.
 abbrev pub Targets : Type 0
 Targets = When → List StateSet
 
 -- What is made besides the layers: the states of a goal, or the moves into a target.
-abbrev pub IsMade : GameData → Targets → Meaning → Type 0
-IsMade g targets (States s) = IsIn s (goal_sets g)
-IsMade g targets (Outputs when s) = IsIn s (targets when)
-IsMade g targets _ = ⊥
-
--- Only these calls are made: for moves, into a target of that time, and for the states of a goal, without an argument.
-abbrev pub AsksOfTargets : Targets → Call → List Meaning → Type 0
-AsksOfTargets targets (OutMoves when) asked = (s : StateSet) × IsIn s (targets when) × (asked ≡ States s ∷ [])
-AsksOfTargets targets Holding asked = asked ≡ []
-AsksOfTargets targets All asked = asked ≡ []
-AsksOfTargets targets _ asked = ⊥
+abbrev pub tale_of : GameData → Targets → Tale
+tale_of g targets = record { who = Sys; sets = goal_sets g; targets = targets }
 
 module _ {R M : Type 0} where
   -- each region stands for a target of that time
   abbrev pub AreTargets : Targets → When → Kept R M → List R → Type 0
   AreTargets targets when k rs = Every (λ r. IsIn (k.set r) (targets when)) rs
 
-  -- A budget that ran out is told: which call, of what, and what was held then, order aside: what was held at first, and what was made.
-  pub record TellsBudget (old new : Kept R M) (targets : Targets) : Type 0 where
-    pub jam : Jam
-    pub told : new.jam ≡ Some jam
-    pub besides : List Meaning
-    pub held : (w : Meaning → ℕ) → weigh w jam.held ≡ weigh w besides + weight old (λ i m. w m)
-    pub made : Each (IsMade old.game targets) besides
-    pub asked : AsksOfTargets targets jam.call jam.arguments
-
+  -- why a budget ran out is told, or memory was wanting
   abbrev pub TellsHalt : Kept R M → Kept R M → Targets → Halt → Type 0
-  TellsHalt old new targets Budget = TellsBudget old new targets
-  TellsHalt old new targets Memory = new.jam ≡ None
+  TellsHalt old new targets halt = HaltIsTold old new (tale_of old.game targets) halt
 
   -- ---- what is made
 

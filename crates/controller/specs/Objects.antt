@@ -16,11 +16,13 @@ use Rattle.gr1_sys.specs.Held.{AllHaveParts, ranks_of}
 use Rattle.gr1_sys.specs.declared.layers.SysLayer.{SysLayer}
 use Rattle.controller.specs.declared.aims.Aim.{Aim}
 use Rattle.controller.specs.declared.controller.Controller.{Controller}
-use Rattle.controller.specs.Aims.{AimsLead, GoalsLead, RegionsAre, AllLayersAre}
-use Rattle.controller.specs.Owned.{HasAll, SpendsAll, MakesAll, layer_items, made_items}
+use Rattle.strategy_parts.specs.Owned.{RegionsAre, HasAll, SpendsAll, MakesAll}
+use Rattle.controller.specs.Aims.{AimsLead, GoalsLead, AllLayersAre}
+use Rattle.controller.specs.Owned.{layer_items, made_items}
 use Rattle.controller.specs.Made.{made_meanings}
 use Rattle.controller.specs.Places.{IsAt}
-use Rattle.controller.specs.Turns.{HaveParts, IsWholeBefore}
+use Rattle.strategy_parts.specs.Positions.{IsWholeBefore}
+use Rattle.controller.specs.Turns.{HaveParts}
 
 module _ {G R M : Type 0} where
   -- each layer of each goal has so many parts
@@ -62,10 +64,10 @@ module _ {G R M : Type 0} where
 
   -- whether the play has begun
   abbrev pub IsFresh : Controller G R M → Type 0
-  IsFresh c = c.place.started ≡ false
+  IsFresh c = c.place.position.started ≡ false
 
   abbrev pub IsStarted : Controller G R M → Type 0
-  IsStarted c = c.place.started ≡ true
+  IsStarted c = c.place.position.started ≡ true
 
   module _ (kept : G → Kept R M) where
     abbrev pub game_of : Controller G R M → GameData

@@ -1,42 +1,11 @@
--- What a strategy owns: regions and moves in one list, and what is held as what they stand for.
-use Rattle.std.specs.Prelude.{◌≡◌, ℕ, ◌+◌, ◌≤◌, List, [], ◌∷◌, ◌++◌, map, length, None, Vec}
+-- What a strategy owns: regions and moves in one list.
+use Rattle.std.specs.Prelude.{List, [], ◌∷◌, ◌++◌, Vec}
 use Rattle.std.specs.declared.alloc.Global.{Global}
-use Rattle.regions.specs.Kept.{Kept, Item, Region, Move, Meaning, meaning_of, weight}
+use Rattle.regions.specs.Kept.{Item, Move}
 use Rattle.gr1_sys.specs.declared.layers.SysLayer.{SysLayer}
 use Rattle.gr1_sys.specs.Held.{all_regions}
+use Rattle.strategy_parts.specs.Owned.{region_items, move_items}
 use Rattle.controller.specs.declared.aims.Aim.{Aim}
-
-module _ {R M : Type 0} where
-  -- what items weigh as these meanings
-  unfoldable pub weight_as : List (Item R M) → List Meaning → (Item R M → Meaning → ℕ) → ℕ
-  weight_as [] ms w = 0
-  weight_as (i ∷ is) [] w = 0
-  weight_as (i ∷ is) (m ∷ ms) w = w i m + weight_as is ms w
-
-  -- they are held together, each as what it stands for
-  abbrev pub HasAll : Kept R M → List (Item R M) → Type 0
-  HasAll k is = (w : Item R M → Meaning → ℕ) → weight_as is (map (meaning_of k) is) w ≤ weight k w
-
-  -- order aside, new holds what old held but for the items
-  abbrev pub HoldsWithoutAll : Kept R M → Kept R M → List (Item R M) → Type 0
-  HoldsWithoutAll old new is = (w : Item R M → Meaning → ℕ) → weight new w + weight_as is (map (meaning_of old) is) w ≡ weight old w
-
-  -- after a call that took the items away
-  pub record SpendsAll (old new : Kept R M) (is : List (Item R M)) : Type 0 where
-    pub held : HoldsWithoutAll old new is
-    pub jam : new.jam ≡ old.jam
-
-  -- after a call that made these items with these meanings
-  pub record MakesAll (old new : Kept R M) (is : List (Item R M)) (ms : List Meaning) : Type 0 where
-    pub held : (w : Item R M → Meaning → ℕ) → weight new w ≡ weight_as is ms w + weight old w
-    pub counted : length is ≡ length ms
-    pub jam : new.jam ≡ None
-
-  abbrev pub region_items : List R → List (Item R M)
-  region_items rs = map Region rs
-
-  abbrev pub move_items : List M → List (Item R M)
-  move_items ms = map Move ms
 
 module _ {G R M : Type 0} where
   abbrev pub aim_items : Aim G R M → List (Item R M)

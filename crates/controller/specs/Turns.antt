@@ -11,6 +11,7 @@ use Rattle.regions.specs.Kept.{Kept}
 use Rattle.regions.specs.Rules.{outputs_into}
 use Rattle.gr1_law.specs.Layers.{LayerSets, goal_sets, assumption_sets}
 use Rattle.gr1_law.specs.Choice.{Memory, IsChosen, goal_stays}
+use Rattle.strategy_parts.specs.Positions.{IsWholeBefore}
 use Rattle.controller.specs.declared.aims.Aim.{Aim}
 use Rattle.controller.specs.Aims.{AimsLead}
 
@@ -22,11 +23,6 @@ first_into g when t b x = find (outputs_into g when t b x) (outputs_of g)
 pub record IsFirstReached (g : GameData) (when : When) (sets : ℕ → StateSet) (b : Before) (x : Assignment) (r : ℕ) (reply : Assignment) : Type 0 where
   pub none_before : (i : ℕ) → i < r → first_into g when (sets i) b x ≡ None
   pub here : first_into g when (sets r) b x ≡ Some reply
-
--- it is a state of the game, or there is none before the first move
-abbrev pub IsWholeBefore : GameData → Before → Type 0
-IsWholeBefore g None = Unit {0}
-IsWholeBefore g (Some s) = IsTrue (is_state g s)
 
 -- After a legal input this is what is chosen, and what is remembered then; the numbers are in range.
 pub record IsTurn (g : GameData) (l : LayerSets) (b : Before) (m : Memory) (x y : Assignment) (m' : Memory) : Type 0 where

@@ -9,7 +9,8 @@ ghost use Rattle.regions.specs.declared.types.When.{When};
 ghost use Rattle.regions.specs.Kept.{Stays, IsSameGame};
 ghost use Rattle.regions.specs.Rules.{AreBefore, output_count};
 ghost use Rattle.gr1_law.specs.Layers.{IsLeastNumber};
-ghost use Rattle.controller.specs.Aims.{LeadSomewhere, AimsLead, AreSomewhere, RegionsAre};
+ghost use Rattle.strategy_parts.specs.Owned.{AreSomewhere, RegionsAre};
+ghost use Rattle.controller.specs.Aims.{LeadSomewhere, AimsLead};
 ghost use Rattle.controller.specs.Turns.{IsFirstReached};
 
 use crate::aims::Aim;

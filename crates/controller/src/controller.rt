@@ -111,18 +111,13 @@ impl<G: Regions> Controller<G> {
         ensures first { InEachPlay G.kept self.now (λ z l h b m. result ≡ first_broken (game_of G.kept self.now) b input.now) }
         ensures none { InEachPlay G.kept self.now (λ z l h b m. is_none result ≡ legal_input (game_of G.kept self.now) b input.now) }
     {
-        if self.place.started {
-            let place = &self.place;
-            self.judge.first_broken_after(
-                self.g.game(),
-                &place.state,
-                &place.cells,
-                &place.next,
-                input,
-            )
+        let last = &self.place.position;
+        if last.started {
+            self.judge
+                .first_broken_after(self.g.game(), &last.state, &last.cells, &last.next, input)
         } else {
             self.judge
-                .first_broken_at_start(self.g.game(), &self.place.next, input)
+                .first_broken_at_start(self.g.game(), &last.next, input)
         }
     }
 
@@ -131,7 +126,7 @@ impl<G: Regions> Controller<G> {
         ensures started { OnTrue result (IsStarted self.now) }
         ensures fresh { OnFalse result (IsFresh self.now) }
     {
-        self.place.started
+        self.place.position.started
     }
 
     /// Writes the first output that is chosen.

@@ -5,55 +5,17 @@ ghost use Rattle.regions.specs.Kept.{States, HoldsBesides, MakesRegion, IsSameGa
 ghost use Rattle.regions.specs.declared.types.When.TheVariants.{First, Later};
 ghost use Rattle.gr1_law.specs.Layers.{goal_set, goal_sets};
 ghost use Rattle.gr1_sys.specs.Held.{HasEach, all_regions};
-ghost use Rattle.controller.specs.Owned.{MakesAll, region_items, aims_items, all_aims_items, made_items};
+ghost use Rattle.strategy_parts.specs.Owned.{MakesAll, region_items};
+ghost use Rattle.controller.specs.Owned.{aims_items, all_aims_items, made_items};
 ghost use Rattle.controller.specs.Made.{Targets, AreTargets, TellsHalt, AreLike, AreAllLike, regions_for, first_layers, move_meanings, made_meanings};
 
 use crate::aims::Aim;
 use crate::making::{aims_into, later_aims};
-use crate::spending::{spend_aims, spend_regions};
+use crate::spending::spend_aims;
 use gr1_sys::SysLayer;
-use regions::{Halt, Recur, Regions, When};
+use regions::{Halt, Regions, When};
 use std::alloc::Global;
-
-/// The states of a goal, by its number. Where the game has no goal, the single one is true.
-fn goal_region<G: Regions>(g: &mut G, j: usize) -> Result<G::R, Halt>
-    requires free { (G.kept g.old).jam ≡ None }
-    requires there { j < length (goal_sets (G.kept g.old).game) }
-    ensures made { let k = G.kept g.old in IfOk result (λ r. MakesRegion k (G.kept g.new) r (goal_set k.game j)) }
-    ensures halted { OnErr result (HoldsBesides (G.kept g.old) (G.kept g.new) []) }
-    ensures told { (targets : Targets) → IfErr result (TellsHalt (G.kept g.old) (G.kept g.new) targets) }
-    ensures same { IsSameGame (G.kept g.old) (G.kept g.new) }
-{
-    if g.game().goals.is_empty() {
-        g.all()
-    } else {
-        g.holding(Recur::Guarantee(j))
-    }
-}
-
-/// The states of each goal.
-fn goal_regions<G: Regions>(alloc: Global, g: &mut G, n: usize) -> Result<Vec<G::R>, Halt>
-    requires free { (G.kept g.old).jam ≡ None }
-    requires count { n ≡ length (goal_sets (G.kept g.old).game) }
-    ensures made { let k = G.kept g.old in IfOk result (λ rs. MakesAll k (G.kept g.new) (region_items rs.items) (map States (goal_sets k.game))) }
-    ensures halted { OnErr result (HoldsBesides (G.kept g.old) (G.kept g.new) []) }
-    ensures told { (targets : Targets) → IfErr result (TellsHalt (G.kept g.old) (G.kept g.new) targets) }
-    ensures same { IsSameGame (G.kept g.old) (G.kept g.new) }
-{
-    let Ok(mut holds) = Vec::with_capacity(alloc, n) else {
-        return Err(Halt::Memory);
-    };
-    for j in 0..n {
-        match goal_region(g, j) {
-            Ok(r) => holds.push_reserved(r),
-            Err(halt) => {
-                spend_regions(g, holds);
-                return Err(halt);
-            }
-        }
-    }
-    Ok(holds)
-}
+use strategy_parts::{Wanted, recurring_regions, spend_regions};
 
 /// The layers of the first goal.
 fn layers_of_first<G: Regions>(layers: &[Vec<SysLayer<G>>]) -> &[SysLayer<G>]
@@ -106,7 +68,7 @@ pub fn equip<G: Regions>(
     ensures told { let k = G.kept g.old in (targets : Targets) → AreTargets targets First k (regions_for First (first_layers layers.now)) → AreTargets targets Later k (all_regions layers.now) → IfErr result (TellsHalt k (G.kept g.new) targets) }
     ensures same { IsSameGame (G.kept g.old) (G.kept g.new) }
 {
-    let holds = goal_regions(alloc, g, layers.len())?;
+    let holds = recurring_regions(alloc, g, Wanted::Guarantees)?;
     match moves_of(alloc, g, layers) {
         Ok((first, goals)) => Ok((first, goals, holds)),
         Err(halt) => {

@@ -3,43 +3,17 @@
 ghost use Rattle.std.specs.Prelude.{◌≡◌, [], ◌∷◌, None, length, IfOk, IfErr, OnErr};
 ghost use Rattle.regions.specs.Kept.{HasRegion, HoldsBesides, IsSameGame};
 ghost use Rattle.gr1_sys.specs.Held.{HasEach, goal_regions, all_regions};
-ghost use Rattle.controller.specs.Owned.{MakesAll, move_items, aim_items, aims_items, all_aims_items};
+ghost use Rattle.strategy_parts.specs.Owned.{MakesAll, move_items};
+ghost use Rattle.controller.specs.Owned.{aim_items, aims_items, all_aims_items};
 ghost use Rattle.controller.specs.Made.{Targets, AreTargets, TellsHalt, AreLike, AreAllLike, leadings, parts_for as parts_for_lem, regions_for};
 
 use crate::aims::Aim;
-use crate::spending::{spend_aims, spend_all_aims, spend_moves};
+use crate::spending::{spend_aims, spend_all_aims};
 use gr1_sys::SysLayer;
 use regions::{Halt, Regions, When};
+use spec_model::value::Owner;
 use std::alloc::Global;
-
-/// The moves into each region.
-fn moves_into<G: Regions>(
-    alloc: Global,
-    g: &mut G,
-    when: When,
-    regions: &[G::R],
-) -> Result<Vec<G::Move>, Halt>
-    requires free { (G.kept g.old).jam ≡ None }
-    requires regions { HasEach (G.kept g.old) regions.now }
-    ensures made { let k = G.kept g.old in IfOk result (λ ms. MakesAll k (G.kept g.new) (move_items ms.items) (leadings k when regions.now)) }
-    ensures halted { OnErr result (HoldsBesides (G.kept g.old) (G.kept g.new) []) }
-    ensures told { let k = G.kept g.old in (targets : Targets) → AreTargets targets when k regions.now → IfErr result (TellsHalt k (G.kept g.new) targets) }
-    ensures same { IsSameGame (G.kept g.old) (G.kept g.new) }
-{
-    let Ok(mut moves) = Vec::with_capacity(alloc, regions.len()) else {
-        return Err(Halt::Memory);
-    };
-    for r in regions {
-        match g.out_moves(when, r) {
-            Ok(m) => moves.push_reserved(m),
-            Err(halt) => {
-                spend_moves(g, moves);
-                return Err(halt);
-            }
-        }
-    }
-    Ok(moves)
-}
+use strategy_parts::{moves_into, spend_moves};
 
 /// The moves into a layer and into each of some parts.
 fn aim_into<G: Regions>(
@@ -56,7 +30,7 @@ fn aim_into<G: Regions>(
     ensures told { let k = G.kept g.old in (targets : Targets) → AreTargets targets when k (layer.now ∷ parts.now) → IfErr result (TellsHalt k (G.kept g.new) targets) }
     ensures same { IsSameGame (G.kept g.old) (G.kept g.new) }
 {
-    let parts = moves_into(alloc, g, when, parts)?;
+    let parts = moves_into(alloc, g, Owner::Sys, when, parts)?;
     match g.out_moves(when, layer) {
         Ok(layer) => Ok(Aim { layer, parts }),
         Err(halt) => {

@@ -1,76 +1,25 @@
-//! Where a play is: its last state and what is remembered, in memory that is taken once.
+//! Where a play is, and what is remembered of it.
 
-ghost use Rattle.std.specs.Prelude.{◌≡◌, ◌++◌, ◌+◌, None, Some, length, map, pos, IfOk, IsTrue};
+ghost use Rattle.std.specs.Prelude.{◌≡◌, None, Some, IfOk};
 ghost use Rattle.spec_model.specs.GameViews.{game_data};
-ghost use Rattle.spec_model.specs.Steps.{Before, is_state, reached};
-ghost use Rattle.spec_model.specs.Games.{State, listed, first_hidden as first_hidden_lem, next_hidden as next_hidden_lem};
+ghost use Rattle.spec_model.specs.Steps.{Before, reached};
 ghost use Rattle.spec_model.specs.WellMade.{WellMade};
-ghost use Rattle.hidden_game.specs.Sights.{AreCells};
 ghost use Rattle.gr1_law.specs.Choice.{Memory, first_memory};
-ghost use Rattle.controller.specs.Places.{IsAt, IsClosedAt, values_at};
+ghost use Rattle.strategy_parts.specs.Positions.{IsClosedAt, values_at};
+ghost use Rattle.controller.specs.Places.{IsAt};
 
-use hidden_game::{first_hidden, next_hidden};
 use spec_model::game::Game;
 use spec_model::value::Value;
-use spec_model::variables::{count_inputs, count_outputs};
 use std::alloc::{AllocError, Global};
+use strategy_parts::Position;
 
-/// The last state of a play, the cells of the hidden tables there, the hidden values of the next state, and what is remembered.
+/// The last position of a play, and the goal, the rank and the index that are remembered after it.
 #[derive(Debug, Drop)]
 pub struct Place {
-    pub started: bool,
+    pub position: Position,
     pub goal: usize,
     pub rank: usize,
     pub index: usize,
-    /// The values of the last state; before the first they say nothing.
-    pub state: Vec<Value>,
-    /// The cells of the hidden tables at the last state; before the first they say nothing.
-    pub cells: Vec<Value>,
-    /// The hidden values of the next state.
-    pub next: Vec<Value>,
-}
-
-/// Writes three lists over another, one behind the other.
-fn write_all(values: &mut [Value], hidden: &[Value], input: &[Value], output: &[Value])
-    requires { length values.old ≡ length hidden.now + (length input.now + length output.now) }
-    ensures { values.new ≡ hidden.now ++ (input.now ++ output.now) }
-{
-    let (first, others) = values.split_at_mut(hidden.len());
-    first.copy_from_slice(hidden);
-    let (second, third) = others.split_at_mut(input.len());
-    second.copy_from_slice(input);
-    third.copy_from_slice(output);
-}
-
-/// Writes the values of a state.
-fn write_state(state: &mut Vec<Value>, hidden: &[Value], input: &[Value], output: &[Value])
-    requires { length state.old.items ≡ length hidden.now + (length input.now + length output.now) }
-    ensures { state.new.items ≡ hidden.now ++ (input.now ++ output.now) }
-{
-    write_all(state, hidden, input, output);
-}
-
-/// Writes the hidden values of the first position.
-fn write_first(game: &Game, next: &mut Vec<Value>)
-    requires { length next.old.items ≡ length (game_data game.now).hidden }
-    ensures value { next.new.items ≡ map (λ v. Value.Int (pos v)) (first_hidden_lem (game_data game.now)) }
-    ensures room { length next.new.items ≡ length (game_data game.now).hidden }
-{
-    first_hidden(game, next);
-}
-
-/// Writes the cells of the hidden tables at a state, and the hidden values of the position after it.
-fn write_next(game: &Game, state: &[Value], cells: &mut Vec<Value>, next: &mut Vec<Value>)
-    requires made { WellMade (game_data game.now) }
-    requires cells { length cells.old.items ≡ length (game_data game.now).hidden }
-    requires room { length next.old.items ≡ length (game_data game.now).hidden }
-    requires state { (s : State) × IsTrue (is_state (game_data game.now) s) × (listed s ≡ state.now) }
-    ensures cells { (s : State) → IsTrue (is_state (game_data game.now) s) → listed s ≡ state.now → AreCells (game_data game.now) s cells.new.items }
-    ensures value { (s : State) → IsTrue (is_state (game_data game.now) s) → listed s ≡ state.now → next.new.items ≡ map (λ v. Value.Int (pos v)) (next_hidden_lem (game_data game.now) s) }
-    ensures tables { length cells.new.items ≡ length (game_data game.now).hidden }
-    ensures room { length next.new.items ≡ length (game_data game.now).hidden }
-{
-    next_hidden(game, state, cells, next);
 }
 
 impl Place {
@@ -79,26 +28,19 @@ impl Place {
         requires { WellMade (game_data game.now) }
         ensures { IfOk result (λ p. IsAt (game_data game.now) p None first_memory) }
     {
-        let hidden = game.hidden.len();
-        let size = hidden + count_inputs(&game.vars) + count_outputs(&game.vars);
-        let mut next = vec![in alloc; Value::Bool(false); hidden]?;
-        write_first(game, &mut next);
         Ok(Place {
-            started: false,
+            position: Position::make(alloc, game)?,
             goal: 0,
             rank: 0,
             index: 0,
-            state: vec![in alloc; Value::Bool(false); size]?,
-            cells: vec![in alloc; Value::Bool(false); hidden]?,
-            next,
         })
     }
 
     /// The values of the last state. There are none before the first.
     pub fn values(&self) -> &[Value]
-        ensures { result.now ≡ values_at self.now }
+        ensures { result.now ≡ values_at self.now.position }
     {
-        if self.started { &self.state } else { &[] }
+        self.position.values()
     }
 
     /// Goes on to the state that an input and an output lead to.
@@ -108,9 +50,7 @@ impl Place {
         ensures { (b : Before) (m : Memory) → IsAt (game_data game.now) self.old b m → IsClosedAt (game_data game.now) b input.now output.now →
             IsAt (game_data game.now) self.new (Some (reached (game_data game.now) b input.now output.now)) m }
     {
-        write_state(&mut self.state, &self.next, input, output);
-        write_next(game, &self.state, &mut self.cells, &mut self.next);
-        self.started = true;
+        self.position.go_on(game, input, output);
     }
 
     /// Remembers a goal, a rank and an index.

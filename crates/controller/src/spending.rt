@@ -1,33 +1,12 @@
-//! Regions and moves given back, many at once.
+//! The moves of a strategy given back, many at once.
 
-ghost use Rattle.std.specs.Prelude.{◌≡◌};
 ghost use Rattle.regions.specs.Kept.{IsSameGame};
-ghost use Rattle.controller.specs.Owned.{HasAll, SpendsAll, region_items, move_items, aim_items, aims_items, all_aims_items, made_items};
+ghost use Rattle.strategy_parts.specs.Owned.{HasAll, SpendsAll, region_items, move_items};
+ghost use Rattle.controller.specs.Owned.{aim_items, aims_items, all_aims_items, made_items};
 
 use crate::aims::Aim;
-use gr1_sys::spend_all;
 use regions::Regions;
-
-/// Spends each region.
-pub fn spend_regions<G: Regions>(g: &mut G, rs: Vec<G::R>)
-    requires { HasAll (G.kept g.old) (region_items rs.items) }
-    ensures spends { SpendsAll (G.kept g.old) (G.kept g.new) (region_items rs.items) }
-    ensures same { IsSameGame (G.kept g.old) (G.kept g.new) }
-{
-    spend_all(g, rs);
-}
-
-/// Spends each of several moves.
-pub fn spend_moves<G: Regions>(g: &mut G, mut moves: Vec<G::Move>)
-    requires { HasAll (G.kept g.old) (move_items moves.items) }
-    ensures spends { SpendsAll (G.kept g.old) (G.kept g.new) (move_items moves.items) }
-    ensures same { IsSameGame (G.kept g.old) (G.kept g.new) }
-{
-    while let Some(m) = moves.pop() {
-        g.spend_move(m);
-    }
-    moves.destroy_empty();
-}
+use strategy_parts::{spend_moves, spend_regions};
 
 /// Spends the moves into a layer and its parts.
 pub fn spend_aim<G: Regions>(g: &mut G, aim: Aim<G>)

@@ -9,7 +9,8 @@ ghost use Rattle.regions.specs.Kept.{Stays, IsSameGame};
 ghost use Rattle.regions.specs.Rules.{AreBefore, output_count};
 ghost use Rattle.gr1_law.specs.Layers.{LayerSets, goal_set, goal_sets};
 ghost use Rattle.gr1_law.specs.Choice.{Memory, goal_aimed, goal_stays, waits as waits_lem};
-ghost use Rattle.controller.specs.Aims.{RegionsAre, AreSomewhere, MovesLead};
+ghost use Rattle.strategy_parts.specs.Owned.{RegionsAre, AreSomewhere};
+ghost use Rattle.controller.specs.Aims.{MovesLead};
 ghost use Rattle.controller.specs.Turns.{first_into, IsLater};
 
 use crate::aims::Aim;

@@ -1,5 +1,5 @@
 -- The noted plays of the environment's strategy are plays of a specification that beat the system.
-use Rattle.std.proofs.Common.{◌≡◌, ℕ, true, not, [], ◌∷◌, ◌++◌, length, List, Option, None, Some, refl, sym, ap, subst, ◌∙◌, arith}
+use Rattle.std.proofs.Common.{◌≡◌, ℕ, true, not, [], ◌∷◌, ◌++◌, length, List, Option, None, refl, sym, ap, subst, ◌∙◌, arith}
 use Rattle.std.proofs.lemmas.List.{length-map}
 use Rattle.std.specs.Prelude.{Vec}
 use Rattle.std.specs.declared.alloc.Global.{Global}
@@ -9,7 +9,7 @@ use Rattle.spec_model.specs.Views.{variable_data}
 use Rattle.spec_model.specs.Syntax.{VariableData, Specification}
 use Rattle.spec_model.specs.Rules.{Run, after}
 use Rattle.spec_model.specs.Unrealizable.{NoteData}
-use Rattle.spec_model.specs.Moves.{is_env, domains_of, output_domains, legal_input}
+use Rattle.spec_model.specs.Moves.{is_env, domains_of, legal_input}
 use Rattle.spec_model.specs.Games.{GameData}
 use Rattle.spec_model.specs.Agreement.{Agrees}
 use Rattle.spec_model.specs.Steps.{Before, is_output}
@@ -25,13 +25,13 @@ use Rattle.gr1_env.specs.declared.layers.EnvLayer.{EnvLayer}
 use Rattle.gr1_env.specs.Solved.{counts_of}
 use Rattle.counterstrategy.specs.declared.counterstrategy.Counterstrategy.{Counterstrategy}
 use Rattle.counterstrategy.specs.declared.counterstrategy.Note.{Note}
-use Rattle.counterstrategy.specs.Objects.{game_of as game_played, IsFresh, HasGiven, given_by, StandsFor, Stands, Gives, GoesOn, HoldsTheSame, note_data}
+use Rattle.counterstrategy.specs.Objects.{game_of as game_played, IsFresh, given_by, Stands, Gives, GoesOn, HoldsTheSame, note_data}
 use Rattle.session_lines.specs.declared.lines.Lines.{Lines}
 use Rattle.session_lines.specs.Room.{domains}
 use Rattle.session_lines.specs.Shown.{inputs_of, outputs_of, show}
 use Rattle.session_lines.specs.Views.{AreOver, names_of, shown_variables, shown_of}
 use Rattle.session.specs.Exchanges.{Answer}
-use Rattle.session.specs.CounterTalks.{first_broken_reply, shown_input, note_line, CounterState, counter_terms, OpensCounter}
+use Rattle.session.specs.CounterTalks.{first_broken_reply, shown_input, note_line, CounterState, counter_terms}
 use Rattle.session.specs.Counters.{shifts_of, denials_of, IsCounterOf, HasPlayedNothing, StandsIn, WaitsIn, GivesIn}
 use Rattle.session.proofs.RunTalks.{input_domains_are, output_domains_are}
 
@@ -134,6 +134,12 @@ pub gives_legal : {G R M : Type 0} (kept : G → Kept R M) (c : Counterstrategy 
 gives_legal kept c s n m h notes x p =
     let given = p.place.stands.given p.has_given in
     subst (λ (x : Assignment). legal_input s h x ≡ true) p.input (given_is_legal kept c s n m h notes p.place given.0 (given_by c) given.1)
+
+-- the line that is named is the first that is broken by an output after the input that was given
+pub names_given : {G R M : Type 0} (kept : G → Kept R M) (c : Counterstrategy G R M) (s : Specification) (n m : ℕ) (h : Run) (notes : List NoteData) (x : Assignment) (p : GivesIn kept c s n m h notes x) → (y : Assignment) (label : Option Label) →
+    label ≡ first_broken_output (game_played kept c) p.place.before (given_by c) y → first_broken_reply s h x y ≡ label
+names_given kept c s n m h notes x p y label is =
+    subst (λ (x : Assignment). first_broken_reply s h x y ≡ label) p.input (names_reply kept c s n m h notes p.place (given_by c) y label is)
 
 -- after a reply it gives the next input, after the play with the position and its note
 pub gives_next : {G R M : Type 0} (kept : G → Kept R M) (old new : Counterstrategy G R M) (s : Specification) → HoldsTheSame kept old new → (n m : ℕ) (h : Run) (notes : List NoteData) (x : Assignment) (p : GivesIn kept old s n m h notes x) →

@@ -1,5 +1,5 @@
 -- The line of a note, and what stands written where one of two lines was cut short.
-use Rattle.std.proofs.Common.{◌≡◌, ◌≤◌, Bool, false, ℕ, zero, suc, ◌==◌, if◌then◌else◌, min, List, ◌∷◌, [], ◌++◌, length, take, Option, Result, Ok, Err, OnErr, codes, refl, sym, ap, subst, ◌∙◌, arith}
+use Rattle.std.proofs.Common.{◌≡◌, ◌≤◌, Bool, ℕ, ◌==◌, if◌then◌else◌, min, List, ◌∷◌, [], ◌++◌, length, Option, Result, Ok, Err, OnErr, codes, sym, ap, subst, ◌∙◌, arith}
 use Rattle.std.proofs.lemmas.Bool.{ne_eqb}
 use Rattle.std.proofs.lemmas.List.{take_min, take-append-le}
 use Rattle.std.specs.Fmt.{decimal}

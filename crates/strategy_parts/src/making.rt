@@ -81,7 +81,11 @@ fn region_of<G: Regions>(g: &mut G, kind: Wanted, i: usize) -> Result<G::R, Halt
 
 /// The states of each recurring assumption, or of each recurring guarantee, in text order. Where there is none the single
 /// set has all states.
-pub fn recurring_regions<G: Regions>(alloc: Global, g: &mut G, kind: Wanted) -> Result<Vec<G::R>, Halt>
+pub fn recurring_regions<G: Regions>(
+    alloc: Global,
+    g: &mut G,
+    kind: Wanted,
+) -> Result<Vec<G::R>, Halt>
     requires free { (G.kept g.old).jam ≡ None }
     ensures made { let k = G.kept g.old in IfOk result (λ rs. MakesAll k (G.kept g.new) (region_items rs.items) (map States (sets_wanted k.game kind))) }
     ensures halted { OnErr result (HoldsBesides (G.kept g.old) (G.kept g.new) []) }

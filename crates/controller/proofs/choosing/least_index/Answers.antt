@@ -1,6 +1,6 @@
 use Rattle.std.proofs.Common.{arith}
-use Rattle.controller.proofs.Holdings.{stays_then, same_then}
-use Rattle.controller.proofs.Reaching.{region_held, has_at, later_part, this_part}
+use Rattle.strategy_parts.proofs.Holdings.{stays_then, same_then}
+use Rattle.strategy_parts.proofs.Reaching.{region_held, has_at, later_part, this_part}
 use Rattle.controller.proofs.choosing.least_index.Goals as goal
 
 pub has-requires : goal.has-requires

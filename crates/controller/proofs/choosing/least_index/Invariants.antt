@@ -4,7 +4,7 @@ use Rattle.spec_model.specs.Steps.{is_state}
 use Rattle.spec_model.specs.Sets.{StateSet}
 use Rattle.regions.specs.Kept.{Stays, IsSameGame}
 use Rattle.gr1_law.specs.Layers.{IsLeastNumber}
-use Rattle.controller.specs.Aims.{RegionsAre}
+use Rattle.strategy_parts.specs.Owned.{RegionsAre}
 use Rattle.controller.proofs.choosing.least_index.Given as goal
 
 -- none of the regions so far has the state

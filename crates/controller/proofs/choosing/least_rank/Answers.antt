@@ -1,5 +1,5 @@
 use Rattle.std.proofs.Common.{◌∙◌, arith}
-use Rattle.controller.proofs.Holdings.{stays_then, same_then}
+use Rattle.strategy_parts.proofs.Holdings.{stays_then, same_then}
 use Rattle.controller.proofs.Reaching.{aim_held, aim_gives, found_at, not_before, is_reached}
 use Rattle.controller.proofs.choosing.least_rank.Goals as goal
 

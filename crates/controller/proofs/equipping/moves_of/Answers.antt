@@ -2,9 +2,11 @@ use Rattle.std.proofs.Common.{List, IfErr, subst, sym, arith}
 use Rattle.std.proofs.lemmas.Result.{err_from_is_err_and}
 use Rattle.regions.specs.declared.types.When.TheVariants.{First, Later}
 use Rattle.gr1_sys.specs.Held.{HasEach, all_regions}
-use Rattle.controller.specs.Owned.{MakesAll, aims_items, all_aims_items}
+use Rattle.strategy_parts.specs.Owned.{MakesAll}
+use Rattle.controller.specs.Owned.{aims_items, all_aims_items}
 use Rattle.controller.specs.Made.{AreTargets, TellsHalt, AreLike, leadings, regions_for, first_layers}
-use Rattle.controller.proofs.Makings.{first_each, each_stays, targets_stay, leadings_stay, makes_both, still_all, made_and_spent, made_moves, told_after, told_still}
+use Rattle.strategy_parts.proofs.Telling.{each_stays, makes_both, still_all, made_and_spent}
+use Rattle.controller.proofs.Makings.{first_each, targets_stay, leadings_stay, made_moves, told_after, told_still}
 use Rattle.controller.proofs.equipping.moves_of.Goals as goal
 
 pub aims_into-requires-clause-layers : goal.aims_into-requires-clause-layers

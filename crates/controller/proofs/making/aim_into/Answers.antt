@@ -1,9 +1,11 @@
-use Rattle.std.proofs.Common.{◌∷◌, [], IfErr, ap, subst, sym, arith}
+use Rattle.std.proofs.Common.{◌∷◌, [], IfErr, refl, ap, subst, sym, arith}
 use Rattle.std.proofs.lemmas.Result.{err_from_is_err_and}
-use Rattle.regions.specs.Kept.{Move, Meaning, States, Outputs, OutMoves}
-use Rattle.controller.specs.Owned.{MakesAll, move_items}
-use Rattle.controller.specs.Made.{TellsHalt, leadings}
-use Rattle.controller.proofs.Makings.{region_stays, set_stays, makes_before, still_all, made_and_spent, made_moves, told, told_still}
+use Rattle.regions.specs.Kept.{Move, Meaning, Outputs}
+use Rattle.strategy_parts.specs.Owned.{MakesAll, move_items}
+use Rattle.strategy_parts.specs.Told.{IsIn}
+use Rattle.controller.specs.Made.{tale_of, TellsHalt, leadings}
+use Rattle.strategy_parts.proofs.Telling.{region_stays, set_stays, makes_before, still_all, made_and_spent}
+use Rattle.controller.proofs.Makings.{made_moves, told, told_still}
 use Rattle.controller.proofs.making.aim_into.Goals as goal
 
 pub out_moves-requires-clause-free : goal.out_moves-requires-clause-free
@@ -45,12 +47,12 @@ returns-in-Err-clause-told g c = λ l all.
     let made = c.in_ok-parts.ensures.made in
     let set_is = set_stays first k (g.met.G.Regions.exact _) (λ w. omega (arith, made.held w)) c.args.layer.now c.requires.regions.0 in
     told_still first new (kept c.spend_moves.new.g) l c.in-Err.halt c.spend_moves.ensures.spends.jam
-    (told first k new l (move_items c.in_ok-parts.parts.items) (leadings first c.args.when c.args.parts.now) (OutMoves c.args.when) (States (k.set c.args.layer.now) ∷ []) c.in-Err.halt made c.in-Err.ensures.halted
-    (made_moves first l c.args.when c.args.parts.now all.1) (first.set c.args.layer.now, all.0, ap (λ s. States s ∷ []) set_is))
+    (told first k new l (move_items c.in_ok-parts.parts.items) (leadings first c.args.when c.args.parts.now) c.args.when (k.set c.args.layer.now) c.in-Err.halt made c.in-Err.ensures.halted
+    (made_moves first l c.args.when c.args.parts.now all.1) (subst (λ s. IsIn s (l c.args.when)) (sym set_is) all.0))
 
 pub returns-in_err-parts-clause-told : goal.returns-in_err-parts-clause-told
 returns-in_err-parts-clause-told g c = λ l all.
     let kept = g.G.Regions.kept in
     let k = kept c.args.g.now in
     let p = err_from_is_err_and c.from_residual.result c.from_residual.ensures.1 in
-    subst (λ r. IfErr r (TellsHalt k (kept c.moves_into.new.g) l)) (sym p.1) (subst (TellsHalt k (kept c.moves_into.new.g) l) (sym p.2) (c.in_err-parts.ensures.told l all.1))
+    subst (λ r. IfErr r (TellsHalt k (kept c.moves_into.new.g) l)) (sym p.1) (subst (TellsHalt k (kept c.moves_into.new.g) l) (sym p.2) (c.in_err-parts.ensures.told (tale_of k.game l) refl all.1))

@@ -2,11 +2,14 @@ use Rattle.std.proofs.Common.{◌∙◌, ◌+◌, ◌++◌, ◌∷◌, [], List,
 use Rattle.std.proofs.lemmas.List.{map-append, take_all}
 use Rattle.regions.specs.Kept.{Meaning, HasRegion, Outputs}
 use Rattle.gr1_sys.specs.Held.{HasEach}
-use Rattle.controller.specs.Owned.{MakesAll, aim_items, aims_items}
-use Rattle.controller.specs.Made.{IsIn, AreTargets, AreLike, leadings, parts_for, regions_for}
-use Rattle.controller.proofs.Holdings.{same_then}
+use Rattle.strategy_parts.specs.Owned.{MakesAll}
+use Rattle.controller.specs.Owned.{aim_items, aims_items}
+use Rattle.strategy_parts.specs.Told.{IsIn}
+use Rattle.controller.specs.Made.{AreTargets, AreLike, leadings, parts_for, regions_for}
+use Rattle.strategy_parts.proofs.Holdings.{same_then}
 use Rattle.controller.proofs.Owning.{aims_items-push}
-use Rattle.controller.proofs.Makings.{every_layer, every_layers_take, take_next, has_every, has_each, each_stays, targets_stay, leadings_stay, nothing_made, makes_next, still_all, made_and_spent, made_moves, told_after, told_still, regions_for-push, like_push, as_many}
+use Rattle.strategy_parts.proofs.Telling.{take_next, has_every, has_each, each_stays, nothing_made, makes_next, still_all, made_and_spent}
+use Rattle.controller.proofs.Makings.{every_layer, every_layers_take, targets_stay, leadings_stay, made_moves, told_after, told_still, regions_for-push, like_push, as_many}
 use Rattle.controller.proofs.making.aims_into.Goals as goal
 
 pub loop-layer-init : goal.loop-layer-init

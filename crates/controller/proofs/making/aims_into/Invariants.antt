@@ -1,6 +1,7 @@
 use Rattle.std.proofs.Common.{◌≡◌, ◌≤◌, take, length, vec_len, vec_capacity}
 use Rattle.regions.specs.Kept.{IsSameGame}
-use Rattle.controller.specs.Owned.{MakesAll, aims_items}
+use Rattle.strategy_parts.specs.Owned.{MakesAll}
+use Rattle.controller.specs.Owned.{aims_items}
 use Rattle.controller.specs.Made.{AreLike, leadings, regions_for}
 use Rattle.controller.proofs.making.aims_into.Given as goal
 

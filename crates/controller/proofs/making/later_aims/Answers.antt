@@ -3,11 +3,14 @@ use Rattle.std.proofs.lemmas.List.{map-append, take_all}
 use Rattle.regions.specs.Kept.{Meaning, HasRegion, Outputs}
 use Rattle.regions.specs.declared.types.When.TheVariants.{Later}
 use Rattle.gr1_sys.specs.Held.{HasEach, goal_regions, all_regions}
-use Rattle.controller.specs.Owned.{MakesAll, aims_items, all_aims_items}
-use Rattle.controller.specs.Made.{IsIn, AreTargets, AreLike, AreAllLike, leadings, regions_for}
-use Rattle.controller.proofs.Holdings.{same_then}
+use Rattle.strategy_parts.specs.Owned.{MakesAll}
+use Rattle.controller.specs.Owned.{aims_items, all_aims_items}
+use Rattle.strategy_parts.specs.Told.{IsIn}
+use Rattle.controller.specs.Made.{AreTargets, AreLike, AreAllLike, leadings, regions_for}
+use Rattle.strategy_parts.proofs.Holdings.{same_then}
 use Rattle.controller.proofs.Owning.{all_aims_items-push}
-use Rattle.controller.proofs.Makings.{every_goal, every_goals_take, take_next, has_every, has_each, each_stays, targets_stay, leadings_stay, nothing_made, makes_next, still_all, made_and_spent, made_moves, told_after, told_still, all_regions-push, later_regions, all_like_push}
+use Rattle.strategy_parts.proofs.Telling.{take_next, has_every, has_each, each_stays, nothing_made, makes_next, still_all, made_and_spent}
+use Rattle.controller.proofs.Makings.{every_goal, every_goals_take, targets_stay, leadings_stay, made_moves, told_after, told_still, all_regions-push, later_regions, all_like_push}
 use Rattle.controller.proofs.making.later_aims.Goals as goal
 
 pub loop-goal-init : goal.loop-goal-init

@@ -2,7 +2,8 @@ use Rattle.std.proofs.Common.{◌≡◌, ◌≤◌, take, length, vec_len, vec_c
 use Rattle.regions.specs.declared.types.When.TheVariants.{Later}
 use Rattle.regions.specs.Kept.{IsSameGame}
 use Rattle.gr1_sys.specs.Held.{all_regions}
-use Rattle.controller.specs.Owned.{MakesAll, all_aims_items}
+use Rattle.strategy_parts.specs.Owned.{MakesAll}
+use Rattle.controller.specs.Owned.{all_aims_items}
 use Rattle.controller.specs.Made.{AreAllLike, leadings}
 use Rattle.controller.proofs.making.later_aims.Given as goal
 

@@ -1,5 +1,5 @@
 use Rattle.std.proofs.Common.{◌∙◌, List, length, sym, ap, subst, arith}
-use Rattle.controller.specs.Aims.{RegionsAre}
+use Rattle.strategy_parts.specs.Owned.{RegionsAre}
 use Rattle.controller.proofs.Settled.{layer_at, parts_in}
 use Rattle.controller.proofs.settling.first_part.Goals as goal
 

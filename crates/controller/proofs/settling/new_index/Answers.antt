@@ -30,6 +30,6 @@ returns-else-waits-clause-index g c = λ l b m x y next settles.
     c.first_part.ensures.first (λ r. l.x c.args.goal (suc r)) n (reached k.game b x y) next.index
     (subst (λ ls. LayersAre k ls (λ r. l.x c.args.goal (suc r))) (sym (c.deref.ensures.value ∙ ap (λ (v : Vec _ Global). v.items) c.index-goals-goal.is)) (layers_at k c.args.goals.now (λ j r. l.x j (suc r)) settles.layers c.args.goal settles.goal_in c.index-goals-goal.result))
     (subst (λ ls. HaveParts n ls) (sym (c.deref.ensures.value ∙ ap (λ (v : Vec _ Global). v.items) c.index-goals-goal.is)) (have_at n c.args.goals.now settles.parts c.args.goal settles.goal_in c.index-goals-goal.result))
-    settles.turn.state (settles.here.listed ∙ sym c.values.ensures)
+    settles.turn.state (settles.here.position.listed ∙ sym c.values.ensures)
     (index_least k c.args.goals.now c.args.place.now c.args.goal c.args.rank c.args.waits l b m x y next settles c.if-waits.false)
     settles.turn.index_in

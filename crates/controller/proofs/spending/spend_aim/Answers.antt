@@ -1,6 +1,6 @@
 use Rattle.regions.specs.Kept.{Move}
-use Rattle.controller.specs.Owned.{move_items}
-use Rattle.controller.proofs.Owning.{first_together, rest_together, first_and_rest}
+use Rattle.strategy_parts.specs.Owned.{move_items}
+use Rattle.strategy_parts.proofs.Owning.{first_together, rest_together, first_and_rest}
 use Rattle.controller.proofs.spending.spend_aim.Goals as goal
 
 pub spend_move-requires : goal.spend_move-requires

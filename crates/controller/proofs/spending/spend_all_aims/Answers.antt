@@ -1,7 +1,8 @@
 use Rattle.std.proofs.Common.{◌≡◌, List, [], ◌∙◌, ap, subst}
 use Rattle.controller.specs.Owned.{aims_items, all_aims_items}
-use Rattle.controller.proofs.Holdings.{same_then}
-use Rattle.controller.proofs.Owning.{IsLeft, last_together, last_spent, all_spent, none_left, all_aims_items-push}
+use Rattle.strategy_parts.proofs.Holdings.{same_then}
+use Rattle.strategy_parts.proofs.Owning.{IsLeft, last_together, last_spent, all_spent, none_left}
+use Rattle.controller.proofs.Owning.{all_aims_items-push}
 use Rattle.controller.proofs.spending.spend_all_aims.Goals as goal
 
 pub spend_aims-requires : goal.spend_aims-requires

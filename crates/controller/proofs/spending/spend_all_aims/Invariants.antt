@@ -1,6 +1,7 @@
 use Rattle.std.proofs.Common.{◌≡◌, ◌+◌, map}
 use Rattle.regions.specs.Kept.{weight, meaning_of, IsSameGame}
-use Rattle.controller.specs.Owned.{weight_as, all_aims_items}
+use Rattle.strategy_parts.specs.Owned.{weight_as}
+use Rattle.controller.specs.Owned.{all_aims_items}
 use Rattle.controller.proofs.spending.spend_all_aims.Given as goal
 
 -- what is held besides what is left was held at first but for what was given

@@ -1,6 +1,7 @@
 use Rattle.std.proofs.Common.{◌++◌}
-use Rattle.controller.specs.Owned.{region_items, aims_items, all_aims_items}
-use Rattle.controller.proofs.Owning.{front_together, back_together, front_and_back}
+use Rattle.strategy_parts.specs.Owned.{region_items}
+use Rattle.controller.specs.Owned.{aims_items, all_aims_items}
+use Rattle.strategy_parts.proofs.Owning.{front_together, back_together, front_and_back}
 use Rattle.controller.proofs.spending.spend_made.Goals as goal
 
 pub spend_regions-requires : goal.spend_regions-requires

@@ -1,5 +1,6 @@
-use Rattle.controller.proofs.Holdings.{nothing_done, same_game}
-use Rattle.controller.proofs.Reaching.{region_held, has_goal}
+use Rattle.strategy_parts.proofs.Holdings.{nothing_done, same_game}
+use Rattle.strategy_parts.proofs.Reaching.{region_held}
+use Rattle.controller.proofs.Reaching.{has_goal}
 use Rattle.controller.proofs.Chosen.{aim_kept, aim_first, aim_next}
 use Rattle.controller.proofs.turning.aimed.Goals as goal
 

@@ -2,7 +2,8 @@ use Rattle.regions.specs.Kept.{Outputs}
 use Rattle.regions.specs.declared.types.When.TheVariants.{Later}
 use Rattle.regions.proofs.Holding.{choice_is}
 use Rattle.controller.specs.Turns.{first_into}
-use Rattle.controller.proofs.Holdings.{move_at, has_move, gives}
+use Rattle.strategy_parts.proofs.Holdings.{has_move}
+use Rattle.controller.proofs.Holdings.{move_at, gives}
 use Rattle.controller.proofs.Reaching.{found_only}
 use Rattle.controller.proofs.turning.wait.Goals as goal
 

@@ -1,8 +1,8 @@
 use Rattle.std.proofs.Common.{◌∷◌}
 use Rattle.gr1_sys.specs.Held.{all_regions}
 use Rattle.controller.specs.Owned.{layer_items, made_items}
-use Rattle.controller.proofs.Holdings.{same_then}
-use Rattle.controller.proofs.Owning.{front_together, back_together, front_and_back, regions_together, regions_spent}
+use Rattle.strategy_parts.proofs.Holdings.{same_then}
+use Rattle.strategy_parts.proofs.Owning.{front_together, back_together, front_and_back, regions_together, regions_spent}
 use Rattle.controller.proofs.controller.Controller.close.Goals as goal
 
 pub spend_made-requires : goal.spend_made-requires

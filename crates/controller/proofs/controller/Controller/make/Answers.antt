@@ -4,12 +4,14 @@ use Rattle.hidden_game.specs.Judged.{IsJudgeOf}
 use Rattle.regions.specs.declared.types.When.TheVariants.{First, Later}
 use Rattle.gr1_law.specs.Choice.{first_memory, ChosenPlay}
 use Rattle.gr1_sys.specs.Held.{HasEach, all_regions}
-use Rattle.controller.specs.Owned.{MakesAll, made_items}
+use Rattle.strategy_parts.specs.Owned.{MakesAll}
+use Rattle.controller.specs.Owned.{made_items}
 use Rattle.controller.specs.Made.{AreTargets, targets_of, AreLike, AreAllLike, regions_for, first_layers, made_meanings}
 use Rattle.controller.specs.Places.{IsAt}
-use Rattle.controller.proofs.Holdings.{same_then}
-use Rattle.controller.proofs.Owning.{regions_still, regions_gone}
-use Rattle.controller.proofs.Makings.{told_still, every_in}
+use Rattle.strategy_parts.proofs.Holdings.{same_then}
+use Rattle.strategy_parts.proofs.Owning.{regions_still, regions_gone}
+use Rattle.strategy_parts.proofs.Telling.{every_in}
+use Rattle.controller.proofs.Makings.{told_still}
 use Rattle.controller.proofs.Begun.{none_yet, layers_each, sound, owned}
 use Rattle.controller.proofs.controller.Controller.make.Goals as goal
 
@@ -51,8 +53,8 @@ returns-in-Ok-equip-clause-begins g c = λ l own.
         few = all.counted;
         judge = subst (λ (h : GameData). IsJudgeOf h c.in-Ok.judge) (c.game.ensures ∙ sym same.game) c.in-Ok.ensures.1;
       };
-      fresh = λ t sets h b m stands. none_yet new.game sets h b m stands.play (sym stands.place.started ∙ at.started);
-      not_started = at.started;
+      fresh = λ t sets h b m stands. none_yet new.game sets h b m stands.play (sym stands.place.position.started ∙ at.position.started);
+      not_started = at.position.started;
       made = made;
       game = same;
       same_z = refl;

@@ -6,8 +6,8 @@ use Rattle.gr1_sys.specs.Held.{ranks_of}
 use Rattle.controller.specs.Objects.{AreSound, items_of}
 use Rattle.controller.specs.Settled.{Settles}
 use Rattle.controller.specs.Places.{IsAt}
-use Rattle.controller.proofs.Holdings.{stays_then, same_then}
-use Rattle.controller.proofs.Owning.{all_stay}
+use Rattle.strategy_parts.proofs.Holdings.{stays_then, same_then}
+use Rattle.strategy_parts.proofs.Owning.{all_stay}
 use Rattle.controller.proofs.Playing.{takes_turn}
 use Rattle.controller.proofs.Sounding.{settles, remembered}
 use Rattle.controller.proofs.Turned.{first_turn, first_bound}
@@ -21,7 +21,7 @@ go_on-requires-clause-here g c =
     let st = some.5 in
     let sound = subst (λ (list : List _). AreSound k c.args.self.now.layers.items list c.args.self.now.goals.items c.args.self.now.holds.items some.0 some.1) (sym c.deref.ensures.value) st.sound in
     let t = takes_turn k.game (g.met.G.Regions.closed _) st.sound.made some.0 some.1 (ranks_of c.args.self.now.layers.items) st.sound.won st.sound.ranks st.sound.starts some.2 some.3 some.4 st.play st.whole c.args.input.now c.requires.input (c.requires.legal some.0 some.1 some.2 some.3 some.4 st) in
-    let f = first_turn k c.args.self.now.layers.items c.deref.result.now c.args.self.now.goals.items c.args.self.now.holds.items some.0 some.1 sound some.3 some.4 c.args.input.now t.output t.next t.turn t.high (sym st.place.started ∙ c.requires.fresh) c.values.result.now (st.place.listed ∙ sym c.values.ensures) c.least_rank-rank.result c.least_rank-rank.new.out c.least_rank-rank.ensures.least in
+    let f = first_turn k c.args.self.now.layers.items c.deref.result.now c.args.self.now.goals.items c.args.self.now.holds.items some.0 some.1 sound some.3 some.4 c.args.input.now t.output t.next t.turn t.high (sym st.place.position.started ∙ c.requires.fresh) c.values.result.now (st.place.position.listed ∙ sym c.values.ensures) c.least_rank-rank.result c.least_rank-rank.new.out c.least_rank-rank.ensures.least in
     let e = c.game.ensures ∙ c.least_rank-rank.ensures.same.game in (
       some.3,
       some.4,
@@ -40,7 +40,7 @@ new_index-index-requires g c =
     let out = c.least_rank-rank.new.out in
     let sound = subst (λ (list : List _). AreSound k c.args.self.now.layers.items list c.args.self.now.goals.items c.args.self.now.holds.items some.0 some.1) (sym c.deref.ensures.value) st.sound in
     let t = takes_turn k.game (g.met.G.Regions.closed _) st.sound.made some.0 some.1 (ranks_of c.args.self.now.layers.items) st.sound.won st.sound.ranks st.sound.starts some.2 some.3 some.4 st.play st.whole x c.requires.input (c.requires.legal some.0 some.1 some.2 some.3 some.4 st) in
-    let f = first_turn k c.args.self.now.layers.items c.deref.result.now c.args.self.now.goals.items c.args.self.now.holds.items some.0 some.1 sound some.3 some.4 x t.output t.next t.turn t.high (sym st.place.started ∙ c.requires.fresh) c.values.result.now (st.place.listed ∙ sym c.values.ensures) c.least_rank-rank.result out c.least_rank-rank.ensures.least in
+    let f = first_turn k c.args.self.now.layers.items c.deref.result.now c.args.self.now.goals.items c.args.self.now.holds.items some.0 some.1 sound some.3 some.4 x t.output t.next t.turn t.high (sym st.place.position.started ∙ c.requires.fresh) c.values.result.now (st.place.position.listed ∙ sym c.values.ensures) c.least_rank-rank.result out c.least_rank-rank.ensures.least in
     let e = c.game.ensures ∙ c.least_rank-rank.ensures.same.game in
     let there = at_there k.game _ e some.1 some.3 some.4 x t.output t.next t.turn out f.output c.args.self.now.place st.place in
     let inside = closed_there k.game _ e some.1 some.3 some.4 x t.output t.next t.turn out f.output in
@@ -63,7 +63,7 @@ overflow_add-rank g c =
     let st = some.5 in
     let sound = subst (λ (list : List _). AreSound k c.args.self.now.layers.items list c.args.self.now.goals.items c.args.self.now.holds.items some.0 some.1) (sym c.deref.ensures.value) st.sound in
     let t = takes_turn k.game (g.met.G.Regions.closed _) st.sound.made some.0 some.1 (ranks_of c.args.self.now.layers.items) st.sound.won st.sound.ranks st.sound.starts some.2 some.3 some.4 st.play st.whole c.args.input.now c.requires.input (c.requires.legal some.0 some.1 some.2 some.3 some.4 st) in
-    let f = first_turn k c.args.self.now.layers.items c.deref.result.now c.args.self.now.goals.items c.args.self.now.holds.items some.0 some.1 sound some.3 some.4 c.args.input.now t.output t.next t.turn t.high (sym st.place.started ∙ c.requires.fresh) c.values.result.now (st.place.listed ∙ sym c.values.ensures) c.least_rank-rank.result c.least_rank-rank.new.out c.least_rank-rank.ensures.least in
+    let f = first_turn k c.args.self.now.layers.items c.deref.result.now c.args.self.now.goals.items c.args.self.now.holds.items some.0 some.1 sound some.3 some.4 c.args.input.now t.output t.next t.turn t.high (sym st.place.position.started ∙ c.requires.fresh) c.values.result.now (st.place.position.listed ∙ sym c.values.ensures) c.least_rank-rank.result c.least_rank-rank.new.out c.least_rank-rank.ensures.least in
     let bound = first_bound k c.args.self.now.layers.items c.args.self.now.first.items c.args.self.now.goals.items c.args.self.now.holds.items some.0 some.1 st.sound t.next.goal (sym f.goal) in
     omega (arith, t.high, f.rank, bound)
 
@@ -81,7 +81,7 @@ returns-clause-chosen g c = λ z l h b m st.
     let holds = c.args.self.now.holds.items in
     let sound = subst (λ (list : List _). AreSound k layers list goals holds z l) (sym c.deref.ensures.value) st.sound in
     let t = takes_turn k.game (g.met.G.Regions.closed _) st.sound.made z l (ranks_of layers) st.sound.won st.sound.ranks st.sound.starts h b m st.play st.whole x c.requires.input (c.requires.legal z l h b m st) in
-    let f = first_turn k layers c.deref.result.now goals holds z l sound b m x t.output t.next t.turn t.high (sym st.place.started ∙ c.requires.fresh) c.values.result.now (st.place.listed ∙ sym c.values.ensures) c.least_rank-rank.result out c.least_rank-rank.ensures.least in
+    let f = first_turn k layers c.deref.result.now goals holds z l sound b m x t.output t.next t.turn t.high (sym st.place.position.started ∙ c.requires.fresh) c.values.result.now (st.place.position.listed ∙ sym c.values.ensures) c.least_rank-rank.result out c.least_rank-rank.ensures.least in
     let e = c.game.ensures ∙ c.least_rank-rank.ensures.same.game in
     let there = at_there k.game _ e l b m x t.output t.next t.turn out f.output c.args.self.now.place st.place in
     let inside = closed_there k.game _ e l b m x t.output t.next t.turn out f.output in

@@ -6,12 +6,12 @@ use Rattle.hidden_game.specs.Judged.{IsJudgeOf}
 use Rattle.gr1_law.specs.Layers.{goal_set, goal_sets}
 use Rattle.gr1_law.specs.Choice.{Memory, goal_aimed, goal_stays}
 use Rattle.gr1_sys.specs.Held.{ranks_of}
-use Rattle.controller.specs.Aims.{RegionsAre}
+use Rattle.strategy_parts.specs.Owned.{RegionsAre}
 use Rattle.controller.specs.Settled.{Settles}
 use Rattle.controller.specs.Places.{IsAt}
-use Rattle.controller.proofs.Holdings.{stays_then, same_then}
+use Rattle.strategy_parts.proofs.Holdings.{stays_then, same_then}
 use Rattle.controller.specs.Objects.{items_of}
-use Rattle.controller.proofs.Owning.{all_stay}
+use Rattle.strategy_parts.proofs.Owning.{all_stay}
 use Rattle.controller.proofs.Playing.{takes_turn}
 use Rattle.controller.proofs.Sounding.{settles, remembered}
 use Rattle.controller.proofs.Laters.{past, goal_below, goals_many, goal_is, later_at, waits_back, rank_bound}
@@ -35,7 +35,7 @@ aimed-goal-requires-clause-goal g c =
     let b = some.3 in
     let m = some.4 in
     let st = some.5 in
-    let below = goal_below k layers first goals holds z l st.sound h b m st.play (sym st.place.started ∙ c.requires.started) in
+    let below = goal_below k layers first goals holds z l st.sound h b m st.play (sym st.place.position.started ∙ c.requires.started) in
     let last_is = ap (λ (n : Memory). n.goal) st.place.memory in
     omega (arith, below, last_is, ap (λ (list : List _). length list) c.deref.ensures.value)
 
@@ -76,8 +76,8 @@ lead-rank-requires-clause-turn g c =
     let m = some.4 in
     let st = some.5 in
     let t = takes_turn k.game (g.met.G.Regions.closed _) st.sound.made z l (ranks_of layers) st.sound.won st.sound.ranks st.sound.starts h b m st.play st.whole x c.requires.input (c.requires.legal z l h b m st) in
-    let began = sym st.place.started ∙ c.requires.started in
-    let there = past k.game b c.values.result.now began st.whole (st.place.listed ∙ sym c.values.ensures) in
+    let began = sym st.place.position.started ∙ c.requires.started in
+    let there = past k.game b c.values.result.now began st.whole (st.place.position.listed ∙ sym c.values.ensures) in
     let last_is = ap (λ (n : Memory). n.goal) (sym st.place.memory) in
     let aim = subst (λ (list : List _). (s : State) (m : Memory) → RegionsAre k list (goal_set k.game) → length list ≡ length (goal_sets k.game) → is_state k.game s ≡ true → listed s ≡ c.values.result.now → m.goal ≡ self.place.goal → (c.aimed-goal.result.0 ≡ goal_aimed k.game (Some s) m) × (c.aimed-goal.result.1 ≡ goal_stays k.game (Some s) m)) c.deref.ensures.value c.aimed-goal.ensures.aim in
     let k1 = kept c.aimed-goal.new.g in
@@ -103,8 +103,8 @@ go_on-requires-clause-here g c =
     let m = some.4 in
     let st = some.5 in
     let t = takes_turn k.game (g.met.G.Regions.closed _) st.sound.made z l (ranks_of layers) st.sound.won st.sound.ranks st.sound.starts h b m st.play st.whole x c.requires.input (c.requires.legal z l h b m st) in
-    let began = sym st.place.started ∙ c.requires.started in
-    let there = past k.game b c.values.result.now began st.whole (st.place.listed ∙ sym c.values.ensures) in
+    let began = sym st.place.position.started ∙ c.requires.started in
+    let there = past k.game b c.values.result.now began st.whole (st.place.position.listed ∙ sym c.values.ensures) in
     let last_is = ap (λ (n : Memory). n.goal) (sym st.place.memory) in
     let aim = subst (λ (list : List _). (s : State) (m : Memory) → RegionsAre k list (goal_set k.game) → length list ≡ length (goal_sets k.game) → is_state k.game s ≡ true → listed s ≡ c.values.result.now → m.goal ≡ self.place.goal → (c.aimed-goal.result.0 ≡ goal_aimed k.game (Some s) m) × (c.aimed-goal.result.1 ≡ goal_stays k.game (Some s) m)) c.deref.ensures.value c.aimed-goal.ensures.aim in
     let k1 = kept c.aimed-goal.new.g in
@@ -138,8 +138,8 @@ new_index-index-requires g c =
     let m = some.4 in
     let st = some.5 in
     let t = takes_turn k.game (g.met.G.Regions.closed _) st.sound.made z l (ranks_of layers) st.sound.won st.sound.ranks st.sound.starts h b m st.play st.whole x c.requires.input (c.requires.legal z l h b m st) in
-    let began = sym st.place.started ∙ c.requires.started in
-    let there = past k.game b c.values.result.now began st.whole (st.place.listed ∙ sym c.values.ensures) in
+    let began = sym st.place.position.started ∙ c.requires.started in
+    let there = past k.game b c.values.result.now began st.whole (st.place.position.listed ∙ sym c.values.ensures) in
     let last_is = ap (λ (n : Memory). n.goal) (sym st.place.memory) in
     let aim = subst (λ (list : List _). (s : State) (m : Memory) → RegionsAre k list (goal_set k.game) → length list ≡ length (goal_sets k.game) → is_state k.game s ≡ true → listed s ≡ c.values.result.now → m.goal ≡ self.place.goal → (c.aimed-goal.result.0 ≡ goal_aimed k.game (Some s) m) × (c.aimed-goal.result.1 ≡ goal_stays k.game (Some s) m)) c.deref.ensures.value c.aimed-goal.ensures.aim in
     let k1 = kept c.aimed-goal.new.g in
@@ -179,8 +179,8 @@ overflow_add-rank g c =
     let m = some.4 in
     let st = some.5 in
     let t = takes_turn k.game (g.met.G.Regions.closed _) st.sound.made z l (ranks_of layers) st.sound.won st.sound.ranks st.sound.starts h b m st.play st.whole x c.requires.input (c.requires.legal z l h b m st) in
-    let began = sym st.place.started ∙ c.requires.started in
-    let there = past k.game b c.values.result.now began st.whole (st.place.listed ∙ sym c.values.ensures) in
+    let began = sym st.place.position.started ∙ c.requires.started in
+    let there = past k.game b c.values.result.now began st.whole (st.place.position.listed ∙ sym c.values.ensures) in
     let last_is = ap (λ (n : Memory). n.goal) (sym st.place.memory) in
     let aim = subst (λ (list : List _). (s : State) (m : Memory) → RegionsAre k list (goal_set k.game) → length list ≡ length (goal_sets k.game) → is_state k.game s ≡ true → listed s ≡ c.values.result.now → m.goal ≡ self.place.goal → (c.aimed-goal.result.0 ≡ goal_aimed k.game (Some s) m) × (c.aimed-goal.result.1 ≡ goal_stays k.game (Some s) m)) c.deref.ensures.value c.aimed-goal.ensures.aim in
     let k1 = kept c.aimed-goal.new.g in
@@ -200,8 +200,8 @@ returns-clause-chosen g c = λ z l h b m st.
     let holds = self.holds.items in
     let x = c.args.input.now in
     let t = takes_turn k.game (g.met.G.Regions.closed _) st.sound.made z l (ranks_of layers) st.sound.won st.sound.ranks st.sound.starts h b m st.play st.whole x c.requires.input (c.requires.legal z l h b m st) in
-    let began = sym st.place.started ∙ c.requires.started in
-    let there = past k.game b c.values.result.now began st.whole (st.place.listed ∙ sym c.values.ensures) in
+    let began = sym st.place.position.started ∙ c.requires.started in
+    let there = past k.game b c.values.result.now began st.whole (st.place.position.listed ∙ sym c.values.ensures) in
     let last_is = ap (λ (n : Memory). n.goal) (sym st.place.memory) in
     let aim = subst (λ (list : List _). (s : State) (m : Memory) → RegionsAre k list (goal_set k.game) → length list ≡ length (goal_sets k.game) → is_state k.game s ≡ true → listed s ≡ c.values.result.now → m.goal ≡ self.place.goal → (c.aimed-goal.result.0 ≡ goal_aimed k.game (Some s) m) × (c.aimed-goal.result.1 ≡ goal_stays k.game (Some s) m)) c.deref.ensures.value c.aimed-goal.ensures.aim in
     let k1 = kept c.aimed-goal.new.g in

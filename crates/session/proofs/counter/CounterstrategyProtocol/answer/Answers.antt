@@ -1,15 +1,13 @@
-use Rattle.std.proofs.Common.{ap, sym, ◌∙◌, ◌++◌, subst, is_none, ℕ, List, Option}
+use Rattle.std.proofs.Common.{ap, sym, ◌∙◌, ◌++◌, subst, is_none, ℕ, List}
 use Rattle.std.specs.Io.KnownBytes.{Appends}
 use Rattle.sp_outside.specs.Written.{AppendsFront}
 use Rattle.std.proofs.KnownBytes.{Appends-nil}
-use Rattle.spec_model.specs.Values.{Assignment}
-use Rattle.spec_model.specs.FirstBroken.{first_broken_output}
-use Rattle.counterstrategy.specs.Objects.{game_of as game_played, note_data}
+use Rattle.counterstrategy.specs.Objects.{note_data}
 use Rattle.session_lines.specs.Views.{read_of, shown_of}
 use Rattle.session.specs.CounterTalks.{note_line}
 use Rattle.session.proofs.Fitting.{over_after}
 use Rattle.session.proofs.CounterTalks.{given_fits}
-use Rattle.session.proofs.Countering.{reply_fits_game, room_for_input, counter_stands, names_reply, gives_legal, gives_next, answer_by, shown_as}
+use Rattle.session.proofs.Countering.{reply_fits_game, room_for_input, counter_stands, names_given, gives_legal, gives_next, answer_by, shown_as}
 use Rattle.session.proofs.counter.CounterstrategyProtocol.answer.Goals as goal
 
 pub broken_with-requires-clause-stands : goal.broken_with-requires-clause-stands
@@ -64,7 +62,7 @@ pub returns-in-Some-clause-replies : goal.returns-in-Some-clause-replies
 returns-in-Some-clause-replies g c = λ s st suits p.
     let y = read_of c.args.lines.now in
     let told = c.broken_with.ensures.first p.place.layers st.play st.notes p.place.before p.place.memory p.place.stands in (
-      names_reply _ c.args.self.now s st.shifts st.denials st.play st.notes p.place st.input y c.broken_with.result (told ∙ ap (λ (x : Assignment). first_broken_output (game_played g.G.Regions.kept c.args.self.now) p.place.before x y) p.input) ∙ c.in-Some.is,
+      names_given _ c.args.self.now s st.shifts st.denials st.play st.notes st.input p y c.broken_with.result told ∙ c.in-Some.is,
       Appends-nil _,
       p,
     )
@@ -76,7 +74,7 @@ returns-in-Ok-clause-replies g c = λ s st suits p.
     let w = note_data c.complete-note.result in
     let told = c.broken_with.ensures.first p.place.layers st.play st.notes p.place.before p.place.memory p.place.stands in
     let unbroken =
-    names_reply _ c.args.self.now s st.shifts st.denials st.play st.notes p.place st.input y c.broken_with.result (told ∙ ap (λ (x : Assignment). first_broken_output (game_played g.G.Regions.kept c.args.self.now) p.place.before x y) p.input) ∙ c.in_default.is in
+    names_given _ c.args.self.now s st.shifts st.denials st.play st.notes st.input p y c.broken_with.result told ∙ c.in_default.is in
     let next = c.complete-note.ensures.answered p.place.layers st.play st.notes p.place.before p.place.memory p.place.stands in
     let on = gives_next _ c.args.self.now c.complete-note.new.play s c.complete-note.ensures.same st.shifts st.denials st.play st.notes st.input p y c.complete-note.result next.0 x' next.1 in
     let over = over_after c.args.lines.now c.complete-note.new.lines _ _ _ suits c.complete-note.ensures.keeps in (
@@ -91,7 +89,7 @@ returns-in-Err-clause-replies g c = λ s st suits p.
     let w = note_data c.complete-note.result in
     let told = c.broken_with.ensures.first p.place.layers st.play st.notes p.place.before p.place.memory p.place.stands in
     let unbroken =
-    names_reply _ c.args.self.now s st.shifts st.denials st.play st.notes p.place st.input y c.broken_with.result (told ∙ ap (λ (x : Assignment). first_broken_output (game_played g.G.Regions.kept c.args.self.now) p.place.before x y) p.input) ∙ c.in_default.is in
+    names_given _ c.args.self.now s st.shifts st.denials st.play st.notes st.input p y c.broken_with.result told ∙ c.in_default.is in
     let next = c.complete-note.ensures.answered p.place.layers st.play st.notes p.place.before p.place.memory p.place.stands in
     let on = gives_next _ c.args.self.now c.complete-note.new.play s c.complete-note.ensures.same st.shifts st.denials st.play st.notes st.input p y c.complete-note.result next.0 x' next.1 in
     let over = over_after c.args.lines.now c.complete-note.new.lines _ _ _ suits c.complete-note.ensures.keeps in (
