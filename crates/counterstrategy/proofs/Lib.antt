@@ -8,8 +8,10 @@ mod Turning
 mod Sounding
 mod Chaining
 mod Begun
-mod Serving
+mod Turned
 mod Replying
 mod Completing
 mod Erring
 mod Filling
+pub mod Serving
+mod ExampleMoves

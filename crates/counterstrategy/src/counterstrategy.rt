@@ -47,10 +47,7 @@ pub struct Counterstrategy<G: Regions> {
 }
 
 /// Before the first position, room for an input, and a judge of the outputs. `AllocError`: no memory was given.
-fn prepared(
-    alloc: Global,
-    game: &Game,
-) -> Result<(Place, Vec<Value>, OutputJudge), AllocError>
+fn prepared(alloc: Global, game: &Game) -> Result<(Place, Vec<Value>, OutputJudge), AllocError>
     requires { WellMade (game_data game.now) }
     ensures place { IfOk result (λ p. IsAt (game_data game.now) p.0 None first_counter) }
     ensures room { IfOk result (λ p. length p.1.items ≡ input_count (game_data game.now)) }

@@ -87,11 +87,7 @@ fn fill<G: Regions>(
 }
 
 /// All that a strategy has besides its layers.
-pub fn equip<G: Regions>(
-    alloc: Global,
-    g: &mut G,
-    layers: &[EnvLayer<G>],
-) -> Result<Kit<G>, Halt>
+pub fn equip<G: Regions>(alloc: Global, g: &mut G, layers: &[EnvLayer<G>]) -> Result<Kit<G>, Halt>
     requires free { (G.kept g.old).jam ≡ None }
     requires regions { HasEach (G.kept g.old) (all_regions layers.now) }
     ensures made { let k = G.kept g.old in IfOk result (λ kit. MakesAll k (G.kept g.new) (kit_items kit) (made_meanings k layers.now)) }

@@ -21,3 +21,5 @@ mod place;
 
 pub use counterstrategy::{Counterstrategy, Note};
 
+#[cfg(test)]
+mod tests;

@@ -90,12 +90,7 @@ fn next_index<G: Regions>(g: &mut G, asms: &[G::R], before: usize, state: &[Valu
 }
 
 /// Remembers the position that the place is after.
-pub fn note_position<G: Regions>(
-    g: &mut G,
-    layers: &[EnvLayer<G>],
-    kit: &Kit<G>,
-    place: &mut Place,
-)
+pub fn note_position<G: Regions>(g: &mut G, layers: &[EnvLayer<G>], kit: &Kit<G>, place: &mut Place)
     requires { (e : EnvLayerSets) × (m : CounterMemory) × (s : State) × (next : CounterMemory) × ServesReply (G.kept g.old) layers.now kit.now place.old e m s next }
     ensures noted { let k = G.kept g.old in (e : EnvLayerSets) (m : CounterMemory) (s : State) (next : CounterMemory) → ServesReply k layers.now kit.now place.old e m s next → memory_at place.new ≡ next }
     ensures position { place.new.position ≡ place.old.position }

@@ -39,7 +39,14 @@ impl Place {
     }
 
     /// Remembers what is noted of a position.
-    pub fn remember(&mut self, denying: bool, layer: usize, goal: usize, before: usize, index: usize)
+    pub fn remember(
+        &mut self,
+        denying: bool,
+        layer: usize,
+        goal: usize,
+        before: usize,
+        index: usize,
+    )
         ensures { self.new ≡ record self.old { denying = denying; layer = layer; goal = goal; before = before; index = index } }
     {
         self.denying = denying;

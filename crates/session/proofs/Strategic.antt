@@ -86,7 +86,7 @@ begins kept c s is_of stands fresh =
     let h = stands.2 in
     let b = stands.3 in
     let here : PlaysFor kept c s (rounds_of c) h = record { is_of = is_of; rounds = refl; z = stands.0; layers = stands.1; before = b; memory = stands.4; stands = stands.5 } in
-    let none : b ≡ None = no_state b (sym fresh ∙ stands.5.place.started) in
+    let none : b ≡ None = no_state b (sym fresh ∙ stands.5.place.position.started) in
     let empty : h ≡ [] = no_position (game_played kept c) h (sym (tells kept c s (rounds_of c) h here).state ∙ none) in
     subst (λ (h : Run). PlaysFor kept c s (rounds_of c) h) empty here
 

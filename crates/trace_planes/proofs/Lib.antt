@@ -1,2 +1,7 @@
 mod Placing
 mod Found
+mod Lanes
+mod Bits
+mod FirstZero
+mod EqualCodes
+mod ExampleMoves

@@ -1,2 +1,4 @@
 pub mod Findings
 pub mod Audits
+pub mod Planes
+pub mod Examples

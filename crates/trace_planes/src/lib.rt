@@ -3,17 +3,29 @@
 //! An audit is handed the positions of a run one after the other, and judges them as a game's moves are: an assumption by the
 //! input, a guarantee or monitor's line by the output, each at the states that the positions before lead to.
 //!
+//! A plane has a bit for each of many positions, 64 of them to a word. The operations on planes work by lanes of `std::simd`,
+//! eight words or 64 codes at a time, and give what their plain definitions say at every length.
+//!
 //! Contract: `Audit::check` gives the first finding on the run of all positions that were pushed; `findings_agree`: in a game
-//! that agrees with a specification it is the specification's.
+//! that agrees with a specification it is the specification's. Only `Audit::make` takes memory.
 //! Path: specification → game → **findings** → lines.
 #![tactic(auto)]
 
 mod audit;
+mod codes;
 mod finding;
 mod judge;
 mod laws;
 mod place;
+mod planes;
+mod zeros;
 
 pub use audit::Audit;
+pub use codes::equal_codes;
 pub use finding::Finding;
 pub use laws::findings_agree;
+pub use planes::{and_planes, not_plane, or_planes};
+pub use zeros::first_zero;
+
+#[cfg(test)]
+mod tests;

@@ -4,7 +4,7 @@ use Rattle.std.proofs.lemmas.Option.{slice_get_within, get_or_from_slice_get}
 use Rattle.regions.specs.declared.types.When.TheVariants.{First, Later}
 use Rattle.counterstrategy.specs.Forced.{MovesLead}
 use Rattle.counterstrategy.proofs.Forcing.{first_into_layer, first_into_hold}
-use Rattle.counterstrategy.proofs.Serving.{serves_hold, denies, denies_not, before_later, before_first, after_denial, none_into, chain_found}
+use Rattle.counterstrategy.proofs.Turned.{serves_hold, denies, denies_not, before_later, before_first, after_denial, none_into, chain_found}
 use Rattle.counterstrategy.proofs.giving.give.Goals as goal
 
 pub chain_number-requires-clause-layer : goal.chain_number-requires-clause-layer

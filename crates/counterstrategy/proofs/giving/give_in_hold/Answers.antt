@@ -2,7 +2,7 @@ use Rattle.std.proofs.Common.{◌≡◌, suc, arith}
 use Rattle.strategy_parts.proofs.Holdings.{nothing_done, same_game}
 use Rattle.counterstrategy.proofs.Moving.{moves_stay}
 use Rattle.counterstrategy.proofs.Forcing.{found_by, gives, not_before, is_forced}
-use Rattle.counterstrategy.proofs.Serving.{in_others}
+use Rattle.counterstrategy.proofs.Turned.{in_others}
 use Rattle.counterstrategy.proofs.giving.give_in_hold.Goals as goal
 
 pub first_in-requires-clause-kind : goal.first_in-requires-clause-kind

@@ -114,8 +114,7 @@ returns-clause-completed g c = λ e h notes b m st.
     (c.go_on.ensures b (there k.game _ c.game.ensures b x y c.deref.result.now c.deref.ensures.value self.place.position st.place.position) (closed_there k.game _ c.game.ensures b x y c.deref.result.now c.deref.ensures.value closed)) in
     let serves = subst (λ (list : List _). ServesReply k list self.kit p e m s reply.0) (sym c.deref-2.ensures.value)
     (serves_reply k ls self.kit e st.sound p m s reply.0 reply.1 (record { position = here; memory = st.place.memory })) in
-    let memory = c.note_position.ensures.noted e m s reply.0 serves in
-    (
+    let memory = c.note_position.ensures.noted e m s reply.0 serves in (
       reply.0,
       record {
         noted = reply.1.noted;

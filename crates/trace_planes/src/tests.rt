@@ -1,0 +1,199 @@
+//! Findings that are worked out by hand, and planes of many lengths.
+
+ghost use Rattle.std.specs.Prelude.{◌≡◌, ◌<◌, ℕ, suc, [], ◌∷◌, map, None, IfOk};
+ghost use Rattle.spec_model.specs.Syntax.{Variable, Implication};
+ghost use Rattle.spec_model.specs.Views.{formula, variable_data};
+ghost use Rattle.spec_model.specs.GameViews.{game_data};
+ghost use Rattle.spec_model.specs.WellMade.{WellMade};
+ghost use Rattle.trace_planes.specs.Examples.{two_variables, game_with, HasPushed};
+
+use crate::{Audit, Finding, and_planes, equal_codes, first_zero, not_plane, or_planes};
+use spec_model::expr::Expr;
+use spec_model::game::{Game, Label};
+use spec_model::value::{Domain, Owner, Value, Var};
+use std::alloc::{AllocError, Global};
+use std::test::Fail;
+
+/// An input a and an output g.
+fn two(alloc: Global) -> Result<Vec<Var>, AllocError>
+    ensures { IfOk result (λ vs. map variable_data vs.items ≡ two_variables) }
+{
+    let a = Var {
+        name: String::from_str(alloc, "a")?,
+        owner: Owner::Env,
+        domain: Domain::Boolean,
+    };
+    let g = Var {
+        name: String::from_str(alloc, "g")?,
+        owner: Owner::Sys,
+        domain: Domain::Boolean,
+    };
+    Ok(vec![in alloc; a, g]?)
+}
+
+fn game(
+    alloc: Global,
+    safe_asm: Vec<(u32, Expr)>,
+    safe_gar: Vec<(u32, Expr)>,
+) -> Result<Game, AllocError>
+    ensures { IfOk result (λ g. game_data g ≡ game_with (map (λ l. (l.0, formula l.1)) safe_asm.items) (map (λ l. (l.0, formula l.1)) safe_gar.items)) }
+{
+    Ok(Game {
+        vars: two(alloc)?,
+        hidden: Vec::new(alloc),
+        initial_asm: Vec::new(alloc),
+        initial_gar: Vec::new(alloc),
+        safe_asm,
+        safe_gar,
+        assume: Vec::new(alloc),
+        goals: Vec::new(alloc),
+    })
+}
+
+/// `asm alw g -> a; gar alw g;`: the assumption reads the present g, so it waits for the next move.
+fn awaited(alloc: Global) -> Result<Game, AllocError>
+    ensures { IfOk result (λ g. game_data g ≡ game_with ((1, Implication (Variable 1) (Variable 0)) ∷ []) ((2, Variable 1) ∷ [])) }
+{
+    let g = Box::new(alloc, Expr::Var(1))?;
+    let a = Box::new(alloc, Expr::Var(0))?;
+    let asm = vec![in alloc; (1, Expr::Implies(g, a))]?;
+    game(alloc, asm, vec![in alloc; (2, Expr::Var(1))]?)
+}
+
+/// `gar alw g;`
+fn granted(alloc: Global) -> Result<Game, AllocError>
+    ensures { IfOk result (λ g. game_data g ≡ game_with [] ((1, Variable 1) ∷ [])) }
+{
+    game(alloc, Vec::new(alloc), vec![in alloc; (1, Expr::Var(1))]?)
+}
+
+fn audit(alloc: Global, game: Game) -> Result<Audit, AllocError>
+    requires made { WellMade (game_data game) }
+    requires variables { (game_data game).variables ≡ two_variables }
+    ensures { IfOk result (λ a. HasPushed a 0 4096) }
+{
+    Audit::make(alloc, game)
+}
+
+fn put(audit: &mut Audit, a: bool, g: bool)
+    requires { (n room : ℕ) × HasPushed audit.old n (suc room) × (n < 10000) }
+    ensures { (n room : ℕ) → HasPushed audit.old n (suc room) → HasPushed audit.new (suc n) room }
+{
+    audit.push(&[Value::Bool(a), Value::Bool(g)]);
+}
+
+fn check(audit: &mut Audit) -> Option<Finding>
+    requires { (n room : ℕ) × HasPushed audit.old n room }
+    ensures { (n room : ℕ) → HasPushed audit.old n room → result ≡ None → HasPushed audit.new n 4096 }
+{
+    audit.check()
+}
+
+/// What is found after two positions.
+fn after_two(alloc: Global, moves: [(bool, bool); 2]) -> Result<Option<Finding>, AllocError> {
+    let mut audit = audit(alloc, awaited(alloc)?)?;
+    put(&mut audit, moves[0].0, moves[0].1);
+    put(&mut audit, moves[1].0, moves[1].1);
+    Ok(check(&mut audit))
+}
+
+/// What is found after 4,096 positions with g, and after one more without.
+fn after_many(alloc: Global) -> Result<(Option<Finding>, Option<Finding>), AllocError> {
+    let mut audit = audit(alloc, granted(alloc)?)?;
+    for k in 0_u32..4096 {
+        put(&mut audit, k % 2 == 0, true);
+    }
+    let first = check(&mut audit);
+    if first.is_some() {
+        return Ok((first, None));
+    }
+    put(&mut audit, false, false);
+    Ok((first, check(&mut audit)))
+}
+
+fn found(line: u32, position: u64) -> Option<Finding> {
+    Some(Finding {
+        label: Label { line, part: 0 },
+        position,
+    })
+}
+
+#[test]
+fn the_least_position_is_named_with_its_first_line(rt: HostRuntime) -> Result<(), Fail> {
+    // (a, g) at both positions; what is found
+    let cases = [
+        ([(false, true), (true, true)], found(1, 2)),
+        ([(false, false), (true, true)], found(2, 1)),
+        ([(true, true), (false, true)], None),
+        ([(false, true), (true, false)], found(1, 2)),
+    ];
+    for (moves, wanted) in cases {
+        assert_eq!(rt; after_two(rt.alloc(), moves)?, wanted, "{moves:?}");
+    }
+    Ok(())
+}
+
+#[test]
+fn positions_before_a_check_count(rt: HostRuntime) -> Result<(), Fail> {
+    assert_eq!(rt;
+        after_many(rt.alloc())?,
+        (None, found(1, 4097)),
+        "without g last"
+    );
+    Ok(())
+}
+
+#[test]
+fn planes_of_each_length_are_worked_out(rt: HostRuntime) -> Result<(), Fail> {
+    let a = [6_u64; 64];
+    let b = [3_u64; 64];
+    for n in [0_usize, 1, 7, 8, 9, 64] {
+        let mut out = [0_u64; 64];
+        and_planes(&a[..n], &b[..n], &mut out[..n]);
+        assert_eq!(rt; out.iter().filter(|w| **w == 2).count(), n, "and of {n}");
+        or_planes(&a[..n], &b[..n], &mut out[..n]);
+        assert_eq!(rt; out.iter().filter(|w| **w == 7).count(), n, "or of {n}");
+        not_plane(&a[..n], &mut out[..n]);
+        assert_eq!(rt;
+            out.iter().filter(|w| **w == u64::MAX - 6).count(),
+            n,
+            "not of {n}"
+        );
+    }
+    Ok(())
+}
+
+#[test]
+fn the_first_zero_is_found_below_the_bound(rt: HostRuntime) -> Result<(), Fail> {
+    let words = [u64::MAX, 1];
+    assert_eq!(rt;
+        first_zero(&words, 66),
+        Some(65),
+        "bit 1 of the second word"
+    );
+    assert_eq!(rt; first_zero(&words, 65), None, "past the bound");
+    let mut full = [u64::MAX; 64];
+    for n in [0_usize, 1, 7, 8, 9, 64] {
+        assert_eq!(rt; first_zero(&full[..n], 64 * n), None, "{n} words are full");
+    }
+    full[63] = u64::MAX / 2;
+    assert_eq!(rt;
+        first_zero(&full, 4096),
+        Some(4095),
+        "the last bit of 64 words"
+    );
+    Ok(())
+}
+
+#[test]
+fn equal_codes_are_marked(rt: HostRuntime) -> Result<(), Fail> {
+    let mut one = [0_u64];
+    equal_codes(&[2, 5, 2], 2, &mut one);
+    assert_eq!(rt; one, [5], "the first and the third");
+    let mut codes = [7_u16; 66];
+    codes[65] = 9;
+    let mut two = [0_u64; 2];
+    equal_codes(&codes, 9, &mut two);
+    assert_eq!(rt; two, [0, 2], "the last of 66");
+    Ok(())
+}
