@@ -1,11 +1,10 @@
 -- The patterns that the tests try are well formed.
-use Rattle.std.proofs.Common.{◌≡◌, ℕ, ◌≤◌, pos, Bool, true, ◌&&◌, if◌then◌else◌, [], ◌∷◌, is_some, Some, None, refl, sym, ap, ◌∙◌, subst, arith}
+use Rattle.std.proofs.Common.{◌≡◌, ℕ, ◌≤◌, pos, true, [], ◌∷◌, refl, sym, subst, arith}
 use Rattle.std.specs.Prelude.{int_le, int_lt, ◌-ℤ◌, neg_ℤ, ◌^◌}
 use Rattle.std.proofs.lemmas.Bool.{and_from}
 use Rattle.std.proofs.lemmas.Int.{ints}
 use Rattle.spec_model.specs.Syntax.{Negation, Variable, PatternData}
 use Rattle.spec_model.specs.Values.{WholeNumbers}
-use Rattle.spec_model.specs.Typing.{whole}
 use Rattle.spec_model.specs.WellTyped.{is_domain_of}
 use Rattle.pattern_rows.specs.Patterns.{IsPattern}
 use Rattle.pattern_rows.specs.Examples.{bare, latch, follows_parameter, may_follow_parameter, three_goals, response}

@@ -10,3 +10,4 @@ pub mod Cells
 pub mod Runs
 pub mod Handed
 pub mod Examples
+pub mod Filled

@@ -1,26 +1,25 @@
 -- The lines of a pattern may be asked for, and read what they are said to.
-use Rattle.std.proofs.Common.{◌≡◌, ℕ, zero, suc, ◌<◌, ◌≤◌, Bool, true, false, not, ◌&&◌, ◌==◌, nat_lt, List, [], ◌∷◌, ◌++◌, length, map, replicate, get_or, Some, option_map, slice_get, refl, sym, ap, ◌∙◌, subst, arith}
+use Rattle.std.proofs.Common.{◌≡◌, ℕ, zero, suc, ◌<◌, ◌≤◌, Bool, true, false, not, ◌&&◌, ◌==◌, nat_lt, List, [], ◌∷◌, ◌++◌, length, map, replicate, get_or, refl, sym, ap, ◌∙◌, subst, arith}
 use Rattle.std.specs.List.{list_all}
 use Rattle.std.proofs.lemmas.Bool.{and_parts, and_from, false≢true}
 use Rattle.std.proofs.lemmas.Bool.Decides.{nat_tests}
 use borrow.Author.Tests.{eqb-true}
-use Rattle.spec_model.specs.declared.value.Value.{Value}
 use Rattle.spec_model.specs.declared.value.Value.TheVariants as value
 use Rattle.spec_model.specs.declared.expr.Expr.{Expr}
 use Rattle.spec_model.specs.Values.{Assignment, truth_of, is_assignment}
 use Rattle.spec_model.specs.Syntax.{Formula, PatternData, formulas}
 use Rattle.spec_model.specs.Views.{formula}
-use Rattle.spec_model.specs.Meaning.{Reading, value_at, holds_at}
+use Rattle.spec_model.specs.Meaning.{holds_at}
 use Rattle.spec_model.specs.Moves.{has_next}
 use Rattle.spec_model.specs.Patterns.{two_positions, all_hold}
 use Rattle.spec_model.specs.Sizes.{past_trees}
-use Rattle.spec_model.specs.Typing.{kind_of, is_truth, Scope}
+use Rattle.spec_model.specs.Typing.{kind_of, is_truth}
 use Rattle.spec_model.specs.WellMade.{is_stepwise}
 use Rattle.spec_model.specs.WellTyped.{is_nested_well, is_typed, is_pattern_line, is_first_line, is_step_line, is_parameter, reads_some, shifts_some, scope_of_pattern}
 use Rattle.game_values.specs.Safety.{IsSafe, AreSafe}
 use Rattle.game_values.proofs.Safe.{IsTyped, step_safe}
 use Rattle.pattern_rows.specs.Patterns.{IsPattern, IsGoal, is_goal_line}
-use Rattle.pattern_rows.specs.Rows.{may_begin, may_follow, goal_holds}
+use Rattle.pattern_rows.specs.Rows.{may_begin, goal_holds}
 use Rattle.pattern_rows.specs.Sights.{IsCell}
 use Rattle.pattern_rows.proofs.Values.{all_within}
 use Rattle.pattern_rows.proofs.Stepwise.{line_stepwise}

@@ -1,5 +1,5 @@
 -- The value and the entries of a pattern's table on a run.
-use Rattle.std.proofs.Common.{◌≡◌, ℕ, zero, suc, ◌+◌, ◌*◌, ◌^◌, Bool, true, false, ◌&&◌, List, [], ◌∷◌, ◌++◌, length, map, find, Option, Some, option_map, unwrap_or, slice_get, get_or, refl, sym, ap, ◌∙◌, subst}
+use Rattle.std.proofs.Common.{◌≡◌, ℕ, zero, suc, ◌+◌, ◌*◌, ◌^◌, Bool, true, false, List, [], length, find, Some, option_map, unwrap_or, slice_get, get_or, sym, ap, ◌∙◌}
 use Rattle.std.specs.Prelude.{slice_index}
 use Rattle.std.specs.List.{list_all, position_or_len}
 use Rattle.std.proofs.lemmas.Bool.{and_parts}
@@ -8,7 +8,7 @@ use Rattle.std.proofs.lemmas.Option.{slice_get-map, get_or_from_slice_get}
 use Rattle.spec_model.specs.declared.value.Value.TheVariants as value
 use Rattle.spec_model.specs.Values.{Assignment, assignments_of}
 use Rattle.spec_model.specs.Syntax.{Formula, Variable, PatternData}
-use Rattle.spec_model.specs.Patterns.{all_hold, own_at, pattern_holds}
+use Rattle.spec_model.specs.Patterns.{own_at, pattern_holds}
 use Rattle.spec_model.specs.Steps.{below}
 use Rattle.spec_model.specs.Games.{letter_of}
 use Rattle.spec_model.specs.WellTyped.{is_determined}

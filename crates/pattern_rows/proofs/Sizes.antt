@@ -1,11 +1,9 @@
 -- How many assignments a pattern's own variables have, and whether the lines tell each.
-use Rattle.std.proofs.Common.{◌≡◌, ℕ, zero, suc, ◌+◌, ◌*◌, ◌<◌, ◌≤◌, Bool, true, false, not, ◌&&◌, ◌||◌, ◌==◌, nat_lt, nat_le, List, [], ◌∷◌, ◌++◌, length, map, flat_map, min, drop, get_or, replicate, refl, sym, ap, ◌∙◌, subst, arith, inl, inr, ◌⊎◌}
+use Rattle.std.proofs.Common.{◌≡◌, ℕ, zero, suc, ◌+◌, ◌*◌, ◌<◌, ◌≤◌, Bool, true, false, not, ◌&&◌, ◌==◌, nat_lt, nat_le, List, [], ◌∷◌, length, map, flat_map, min, drop, get_or, refl, sym, ap, ◌∙◌, subst, arith, inl, inr, ◌⊎◌}
 use Rattle.std.specs.List.{list_all, position_or_len}
 use Rattle.std.proofs.lemmas.Bool.{and_parts, and_from, false≢true}
 use Rattle.std.proofs.lemmas.Bool.Decides.{nat_tests}
 use Rattle.std.proofs.Math.Nat.{mul-le-mul_right}
-use Rattle.spec_model.specs.declared.value.Value.{Value}
-use Rattle.spec_model.specs.declared.value.Value.TheVariants as value
 use Rattle.spec_model.specs.declared.value.Domain.{Domain}
 use Rattle.spec_model.specs.Values.{Assignment, DomainData, TruthValues, WholeNumbers, Enumeration, is_assignment, assignments_of, values_of}
 use Rattle.spec_model.specs.Syntax.{Formula, Variable, PatternData}
@@ -14,7 +12,7 @@ use Rattle.spec_model.specs.Steps.{below}
 use Rattle.spec_model.specs.Views.{domain_data}
 use Rattle.spec_model.specs.Sizes.{domain_size, product}
 use Rattle.spec_model.specs.WellMade.{is_domain}
-use Rattle.spec_model.specs.WellTyped.{is_domain_of, is_determined, tells_one, letters_of}
+use Rattle.spec_model.specs.WellTyped.{is_domain_of, is_determined}
 use Rattle.spec_model.proofs.AllStates.{Every}
 use Rattle.spec_model.proofs.Listed.{assignments_fit}
 use Rattle.game_states.proofs.Counts.{length-assignments, domain_filled}

@@ -1,14 +1,13 @@
 -- The values of an assignment are within the intervals of their domains.
-use Rattle.std.proofs.Common.{◌≡◌, ℕ, zero, suc, ◌+◌, ◌≤◌, ℤ, pos, ◌+ℤ◌, ◌-ℤ◌, ◌≤ℤ◌, Bool, true, false, ◌&&◌, ◌||◌, ◌==◌, if◌then◌else◌, List, [], ◌∷◌, ◌++◌, length, map, replicate, Option, Some, None, option_map, slice_get, get_or, refl, sym, ap, ◌∙◌, subst, arith, inl, inr, ◌⊎◌}
+use Rattle.std.proofs.Common.{◌≡◌, ℕ, zero, suc, ◌+◌, ℤ, pos, ◌+ℤ◌, ◌-ℤ◌, ◌≤ℤ◌, Bool, true, false, if◌then◌else◌, List, [], ◌∷◌, ◌++◌, length, map, replicate, Some, option_map, slice_get, get_or, refl, sym, subst, arith, inl, inr}
 use Rattle.std.specs.Prelude.{int_le, nat_abs}
-use Rattle.std.specs.List.{list_any, list_all}
+use Rattle.std.specs.List.{list_any}
 use Rattle.std.proofs.lemmas.Bool.{and_parts, or_cases, false≢true}
 use Rattle.std.proofs.lemmas.Int.{ints}
-use borrow.Author.Tests.{eqb-true}
 use Rattle.spec_model.specs.declared.value.Value.{Value}
 use Rattle.spec_model.specs.declared.value.Value.TheVariants as value
-use Rattle.spec_model.specs.Values.{Assignment, DomainData, TruthValues, WholeNumbers, Enumeration, same_value, values_of, rising_from, is_assignment}
-use Rattle.spec_model.specs.Typing.{Whole, Truth, kind_of_domain}
+use Rattle.spec_model.specs.Values.{DomainData, TruthValues, WholeNumbers, Enumeration, same_value, values_of, rising_from, is_assignment}
+use Rattle.spec_model.specs.Typing.{Whole, kind_of_domain}
 use Rattle.spec_model.proofs.AllStates.{Every, same_value-true}
 use Rattle.game_values.proofs.Spans.{IsWithin}
 

@@ -1,5 +1,5 @@
 -- Patterns that are well formed, and which of them are too wide.
-use Rattle.std.specs.Prelude.{ℕ, Bool, not, ◌&&◌, nat_le, List, map, IsTrue}
+use Rattle.std.specs.Prelude.{ℕ, Bool, not, ◌&&◌, nat_le, map, IsTrue}
 use Rattle.std.specs.List.{list_all}
 use Rattle.spec_model.specs.Syntax.{Formula, PatternData}
 use Rattle.spec_model.specs.Moves.{has_next}

@@ -1,7 +1,6 @@
 -- The hidden table of a pattern: its values are the assignments of the own variables, and its letters those of the parameters.
 use Rattle.std.specs.Prelude.{ℕ, zero, suc, Bool, true, false, ◌==◌, if◌then◌else◌, List, [], ◌∷◌, ◌++◌, length, map, flat_map, replicate, count_by, Option, Some, None}
 use Rattle.std.specs.List.{position_or_len, list_all}
-use Rattle.spec_model.specs.declared.value.Value.{Value}
 use Rattle.spec_model.specs.declared.value.Value.TheVariants as value
 use Rattle.spec_model.specs.Values.{Assignment, assignments_of}
 use Rattle.spec_model.specs.Syntax.{Formula, Variable, PatternData}

@@ -1,6 +1,5 @@
 -- What is seen of a pattern's variables: the parameters and the own variables, and what these have next.
-use Rattle.std.specs.Prelude.{◌≡◌, ◌==◌, true, List, ◌++◌, length, map}
-use Rattle.spec_model.specs.declared.value.Value.{Value}
+use Rattle.std.specs.Prelude.{◌≡◌, ◌==◌, true, ◌++◌, length}
 use Rattle.spec_model.specs.Values.{Assignment, is_assignment}
 use Rattle.spec_model.specs.Syntax.{PatternData}
 use Rattle.spec_model.specs.Meaning.{Reading}

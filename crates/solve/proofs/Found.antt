@@ -1,5 +1,5 @@
 -- What is found of its game is found of a specification.
-use Rattle.std.proofs.Common.{◌≡◌, inl, inr, ℕ, Bool, true, false, not, List, length, None, Vec, refl, sym, ap, subst, arith, ◌∙◌}
+use Rattle.std.proofs.Common.{◌≡◌, inl, inr, ℕ, Bool, true, false, not, List, length, Some, None, Vec, slice_get, refl, sym, ap, subst, arith, ◌∙◌}
 use Rattle.std.proofs.lemmas.Bool.{false≢true}
 use Rattle.spec_model.specs.Syntax.{Specification}
 use Rattle.spec_model.specs.Games.{GameData}
@@ -8,7 +8,7 @@ use Rattle.spec_model.specs.WellMade.{WellMade}
 use Rattle.hidden_game.specs.GameOf.{game_of}
 use Rattle.std.specs.declared.alloc.Global.{Global}
 use Rattle.regions.specs.Kept.{Kept, IsSameGame}
-use Rattle.gr1_law.specs.Layers.{LayerSets, IsWinning, round_count}
+use Rattle.gr1_law.specs.Layers.{LayerSets, IsWinning, round_count, goal_sets}
 use Rattle.gr1_law.specs.EnvLayers.{EnvLayerSets, AreEnvLayers, IsLayerCount, AreDelayCounts, denial_count}
 use Rattle.gr1_sys.specs.declared.layers.SysLayer.{SysLayer}
 use Rattle.gr1_sys.specs.Held.{ranks_of}
@@ -84,14 +84,23 @@ one_found s agrees made rise = by_start (system_forces (game_of s) (some_winning
 -- ---- by the layers that are held
 
 -- the environment's layers that a solver gives are held
-pub solved_env_layers : {G R M : Type 0} (old new : Kept R M) (layers : List (EnvLayer G R M)) (e : EnvLayerSets) → IsSameGame old new → WonByEnvironment old new layers e → AreEnvLayersOf new layers e
-solved_env_layers old new layers e same won =
+pub solved_env_layers : {G R M : Type 0} (old new : Kept R M) (layers : List (EnvLayer G R M)) (e : EnvLayerSets) → WellMade old.game → IsSameGame old new → WonByEnvironment old new layers e → AreEnvLayersOf new layers e
+solved_env_layers {G} {R} {M} old new layers e made same won =
     record {
-      held = λ w. omega (arith, won.held w);
-      are_layers = subst (λ (g : GameData). AreEnvLayers g e) (sym same.game) won.layers;
+      are =
+          record {
+            made = subst WellMade (sym same.game) made;
+            held = λ w. omega (arith, won.held w);
+            lost =
+                record {
+                  layers = subst (λ (g : GameData). AreEnvLayers g e) (sym same.game) won.layers;
+                  delays = subst (λ (g : GameData). AreDelayCounts g e (length layers) (counts_of layers)) (sym same.game) won.counts;
+                  forced = subst (λ (g : GameData). environment_forces g (e.z (length layers)) None ≡ true) (sym same.game) won.forced;
+                };
+            goals = subst (λ (g : GameData). (a : ℕ) (l : EnvLayer G R M) → slice_get layers a ≡ Some l → length l.goals.items ≡ length (goal_sets g)) (sym same.game) won.goals;
+            shown = won.shown;
+          };
       last = won.last;
-      forced = subst (λ (g : GameData). environment_forces g (e.z (length layers)) None ≡ true) (sym same.game) won.forced;
-      counts = subst (λ (g : GameData). AreDelayCounts g e (length layers) (counts_of layers)) (sym same.game) won.counts;
       denials = subst (λ (g : GameData). denials_of layers ≡ denial_count g (length layers) (counts_of layers)) (sym same.game) won.denials;
     }
 
@@ -99,7 +108,7 @@ solved_env_layers old new layers e same won =
 pub lost_game : {G R M : Type 0} (k : Kept R M) (layers : List (EnvLayer G R M)) (e : EnvLayerSets) (n m : ℕ) → AreEnvLayersOf k layers e → n ≡ length layers → m ≡ denials_of layers → IsLostGame k.game n m
 lost_game k layers e n m own shifts denials =
     subst (λ (n : ℕ). IsLostGame k.game n m) (sym shifts)
-    (record { layers = e; counts = counts_of layers; are_layers = own.are_layers; last = own.last; greatest = own.counts; forced = own.forced; denials = denials ∙ own.denials })
+    (record { layers = e; counts = counts_of layers; are_layers = own.are.lost.layers; last = own.last; greatest = own.are.lost.delays; forced = own.are.lost.forced; denials = denials ∙ own.denials })
 
 -- the layers of the winning states are held
 pub won_game : {G R M : Type 0} (k : Kept R M) (z : R) (layers : List (Vec (SysLayer G R M) Global)) (l : LayerSets) (n : ℕ) → AreLayersOf k z layers l → n ≡ round_count (ranks_of layers) → IsWonGame k.game n

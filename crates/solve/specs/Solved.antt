@@ -10,17 +10,15 @@ use Rattle.gr1_env.specs.declared.layers.EnvLayer.{EnvLayer}
 use Rattle.gr1_env.specs.Held.{all_regions}
 use Rattle.gr1_env.specs.Solved.{counts_of, denials_of}
 use Rattle.controller.specs.Made.{AreLayersOf}
+use Rattle.counterstrategy.specs.Made.{AreLayersOf as AreLostLayersOf}
 use Rattle.solve.specs.declared.solving.Solved.{Solved}
 use Rattle.solve.specs.declared.solving.Solved.TheVariants.{BySystem, ByEnvironment}
 
 module _ {G R M : Type 0} where
-  -- The environment wins, and these regions are held for its layers.
+  -- The environment wins: a counterstrategy can be made of these layers, whose numbers are those of the game.
   pub record AreEnvLayersOf (k : Kept R M) (layers : List (EnvLayer G R M)) (e : EnvLayerSets) : Type 0 where
-    pub held : HasTogether k (all_regions layers)
-    pub are_layers : AreEnvLayers k.game e
+    pub are : AreLostLayersOf k layers e
     pub last : IsLayerCount e (length layers)
-    pub forced : environment_forces k.game (e.z (length layers)) None ≡ true
-    pub counts : AreDelayCounts k.game e (length layers) (counts_of layers)
     pub denials : denials_of layers ≡ denial_count k.game (length layers) (counts_of layers)
 
   -- the layers of the side that wins

@@ -1,16 +1,21 @@
 -- What a verdict says of a specification.
-use Rattle.std.specs.Prelude.{◌≡◌, ℕ}
+use Rattle.std.specs.Prelude.{◌≡◌, ℕ, [], length}
 use Rattle.spec_model.specs.Syntax.{Specification}
 use Rattle.spec_model.specs.Games.{GameData}
 use Rattle.spec_model.specs.GameViews.{game_data}
 use Rattle.spec_model.specs.Agreement.{Agrees}
+use Rattle.spec_model.specs.Laws.{NumbersRise}
 use Rattle.regions.specs.Kept.{Kept}
 use Rattle.region_rows.specs.declared.rows.RegionRows.{RegionRows}
 use Rattle.region_rows.specs.declared.slots.RowRegion.{RowRegion}
 use Rattle.region_rows.specs.declared.slots.RowMove.{RowMove}
 use Rattle.region_rows.specs.Slots.{kept_in}
 use Rattle.gr1_law.specs.Layers.{round_count}
+use Rattle.gr1_law.specs.EnvLayers.{denial_count}
 use Rattle.gr1_sys.specs.Held.{ranks_of}
+use Rattle.gr1_env.specs.Solved.{counts_of}
+use Rattle.counterstrategy.specs.declared.counterstrategy.Counterstrategy.{Counterstrategy}
+use Rattle.counterstrategy.specs.Objects as counters
 use Rattle.controller.specs.declared.controller.Controller.{Controller}
 use Rattle.controller.specs.Objects.{IsFresh, Stands, game_of}
 use Rattle.solve.specs.declared.answers.Numbers.{Numbers}
@@ -30,6 +35,17 @@ pub record IsPlayFor {G R M : Type 0} (kept : G → Kept R M) (s : Specification
   pub agrees : Agrees s (game_of kept c)
   pub rounds : k ≡ round_count (ranks_of c.layers.items)
 
+-- The strategy has given no input, it stands for the empty play alone, its game is the specification's, whose line numbers rise,
+-- and n and m are its numbers of shifts and of denials in a row.
+pub record IsCounterplayFor {G R M : Type 0} (kept : G → Kept R M) (s : Specification) (n m : ℕ) (c : Counterstrategy G R M) : Type 0 where
+  pub fresh : counters.IsFresh c
+  pub empty : counters.InEachPlay kept c (λ e h notes b k. h ≡ [])
+  pub stands : counters.Stands kept c
+  pub agrees : Agrees s (counters.game_of kept c)
+  pub rise : NumbersRise s.lines
+  pub shifts : n ≡ length c.layers.items
+  pub denials : m ≡ denial_count (counters.game_of kept c) (length c.layers.items) (counts_of c.layers.items)
+
 -- the winner's numbers, of a game and of a specification
 abbrev pub AreNumbersOfGame : GameData → Numbers → Type 0
 AreNumbersOfGame g (numbers.Realizable k) = IsWonGame g k
@@ -42,4 +58,4 @@ AreNumbersOf s (numbers.Unrealizable n m) = IsWonByEnvironment s n m
 -- the winner, with the numbers and the strategy
 abbrev pub IsVerdictOn : Specification → Verdict → Type 0
 IsVerdictOn s (Realizable k play) = IsWonBySystem s k × IsPlayFor rows_kept s k play
-IsVerdictOn s (Unrealizable n m) = IsWonByEnvironment s n m
+IsVerdictOn s (Unrealizable n m play) = IsWonByEnvironment s n m × IsCounterplayFor rows_kept s n m play

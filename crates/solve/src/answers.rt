@@ -1,6 +1,7 @@
 //! Who wins, as it is answered.
 
 use controller::Controller;
+use counterstrategy::Counterstrategy;
 use region_rows::RegionRows;
 
 /// Who wins, with the numbers.
@@ -19,9 +20,10 @@ pub enum Verdict {
         k: u64,
         play: Controller<RegionRows>,
     },
-    /// The environment, with N shifts and M denials in a row.
+    /// The environment, with N shifts and M denials in a row. The play must be closed.
     Unrealizable {
         n: u64,
         m: u64,
+        play: Counterstrategy<RegionRows>,
     },
 }

@@ -9,7 +9,7 @@ ghost use Rattle.solve.specs.Verdicts.{AreNumbersOf, IsVerdictOn};
 
 use crate::answers::{Numbers, Verdict};
 use crate::fault::SolveFault;
-use crate::playing::system_play;
+use crate::playing::{environment_play, system_play};
 use crate::rows::rows_of;
 use crate::solving::{Solved, counted, solve_game};
 use spec_model::spec::Spec;
@@ -45,10 +45,8 @@ pub fn whole_verdict(alloc: Global, spec: &Spec) -> Result<Verdict, SolveFault>
             Ok(Verdict::Realizable { k, play })
         }
         Solved::ByEnvironment(layers) => {
-            let n = layers.n();
-            let m = layers.m();
-            layers.spend_all(&mut g);
-            Ok(Verdict::Unrealizable { n, m })
+            let (n, m, play) = environment_play(alloc, g, layers)?;
+            Ok(Verdict::Unrealizable { n, m, play })
         }
     }
 }

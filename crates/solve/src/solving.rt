@@ -25,6 +25,7 @@ pub enum Solved<G: Regions> {
 /// The layers of the environment, which wins.
 fn environment_layers<G: Regions>(alloc: Global, g: &mut G) -> Result<EnvLayers<G>, Halt>
     requires free { (G.kept g.old).jam ≡ None }
+    requires made { WellMade (G.kept g.old).game }
     requires forces { EnvironmentForces (G.kept g.old).game }
     ensures solved { IfOk result (λ l. (e : EnvLayerSets) × AreEnvLayersOf (G.kept g.new) l.layers.items e) }
     ensures same { IsSameGame (G.kept g.old) (G.kept g.new) }

@@ -11,10 +11,10 @@ use Rattle.session.specs.AuditTalks.{AuditTalk}
 use Rattle.spectra_words.specs.declared.words.Command.{Command}
 use Rattle.spectra.specs.declared.status.Status.{Status}
 use Rattle.spectra.specs.declared.status.Status.TheVariants.{Done, Other, Words, Refused, ShelfFault, NoFile}
-use Rattle.spectra.specs.Endings.{Ending, status_of, realizable}
+use Rattle.spectra.specs.Endings.{Ending, status_of, realizable, unrealizable}
 use Rattle.spectra.specs.Streams.{Moment, Writes, whole, cut, WantsMemory}
 use Rattle.spectra.specs.Sessions as sessions
-use Rattle.spectra.specs.Sessions.{Talk, Closes, HoldsSession, session, cut_at_once, ending_after, RunTalks, most_positions, audit_ending_after}
+use Rattle.spectra.specs.Sessions.{Talk, Closes, HoldsSession, session, cut_at_once, ending_after, RunTalks, counter_ending_after, CounterTalks, most_positions, audit_ending_after}
 use Rattle.spectra.specs.Top.{Decides, ServesSpecification, ServesText, ServesFile, ServesWords, IsCaused}
 use Rattle.spectra.specs.Top as top
 
@@ -48,6 +48,15 @@ module _ (failed : Type 0) (before after : Moment) where
   by_run s k ends.ReadFault greeted talked talk = talk.ends.0
   by_run s k ends.WriteFault greeted talked talk = talk.ends.0
 
+  by_counter : (s : Specification) (n m : ℕ) (end : End) (greeted talked : Option (List ℕ)) →
+      CounterTalks s n m before.left after.left greeted talked (Rose before.read_faults after.read_faults) (Rose before.write_faults after.write_faults) end → Caused (status_of (counter_ending_after end))
+  by_counter s n m ends.Finished greeted talked talk = tt
+  by_counter s n m (ends.Broken label) greeted talked talk = tt
+  by_counter s n m (ends.BadLine k) greeted talked talk = tt
+  by_counter s n m ends.StateLimit greeted talked talk = tt
+  by_counter s n m ends.ReadFault greeted talked talk = talk.ends.0
+  by_counter s n m ends.WriteFault greeted talked talk = talk.ends.0
+
   by_audit : (s : Specification) (end : AuditEnd) → AuditTalk s most_positions before.left after.left (Rose before.read_faults after.read_faults) end → Caused (status_of (audit_ending_after end))
   by_audit s (audits.Whole n) talk = tt
   by_audit s (audits.Broken finding) talk = tt
@@ -60,8 +69,9 @@ module _ (failed : Type 0) (before after : Moment) where
     by_deciding s status (top.won k is wins writes) = by_writing _ Done status tt writes
     by_deciding s status (top.held k is wins holds) = by_session (realizable k) (RunTalks s k) ending_after status (by_run s k) holds
     by_deciding s status (top.lost n m is loses writes) = by_writing _ Other status tt writes
-    by_deciding s status (top.no_core k is wins writes) = by_writing _ Other status tt writes
+    by_deciding s status (top.won_instead k is wins writes) = by_writing _ Other status tt writes
     by_deciding s status (top.has_core n m core is loses left is_core writes) = by_writing _ Done status tt writes
+    by_deciding s status (top.countered n m is loses holds) = by_session (unrealizable n m) (CounterTalks s n m) counter_ending_after status (by_counter s n m) holds
     by_deciding s status (top.separates n m is loses writes) = by_writing _ Done status tt writes
     by_deciding s status (top.separates_not k is wins writes) = by_writing _ Other status tt writes
     by_deciding s status (top.audits is audit) = by_closing (audit_ending_after audit.end) before.written status (by_audit s audit.end audit.talk) audit.closes

@@ -14,15 +14,15 @@ use Rattle.solve.specs.declared.fault.SolveFault.{SolveFault}
 use Rattle.solve.specs.declared.fault.SolveFault.TheVariants.{TooManyStates, Memory as NoMemory}
 use Rattle.solve.specs.Winners.{IsWonBySystem, IsWonByEnvironment}
 use Rattle.spectra_words.specs.declared.words.Command.{Command}
-use Rattle.spectra_words.specs.declared.words.Command.TheVariants.{Synth, Run, Core, Separate, Audit}
+use Rattle.spectra_words.specs.declared.words.Command.TheVariants.{Synth, Run, Core, Separate, Counter, Audit}
 use Rattle.spectra_words.specs.Commands.{AskNothing}
 use Rattle.spectra.specs.declared.status.Status.{Status}
 use Rattle.spectra.specs.declared.status.Status.TheVariants.{Memory}
 use Rattle.spectra.specs.Endings.{usage, no_file, shelf_fault, refused, realizable, unrealizable, realizable_instead, with_core, separated, not_separated}
 use Rattle.spectra.specs.Streams.{Moment, moment, Ends, WantsMemory, SaysNoVerdict}
-use Rattle.spectra.specs.Sessions.{Holds, Audits}
+use Rattle.spectra.specs.Sessions.{Holds, Counters, Audits}
 use Rattle.spectra.specs.Reading.{HasTypeFault}
-use Rattle.spectra.specs.Top.{won, held, lost, no_core, has_core, separates, separates_not, audits, IsSmall, IsLarge, IsSaidOfSyntax, ServesSpecification, ServesText, ServesFile, ServesWords}
+use Rattle.spectra.specs.Top.{won, held, lost, won_instead, countered, has_core, separates, separates_not, audits, IsSmall, IsLarge, IsSaidOfSyntax, ServesSpecification, ServesText, ServesFile, ServesWords}
 use Rattle.spectra.specs.Top as top
 
 -- nothing was done: no memory was given
@@ -48,14 +48,18 @@ module _ (command : Command) (nodes : ℕ) (name : List ℕ) (s : Specification)
   is_lost n m is wins few (inl writes) = top.few few (lost n m is wins writes)
   is_lost n m is wins few (inr wants) = top.no_memory wants
 
-  pub is_kept : (k : ℕ) → command ≡ Core → IsWonBySystem s k → IsSmall command s → Ends (realizable_instead k) before after status ⊎ WantsMemory before after status → ServesSpecification command nodes name before after s status
-  is_kept k is wins few (inl writes) = top.few few (no_core k is wins writes)
+  pub is_kept : (k : ℕ) → (command ≡ Core) ⊎ (command ≡ Counter) → IsWonBySystem s k → IsSmall command s → Ends (realizable_instead k) before after status ⊎ WantsMemory before after status → ServesSpecification command nodes name before after s status
+  is_kept k is wins few (inl writes) = top.few few (won_instead k is wins writes)
   is_kept k is wins few (inr wants) = top.no_memory wants
 
   pub core_found : (n m : ℕ) (core : List ℕ) → command ≡ Core → IsWonByEnvironment s n m → IsLeft s core → IsCore s core → IsSmall command s → Ends (with_core n m core) before after status ⊎ WantsMemory before after status →
       ServesSpecification command nodes name before after s status
   core_found n m core is wins left is_core few (inl writes) = top.few few (has_core n m core is wins left is_core writes)
   core_found n m core is wins left is_core few (inr wants) = top.no_memory wants
+
+  pub is_countered : (n m : ℕ) → command ≡ Counter → IsWonByEnvironment s n m → IsSmall command s → Counters s n m before after status ⊎ WantsMemory before after status → ServesSpecification command nodes name before after s status
+  is_countered n m is wins few (inl holds) = top.few few (countered n m is wins holds)
+  is_countered n m is wins few (inr wants) = top.no_memory wants
 
   pub is_separated : (n m : ℕ) → command ≡ Separate → IsWonByEnvironment (forced s) n m → IsSmall command s → Ends (separated n m) before after status ⊎ WantsMemory before after status → ServesSpecification command nodes name before after s status
   is_separated n m is wins few (inl writes) = top.few few (separates n m is wins writes)

@@ -1,5 +1,5 @@
 -- Lines that are written, and how a session is closed.
-use Rattle.std.proofs.Common.{◌≡◌, ℕ, ◌≤◌, List, Option, Result, Ok, Err, inl, sym, subst, arith}
+use Rattle.std.proofs.Common.{◌≡◌, ℕ, ◌≤◌, List, Option, Result, Ok, Err, inl, sym, ap, subst, arith, ◌∙◌}
 use Rattle.std.specs.Result.{OnOk, OnErr}
 use Rattle.std.specs.Io.KnownBytes.{Appends}
 use Rattle.sp_outside.specs.Causes.{Rose}
@@ -7,11 +7,12 @@ use Rattle.sp_outside.specs.Written.{AppendsFront}
 use Rattle.spec_model.specs.Syntax.{Specification}
 use Rattle.session.specs.declared.talking.End.{End}
 use Rattle.session.proofs.RunTalks.{weaker}
+use Rattle.session.proofs.CounterTalks.{counter_weaker as counter_talk_weaker}
 use Rattle.spectra.specs.declared.status.Status.{Status}
 use Rattle.spectra.specs.declared.status.Status.TheVariants.{OutputFault}
-use Rattle.spectra.specs.Endings.{Ending, line_of, status_of}
-use Rattle.spectra.specs.Streams.{moment, Writes, OverOutput, IsSaid}
-use Rattle.spectra.specs.Sessions.{most_positions, Talk, Closes, whole, cut, HoldsSession, session, RunTalks}
+use Rattle.spectra.specs.Endings.{Ending, line_of, status_of, unrealizable}
+use Rattle.spectra.specs.Streams.{Moment, moment, Writes, OverOutput, IsSaid}
+use Rattle.spectra.specs.Sessions.{most_positions, Talk, Closes, whole, cut, HoldsSession, session, RunTalks, CounterTalks, Counters}
 
 -- a line that is written is said, where it is the one that is due
 pub is_said : {O : Type 0} (written : O → Option (List ℕ)) (faults : O → ℕ) (e : Ending) (given : List ℕ) (status : Status) (old new : O) → given ≡ line_of e →
@@ -57,3 +58,15 @@ session_held verdict Talks ending_of left left' written greeted talked written' 
 -- the talk of the system's side does not depend on more than that
 pub run_weaker : (s : Specification) (k : ℕ) (left left' written written' : Option (List ℕ)) (rose_in rose rose' : Type 0) (end : End) → (rose → rose') → RunTalks s k left left' written written' rose_in rose end → RunTalks s k left left' written written' rose_in rose' end
 run_weaker s k left left' written written' rose_in rose rose' end from talk = weaker s k most_positions left left' written written' rose_in rose rose_in rose' end (λ is. is) from talk
+
+pub counter_weaker : (s : Specification) (n m : ℕ) (left left' written written' : Option (List ℕ)) (rose_in rose rose' : Type 0) (end : End) → (rose → rose') → CounterTalks s n m left left' written written' rose_in rose end →
+    CounterTalks s n m left left' written written' rose_in rose' end
+counter_weaker s n m left left' written written' rose_in rose rose' end from talk = counter_talk_weaker s n m most_positions left left' written written' rose_in rose rose_in rose' end (λ is. is) from talk
+
+-- the numbers of a session of the environment's side may be named otherwise
+pub countered_as : (s : Specification) (n n' m m' : ℕ) (before after : Moment) (status : Status) → n ≡ n' → m ≡ m' → Counters s n' m' before after status → Counters s n m before after status
+countered_as s n n' m m' before after status shifts denials holds =
+    subst (λ (n : ℕ). Counters s n m before after status) (sym shifts) (subst (λ (m : ℕ). Counters s n' m before after status) (sym denials) holds)
+
+pub unrealizable_as : (n n' m m' : ℕ) → n ≡ n' → m ≡ m' → line_of (unrealizable n m) ≡ line_of (unrealizable n' m')
+unrealizable_as n n' m m' shifts denials = ap (λ (n : ℕ). line_of (unrealizable n m)) shifts ∙ ap (λ (m : ℕ). line_of (unrealizable n' m)) denials

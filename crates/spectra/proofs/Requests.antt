@@ -1,7 +1,7 @@
 -- Words ask for one thing alone.
 use Rattle.std.proofs.Common.{◌≡◌, ℕ, List, Option, Some, None, sum, refl, sym, ap, arith, ◌∙◌}
 use Rattle.spectra_words.specs.declared.words.Command.{Command}
-use Rattle.spectra_words.specs.declared.words.Command.TheVariants.{Synth, Run, Core, Separate, Audit}
+use Rattle.spectra_words.specs.declared.words.Command.TheVariants.{Synth, Run, Core, Separate, Counter, Audit}
 use Rattle.spectra_words.specs.Commands.{Asks, IsBudget, word_of}
 
 -- the codes of each word have another sum
@@ -10,6 +10,7 @@ sum_of Synth = 566
 sum_of Run = 341
 sum_of Core = 425
 sum_of Separate = 853
+sum_of Counter = 768
 sum_of Audit = 535
 
 summed : (command : Command) → sum (word_of command) ≡ sum_of command
@@ -17,6 +18,7 @@ summed Synth = refl
 summed Run = refl
 summed Core = refl
 summed Separate = refl
+summed Counter = refl
 summed Audit = refl
 
 one_sum : (command other : Command) → sum_of command ≡ sum_of other → command ≡ other
@@ -24,6 +26,7 @@ one_sum Synth Synth same = refl
 one_sum Run Run same = refl
 one_sum Core Core same = refl
 one_sum Separate Separate same = refl
+one_sum Counter Counter same = refl
 one_sum Audit Audit same = refl
 one_sum _ _ same = absurd (omega arith)
 

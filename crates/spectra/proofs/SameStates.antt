@@ -5,7 +5,7 @@ use Rattle.spec_model.specs.Cores.{less, guarantees_of}
 use Rattle.spec_model.specs.Needs.{AskedFrom, Tried}
 use Rattle.solve.specs.States.{HasManyStates}
 use Rattle.spectra_words.specs.declared.words.Command.{Command}
-use Rattle.spectra_words.specs.declared.words.Command.TheVariants.{Synth, Run, Core, Separate, Audit}
+use Rattle.spectra_words.specs.declared.words.Command.TheVariants.{Synth, Run, Core, Separate, Counter, Audit}
 use Rattle.spectra.specs.Top.{IsSmall, IsLarge}
 
 many_of_asked : (s : Specification) (kept ns : List ℕ) (t : Specification) → AskedFrom s kept ns t → HasManyStates t → HasManyStates s
@@ -25,4 +25,5 @@ small_or_large Synth s few many = omega (arith, few, many)
 small_or_large Run s few many = omega (arith, few, many)
 small_or_large Core s few many = omega (arith, few, many)
 small_or_large Separate s few many = omega (arith, few, many)
+small_or_large Counter s few many = omega (arith, few, many)
 small_or_large Audit s few many = many

@@ -97,6 +97,7 @@ pub data Ending : Type 0 where
   all_answered : Ending
   broken : (line : ℕ) → Ending
   bad_line : (line : ℕ) → Ending
+  guarantee_broken : (line : ℕ) → Ending
   audited : (positions : ℕ) → Ending
   audit_broken : (line position : ℕ) → Ending
   state_limit : Ending
@@ -119,6 +120,7 @@ row (node_budget nodes) = (codes "node budget " ++ (decimal nodes ++ codes " rea
 row all_answered = ([], Done)
 row (broken line) = (codes "assumption broken #" ++ (decimal line ++ codes "\n"), Assumption)
 row (bad_line line) = (codes "line " ++ (decimal line ++ codes " refused\n"), BadLine)
+row (guarantee_broken line) = (codes "guarantee broken #" ++ (decimal line ++ codes "\n"), Done)
 row (audited positions) = (codes "audit ok " ++ (decimal positions ++ codes "\n"), Done)
 row (audit_broken line position) = (codes "audit broken #" ++ (decimal line ++ (codes " line " ++ (decimal position ++ codes "\n"))), Other)
 row state_limit = (codes "state limit reached\n", Limit)

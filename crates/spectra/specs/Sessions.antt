@@ -9,10 +9,11 @@ use Rattle.session.specs.declared.talking.End.TheVariants as ends
 use Rattle.session.specs.declared.auditing.AuditEnd.{AuditEnd}
 use Rattle.session.specs.declared.auditing.AuditEnd.TheVariants as audits
 use Rattle.session.specs.Talks.{RunTalk}
+use Rattle.session.specs.CounterTalks.{CounterTalk}
 use Rattle.session.specs.AuditTalks.{AuditTalk}
 use Rattle.spectra.specs.declared.status.Status.{Status}
 use Rattle.spectra.specs.declared.status.Status.TheVariants.{OutputFault}
-use Rattle.spectra.specs.Endings.{Ending, line_of, status_of, realizable, all_answered, broken, bad_line, audited, audit_broken, state_limit, input_fault, output_fault}
+use Rattle.spectra.specs.Endings.{Ending, line_of, status_of, realizable, unrealizable, all_answered, broken, guarantee_broken, bad_line, audited, audit_broken, state_limit, input_fault, output_fault}
 use Rattle.spectra.specs.Streams.{Moment}
 
 -- how many positions a session may have
@@ -64,6 +65,22 @@ RunTalks s k = RunTalk s k most_positions
 
 abbrev pub Holds : Specification → (k : ℕ) → (before after : Moment) → Status → Type 0
 Holds s k = HoldsSession (realizable k) (RunTalks s k) ending_after
+
+-- what ends `counter` after each end of its talk
+abbrev pub counter_ending_after : End → Ending
+counter_ending_after ends.Finished = all_answered
+counter_ending_after (ends.Broken label) = guarantee_broken label.line
+counter_ending_after (ends.BadLine n) = bad_line n
+counter_ending_after ends.StateLimit = state_limit
+counter_ending_after ends.ReadFault = input_fault
+counter_ending_after ends.WriteFault = output_fault
+
+-- the environment's side answers the lines
+abbrev pub CounterTalks : Specification → (n m : ℕ) → Talk
+CounterTalks s n m = CounterTalk s n m most_positions
+
+abbrev pub Counters : Specification → (n m : ℕ) → (before after : Moment) → Status → Type 0
+Counters s n m = HoldsSession (unrealizable n m) (CounterTalks s n m) counter_ending_after
 
 -- ---- audits
 

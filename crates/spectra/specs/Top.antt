@@ -13,13 +13,13 @@ use Rattle.spectra_lexer.specs.Faults.{IsNotUtf8At, IsBadAt, IsTooLong}
 use Rattle.solve.specs.States.{HasFewStates, HasManyStates}
 use Rattle.solve.specs.Winners.{IsWonBySystem, IsWonByEnvironment, FillsRows}
 use Rattle.spectra_words.specs.declared.words.Command.{Command}
-use Rattle.spectra_words.specs.declared.words.Command.TheVariants.{Synth, Run, Core, Separate, Audit}
+use Rattle.spectra_words.specs.declared.words.Command.TheVariants.{Synth, Run, Core, Separate, Counter, Audit}
 use Rattle.spectra_words.specs.Commands.{Asks, AskNothing}
 use Rattle.spectra.specs.declared.status.Status.{Status}
 use Rattle.spectra.specs.declared.status.Status.TheVariants.{Words, Refused, ShelfFault, InputFault, OutputFault, Memory, NoFile}
 use Rattle.spectra.specs.Endings.{IsUnlessCut, IsUnlessFault, usage, no_file, shelf_fault, refused, realizable, unrealizable, realizable_instead, with_core, separated, not_separated, node_budget}
 use Rattle.spectra.specs.Streams.{Moment, Ends, WantsMemory, OverOutput}
-use Rattle.spectra.specs.Sessions.{Holds, Audits}
+use Rattle.spectra.specs.Sessions.{Holds, Counters, Audits}
 use Rattle.spectra.specs.Reading.{Reads, HasTypeFault, MeansNothing, named_by, place_of_token}
 
 -- the text of the tokens is refused by the fault, at the place of the token that it names
@@ -47,17 +47,18 @@ abbrev pub IsRefused : Command → List ℕ → Type 0
 IsRefused command text = MeansNothing text ⊎ ((s : Specification) × Reads text s × IsLarge command s)
 
 module _ (command : Command) (nodes : ℕ) where
-  -- By who wins. `synth` writes the verdict, and so do `run` and `core` where the other side wins than they are for. Where the
-  -- system wins, `run` holds a session, and where the environment does, `core` writes what trying the guarantees in order
-  -- leaves, which is a core. `separate` says who wins with a guarantee that can never be met alone. `audit` reads a log,
+  -- By who wins. `synth` writes the verdict, and so do `run`, `counter` and `core` where the other side wins than they are for.
+  -- Where the system wins, `run` holds a session; where the environment does, `counter` holds one, and `core` writes what
+  -- trying the guarantees in order leaves, which is a core. `separate` says who wins with a guarantee that can never be met alone. `audit` reads a log,
   -- whoever wins. The nodes are too few only where rows fill them.
   module _ (s : Specification) (before after : Moment) where
     pub data Decides : Status → Type 0 where
       won : {status : Status} (k : ℕ) → command ≡ Synth → IsWonBySystem s k → Ends (realizable k) before after status → Decides status
       held : {status : Status} (k : ℕ) → command ≡ Run → IsWonBySystem s k → Holds s k before after status → Decides status
       lost : {status : Status} (n m : ℕ) → (command ≡ Synth) ⊎ (command ≡ Run) → IsWonByEnvironment s n m → Ends (unrealizable n m) before after status → Decides status
-      no_core : {status : Status} (k : ℕ) → command ≡ Core → IsWonBySystem s k → Ends (realizable_instead k) before after status → Decides status
+      won_instead : {status : Status} (k : ℕ) → (command ≡ Core) ⊎ (command ≡ Counter) → IsWonBySystem s k → Ends (realizable_instead k) before after status → Decides status
       has_core : {status : Status} (n m : ℕ) (core : List ℕ) → command ≡ Core → IsWonByEnvironment s n m → IsLeft s core → IsCore s core → Ends (with_core n m core) before after status → Decides status
+      countered : {status : Status} (n m : ℕ) → command ≡ Counter → IsWonByEnvironment s n m → Counters s n m before after status → Decides status
       separates : {status : Status} (n m : ℕ) → command ≡ Separate → IsWonByEnvironment (forced s) n m → Ends (separated n m) before after status → Decides status
       separates_not : {status : Status} (k : ℕ) → command ≡ Separate → IsWonBySystem (forced s) k → Ends (not_separated k) before after status → Decides status
       audits : {status : Status} → command ≡ Audit → Audits s before after status → Decides status

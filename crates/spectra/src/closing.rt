@@ -2,7 +2,7 @@
 
 ghost use Rattle.std.specs.Prelude.{◌≡◌, ◌≤◌, OnOk, OnErr};
 ghost use Rattle.sp_outside.specs.Causes.{Rose};
-ghost use Rattle.spectra.specs.Sessions.{Closes, ending_after, audit_ending_after};
+ghost use Rattle.spectra.specs.Sessions.{Closes, ending_after, counter_ending_after, audit_ending_after};
 
 use crate::status::Status;
 use session::{AuditEnd, End, Lines};
@@ -38,6 +38,21 @@ pub fn close<O: Sink>(lines: &mut Lines, end: End, output: &mut O) -> Status
         End::StateLimit => told(write_line(output, b"state limit reached\n"), Status::Limit),
         End::ReadFault => told(write_line(output, b"input fault\n"), Status::InputFault),
         End::WriteFault => Status::OutputFault,
+    }
+}
+
+/// Writes how a talk of the environment's side ended, where that is a line, and says with which status. It takes no memory.
+pub fn close_counter<O: Sink>(lines: &mut Lines, end: End, output: &mut O) -> Status
+    ensures closes { Closes (counter_ending_after end) (O.written output.old) (O.written output.new) (Rose (O.faults output.old) (O.faults output.new)) result }
+    ensures later { O.faults output.old ≤ O.faults output.new }
+{
+    match end {
+        End::Broken(label) => {
+            let line = u64::from(label.line);
+            let written = lines.write_numbered(b"guarantee broken #", line, b"\n", output);
+            told(written, Status::Done)
+        }
+        other => close(lines, other, output),
     }
 }
 

@@ -11,6 +11,7 @@ ghost use Rattle.spectra.specs.Streams.{moments, OverOutput, SaysNoVerdict};
 ghost use Rattle.spectra.specs.Top.{ServesSpecification};
 
 use crate::auditing::audit;
+use crate::countering::counter;
 use crate::holding::hold;
 use crate::saying::{
     say_core, say_fault, say_not_separated, say_realizable, say_realizable_instead, say_separated,
@@ -63,7 +64,35 @@ fn serve_run<I: Source, O: Sink>(
 {
     match whole_verdict(alloc, spec) {
         Ok(Verdict::Realizable { k, play }) => hold(alloc, spec, k, play, input, output),
-        Ok(Verdict::Unrealizable { n, m }) => say_unrealizable(alloc, n, m, output),
+        Ok(Verdict::Unrealizable { n, m, play }) => {
+            let _g = play.close();
+            say_unrealizable(alloc, n, m, output)
+        }
+        Err(fault) => say_no_verdict(alloc, request.file, fault, output),
+    }
+}
+
+// `counter`: holds a session where the environment wins.
+fn serve_counter<I: Source, O: Sink>(
+    alloc: Global,
+    request: Request<'_>,
+    spec: &Spec,
+    input: &mut I,
+    output: &mut O,
+) -> Status
+    requires typed { WellTyped (spec_data spec.now) }
+    requires plain { all_hidden (spec_data spec.now) ≡ 0 }
+    ensures { let at = moments I.left O.written I.faults O.faults in
+        ServesSpecification commands.Counter request.entry.nodes request.entry.file.now (at input.old output.old) (at input.new output.new) (spec_data spec.now) result }
+{
+    match whole_verdict(alloc, spec) {
+        Ok(Verdict::Realizable { k, play }) => {
+            let _g = play.close();
+            say_realizable_instead(alloc, k, output)
+        }
+        Ok(Verdict::Unrealizable { n, m, play }) => {
+            counter(alloc, spec, n, m, play, input, output)
+        }
         Err(fault) => say_no_verdict(alloc, request.file, fault, output),
     }
 }
@@ -141,6 +170,7 @@ pub fn serve_specification<I: Source, O: Sink>(
         Command::Run => serve_run(alloc, request, spec, input, output),
         Command::Core => serve_core(alloc, request, spec, output),
         Command::Separate => serve_separate(alloc, request, spec, output),
+        Command::Counter => serve_counter(alloc, request, spec, input, output),
         Command::Audit => audit(alloc, spec, input, output),
     }
 }

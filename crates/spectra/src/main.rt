@@ -3,7 +3,8 @@
 //! `synth FILE` reads a specification over Booleans, whole numbers and enums, whose lines are initial, hold or recur, and
 //! says whether it is realizable. `run FILE` says the same and, where the system wins, answers each line of the input by one
 //! line, so that the exchanged lines are one play of legal moves that keeps what recurs within the printed K rounds. Where the
-//! environment wins, `core FILE` names the guarantees of an unrealizable core. `separate FILE` says whether the environment,
+//! environment wins, `counter FILE` answers each line by a note and the next input, so that the exchanged lines beat the system
+//! within the printed N and M, and `core FILE` names the guarantees of an unrealizable core. `separate FILE` says whether the environment,
 //! by its assumptions alone, beats a system that can never meet its guarantee. `audit FILE`
 //! reads a log of positions, and says which line of the specification is broken first, and where. The verdict is decided over sets of its game's
 //! states.
@@ -13,6 +14,7 @@
 
 mod auditing;
 mod closing;
+mod countering;
 mod deciding;
 mod holding;
 mod laws;

@@ -15,6 +15,7 @@ use std::test::Fail;
 mod audits;
 mod chains;
 mod cores;
+mod counters;
 mod forms;
 mod kinds;
 mod limits;

@@ -15,7 +15,8 @@ use std::alloc::Global;
 /// All that the program does. The words are those of the command line, the program's own name first.
 ///
 /// `synth` writes one line: the verdict, or why there is none. `run` writes the same and, where the system wins, answers each
-/// line of the input by one line. `core` writes the verdict and, where the environment wins, the lines of a core. `separate`
+/// line of the input by one line. `counter` writes the same and, where the environment wins, counters each line of the input by
+/// a note and an input. `core` writes the verdict and, where the environment wins, the lines of a core. `separate`
 /// writes who wins where the one guarantee can never be met. `audit` writes whether each line of the input, as a position, is
 /// legal. The status says how it ended; `ShelfFault`: the shelf failed; `InputFault`: the input
 /// failed; `OutputFault`: the output failed, and a front of what is due is written; `Memory`: none was given, nothing is

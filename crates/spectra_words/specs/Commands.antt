@@ -3,7 +3,7 @@ use Rattle.std.specs.Prelude.{◌≡◌, ℕ, ◌≤◌, List, [], Option, None,
 use Rattle.std.specs.Str.Parse.{IsNumeral, digits_value}
 use Rattle.clap.specs.Words.{App, Rule, Text, fault_of, first_of, matches_of, new_app, new_rule, with_rule}
 use Rattle.spectra_words.specs.declared.words.Command.{Command}
-use Rattle.spectra_words.specs.declared.words.Command.TheVariants.{Synth, Run, Core, Separate, Audit}
+use Rattle.spectra_words.specs.declared.words.Command.TheVariants.{Synth, Run, Core, Separate, Counter, Audit}
 
 -- ---- what `clap` reads: `spectra COMMAND FILE [--nodes N]`
 
@@ -33,6 +33,7 @@ word_of Synth = codes "synth"
 word_of Run = codes "run"
 word_of Core = codes "core"
 word_of Separate = codes "separate"
+word_of Counter = codes "counter"
 word_of Audit = codes "audit"
 
 -- The budget that N gives: one decimal digit or more, which write a number from 2 to 134,217,728. Where no N stands, it is

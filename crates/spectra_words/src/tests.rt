@@ -28,6 +28,7 @@ fn words_ask_for_a_command_a_file_and_a_budget(rt: HostRuntime) -> Result<(), Fa
         ("spectra run synth", Command::Run, "synth", usual),
         ("spectra core a", Command::Core, "a", usual),
         ("spectra separate a", Command::Separate, "a", usual),
+        ("spectra counter a", Command::Counter, "a", usual),
         ("spectra audit a", Command::Audit, "a", usual),
         ("spectra run a=b/é", Command::Run, "a=b/é", usual),
         ("spectra run ", Command::Run, "", usual),

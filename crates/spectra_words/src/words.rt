@@ -20,6 +20,8 @@ pub enum Command {
     Core,
     /// To write whether the assumptions keep the system from a guarantee that can never be met.
     Separate,
+    /// To write the verdict and, where the environment wins, to counter the lines of the input.
+    Counter,
     /// To read a log and to write whether each position of it is legal.
     Audit,
 }
@@ -41,6 +43,7 @@ fn command_of(word: &str) -> Option<Command>
         "run" => Some(Command::Run),
         "core" => Some(Command::Core),
         "separate" => Some(Command::Separate),
+        "counter" => Some(Command::Counter),
         "audit" => Some(Command::Audit),
         _ => None,
     }

@@ -1,17 +1,16 @@
 -- Regions and moves that are made one after the other, and what is told where one isn't.
 use Rattle.std.proofs.Common.{◌≡◌, ℕ, zero, suc, ◌+◌, ◌≤◌, ◌<◌, List, [], ◌∷◌, ◌++◌, map, length, get_or, take, None, inl, inr, ap, sym, ◌∙◌, refl, subst, arith}
-use Rattle.std.proofs.lemmas.List.{take_more, take_all}
+use Rattle.std.proofs.lemmas.List.{take_more}
 use Rattle.spec_model.specs.declared.value.Owner.{Owner}
 use Rattle.spec_model.specs.declared.value.Owner.TheVariants.{Env, Sys}
-use Rattle.spec_model.specs.Games.{GameData}
 use Rattle.spec_model.specs.Sets.{StateSet}
 use Rattle.regions.specs.declared.types.Halt.{Halt}
 use Rattle.regions.specs.declared.types.Halt.TheVariants.{Budget, Memory}
 use Rattle.regions.specs.declared.types.When.{When}
-use Rattle.regions.specs.Kept.{Kept, Item, Region, Move, Meaning, States, Each, weigh, weight, HasRegion, HoldsBesides, Makes, Halts, Call, All, Holding, IsExact, IsSameGame, meanings}
+use Rattle.regions.specs.Kept.{Kept, Item, Region, Meaning, States, Each, weigh, weight, HasRegion, HoldsBesides, Makes, Halts, Call, All, Holding, IsExact, meanings}
 use Rattle.regions.proofs.Holding.{held_as, set_is, weigh_meanings}
 use Rattle.gr1_sys.specs.Held.{HasEach}
-use Rattle.strategy_parts.specs.Owned.{Every, weight_as, HasAll, SpendsAll, HoldsAll, MakesAll, region_items, move_items}
+use Rattle.strategy_parts.specs.Owned.{Every, weight_as, HasAll, SpendsAll, MakesAll, region_items}
 use Rattle.strategy_parts.specs.Told.{IsIn, Tale, IsMade, IsMadeBy, AsksOf, AsksFor, AreTargets, TellsHalt, leadings, moves_meant}
 use Rattle.strategy_parts.proofs.Owning.{length_map, length_both, weight_as-append, weight_as-one, weight_as-none, weight_as-more, all_as, spent_as}
 

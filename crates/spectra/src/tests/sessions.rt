@@ -145,9 +145,9 @@ fn each_failing_call_ends_the_session(rt: HostRuntime) -> Result<(), Fail> {
 
 /// A source that gives one byte at each read, and counts the reads.
 #[derive(Drop)]
-struct ByteSource {
-    inner: MemorySource,
-    reads: u64,
+pub struct ByteSource {
+    pub inner: MemorySource,
+    pub reads: u64,
 }
 
 impl Source for ByteSource {

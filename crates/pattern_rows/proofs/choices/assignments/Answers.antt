@@ -1,5 +1,5 @@
-use Rattle.std.proofs.Common.{◌≡◌, ◌<◌, ◌-◌, suc, sym, ◌∙◌, length, arith}
-use Rattle.pattern_rows.proofs.Sizes.{made_at, assignments_here}
+use Rattle.std.proofs.Common.{◌<◌, ◌-◌, length, arith}
+use Rattle.pattern_rows.proofs.Sizes.{made_at}
 use Rattle.pattern_rows.proofs.choices.assignments.Goals as goal
 
 pub values_in-requires : goal.values_in-requires

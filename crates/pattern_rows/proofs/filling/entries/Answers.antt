@@ -1,4 +1,4 @@
-use Rattle.std.proofs.Common.{◌++◌, map, flat_map, ap, ◌∙◌}
+use Rattle.std.proofs.Common.{◌++◌, map, ap, ◌∙◌}
 use Rattle.spec_model.specs.Values.{is_assignment}
 use Rattle.spec_model.specs.Views.{formula, pattern_data}
 use Rattle.pattern_rows.specs.Rows.{goal_holds}

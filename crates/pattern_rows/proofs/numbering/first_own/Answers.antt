@@ -1,4 +1,4 @@
-use Rattle.std.proofs.Common.{◌≡◌, true, sym, ap, ◌∙◌}
+use Rattle.std.proofs.Common.{sym, ap, ◌∙◌}
 use Rattle.spec_model.specs.Views.{pattern_data}
 use Rattle.pattern_rows.specs.Rows.{may_begin}
 use Rattle.pattern_rows.proofs.Scans.{stopped, ended}

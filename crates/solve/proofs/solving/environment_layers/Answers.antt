@@ -5,7 +5,7 @@ use Rattle.solve.proofs.solving.environment_layers.Goals as goal
 pub returns-in-Ok-Some-clause-solved : goal.returns-in-Ok-Some-clause-solved
 returns-in-Ok-Some-clause-solved g c =
     let h = rw c.in-Ok-Some.field-0-is at c.in-Ok-Some.ensures in
-    (h.solved.0, solved_env_layers _ _ _ _ h.same h.solved.1)
+    (h.solved.0, solved_env_layers _ _ _ _ c.requires.made h.same h.solved.1)
 
 pub unreachable-requires : goal.unreachable-requires
 unreachable-requires g c =

@@ -13,3 +13,8 @@ pub environment_layers-requires-clause-forces : goal.environment_layers-requires
 environment_layers-requires-clause-forces g c =
     let h = rw c.in-Ok-None.field-0-is at c.in-Ok-None.ensures in
     forced_where_lost _ _ (sym h.same.game) (subst WellMade (sym h.same.game) c.requires.made) h.solved.escapes
+
+pub environment_layers-requires-clause-made : goal.environment_layers-requires-clause-made
+environment_layers-requires-clause-made g c =
+    let h = rw c.in-Ok-None.field-0-is at c.in-Ok-None.ensures in
+    subst WellMade (sym h.same.game) c.requires.made

@@ -10,7 +10,7 @@ returns-in-Ok-Realizable g c =
 pub returns-in-Ok-Unrealizable : goal.returns-in-Ok-Unrealizable
 returns-in-Ok-Unrealizable g c =
     let h = rw c.in-Ok-Unrealizable.field-0-is at c.in-Ok-Unrealizable.ensures in
-    is_lost _ _ _ _ _ _ _ _ _ (inr refl) h.verdict h.few (c.say_unrealizable.ensures _ _)
+    is_lost _ _ _ _ _ _ _ _ _ (inr refl) h.verdict.0 h.few (c.say_unrealizable.ensures _ _)
 
 pub returns-in-Err : goal.returns-in-Err
 returns-in-Err g c = not_decided _ _ _ _ _ _ _ _ (λ is. c.in-Err.ensures.too_many_states (ap (λ e. Err e) is)) (c.say_no_verdict.ensures _ _)

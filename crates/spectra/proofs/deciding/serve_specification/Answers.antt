@@ -15,3 +15,6 @@ returns-in-Separate g c = served_as _ _ c.in-Separate.is _ _ _ _ _ _ (c.serve_se
 
 pub returns-in-Audit : goal.returns-in-Audit
 returns-in-Audit g c = is_audited _ _ _ _ _ _ _ c.in-Audit.is c.audit.ensures
+
+pub returns-in-Counter : goal.returns-in-Counter
+returns-in-Counter g c = served_as _ _ c.in-Counter.is _ _ _ _ _ _ c.serve_counter.ensures

@@ -1,4 +1,4 @@
-use Rattle.std.proofs.Common.{◌∙◌, [], refl, subst, sym}
+use Rattle.std.proofs.Common.{◌∙◌, [], subst, sym}
 use Rattle.std.proofs.lemmas.Result.{IfOk-weaker, IfErr-weaker}
 use Rattle.regions.specs.Kept.{All, Holding, MakesRegion}
 use Rattle.gr1_sys.proofs.Givings.{goal_alone, goal_there}

@@ -1,6 +1,6 @@
 use Rattle.std.proofs.Common.{◌∙◌, ◌+◌, ◌∷◌, [], List, map, take, ap, subst, sym, refl, arith}
 use Rattle.std.proofs.lemmas.List.{map-append, take_all}
-use Rattle.regions.specs.Kept.{Move, Meaning, States, HasRegion, Each}
+use Rattle.regions.specs.Kept.{Move, Meaning, HasRegion, Each}
 use Rattle.strategy_parts.specs.Owned.{MakesAll, move_items}
 use Rattle.strategy_parts.specs.Told.{IsIn, leadings, moves_meant, IsMade}
 use Rattle.strategy_parts.proofs.Holdings.{same_then}

@@ -1,6 +1,5 @@
 use Rattle.std.proofs.Common.{◌∙◌, ◌∷◌, [], sym, refl, subst}
 use Rattle.std.proofs.lemmas.Result.{IfErr-weaker}
-use Rattle.spec_model.specs.declared.value.Owner.TheVariants.{Env, Sys}
 use Rattle.regions.specs.Kept.{States, InMoves, OutMoves}
 use Rattle.strategy_parts.specs.Told.{AsksFor}
 use Rattle.strategy_parts.proofs.Telling.{nothing_made, told}

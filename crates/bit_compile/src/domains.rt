@@ -1,0 +1,103 @@
+//! The values of domains: how many there are, and the place of each.
+
+ghost use Rattle.std.specs.Prelude.{◌≡◌, ◌==◌, ◌+◌, ◌<◌, ◌≤ℤ◌, ◌-ℤ◌, ◌^◌, pos, nat_abs, true, length, IfOk};
+ghost use Rattle.std.specs.List.{list_any, position_or_len};
+ghost use Rattle.spec_model.specs.Views.{domain_data};
+ghost use Rattle.spec_model.specs.GameViews.{hidden_data};
+ghost use Rattle.spec_model.specs.Values.{same_value, values_of, rank_of};
+ghost use Rattle.spec_model.specs.Sizes.{domain_size};
+ghost use Rattle.bit_compile.specs.Domains.{IsCountable, table_domain};
+
+use crate::OutOfMemory;
+use spec_model::game::Hidden;
+use spec_model::value::{Domain, Value};
+use std::alloc::Global;
+
+/// How many whole numbers an interval has.
+fn span(lo: i64, hi: i64) -> usize
+    requires rising { lo ≤ℤ hi }
+    requires low { (pos 0 -ℤ pos (10 ^ 12)) ≤ℤ lo }
+    requires high { hi ≤ℤ pos (10 ^ 12) }
+    ensures { result ≡ nat_abs (hi -ℤ lo) + 1 }
+{
+    (hi - lo) as usize + 1
+}
+
+/// How many values a domain has.
+pub fn size(domain: &Domain) -> usize
+    requires { IsCountable (domain_data domain.now) }
+    ensures { result ≡ domain_size (domain_data domain.now) }
+{
+    match domain {
+        Domain::Boolean => 2,
+        Domain::Range { lo, hi } => span(*lo, *hi),
+        Domain::Names(names) => names.len(),
+    }
+}
+
+/// The place of a name.
+fn place(names: &[u16], n: u16) -> usize
+    ensures { result ≡ position_or_len (λ m. n == m) names.now }
+{
+    for (i, m) in names.iter().enumerate() {
+        if *m == n {
+            return i;
+        }
+    }
+    names.len()
+}
+
+/// How far a whole number is from the least one of its interval.
+fn offset(lo: i64, hi: i64, z: i64) -> usize
+    requires low { (pos 0 -ℤ pos (10 ^ 12)) ≤ℤ lo }
+    requires high { hi ≤ℤ pos (10 ^ 12) }
+    requires within { (lo ≤ℤ z) × (z ≤ℤ hi) }
+    ensures { result ≡ nat_abs (z -ℤ lo) }
+{
+    (z - lo) as usize
+}
+
+/// The code of a value: its place in its domain.
+pub fn code(domain: &Domain, value: Value) -> usize
+    requires countable { IsCountable (domain_data domain.now) }
+    requires among { list_any (same_value value) (values_of (domain_data domain.now)) ≡ true }
+    ensures { result ≡ rank_of (domain_data domain.now) value }
+{
+    match domain {
+        Domain::Boolean => match value {
+            Value::Bool(b) => usize::from(b),
+            Value::Int(_) | Value::Name(_) => unreachable!(),
+        },
+        Domain::Range { lo, hi } => match value {
+            Value::Int(z) => offset(*lo, *hi, z),
+            Value::Bool(_) | Value::Name(_) => unreachable!(),
+        },
+        Domain::Names(names) => match value {
+            Value::Name(n) => place(names, n),
+            Value::Bool(_) | Value::Int(_) => unreachable!(),
+        },
+    }
+}
+
+/// A domain with the same values.
+pub fn copy(alloc: Global, domain: &Domain) -> Result<Domain, OutOfMemory>
+    ensures { IfOk result (λ copy. domain_data copy ≡ domain_data domain.now) }
+{
+    match domain {
+        Domain::Boolean => Ok(Domain::Boolean),
+        Domain::Range { lo, hi } => Ok(Domain::Range { lo: *lo, hi: *hi }),
+        Domain::Names(names) => Ok(Domain::Names(Vec::from_slice(alloc, names)?)),
+    }
+}
+
+/// The domain of a hidden table's values.
+pub fn domain_of(h: &Hidden) -> Domain
+    requires { 0 < h.now.values }
+    ensures domain { domain_data result ≡ table_domain (hidden_data h.now) }
+    ensures countable { IsCountable (domain_data result) }
+{
+    Domain::Range {
+        lo: 0,
+        hi: i64::from(h.values) - 1,
+    }
+}

@@ -1,0 +1,27 @@
+use Rattle.std.proofs.Common.{ℕ, List, length, sym, ap, subst, ◌∙◌}
+use Rattle.spec_model.specs.Games.{GameData}
+use Rattle.spec_model.specs.Agreement.{Agrees}
+use Rattle.gr1_law.specs.EnvLayers.{denial_count}
+use Rattle.gr1_env.specs.declared.layers.EnvLayer.{EnvLayer}
+use Rattle.gr1_env.specs.Solved.{counts_of}
+use Rattle.solve.proofs.Found.{lost_game}
+use Rattle.solve.proofs.playing.environment_play.Goals as goal
+
+pub make-requires-clause-lost : goal.make-requires-clause-lost
+make-requires-clause-lost g c = (c.requires.lost.0, c.requires.lost.1.are)
+
+pub returns-in-Ok-clause-lost : goal.returns-in-Ok-clause-lost
+returns-in-Ok-clause-lost g c = lost_game _ _ c.requires.lost.0 _ _ c.requires.lost.1 c.n-n.ensures c.m-m.ensures
+
+pub returns-in-Ok-clause-plays : goal.returns-in-Ok-clause-plays
+returns-in-Ok-clause-plays g c =
+    let begins = c.in-Ok.ensures.begins c.requires.lost.0 c.requires.lost.1.are in
+    λ s agrees rise. record {
+      fresh = begins.fresh;
+      empty = λ e h notes b k stands. (begins.empty e h notes b k stands).0;
+      stands = (_, _, _, _, _, begins.stands);
+      agrees = subst (Agrees s) (sym begins.game.game) agrees;
+      rise = rise;
+      shifts = c.n-n.ensures ∙ ap (λ layers. length layers) (sym begins.same_layers);
+      denials = c.m-m.ensures ∙ (c.requires.lost.1.denials ∙ (ap (λ layers. denial_count (g.G.Regions.kept c.args.g).game (length layers) (counts_of layers)) (sym begins.same_layers) ∙ ap (λ (game : GameData). denial_count game (length c.in-Ok.play.layers.items) (counts_of c.in-Ok.play.layers.items)) (sym begins.game.game)));
+    }

@@ -1,0 +1,10 @@
+pub mod Reads
+pub mod Words
+pub mod Standings
+pub mod Sides
+pub mod Walks
+pub mod Atoms
+pub mod Rows
+pub mod Narrow
+pub mod Pairs
+pub mod Laws

@@ -1,0 +1,165 @@
+//! From an expression to its positions. A repeat is written out, and the last position of an expression comes first, so that
+//! a sequence is read from its end.
+
+ghost use Rattle.std.specs.Prelude.{◌≡◌, ◌≤◌, ◌<◌, ◌+◌, ◌*◌, length, map, vec_len, option_map};
+ghost use Rattle.spec_model.specs.Views.{formula, regular};
+ghost use Rattle.spec_model.specs.Syntax.{regulars};
+ghost use Rattle.spec_model.specs.TriggerStates.{Bracket, Either, Empty, copies, written, written_in_turn, written_besides, repeated, brackets};
+ghost use Rattle.trigger_dfa.specs.Sides.{Lays, LaysCopies, tail_of};
+
+use crate::counting::positions_in;
+use crate::side::{Part, Side, atom_number, single};
+use spec_model::expr::{Expr, Regex};
+
+impl Side {
+    // A bracket is one position.
+    fn lay_bracket(&mut self, atoms: &[Expr], e: &Expr, end: usize) -> Part
+        requires some { 1 ≤ end }
+        requires few { end ≤ 64 }
+        ensures { Lays (map formula atoms.now) (Bracket (formula e.now)) end self.old self.new result }
+    {
+        let place = end - 1;
+        self.mean(atom_number(atoms, e), place);
+        Part {
+            size: 1,
+            skipped: false,
+            firsts: single(place),
+            lasts: single(place),
+        }
+    }
+
+    /// Adds the positions of an expression, the last of which is the one before `end`.
+    #[cycle(laying)]
+    pub fn lay(&mut self, atoms: &[Expr], r: &Regex, end: usize) -> Part
+        requires room { length (brackets (written (regular r.now))) ≤ end }
+        requires few { end ≤ 64 }
+        requires positions { vec_len self.old.follow ≡ 64 }
+        ensures { Lays (map formula atoms.now) (written (regular r.now)) end self.old self.new result }
+    {
+        match r {
+            Regex::Atom(e) => self.lay_bracket(atoms, e, end),
+            Regex::Cat(rs) => self.lay_in_turn(atoms, rs, end),
+            Regex::Alt(rs) => self.lay_besides(atoms, rs, end),
+            Regex::Repeat(a, low, high) => self.lay_repeated(atoms, a, *low, *high, end),
+        }
+    }
+
+    #[cycle(laying)]
+    fn lay_in_turn(&mut self, atoms: &[Expr], rs: &[Regex], end: usize) -> Part
+        requires room { length (brackets (written_in_turn (regulars (map regular rs.now)))) ≤ end }
+        requires few { end ≤ 64 }
+        requires positions { vec_len self.old.follow ≡ 64 }
+        ensures { Lays (map formula atoms.now) (written_in_turn (regulars (map regular rs.now))) end self.old self.new result }
+    {
+        let mut rest = Part::EMPTY;
+        for k in 0..rs.len() {
+            let first = self.lay(atoms, &rs[rs.len() - 1 - k], end - rest.size);
+            self.link(first.lasts, rest.firsts);
+            rest = first.then(rest);
+        }
+        rest
+    }
+
+    #[cycle(laying)]
+    fn lay_besides(&mut self, atoms: &[Expr], rs: &[Regex], end: usize) -> Part
+        requires room { length (brackets (written_besides (regulars (map regular rs.now)))) ≤ end }
+        requires few { end ≤ 64 }
+        requires positions { vec_len self.old.follow ≡ 64 }
+        ensures { Lays (map formula atoms.now) (written_besides (regulars (map regular rs.now))) end self.old self.new result }
+    {
+        if rs.is_empty() {
+            return Part::EMPTY;
+        }
+        let mut rest = self.lay(atoms, &rs[rs.len() - 1], end);
+        for k in 1..rs.len() {
+            let first = self.lay(atoms, &rs[rs.len() - 1 - k], end - rest.size);
+            rest = first.either(rest);
+        }
+        rest
+    }
+
+    // Where the piece has no position, it is written once in place of many times.
+    #[cycle(laying)]
+    fn lay_repeated(
+        &mut self,
+        atoms: &[Expr],
+        a: &Regex,
+        low: u16,
+        high: Option<u16>,
+        end: usize,
+    ) -> Part
+        requires room { length (brackets (repeated (written (regular a.now)) low high)) ≤ end }
+        requires few { end ≤ 64 }
+        requires positions { vec_len self.old.follow ≡ 64 }
+        ensures { Lays (map formula atoms.now) (repeated (written (regular a.now)) low high) end self.old self.new result }
+    {
+        if positions_in(a) == 0 {
+            let piece = self.lay(atoms, a, end);
+            return Part {
+                size: 0,
+                skipped: piece.skipped | (low == 0),
+                firsts: 0,
+                lasts: 0,
+            };
+        }
+        let tail = self.lay_tail(atoms, a, low, high, end);
+        self.lay_copies(atoms, a, low, tail, end)
+    }
+
+    #[cycle(laying)]
+    fn lay_tail(
+        &mut self,
+        atoms: &[Expr],
+        a: &Regex,
+        low: u16,
+        high: Option<u16>,
+        end: usize,
+    ) -> Part
+        requires room { length (brackets (tail_of (written (regular a.now)) low high)) ≤ end }
+        requires few { end ≤ 64 }
+        requires positions { vec_len self.old.follow ≡ 64 }
+        ensures { Lays (map formula atoms.now) (tail_of (written (regular a.now)) low high) end self.old self.new result }
+    {
+        match high {
+            None => {
+                let piece = self.lay(atoms, a, end);
+                self.link(piece.lasts, piece.firsts);
+                piece.skippable()
+            }
+            Some(high) => self.lay_optional(atoms, a, high.saturating_sub(low), end),
+        }
+    }
+
+    #[cycle(laying)]
+    fn lay_optional(&mut self, atoms: &[Expr], a: &Regex, count: u16, end: usize) -> Part
+        requires room { length (brackets (copies count (Either (written (regular a.now)) Empty) Empty)) ≤ end }
+        requires few { end ≤ 64 }
+        requires positions { vec_len self.old.follow ≡ 64 }
+        ensures { Lays (map formula atoms.now) (copies count (Either (written (regular a.now)) Empty) Empty) end self.old self.new result }
+    {
+        let mut rest = Part::EMPTY;
+        for k in 0..count {
+            let piece = self.lay(atoms, a, end - rest.size).skippable();
+            self.link(piece.lasts, rest.firsts);
+            rest = piece.then(rest);
+        }
+        rest
+    }
+
+    // So many copies before what stands there already.
+    #[cycle(laying)]
+    fn lay_copies(&mut self, atoms: &[Expr], a: &Regex, count: u16, tail: Part, end: usize) -> Part
+        requires few { end ≤ 64 }
+        requires positions { vec_len self.old.follow ≡ 64 }
+        requires room { count * length (brackets (written (regular a.now))) + tail.size ≤ end }
+        ensures { LaysCopies (map formula atoms.now) (written (regular a.now)) count tail end self.old self.new result }
+    {
+        let mut rest = tail;
+        for k in 0..count {
+            let piece = self.lay(atoms, a, end - rest.size);
+            self.link(piece.lasts, rest.firsts);
+            rest = piece.then(rest);
+        }
+        rest
+    }
+}
