@@ -1,5 +1,5 @@
 -- The table of a pattern that is determined is whole, and patterns that are well typed have one.
-use Rattle.std.proofs.Common.{◌≡◌, ℕ, zero, suc, ◌+◌, ◌*◌, ◌^◌, ◌<◌, Bool, true, false, not, ◌&&◌, ◌==◌, nat_lt, nat_le, List, [], ◌∷◌, ◌++◌, length, map, flat_map, find, Some, unwrap_or, slice_get, refl, sym, ap, ◌∙◌, arith}
+use Rattle.std.proofs.Common.{◌≡◌, ℕ, zero, suc, ◌*◌, ◌^◌, ◌<◌, Bool, true, not, ◌&&◌, ◌==◌, nat_lt, nat_le, List, [], ◌∷◌, length, map, flat_map, find, Some, unwrap_or, slice_get, refl, sym, ap, ◌∙◌, arith}
 use Rattle.std.specs.List.{list_all, position_or_len}
 use Rattle.std.proofs.lemmas.Bool.{and_parts, and_from}
 use Rattle.std.proofs.lemmas.Bool.Decides.{nat_tests}
@@ -7,16 +7,15 @@ use Rattle.std.proofs.lemmas.List.{length-map}
 use Rattle.std.proofs.lemmas.List.Folds.{list_all-append}
 use borrow.Author.Tests.{eq-eqb}
 use Rattle.spec_model.specs.Values.{Assignment, assignments_of}
-use Rattle.spec_model.specs.Syntax.{Formula, Variable, PatternData}
-use Rattle.spec_model.specs.Moves.{has_next}
+use Rattle.spec_model.specs.Syntax.{Variable, PatternData}
 use Rattle.spec_model.specs.Sizes.{domain_size, product}
 use Rattle.spec_model.specs.Steps.{below}
 use Rattle.spec_model.specs.WellMade.{cell_count}
-use Rattle.spec_model.specs.WellTyped.{is_domain_of, is_pattern_line, is_first_line, is_step_line, is_determined, is_typed_pattern}
+use Rattle.spec_model.specs.WellTyped.{is_domain_of, is_first_line, is_step_line, is_determined, is_typed_pattern}
 use Rattle.game_values.proofs.Lists.{length-below}
 use Rattle.game_values.proofs.Typed.{all_weaker}
 use Rattle.game_states.proofs.ChoicePlaces.{length-grid}
-use Rattle.pattern_rows.specs.Patterns.{IsPattern, is_goal_line, is_wide}
+use Rattle.pattern_rows.specs.Patterns.{is_goal_line}
 use Rattle.pattern_rows.specs.Rows.{letters, may_begin, may_follow, goal_holds, by_cell, rows_of, is_told, are_told_after}
 use Rattle.pattern_rows.specs.Laws.{HasTable, is_filled}
 use Rattle.pattern_rows.proofs.Letters.{length-letters}
