@@ -1,5 +1,5 @@
 -- Lists of trees that are the same have the same length.
-use Rattle.std.proofs.Common.{◌≡◌, ◌≢◌, ℕ, suc, Bool, true, false, ◌&&◌, List, [], ◌∷◌, map, length, refl, sym, ap, arith}
+use Rattle.std.proofs.Common.{◌≡◌, ◌≢◌, suc, false, List, [], ◌∷◌, map, length, refl, sym, ap}
 use Rattle.std.proofs.Math.Bool.{and-false}
 use Rattle.spec_model.specs.declared.expr.Expr.{Expr}
 use Rattle.spec_model.specs.Views.{formula}

@@ -1,11 +1,11 @@
 -- The atoms that are collected are the different ones.
-use Rattle.std.proofs.Common.{◌≡◌, ℕ, zero, suc, ◌+◌, ◌<◌, ◌≤◌, Bool, true, false, not, cond, ◌&&◌, ◌||◌, List, [], ◌∷◌, ◌++◌, filter, map, length, take, drop, get_or, refl, sym, ◌∙◌, ap, ap₂, subst, arith, append_assoc, append-nil, length-append}
-use Rattle.std.proofs.lemmas.Bool.{or_cases, or_left, or_right, false≢true, cases_Bool, not_from_true}
+use Rattle.std.proofs.Common.{◌≡◌, ℕ, suc, ◌+◌, ◌<◌, ◌≤◌, Bool, true, false, not, cond, ◌&&◌, ◌||◌, List, [], ◌∷◌, ◌++◌, filter, map, length, drop, get_or, refl, sym, ◌∙◌, ap, subst, arith, append_assoc, append-nil, length-append}
+use Rattle.std.proofs.lemmas.Bool.{not_from_true}
 use Rattle.std.proofs.Math.Seq.{drop-cons}
 use Rattle.std.proofs.lemmas.List.Folds.{list_any-append}
 use Rattle.std.specs.List.{list_any}
 use Rattle.spec_model.specs.declared.expr.Regex.{Regex}
-use Rattle.spec_model.specs.Syntax.{Formula, Regular, regulars}
+use Rattle.spec_model.specs.Syntax.{Formula, regulars}
 use Rattle.spec_model.specs.Sizes.{same_formula, distinct, atoms_of, atoms_of_all}
 use Rattle.spec_model.specs.Views.{regular}
 use Rattle.spec_model.proofs.Restricted.{same_formula-true}

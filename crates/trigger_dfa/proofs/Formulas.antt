@@ -1,5 +1,5 @@
 -- The brackets of a trigger are among its atoms, and a letter tells each of them.
-use Rattle.std.proofs.Common.{◌≡◌, ℕ, zero, suc, ◌+◌, ◌-◌, ◌⊎◌, inl, inr, Bool, true, false, not, cond, ◌&&◌, ◌||◌, ◌==◌, List, [], ◌∷◌, ◌++◌, Some, None, Option, filter, map, refl, sym, ◌∙◌, ap, subst, arith}
+use Rattle.std.proofs.Common.{◌≡◌, ℕ, zero, suc, ◌-◌, ◌⊎◌, inl, inr, Bool, true, false, not, cond, ◌&&◌, ◌==◌, List, [], ◌∷◌, ◌++◌, Some, None, Option, filter, map, refl, sym, ◌∙◌, ap, subst, arith}
 use Rattle.std.proofs.lemmas.Bool.{and_from, false≢true, eq-eqb, not_from_false}
 use Rattle.std.proofs.lemmas.Bool.Decides.{Decides-int_eq}
 use Rattle.std.specs.Prelude.{ℤ}
@@ -9,7 +9,7 @@ use Rattle.spec_model.specs.declared.value.Value.TheVariants as value
 use Rattle.spec_model.specs.Values.{same_value}
 use Rattle.spec_model.specs.Syntax.{Formula, Constant, Variable, NextOf, Negation, Conjunction, Disjunction, Implication, Equivalence, Comparison, Sum, Difference, Product, Remainder, PastOf, Entry, Formulas, Regular, Atom, Sequence, Choice, Repetition, Regulars, TriggerData}
 use Rattle.spec_model.specs.Sizes.{compare_number, past_number, same_formula, same_formulas, atoms_of, atoms_of_all, distinct}
-use Rattle.spec_model.specs.TriggerStates.{Written, Bracket, Empty, Then, Either, Star, Positions, copies, repeated, written, written_in_turn, written_besides, brackets, has, read_of, said_by, trigger_atoms}
+use Rattle.spec_model.specs.TriggerStates.{Written, Empty, Either, Star, Positions, copies, repeated, written, written_in_turn, written_besides, brackets, has, read_of, said_by, trigger_atoms}
 use Rattle.spec_model.proofs.Restricted.{same_formula-true}
 use Rattle.trigger_dfa.specs.Standings.{side_of}
 

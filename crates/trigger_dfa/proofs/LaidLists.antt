@@ -1,16 +1,16 @@
 -- A side with the expressions of a list, from the last one on.
-use Rattle.std.proofs.Common.{◌≡◌, ℕ, zero, suc, ◌+◌, ◌-◌, ◌*◌, ◌<◌, ◌≤◌, true, min, List, [], ◌∷◌, ◌++◌, length, map, drop, take, get_or, refl, sym, ◌∙◌, ap, subst, arith, take-append-drop, add-one, length-drop, mul-le-mul_right, mul-le-mul_left, suc-mul, length-append}
+use Rattle.std.proofs.Common.{◌≡◌, ℕ, suc, ◌+◌, ◌-◌, ◌*◌, ◌<◌, ◌≤◌, true, List, [], ◌∷◌, ◌++◌, length, map, drop, take, get_or, refl, sym, ◌∙◌, ap, subst, arith, take-append-drop, length-drop, mul-le-mul_right}
 use Rattle.std.proofs.Math.Seq.{drop-cons}
 use Rattle.std.proofs.lemmas.List.{map-append}
 use Rattle.spec_model.specs.declared.expr.Regex.{Regex}
-use Rattle.spec_model.specs.Syntax.{Formula, Regular, Regulars, regulars}
+use Rattle.spec_model.specs.Syntax.{Formula, Regular, regulars}
 use Rattle.spec_model.specs.Views.{regular}
 use Rattle.spec_model.specs.TriggerStates.{Written, Empty, Then, Either, copies, written, written_in_turn, written_besides, brackets}
 use Rattle.trigger_dfa.specs.declared.side.Side.{Side}
 use Rattle.trigger_dfa.specs.declared.side.Part.{Part}
 use Rattle.trigger_dfa.specs.Sides.{IsPart, Lays, Links, size_in, size_in_each, size_of, size_of_all}
 use Rattle.trigger_dfa.proofs.PositionCounts.{size-written, size-in_turn, size-besides, size-append}
-use Rattle.trigger_dfa.proofs.LaidParts.{laid_then, laid_either, laid_optional, length-copies, length-optional, nothing_more}
+use Rattle.trigger_dfa.proofs.LaidParts.{laid_then, laid_either, laid_optional, nothing_more}
 
 -- the written list from a place on
 abbrev pub turn_from : List Regex → ℕ → Written

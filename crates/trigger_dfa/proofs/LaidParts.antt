@@ -1,5 +1,5 @@
 -- A side with one expression more, where expressions are joined.
-use Rattle.std.proofs.Common.{◌≡◌, ℕ, zero, suc, ◌+◌, ◌-◌, ◌*◌, ◌^◌, ◌<◌, ◌≤◌, ◌==◌, ◌⊎◌, inl, inr, Bool, true, false, cond, ◌&&◌, ◌||◌, List, [], ◌∷◌, ◌++◌, Some, None, Option, length, vec_len, slice_index, refl, sym, ◌∙◌, ap, ap₂, subst, arith, length-append, suc-mul, zero-mul}
+use Rattle.std.proofs.Common.{◌≡◌, ℕ, zero, suc, ◌+◌, ◌-◌, ◌*◌, ◌^◌, ◌<◌, ◌≤◌, ◌==◌, ◌⊎◌, inl, inr, Bool, true, false, cond, ◌&&◌, ◌||◌, List, [], ◌++◌, Some, None, Option, length, vec_len, slice_index, refl, sym, ◌∙◌, ap, subst, arith, length-append, suc-mul, zero-mul}
 use Rattle.std.proofs.lemmas.Bool.{false_from_ne_true, ne_eqb}
 use Rattle.spec_model.specs.Syntax.{Formula}
 use Rattle.spec_model.specs.Sizes.{same_formula}

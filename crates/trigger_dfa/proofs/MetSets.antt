@@ -1,19 +1,19 @@
 -- The sets that are met one after the other, as words.
-use Rattle.std.proofs.Common.{◌≡◌, ℕ, zero, suc, ◌+◌, ◌-◌, ◌^◌, ◌<◌, ◌≤◌, ◌==◌, ◌⊎◌, inl, inr, Bool, true, false, not, cond, ◌||◌, bit_and, List, [], ◌∷◌, ◌++◌, flat_map, map, replicate, length, get_or, take, drop, vec_len, refl, sym, ◌∙◌, ap, subst, arith, append-nil, append_assoc, length-append}
-use Rattle.std.proofs.lemmas.Bool.{or_cases, or_left, or_right, false≢true, not-false, eqb-true}
+use Rattle.std.proofs.Common.{◌≡◌, ℕ, zero, suc, ◌+◌, ◌^◌, ◌<◌, ◌≤◌, ◌==◌, inl, inr, Bool, true, false, not, cond, bit_and, List, [], ◌∷◌, ◌++◌, flat_map, map, length, get_or, take, drop, refl, sym, ◌∙◌, ap, subst, arith, append-nil, append_assoc, length-append}
+use Rattle.std.proofs.lemmas.Bool.{or_left, or_right, false≢true}
 use Rattle.std.proofs.lemmas.List.{take_more, length-map, get_or-map, get_or_append_left}
 use Rattle.std.proofs.lemmas.List.Concat.{flat_map-append}
 use Rattle.std.specs.List.{list_any}
 use Rattle.std.proofs.Math.Seq.{drop-cons}
 use Rattle.spec_model.specs.Syntax.{Formula}
 use Rattle.spec_model.specs.Games.{letter_of}
-use Rattle.spec_model.specs.TriggerStates.{Written, Positions, brackets, firsts, followers, members, sets_from, has, has_last, sets_after, different, reached_sets}
+use Rattle.spec_model.specs.TriggerStates.{Written, Positions, brackets, firsts, followers, members, sets_from, has_last, sets_after, different, reached_sets}
 use Rattle.trigger_dfa.specs.declared.walk.Walk.{Walk}
-use Rattle.trigger_dfa.specs.Words.{in_word, joined, joined_word, with_new}
+use Rattle.trigger_dfa.specs.Words.{joined, joined_word, with_new}
 use Rattle.trigger_dfa.specs.Standings.{all_sets}
 use Rattle.trigger_dfa.specs.Walks.{Walks, followed_by}
-use Rattle.trigger_dfa.proofs.Different.{among, same, same-true, same-refl, among_cases, among_left, among_right, among_flat, flat_among, AllDiffer, among_different, different_among, different_differ, no_longer, different_kept, different_once}
-use Rattle.trigger_dfa.proofs.Reached.{after, from_start, sized, sized_from, reached_differ, all_closed, all_from_start, met_by, met_first}
+use Rattle.trigger_dfa.proofs.Different.{among, same, same-refl, among_cases, among_left, among_right, among_flat, flat_among, AllDiffer, among_different, different_among, different_differ, no_longer, different_kept, different_once}
+use Rattle.trigger_dfa.proofs.Reached.{after, from_start, sized, sized_from, reached_differ, met_by, met_first}
 use Rattle.trigger_dfa.proofs.MaskWords.{with_new_sets, joined_is}
 
 pub with_new_longer : (words xs : List ℕ) → length words ≤ length (with_new words xs)

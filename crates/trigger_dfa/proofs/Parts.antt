@@ -1,15 +1,12 @@
 -- What parts are where they are joined.
-use Rattle.std.proofs.Common.{◌≡◌, ℕ, zero, suc, ◌+◌, ◌<◌, ◌==◌, Bool, true, false, cond, ◌&&◌, ◌||◌, bit_or, List, [], ◌∷◌, ◌++◌, length, vec_len, slice_index, refl, sym, ◌∙◌, ap, ap₂, subst, arith, length-append}
-use Rattle.spec_model.specs.Syntax.{Formula}
-use Rattle.spec_model.specs.TriggerStates.{Written, Bracket, Empty, Then, Either, Star, brackets, is_skipped, firsts, lasts, followers, has}
-use Rattle.trigger_dfa.specs.declared.side.Side.{Side}
+use Rattle.std.proofs.Common.{◌≡◌, ℕ, ◌+◌, ◌<◌, ◌==◌, Bool, true, false, cond, ◌&&◌, ◌||◌, bit_or, List, [], length, refl, sym, ◌∙◌, ap, ap₂, arith, length-append}
+use Rattle.spec_model.specs.TriggerStates.{Written, Then, Either, brackets, is_skipped, firsts, lasts}
 use Rattle.trigger_dfa.specs.declared.side.Part.{Part}
-use Rattle.trigger_dfa.specs.Words.{in_word, tells}
-use Rattle.trigger_dfa.specs.Sides.{is_atom, IsPart, AddsPart, Links, Means}
-use Rattle.std.proofs.Common.{◌^◌, ◌≤◌, ◌⊎◌, inl, inr, nat_lt, set, get_or, get_or-set_same, get_or-set_other, length-set}
+use Rattle.trigger_dfa.specs.Words.{in_word}
+use Rattle.trigger_dfa.specs.Sides.{IsPart}
+use Rattle.std.proofs.Common.{◌^◌, inl, inr, nat_lt, set, get_or, get_or-set_same, get_or-set_other}
 use Rattle.std.proofs.lemmas.Bool.{lt-ltb, le-ltb, cases_lt, cases_eq, eq-eqb, ne_eqb}
-use Rattle.std.proofs.lemmas.List.{get_or_past}
-use Rattle.trigger_dfa.proofs.WordLemmas.{word_above, or_word, zero_word, when_word, single_word, has-append, has-cond}
+use Rattle.trigger_dfa.proofs.WordLemmas.{word_above, or_word, when_word, single_word, has-append, has-cond}
 
 -- an `or` and an `and` of what is equal
 pub or_both : {a b c d : Bool} → a ≡ c → b ≡ d → (a || b) ≡ (c || d)

@@ -1,7 +1,6 @@
 -- An expression reads a stretch exactly where a path of positions goes along it (Glushkov 1961; McNaughton and Yamada 1960).
-use Rattle.std.proofs.Common.{◌≡◌, ℕ, zero, suc, ◌+◌, ◌<◌, ◌≤◌, ◌==◌, ◌⊎◌, inl, inr, Bool, true, false, cond, ◌&&◌, ◌||◌, List, [], ◌∷◌, ◌++◌, length, refl, sym, ◌∙◌, ap, subst, arith}
-use Rattle.std.proofs.lemmas.Bool.{and_parts, and_from, or_cases, or_left, or_right, false≢true, eqb-true, eq-eqb}
-use Rattle.spec_model.specs.Syntax.{Formula}
+use Rattle.std.proofs.Common.{◌≡◌, ℕ, zero, suc, ◌+◌, ◌<◌, ◌==◌, ◌⊎◌, inl, inr, Bool, true, false, cond, ◌&&◌, [], ◌++◌, length, refl, sym, ◌∙◌, subst, arith}
+use Rattle.std.proofs.lemmas.Bool.{and_parts, and_from, or_cases, or_left, or_right, false≢true, eq-eqb}
 use Rattle.spec_model.specs.Meaning.{Reading, holds_at}
 use Rattle.spec_model.specs.TriggerStates.{Written, Bracket, Empty, Then, Either, Star, brackets, is_skipped, firsts, lasts, has, followers}
 use Rattle.trigger_dfa.specs.Reads.{InPieces, Reads}

@@ -1,13 +1,13 @@
 -- The standing of a trigger follows its phase.
-use Rattle.std.proofs.Common.{◌≡◌, ℕ, zero, suc, ◌+◌, ◌<◌, ◌≤◌, ◌⊎◌, inl, inr, Bool, true, false, not, cond, List, [], ◌∷◌, Some, None, Option, flat_map, refl, sym, ◌∙◌, ap, subst, arith}
+use Rattle.std.proofs.Common.{◌≡◌, ℕ, zero, suc, ◌<◌, inl, inr, Bool, true, false, not, cond, List, Some, None, Option, flat_map, refl, sym, subst, arith}
 use Rattle.std.proofs.lemmas.Bool.{false≢true}
-use Rattle.spec_model.specs.Syntax.{Formula, Regular, TriggerData}
+use Rattle.spec_model.specs.Syntax.{TriggerData}
 use Rattle.spec_model.specs.Meaning.{Reading, holds_at}
-use Rattle.spec_model.specs.Triggers.{Phase, matches, ending, phase_after, phase_at}
-use Rattle.spec_model.specs.TriggerStates.{Written, Positions, written, brackets, firsts, lasts, has, followers, members, read_of, has_last}
+use Rattle.spec_model.specs.Triggers.{Phase, matches, phase_after, phase_at}
+use Rattle.spec_model.specs.TriggerStates.{Written, Positions, brackets, firsts, has, followers, members, read_of, has_last}
 use Rattle.trigger_dfa.specs.Reads.{Reads}
 use Rattle.trigger_dfa.specs.Laws.{is_readable}
-use Rattle.trigger_dfa.specs.Standings.{Standing, at_start, at_set, side_of, next_positions, settled, standing_after, standing_along}
+use Rattle.trigger_dfa.specs.Standings.{Standing, at_start, at_set, side_of, next_positions, standing_after, standing_along}
 use Rattle.trigger_dfa.proofs.Sets.{has_flat, flat_has, read_members, members_read, last_of, of_last}
 use Rattle.trigger_dfa.proofs.Paths.{Path, begin, move, true_at, path_later, path_reads, read_has_path}
 use Rattle.trigger_dfa.proofs.Stretches.{written_out_reads}

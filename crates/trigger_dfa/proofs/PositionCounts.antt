@@ -1,12 +1,12 @@
 -- How many positions an expression has.
-use Rattle.std.proofs.Common.{◌≡◌, ℕ, zero, suc, ◌+◌, ◌-◌, ◌*◌, ◌≤◌, ◌<◌, max, min, ◌⊎◌, inl, inr, List, [], ◌∷◌, ◌++◌, Some, None, Option, length, map, take, refl, sym, ◌∙◌, ap, subst, arith, length-append, add-mul, mul-le-mul_right, mul-le-mul_left, zero-mul, mul-zero}
+use Rattle.std.proofs.Common.{◌≡◌, ℕ, ◌+◌, ◌-◌, ◌*◌, ◌≤◌, ◌<◌, max, min, inl, inr, List, [], ◌∷◌, ◌++◌, Some, None, Option, length, map, take, refl, sym, ◌∙◌, ap, arith, length-append, add-mul, mul-le-mul_right}
 use Rattle.std.proofs.lemmas.Bool.{cases_lt, cases_eq}
 use Rattle.std.proofs.Common.{get_or}
 use Rattle.std.proofs.lemmas.List.{take_more, map-append}
 use Rattle.spec_model.specs.declared.expr.Regex.{Regex}
 use Rattle.spec_model.specs.Views.{regular}
 use Rattle.spec_model.specs.Syntax.{Regular, Atom, Sequence, Choice, Repetition, Regulars, regulars}
-use Rattle.spec_model.specs.TriggerStates.{Written, Bracket, Empty, Then, Either, Star, copies, repeated, written, written_in_turn, written_besides, brackets}
+use Rattle.spec_model.specs.TriggerStates.{Written, Empty, Either, Star, copies, repeated, written, written_in_turn, written_besides, brackets}
 use Rattle.trigger_dfa.specs.Sides.{copies_in, size_in, size_in_each}
 use Rattle.trigger_dfa.proofs.LaidParts.{length-copies, length-optional}
 

@@ -1,12 +1,12 @@
 -- The reached sets of a side: after as many letters as there are sets no other set is reached.
-use Rattle.std.proofs.Common.{◌≡◌, ℕ, zero, suc, ◌+◌, ◌^◌, ◌<◌, ◌≤◌, ◌⊎◌, inl, inr, Bool, true, false, not, cond, ◌||◌, List, [], ◌∷◌, ◌++◌, filter, flat_map, map, length, take, drop, refl, sym, ◌∙◌, ap, subst, arith, append_assoc, take-append-drop, pow_pos}
+use Rattle.std.proofs.Common.{◌≡◌, ℕ, zero, suc, ◌^◌, ◌<◌, ◌≤◌, ◌⊎◌, inl, inr, Bool, true, false, not, cond, ◌||◌, List, [], ◌∷◌, ◌++◌, filter, flat_map, map, length, take, drop, refl, sym, ◌∙◌, ap, subst, arith, append_assoc, take-append-drop, pow_pos}
 use Rattle.std.proofs.lemmas.Bool.{or_cases, or_left, or_right, false≢true}
 use Rattle.std.proofs.lemmas.List.{length-map}
 use Rattle.std.proofs.lemmas.List.Concat.{flat_map-append}
 use Rattle.spec_model.specs.Syntax.{Formula}
 use Rattle.spec_model.specs.TriggerStates.{Written, Positions, brackets, firsts, followers, members, read_of, letters, said_by, sets_from, has_last, sets_after, different, reached_sets}
 use Rattle.trigger_dfa.specs.Standings.{all_sets}
-use Rattle.trigger_dfa.proofs.Different.{among, same, same-true, same-refl, among_cases, among_left, among_right, among_flat, flat_among, AllDiffer, among_different, different_among, different_differ, no_longer, different-append, different_kept, different_within, different_once, different_middle}
+use Rattle.trigger_dfa.proofs.Different.{among, same, same-true, same-refl, among_cases, among_left, among_right, among_flat, AllDiffer, among_different, different_among, different_differ, no_longer, different-append, different_kept, different_within, different_once, different_middle}
 use Rattle.trigger_dfa.proofs.Letters.{length-letters, letter_among}
 
 -- ---- the size of a set

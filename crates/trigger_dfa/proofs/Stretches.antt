@@ -1,10 +1,10 @@
 -- An expression and the one with its repeats written out match the same stretches.
-use Rattle.std.proofs.Common.{◌≡◌, ℕ, zero, suc, ◌+◌, ◌-◌, ◌<◌, ◌≤◌, ◌==◌, ◌⊎◌, inl, inr, ◌↔◌, Bool, true, false, not, ◌&&◌, ◌||◌, nat_le, Some, None, Option, refl, sym, ◌∙◌, ap, subst, arith}
+use Rattle.std.proofs.Common.{◌≡◌, ℕ, zero, suc, ◌+◌, ◌-◌, ◌<◌, ◌≤◌, ◌==◌, inl, inr, Bool, true, false, ◌&&◌, nat_le, Some, None, refl, sym, subst, arith}
 use Rattle.std.proofs.lemmas.Bool.{and_parts, and_from, or_cases, or_left, or_right, false≢true, eqb-true, eq-eqb, leb-true, cases_eq}
-use Rattle.spec_model.specs.Syntax.{Formula, Regular, Atom, Sequence, Choice, Repetition, Regulars}
+use Rattle.spec_model.specs.Syntax.{Regular, Atom, Sequence, Choice, Repetition, Regulars}
 use Rattle.spec_model.specs.Meaning.{Reading, holds_at}
-use Rattle.spec_model.specs.Triggers.{some_from, some_place, splits_into, most_pieces, matches, matches_all, matches_some}
-use Rattle.spec_model.specs.TriggerStates.{Written, Bracket, Empty, Then, Either, Star, copies, repeated, written, written_in_turn, written_besides}
+use Rattle.spec_model.specs.Triggers.{some_from, some_place, splits_into, matches, matches_all, matches_some}
+use Rattle.spec_model.specs.TriggerStates.{Written, Bracket, Empty, Then, Either, Star, copies, written, written_in_turn, written_besides}
 use Rattle.trigger_dfa.specs.Reads.{InPieces, Reads}
 use Rattle.trigger_dfa.specs.Laws.{has_some, is_readable, are_readable, NoneIsMissed, WrittenOutReads}
 

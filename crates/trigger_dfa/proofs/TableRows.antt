@@ -1,6 +1,6 @@
 -- The rows of words are those of the table.
-use Rattle.std.proofs.Common.{◌≡◌, ℕ, zero, suc, ◌+◌, ◌^◌, ◌<◌, ◌≤◌, ◌==◌, ◌⊎◌, inl, inr, Bool, true, false, not, cond, ◌&&◌, ◌||◌, nat_lt, bit_and, List, [], ◌∷◌, ◌++◌, Some, None, Option, filter, flat_map, map, length, refl, sym, ◌∙◌, ap, ap₂, subst, arith, length-append, append_assoc}
-use Rattle.std.proofs.lemmas.Bool.{or_cases, or_left, or_right, false≢true, not_from_false, eqb-true, eq-eqb, ne_eqb, cases_eq, lt-ltb, le-ltb}
+use Rattle.std.proofs.Common.{◌≡◌, ℕ, suc, ◌+◌, ◌^◌, ◌<◌, ◌==◌, Bool, true, false, not, cond, ◌&&◌, ◌||◌, nat_lt, bit_and, List, [], ◌∷◌, ◌++◌, Some, None, Option, filter, flat_map, map, length, refl, sym, ◌∙◌, ap, ap₂, subst, arith, length-append}
+use Rattle.std.proofs.lemmas.Bool.{or_left, or_right, false≢true, not_from_false, eqb-true, eq-eqb, lt-ltb, le-ltb}
 use Rattle.std.proofs.lemmas.List.{length-map}
 use Rattle.std.proofs.lemmas.List.Concat.{flat_map-append}
 use Rattle.std.specs.Bool.{beq}
@@ -8,14 +8,13 @@ use Rattle.std.specs.List.{list_any}
 use Rattle.std.specs.Cmp.Lexicographic.{pointwise}
 use Rattle.spec_model.specs.Syntax.{Formula, TriggerData}
 use Rattle.spec_model.specs.Games.{letter_of}
-use Rattle.spec_model.specs.TriggerStates.{Written, Positions, brackets, firsts, followers, members, read_of, letters, said_by, sets_from, has, has_last, trigger_atoms}
+use Rattle.spec_model.specs.TriggerStates.{Written, Positions, brackets, read_of, letters, said_by, has, has_last, trigger_atoms}
 use Rattle.trigger_dfa.specs.declared.walk.Walk.{Walk}
-use Rattle.trigger_dfa.specs.Words.{in_word, joined, joined_word}
+use Rattle.trigger_dfa.specs.Words.{in_word, joined_word}
 use Rattle.trigger_dfa.specs.Walks.{Walks}
 use Rattle.trigger_dfa.specs.Rows.{place_in, number_in, row_of, rows_of}
 use Rattle.trigger_dfa.specs.Standings.{Standing, at_start, at_set, side_of, next_positions, settled, standing_after, all_sets, value_sets, side_standings, standings, same_read, same_standing, first_place, value_of, by_standing}
 use Rattle.trigger_dfa.proofs.Different.{among, same, same-true, same-refl, among_filter, filter_among}
-use Rattle.trigger_dfa.proofs.Letters.{letter_among}
 use Rattle.trigger_dfa.proofs.Reached.{sized}
 use Rattle.trigger_dfa.proofs.MaskWords.{letter_same, joined_is}
 use Rattle.trigger_dfa.proofs.LaidParts.{same_truth}

@@ -1,16 +1,16 @@
 -- The table's value along a run is that of the standing, and its entry tells that no effect is pending.
-use Rattle.std.proofs.Common.{◌≡◌, ℕ, zero, suc, ◌+◌, ◌*◌, ◌^◌, ◌<◌, Bool, true, false, not, cond, ◌&&◌, ◌||◌, List, [], ◌∷◌, ◌++◌, Some, None, Option, filter, flat_map, map, length, get_or, inl, inr, refl, sym, ◌∙◌, ap, subst, arith}
+use Rattle.std.proofs.Common.{◌≡◌, ℕ, zero, suc, ◌+◌, ◌*◌, ◌^◌, ◌<◌, Bool, true, false, not, cond, ◌&&◌, ◌||◌, List, [], ◌∷◌, ◌++◌, Some, None, Option, flat_map, map, length, get_or, inl, inr, refl, sym, ◌∙◌, ap, subst, arith}
 use Rattle.std.proofs.lemmas.Bool.{and_parts, and_from, or_cases, or_left, or_right, false≢true, not-true, not_from_false}
 use Rattle.std.proofs.lemmas.List.{length-map, get_or-map}
 use Rattle.std.proofs.lemmas.List.Folds.{list_any-append}
 use Rattle.std.specs.Bool.{beq}
 use Rattle.std.specs.List.{list_any}
 use Rattle.std.specs.Cmp.Lexicographic.{pointwise}
-use Rattle.spec_model.specs.Syntax.{Formula, TriggerData}
+use Rattle.spec_model.specs.Syntax.{TriggerData}
 use Rattle.spec_model.specs.Meaning.{Reading, holds_at}
 use Rattle.spec_model.specs.Games.{letter_of}
-use Rattle.spec_model.specs.TriggerStates.{Written, Positions, brackets, firsts, followers, members, read_of, letters, said_by, sets_from, has_last, sets_after, trigger_atoms}
-use Rattle.trigger_dfa.specs.Standings.{Standing, at_start, at_set, side_of, next_positions, settled, standing_after, standing_along, all_sets, value_sets, side_standings, standings, same_read, same_standing, first_place, value_of, by_standing, table_of, cell_along, value_along, entry_along}
+use Rattle.spec_model.specs.TriggerStates.{Positions, brackets, firsts, followers, members, read_of, letters, said_by, sets_from, has_last, sets_after, trigger_atoms}
+use Rattle.trigger_dfa.specs.Standings.{Standing, at_start, at_set, side_of, next_positions, settled, standing_after, standing_along, all_sets, value_sets, side_standings, standings, same_read, same_standing, first_place, value_of, by_standing, table_of, value_along, entry_along}
 use Rattle.trigger_dfa.specs.Laws.{GoalIsNotPending}
 use Rattle.trigger_dfa.proofs.Different.{among, same, same-true, same-refl, among_filter, filter_among, among_left, different_among, flat_among}
 use Rattle.trigger_dfa.proofs.Letters.{block_at, length-letters, letter_among, letter_below, letter_at}

@@ -1,9 +1,9 @@
 -- The side of an expression, from the positions that were laid.
-use Rattle.std.proofs.Common.{◌≡◌, ℕ, zero, suc, ◌+◌, ◌-◌, ◌<◌, ◌≤◌, Bool, false, ◌||◌, bit_and, List, [], ◌∷◌, length, map, get_or, replicate, vec_len, Vec, refl, sym, ◌∙◌, ap, subst, arith}
+use Rattle.std.proofs.Common.{◌≡◌, ℕ, zero, suc, ◌+◌, ◌-◌, ◌<◌, ◌≤◌, bit_and, List, length, map, get_or, replicate, vec_len, Vec, refl, sym, ◌∙◌, ap, subst, arith}
 use Rattle.std.proofs.lemmas.List.{length-replicate}
 use Rattle.spec_model.specs.Syntax.{Formula}
 use Rattle.spec_model.specs.Games.{letter_of}
-use Rattle.spec_model.specs.TriggerStates.{Written, Positions, brackets, firsts, lasts, followers, has}
+use Rattle.spec_model.specs.TriggerStates.{Written, brackets, followers, has}
 use Rattle.trigger_dfa.specs.declared.side.Side.{Side}
 use Rattle.trigger_dfa.specs.declared.side.Part.{Part}
 use Rattle.trigger_dfa.specs.declared.walk.Walk.{Walk}
@@ -13,7 +13,6 @@ use Rattle.trigger_dfa.specs.Walks.{Walks}
 use Rattle.trigger_dfa.proofs.WordLemmas.{zero_word}
 use Rattle.trigger_dfa.proofs.Parts.{or_both}
 use Rattle.trigger_dfa.proofs.MaskWords.{joined_members, last_word, words_from}
-use Rattle.trigger_dfa.proofs.MetSets as met
 
 zeros_at : (n i : ℕ) → get_or {A = ℕ} (replicate n 0) i 0 ≡ 0
 zeros_at zero i = refl

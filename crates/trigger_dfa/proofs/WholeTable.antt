@@ -1,14 +1,14 @@
 -- What both sides tell is the table of the trigger.
-use Rattle.std.proofs.Common.{◌≡◌, ℕ, suc, ◌+◌, ◌≤◌, Bool, not, nat_lt, List, [], ◌∷◌, ◌++◌, length, map, vec_len, refl, sym, ◌∙◌, ap, subst, arith}
+use Rattle.std.proofs.Common.{◌≡◌, ℕ, suc, ◌+◌, Bool, not, nat_lt, List, [], ◌∷◌, ◌++◌, length, map, vec_len, ◌∙◌, ap, arith}
 use Rattle.std.proofs.lemmas.List.{length-map}
 use Rattle.spec_model.specs.Syntax.{TriggerData}
 use Rattle.spec_model.specs.Games.{HiddenData, letter_of}
-use Rattle.spec_model.specs.TriggerStates.{Positions, written, trigger_atoms}
+use Rattle.spec_model.specs.TriggerStates.{written, trigger_atoms}
 use Rattle.trigger_dfa.specs.declared.states.Sides.{Sides}
 use Rattle.trigger_dfa.specs.declared.states.Values.{Values}
 use Rattle.trigger_dfa.specs.Pairs.{AreSides, AreValues, next_of, table_in}
 use Rattle.trigger_dfa.specs.Rows.{rows_of}
-use Rattle.trigger_dfa.specs.Standings.{side_of, value_sets, standings, value_of, by_standing, table_of}
+use Rattle.trigger_dfa.specs.Standings.{value_sets, standings, value_of, by_standing, table_of}
 use Rattle.trigger_dfa.proofs.TableRows.{cause_count, next_are, goals_are, values_count}
 
 module _ (tr : TriggerData) (sides : Sides) (values : Values)

@@ -1,5 +1,5 @@
 -- What is proved of a trigger's table.
-use Rattle.std.specs.Prelude.{◌≡◌, ◌↔◌, ◌≤◌, ◌<◌, ℕ, true, false, Bool, not, ◌&&◌, nat_le, Some, None}
+use Rattle.std.specs.Prelude.{◌≡◌, ◌↔◌, ◌≤◌, ℕ, true, false, Bool, not, ◌&&◌, nat_le, Some, None}
 use Rattle.spec_model.specs.Syntax.{Regular, Atom, Sequence, Choice, Repetition, Regulars, TriggerData}
 use Rattle.spec_model.specs.Meaning.{Reading}
 use Rattle.spec_model.specs.Triggers.{matches, splits_into, is_pending}

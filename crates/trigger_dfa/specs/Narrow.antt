@@ -1,5 +1,5 @@
 -- The limits of a trigger.
-use Rattle.std.specs.Prelude.{◌+◌, ◌≤◌, length}
+use Rattle.std.specs.Prelude.{◌≤◌, length}
 use Rattle.spec_model.specs.Syntax.{TriggerData}
 use Rattle.spec_model.specs.TriggerStates.{written, brackets, trigger_atoms, trigger_states}
 

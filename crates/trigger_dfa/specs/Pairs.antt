@@ -1,5 +1,5 @@
 -- Both sides of a trigger, as words.
-use Rattle.std.specs.Prelude.{◌≡◌, ◌+◌, ◌≤◌, ◌<◌, ℕ, nat_lt, List, [], ◌∷◌, ◌++◌, length, map, vec_len}
+use Rattle.std.specs.Prelude.{◌≡◌, ◌+◌, ◌≤◌, ℕ, nat_lt, List, [], ◌∷◌, ◌++◌, length, map, vec_len}
 use Rattle.spec_model.specs.Syntax.{Formula}
 use Rattle.spec_model.specs.Games.{HiddenData, letter_of}
 use Rattle.spec_model.specs.TriggerStates.{Written}

@@ -1,5 +1,5 @@
 -- The next values of a side, as words tell them.
-use Rattle.std.specs.Prelude.{ℕ, ◌+◌, ◌==◌, if◌then◌else◌, List, [], ◌∷◌, ◌++◌, map, flat_map, bit_and}
+use Rattle.std.specs.Prelude.{ℕ, ◌+◌, ◌==◌, if◌then◌else◌, List, ◌++◌, map, flat_map, bit_and}
 use Rattle.trigger_dfa.specs.declared.walk.Walk.{Walk}
 use Rattle.trigger_dfa.specs.Words.{joined_word}
 use Rattle.trigger_dfa.specs.Standings.{first_place}

@@ -1,5 +1,5 @@
 -- A side as words of sets.
-use Rattle.std.specs.Prelude.{◌≡◌, ◌≤◌, ℕ, Bool, not, ◌==◌, if◌then◌else◌, List, length, map, flat_map, bit_and, vec_len}
+use Rattle.std.specs.Prelude.{◌≡◌, ◌≤◌, ℕ, not, ◌==◌, if◌then◌else◌, List, length, map, flat_map, bit_and, vec_len}
 use Rattle.spec_model.specs.Syntax.{Formula}
 use Rattle.spec_model.specs.Games.{letter_of}
 use Rattle.spec_model.specs.TriggerStates.{Written, Positions, brackets, firsts, followers, has, has_last, members, sets_from}

@@ -1,10 +1,10 @@
-use Rattle.std.proofs.Common.{◌≡◌, ◌*◌, ◌≤◌, ◌<◌, min, arith, mul-le-mul, ◌∙◌}
+use Rattle.std.proofs.Common.{◌≤◌, arith, mul-le-mul, ◌∙◌}
 use Rattle.spec_model.specs.Views.{regular}
 use Rattle.trigger_dfa.specs.Sides.{size_in}
-use Rattle.std.proofs.Common.{map, take, ◌+◌}
+use Rattle.std.proofs.Common.{map, take}
 use Rattle.spec_model.specs.Syntax.{regulars}
 use Rattle.trigger_dfa.specs.Sides.{size_in_each}
-use Rattle.trigger_dfa.proofs.PositionCounts.{size_more, capped_sum, capped_product}
+use Rattle.trigger_dfa.proofs.PositionCounts.{size_more, capped_sum}
 use Rattle.trigger_dfa.proofs.counting.+counting.Goals as goal
 
 pub positions_in-overflow_mul-copies_of : goal.positions_in-overflow_mul-copies_of

@@ -1,4 +1,4 @@
-use Rattle.std.proofs.Common.{◌≡◌, ◌∙◌, get_or, arith, ap, cond, length}
+use Rattle.std.proofs.Common.{◌∙◌, get_or, arith, ap, cond}
 use Rattle.trigger_dfa.proofs.MaskWords.{join_step, join_end}
 use Rattle.trigger_dfa.proofs.masks.join.Goals as goal
 

@@ -1,4 +1,4 @@
-use Rattle.std.proofs.Common.{◌≡◌, ◌≤◌, map, length, ap, subst, ◌∙◌, arith}
+use Rattle.std.proofs.Common.{map, length, ap, subst, ◌∙◌, arith}
 use Rattle.std.proofs.lemmas.List.{length-map}
 use Rattle.spec_model.specs.TriggerStates.{written, trigger_atoms}
 use Rattle.spec_model.specs.Views.{formula, trigger_data}

@@ -1,4 +1,4 @@
-use Rattle.std.proofs.Common.{◌≡◌, ℕ, map, length, refl, ◌∙◌, sym, ap, replicate, arith}
+use Rattle.std.proofs.Common.{map, refl, ◌∙◌, sym, ap, replicate}
 use Rattle.std.proofs.lemmas.List.{length-map}
 use Rattle.spec_model.specs.Views.{formula, regular}
 use Rattle.spec_model.specs.TriggerStates.{written}

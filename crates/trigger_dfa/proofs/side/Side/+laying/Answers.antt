@@ -1,11 +1,10 @@
-use Rattle.std.proofs.Common.{◌≡◌, ◌≤◌, ◌<◌, ◌+◌, ◌-◌, ◌*◌, ◌||◌, ◌==◌, min, map, drop, get_or, mul-zero, length, refl, sym, subst, ap, ◌∙◌, arith, rules}
-use Rattle.spec_model.specs.Syntax.{regulars}
+use Rattle.std.proofs.Common.{◌≡◌, ◌≤◌, ◌<◌, ◌+◌, ◌-◌, ◌*◌, ◌||◌, ◌==◌, map, get_or, mul-zero, length, sym, subst, ap, ◌∙◌, arith, rules}
 use Rattle.spec_model.specs.Views.{formula, regular}
-use Rattle.spec_model.specs.TriggerStates.{Written, Either, Empty, copies, written, written_besides, repeated, brackets}
+use Rattle.spec_model.specs.TriggerStates.{copies, written, repeated, brackets}
 use Rattle.trigger_dfa.specs.Sides.{Lays, tail_of, size_in, copies_in}
 use Rattle.trigger_dfa.proofs.PositionCounts.{size-written, length-repeated}
 use Rattle.trigger_dfa.proofs.LaidParts.{length-copies, length-optional, laid_empty, skipped_repeated, repeated-tail}
-use Rattle.trigger_dfa.proofs.LaidLists.{turn_from, besides_from, smaller, turn_room, besides_room, turn_step, besides_step, fewer_copies, copies_step, optional_step}
+use Rattle.trigger_dfa.proofs.LaidLists.{smaller, turn_room, besides_room, turn_step, besides_step, fewer_copies, copies_step, optional_step}
 use Rattle.trigger_dfa.proofs.side.Side.+laying.Goals as goal
 
 pub lay_besides-lay-rest-requires : goal.lay_besides-lay-rest-requires

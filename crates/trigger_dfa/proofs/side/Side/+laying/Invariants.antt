@@ -1,4 +1,4 @@
-use Rattle.std.proofs.Common.{◌≡◌, ◌+◌, ◌*◌, ◌-◌, ◌<◌, map, drop, length, vec_len}
+use Rattle.std.proofs.Common.{◌≡◌, ◌+◌, ◌*◌, ◌-◌, map, drop, length, vec_len}
 use Rattle.spec_model.specs.Syntax.{regulars}
 use Rattle.spec_model.specs.Views.{formula, regular}
 use Rattle.spec_model.specs.TriggerStates.{Either, Empty, copies, written, written_in_turn, written_besides, brackets}

@@ -1,4 +1,4 @@
-use Rattle.std.proofs.Common.{◌≡◌, ◌<◌, ◌≤◌, ◌^◌, arith, cond, ℕ, nat_lt, slice_index, bit_or, subst}
+use Rattle.std.proofs.Common.{◌≡◌, arith, cond, ℕ, nat_lt, slice_index, bit_or, subst}
 use Rattle.trigger_dfa.specs.Words.{in_word}
 use Rattle.trigger_dfa.proofs.Parts.{linked}
 use Rattle.trigger_dfa.proofs.side.Side.link.Goals as goal

@@ -1,4 +1,4 @@
-use Rattle.std.proofs.Common.{◌≡◌, ◌<◌, ◌≤◌, arith, ap, bit_or, ◌^◌, refl, ◌∙◌, length}
+use Rattle.std.proofs.Common.{◌≡◌, ◌<◌, arith, ap, bit_or, ◌^◌, refl, ◌∙◌, length}
 use Rattle.std.proofs.Common.{get_or}
 use Rattle.std.proofs.lemmas.List.{get_or_read}
 use Rattle.trigger_dfa.proofs.Parts.{meaning}

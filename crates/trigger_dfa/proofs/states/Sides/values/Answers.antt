@@ -1,4 +1,4 @@
-use Rattle.std.proofs.Common.{◌≡◌, ◌==◌, bit_and, filter, length, ap, ◌∙◌, arith}
+use Rattle.std.proofs.Common.{◌==◌, bit_and, filter, length, ap, ◌∙◌, arith}
 use Rattle.std.proofs.lemmas.List.{length-map}
 use Rattle.spec_model.specs.Games.{letter_of}
 use Rattle.trigger_dfa.specs.Standings.{all_sets}

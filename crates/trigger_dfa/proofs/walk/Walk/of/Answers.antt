@@ -1,6 +1,6 @@
-use Rattle.std.proofs.Common.{◌≡◌, ◌<◌, ◌≤◌, length, refl, ◌∙◌, sym, ap, arith, min}
+use Rattle.std.proofs.Common.{◌<◌, ◌≤◌, length, refl, arith}
 use Rattle.std.proofs.lemmas.Result.{err_from_is_err_and}
-use Rattle.spec_model.specs.Views.{formula, regular}
+use Rattle.spec_model.specs.Views.{regular}
 use Rattle.spec_model.specs.TriggerStates.{written, brackets}
 use Rattle.trigger_dfa.proofs.PositionCounts.{size-written}
 use Rattle.trigger_dfa.proofs.walk.Walk.of.Goals as goal
