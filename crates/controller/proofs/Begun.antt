@@ -1,17 +1,16 @@
 -- What was made for a strategy is sound.
-use Rattle.std.proofs.Common.{◌≡◌, ℕ, zero, suc, ◌+◌, ◌≤◌, ◌<◌, false, List, [], ◌∷◌, ◌++◌, map, length, get_or, slice_get, Vec, vec_len, Some, None, is_some, IsTrue, ap, sym, ◌∙◌, refl, subst, arith}
+use Rattle.std.proofs.Common.{◌≡◌, ℕ, zero, suc, ◌+◌, ◌≤◌, ◌<◌, false, List, [], ◌∷◌, ◌++◌, map, length, slice_get, Vec, vec_len, Some, None, is_some, IsTrue, ap, sym, ◌∙◌, refl, subst, arith}
 use Rattle.std.proofs.lemmas.List.{map-append}
 use Rattle.std.proofs.lemmas.Bool.{false≢true}
 use Rattle.std.specs.declared.alloc.Global.{Global}
 use Rattle.spec_model.specs.Rules.{Run}
 use Rattle.spec_model.specs.Games.{GameData}
 use Rattle.spec_model.specs.Steps.{Before, below}
-use Rattle.spec_model.specs.Sets.{StateSet, no_states, system_forces}
+use Rattle.spec_model.specs.Sets.{StateSet, system_forces}
 use Rattle.spec_model.specs.WellMade.{WellMade}
 use Rattle.regions.specs.declared.types.When.{When}
 use Rattle.regions.specs.declared.types.When.TheVariants.{First, Later}
 use Rattle.regions.specs.Kept.{Kept, Item, Region, Move, Meaning, States, meaning_of, weight, IsHeldAs, IsExact, IsSameGame, Outputs}
-use Rattle.regions.proofs.Holding.{held_as}
 use Rattle.gr1_law.specs.Layers.{LayerSets, IsWinning, AreGreatestRanks, goal_set, goal_sets, assumption_sets}
 use Rattle.gr1_law.specs.Choice.{Memory, ChosenPlay, first_memory}
 use Rattle.gr1_sys.specs.declared.layers.SysLayer.{SysLayer}

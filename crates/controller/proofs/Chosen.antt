@@ -1,12 +1,10 @@
 -- What is chosen at a turn, as the calls on moves find it.
-use Rattle.std.proofs.Common.{◌≡◌, ℕ, suc, ◌+◌, Bool, true, false, ◌&&◌, ◌||◌, ◌==◌, not, if◌then◌else◌, cond, List, [], ◌∷◌, length, find, Some, None, refl, sym, ap, ◌∙◌, subst, arith}
-use Rattle.std.specs.List.{list_any}
-use Rattle.std.proofs.lemmas.Bool.{false≢true, eqb-true, eq-eqb}
+use Rattle.std.proofs.Common.{◌≡◌, ℕ, suc, ◌+◌, Bool, true, false, ◌&&◌, ◌==◌, not, if◌then◌else◌, length, find, Some, refl, sym, ap, ◌∙◌, subst, arith}
+use Rattle.std.proofs.lemmas.Bool.{false≢true, eq-eqb}
 use Rattle.spec_model.specs.Values.{Assignment}
 use Rattle.spec_model.specs.Games.{GameData, State, outputs_of}
 use Rattle.spec_model.specs.Steps.{Before, is_input, is_output, legal_input}
 use Rattle.spec_model.specs.Sets.{StateSet, output_into}
-use Rattle.spec_model.proofs.AllStates.{Every}
 use Rattle.spec_model.proofs.Listed.{outputs_fit}
 use Rattle.regions.specs.declared.types.When.{When}
 use Rattle.regions.specs.Rules.{outputs_into, is_time}

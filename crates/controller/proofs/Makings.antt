@@ -1,6 +1,6 @@
 -- Moves and regions that are made one after the other, and what is told where one isn't.
-use Rattle.std.proofs.Common.{◌≡◌, ℕ, zero, suc, ◌+◌, ◌≤◌, ◌<◌, List, [], ◌∷◌, ◌++◌, map, length, get_or, take, Vec, None, inl, inr, ap, sym, ◌∙◌, refl, subst, arith}
-use Rattle.std.proofs.lemmas.List.{append_assoc, append-nil, take_more, take_all}
+use Rattle.std.proofs.Common.{◌≡◌, ℕ, zero, suc, ◌≤◌, ◌<◌, List, [], ◌∷◌, ◌++◌, map, length, get_or, take, Vec, ap, sym, ◌∙◌, refl, subst, arith}
+use Rattle.std.proofs.lemmas.List.{append_assoc, append-nil}
 use Rattle.std.specs.declared.alloc.Global.{Global}
 use Rattle.spec_model.specs.declared.value.Owner.TheVariants.{Sys}
 use Rattle.spec_model.specs.Games.{GameData}
@@ -8,18 +8,18 @@ use Rattle.spec_model.specs.Sets.{StateSet, holding}
 use Rattle.regions.specs.declared.types.Halt.{Halt}
 use Rattle.regions.specs.declared.types.When.{When}
 use Rattle.regions.specs.declared.types.When.TheVariants.{First, Later}
-use Rattle.regions.specs.Kept.{Kept, Item, Region, Move, Meaning, States, Each, weight, HasRegion, Halts, OutMoves, IsExact, IsSameGame, Outputs}
+use Rattle.regions.specs.Kept.{Kept, Item, Move, Meaning, States, Each, weight, HasRegion, Halts, OutMoves, IsExact, IsSameGame, Outputs}
 use Rattle.gr1_law.specs.Layers.{or_all_states, goal_sets}
 use Rattle.gr1_sys.specs.declared.layers.SysLayer.{SysLayer}
 use Rattle.gr1_sys.specs.Held.{HasEach, layer_regions, goal_regions, all_regions}
 use Rattle.strategy_parts.specs.Told.{IsMade, TellsHalt as HaltIsTold}
 use Rattle.strategy_parts.proofs.Telling.{every_append, every_both, every_in, has_every, has_each, made_sets, targets_stay as targets_stay_of, leadings_stay as leadings_stay_of, made_moves as made_moves_of, told as told_of, told_after as told_after_of, told_still as told_still_of}
 use Rattle.controller.specs.declared.aims.Aim.{Aim}
-use Rattle.strategy_parts.specs.Owned.{weight_as, HasAll, SpendsAll, MakesAll, region_items, move_items, Every}
+use Rattle.strategy_parts.specs.Owned.{MakesAll, move_items, Every}
 use Rattle.controller.specs.Owned.{aim_items}
 use Rattle.strategy_parts.specs.Told.{IsIn}
 use Rattle.controller.specs.Made.{Targets, tale_of, AreTargets, TellsHalt, leadings, parts_for, regions_for, AreLike, AreAllLike, first_layers, move_meanings}
-use Rattle.strategy_parts.proofs.Owning.{length_map, length_both, weight_as-append, weight_as-one, weight_as-none, weight_as-more, all_as, spent_as}
+use Rattle.strategy_parts.proofs.Owning.{length_map}
 
 -- the states of the goals, or of the first of them, are made
 pub goals_in : (g : GameData) → Every (λ s. IsIn s (goal_sets g)) (goal_sets g)

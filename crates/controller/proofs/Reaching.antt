@@ -1,5 +1,5 @@
 -- The first of several sets that a legal output leads into, and the first region that has a state.
-use Rattle.std.proofs.Common.{◌≡◌, ℕ, ◌+◌, ◌<◌, ◌≤◌, ◌⊎◌, inl, inr, Bool, true, false, List, length, get_or, find, Option, Some, None, ap, sym, ◌∙◌, subst, arith, IsTrue}
+use Rattle.std.proofs.Common.{◌≡◌, ℕ, ◌+◌, ◌<◌, ◌≤◌, inl, inr, Bool, true, false, List, length, get_or, find, Option, Some, None, ap, sym, ◌∙◌, subst, arith}
 use Rattle.std.proofs.lemmas.Bool.{false≢true}
 use Rattle.spec_model.specs.declared.value.Value.{Value}
 use Rattle.spec_model.specs.Values.{Assignment}
@@ -7,16 +7,16 @@ use Rattle.spec_model.specs.Games.{GameData, State, listed, outputs_of}
 use Rattle.spec_model.specs.Steps.{Before, is_state}
 use Rattle.spec_model.specs.Sets.{StateSet}
 use Rattle.regions.specs.declared.types.When.{When}
-use Rattle.regions.specs.Kept.{Kept, Region, Move, Outputs, States, HasMove, HasRegion, GivesOutputs, IsExact, Stays, IsSameGame}
+use Rattle.regions.specs.Kept.{Kept, Move, Outputs, HasMove, GivesOutputs, IsExact, Stays, IsSameGame}
 use Rattle.regions.specs.Rules.{AreBefore, Found, outputs_into}
-use Rattle.regions.proofs.Holding.{choice_is, set_is}
-use Rattle.gr1_law.specs.Layers.{IsLeastNumber, goal_set}
+use Rattle.regions.proofs.Holding.{choice_is}
+use Rattle.gr1_law.specs.Layers.{goal_set}
 use Rattle.gr1_law.specs.Choice.{Memory}
 use Rattle.controller.specs.declared.aims.Aim.{Aim}
-use Rattle.strategy_parts.specs.Owned.{RegionsAre, AreSomewhere}
+use Rattle.strategy_parts.specs.Owned.{RegionsAre}
 use Rattle.controller.specs.Aims.{AimsLead, LeadSomewhere}
 use Rattle.controller.specs.Turns.{first_into, IsFirstReached}
-use Rattle.strategy_parts.proofs.Holdings.{nothing_done, same_game, held_stays, has_move, has_region, region_at}
+use Rattle.strategy_parts.proofs.Holdings.{nothing_done, same_game, held_stays, has_move}
 use Rattle.strategy_parts.proofs.Reaching.{next_or_here, has_at}
 use Rattle.controller.proofs.Holdings.{gives, aim_at}
 

@@ -1,5 +1,5 @@
 -- What is asked for to make a strategy, what is made, and what is told where it isn't.
-use Rattle.std.specs.Prelude.{◌≡◌, ◌⊎◌, ℕ, suc, ◌+◌, true, List, [], ◌∷◌, ◌++◌, map, length, slice_get, Some, None, Vec}
+use Rattle.std.specs.Prelude.{◌≡◌, ℕ, suc, true, List, [], ◌∷◌, ◌++◌, map, length, slice_get, Some, None, Vec}
 use Rattle.std.specs.declared.alloc.Global.{Global}
 use Rattle.spec_model.specs.declared.value.Owner.TheVariants.{Sys}
 use Rattle.spec_model.specs.Games.{GameData}

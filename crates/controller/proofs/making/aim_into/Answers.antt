@@ -1,4 +1,4 @@
-use Rattle.std.proofs.Common.{◌∷◌, [], IfErr, refl, ap, subst, sym, arith}
+use Rattle.std.proofs.Common.{◌∷◌, IfErr, refl, ap, subst, sym, arith}
 use Rattle.std.proofs.lemmas.Result.{err_from_is_err_and}
 use Rattle.regions.specs.Kept.{Move, Meaning, Outputs}
 use Rattle.strategy_parts.specs.Owned.{MakesAll, move_items}
