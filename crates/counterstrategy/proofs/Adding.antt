@@ -1,12 +1,11 @@
 -- Lists that grow by what is made.
-use Rattle.std.proofs.Common.{◌≡◌, ℕ, ◌+◌, List, [], ◌∷◌, ◌++◌, map, length, Vec, None, refl, sym, ap, ◌∙◌, subst, arith}
+use Rattle.std.proofs.Common.{◌≡◌, List, [], ◌∷◌, ◌++◌, length, Vec, None, refl, sym, ap, ◌∙◌, subst, arith}
 use Rattle.std.proofs.lemmas.List.{append_assoc, append-nil, map-append}
 use Rattle.std.specs.declared.alloc.Global.{Global}
 use Rattle.spec_model.specs.declared.value.Owner.{Owner}
 use Rattle.regions.specs.declared.types.When.{When}
-use Rattle.regions.specs.Kept.{Kept, Item, Move, Meaning, weight, HoldsBesides}
-use Rattle.gr1_env.specs.Held.{gather, list_regions}
-use Rattle.strategy_parts.specs.Owned.{weight_as, HoldsAll, MakesAll, move_items}
+use Rattle.regions.specs.Kept.{Kept, Item, Move, Meaning, HoldsBesides}
+use Rattle.strategy_parts.specs.Owned.{HoldsAll, MakesAll, move_items}
 use Rattle.strategy_parts.specs.Told.{leadings, moves_meant}
 use Rattle.strategy_parts.proofs.Owning.{length_map, length_both, weight_as-append, weight_as-none}
 use Rattle.strategy_parts.proofs.Telling.{makes_both, nothing_made}

@@ -1,13 +1,12 @@
 -- What was made for a strategy is sound.
-use Rattle.std.proofs.Common.{◌≡◌, ℕ, zero, suc, ◌+◌, ◌*◌, ◌≤◌, ◌<◌, List, [], ◌∷◌, ◌++◌, map, length, get_or, slice_get, slice_index, Vec, vec_len, Some, None, inl, inr, ap, sym, ◌∙◌, refl, subst, arith}
-use Rattle.std.proofs.lemmas.List.{map-append}
+use Rattle.std.proofs.Common.{◌≡◌, ℕ, zero, suc, ◌+◌, ◌*◌, ◌≤◌, ◌<◌, List, [], ◌∷◌, ◌++◌, map, length, get_or, slice_get, slice_index, Vec, vec_len, Some, inl, inr, ap, sym, ◌∙◌, refl, subst, arith}
 use Rattle.std.specs.declared.alloc.Global.{Global}
 use Rattle.spec_model.specs.Games.{GameData}
 use Rattle.spec_model.specs.Sets.{StateSet, no_states}
 use Rattle.spec_model.specs.WellMade.{WellMade}
 use Rattle.regions.specs.declared.types.When.{When}
 use Rattle.regions.specs.declared.types.When.TheVariants.{First, Later}
-use Rattle.regions.specs.Kept.{Kept, Item, Region, Move, Meaning, States, Inputs, meaning_of, weight, HasRegion, IsExact, IsSameGame}
+use Rattle.regions.specs.Kept.{Kept, Item, Region, Move, Meaning, States, Inputs, meaning_of, weight, IsExact, IsSameGame}
 use Rattle.gr1_law.specs.Layers.{goal_set, goal_sets, assumption_set, assumption_sets}
 use Rattle.gr1_law.specs.EnvLayers.{EnvLayerSets}
 use Rattle.gr1_law.specs.CounterLaws.{IsLostWith}
@@ -15,7 +14,7 @@ use Rattle.gr1_sys.specs.Held.{HasEach}
 use Rattle.gr1_sys.proofs.Won.{found}
 use Rattle.gr1_env.specs.declared.layers.EnvGoal.{EnvGoal}
 use Rattle.gr1_env.specs.declared.layers.EnvLayer.{EnvLayer}
-use Rattle.gr1_env.specs.Held.{gather, list_regions, hold_regions, goal_regions, layer_regions, all_regions}
+use Rattle.gr1_env.specs.Held.{list_regions, hold_regions, goal_regions, layer_regions, all_regions}
 use Rattle.gr1_env.specs.Solved.{counts_of}
 use Rattle.gr1_env.proofs.Gathered.{each_gathered}
 use Rattle.gr1_env.proofs.Counting.{there_at, mapped_at}
@@ -23,15 +22,15 @@ use Rattle.strategy_parts.specs.Owned.{Every, weight_as, HasAll, MakesAll, Regio
 use Rattle.strategy_parts.specs.Told.{IsIn, AreTargets}
 use Rattle.strategy_parts.proofs.Owning.{length_map, length_both, weight_as-append, all_as, together_regions, together_each}
 use Rattle.strategy_parts.proofs.Standing.{AreSets, regions_are, regions_held, each_parts}
-use Rattle.strategy_parts.proofs.Telling.{every_in, has_every, has_each}
+use Rattle.strategy_parts.proofs.Telling.{every_in}
 use Rattle.counterstrategy.specs.declared.kit.Kit.{Kit}
-use Rattle.counterstrategy.specs.Forced.{MovesLead, IsChain, ChainsLead}
+use Rattle.counterstrategy.specs.Forced.{ChainsLead}
 use Rattle.counterstrategy.specs.Settled.{tops, holds_in, LayersAre, GoalsAre}
-use Rattle.counterstrategy.specs.Owned.{list_items, all_lists, goal_delays, all_delays, AreLike, layer_items, moves_in, kit_items}
+use Rattle.counterstrategy.specs.Owned.{list_items, all_lists, goal_delays, all_delays, layer_items, moves_in, kit_items}
 use Rattle.counterstrategy.specs.Made.{layer_sets, delay_sets, targets_of, move_meanings, made_meanings, tale_of, IsTaleOf, IsEquipped, AreLayersOf}
 use Rattle.counterstrategy.specs.Objects.{AreSound}
 use Rattle.counterstrategy.proofs.Stepping.{all_delays-lists}
-use Rattle.counterstrategy.proofs.Chaining.{list_at, counts_are, moves_held, lists_counted, chain_at, list_leads, IsListFor}
+use Rattle.counterstrategy.proofs.Chaining.{list_at, counts_are, moves_held, chain_at, list_leads}
 
 -- ---- regions among those of the layers
 

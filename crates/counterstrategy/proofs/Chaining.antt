@@ -1,5 +1,5 @@
 -- The lists of moves by number: layer by layer, goal by goal, assumption by assumption.
-use Rattle.std.proofs.Common.{◌≡◌, ℕ, zero, suc, ◌+◌, ◌*◌, ◌≤◌, ◌<◌, List, [], ◌∷◌, ◌++◌, map, length, get_or, slice_get, slice_index, Vec, vec_len, Some, refl, sym, ap, ◌∙◌, subst, arith}
+use Rattle.std.proofs.Common.{◌≡◌, ℕ, zero, suc, ◌+◌, ◌*◌, ◌≤◌, ◌<◌, List, [], ◌∷◌, ◌++◌, map, length, get_or, slice_get, Vec, vec_len, Some, refl, sym, ap, ◌∙◌, subst, arith}
 use Rattle.std.proofs.lemmas.List.{map-append}
 use Rattle.std.proofs.lemmas.Nat.{mul-le}
 use Rattle.std.proofs.Math.Nat.{add-mul, mul_assoc, suc-mul, zero-mul}
@@ -10,12 +10,11 @@ use Rattle.regions.specs.declared.types.When.{When}
 use Rattle.regions.specs.declared.types.When.TheVariants.{Later}
 use Rattle.regions.specs.Kept.{Kept, Item, Move, Meaning, Inputs, weight, IsHeldAs}
 use Rattle.gr1_sys.proofs.Parted.{get_or-map_below}
-use Rattle.gr1_sys.proofs.Won.{found}
 use Rattle.gr1_env.specs.declared.layers.EnvGoal.{EnvGoal}
 use Rattle.gr1_env.specs.declared.layers.EnvLayer.{EnvLayer}
 use Rattle.gr1_env.specs.Held.{gather, list_regions}
 use Rattle.gr1_env.specs.Solved.{goal_counts, counts_of}
-use Rattle.gr1_env.proofs.Counting.{there_at, mapped_at}
+use Rattle.gr1_env.proofs.Counting.{mapped_at}
 use Rattle.strategy_parts.specs.Owned.{weight_as, move_items}
 use Rattle.strategy_parts.proofs.Owning.{length_map, length_both, weight_as-append, weight_as-more}
 use Rattle.counterstrategy.specs.Forced.{MovesLead}

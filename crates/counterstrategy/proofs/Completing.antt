@@ -1,16 +1,13 @@
 -- A position is completed: where the play is then.
-use Rattle.std.proofs.Common.{◌≡◌, ℕ, Bool, true, false, not, List, ◌++◌, Vec, take, drop, length, Some, None, is_some, refl, sym, ap, ◌∙◌, subst}
+use Rattle.std.proofs.Common.{◌≡◌, Bool, true, false, not, List, ◌++◌, Vec, take, drop, length, Some, None, is_some, refl, sym, ap, ◌∙◌, subst}
 use Rattle.std.proofs.lemmas.Bool.{false≢true}
 use Rattle.std.proofs.Math.Seq.{take-append_seam}
 use Rattle.std.specs.declared.alloc.Global.{Global}
 use Rattle.spec_model.specs.Values.{Assignment}
 use Rattle.spec_model.specs.Games.{GameData}
 use Rattle.spec_model.specs.Steps.{Before, reached}
-use Rattle.gr1_law.specs.Counter.{CounterMemory}
 use Rattle.strategy_parts.specs.declared.position.Position.{Position}
 use Rattle.strategy_parts.specs.Positions.{IsAfter, IsClosedAt}
-use Rattle.counterstrategy.specs.declared.place.Place.{Place}
-use Rattle.counterstrategy.specs.Places.{IsAt}
 
 pub no_state : (b : Before) → is_some b ≡ false → b ≡ None
 no_state None e = refl

@@ -1,14 +1,14 @@
 -- How what a strategy has besides its layers is made: regions first, then moves.
-use Rattle.std.proofs.Common.{◌≡◌, ℕ, suc, ◌+◌, ◌≤◌, List, [], ◌∷◌, ◌++◌, map, length, Vec, None, refl, sym, ap, ◌∙◌, subst, arith}
+use Rattle.std.proofs.Common.{◌≡◌, ℕ, suc, ◌+◌, ◌≤◌, List, [], ◌∷◌, ◌++◌, map, length, Vec, refl, sym, ap, ◌∙◌, subst, arith}
 use Rattle.std.proofs.lemmas.List.{append_assoc}
 use Rattle.std.specs.declared.alloc.Global.{Global}
 use Rattle.spec_model.specs.declared.value.Owner.{Owner}
 use Rattle.spec_model.specs.declared.value.Owner.TheVariants.{Env}
-use Rattle.spec_model.specs.Sets.{StateSet, no_states}
+use Rattle.spec_model.specs.Sets.{no_states}
 use Rattle.regions.specs.declared.types.Halt.{Halt}
 use Rattle.regions.specs.declared.types.When.{When}
 use Rattle.regions.specs.declared.types.When.TheVariants.{First, Later}
-use Rattle.regions.specs.Kept.{Kept, Item, Region, Meaning, States, Inputs, Each, meaning_of, weight, HasRegion, HoldsBesides, MakesRegion, Spends, IsExact, IsSameGame}
+use Rattle.regions.specs.Kept.{Kept, Item, Region, Meaning, States, Inputs, Each, meaning_of, weight, HasRegion, HoldsBesides, MakesRegion, Spends, IsExact}
 use Rattle.regions.proofs.Holding.{set_is}
 use Rattle.gr1_law.specs.Layers.{goal_sets, assumption_sets}
 use Rattle.gr1_sys.specs.Held.{HasEach}

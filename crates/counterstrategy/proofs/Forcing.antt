@@ -1,5 +1,5 @@
 -- The first input that forces the next state into a set, as the calls on moves find it.
-use Rattle.std.proofs.Common.{◌≡◌, ℕ, ◌+◌, ◌<◌, ◌≤◌, ◌⊎◌, inl, inr, Bool, true, false, ◌&&◌, if◌then◌else◌, List, length, get_or, find, Option, Some, None, sym, ap, ◌∙◌, subst, arith}
+use Rattle.std.proofs.Common.{◌≡◌, ℕ, ◌+◌, ◌≤◌, inl, inr, Bool, true, false, ◌&&◌, if◌then◌else◌, List, find, Some, None, sym, ap, ◌∙◌, subst, arith}
 use Rattle.std.proofs.lemmas.Bool.{false≢true}
 use Rattle.spec_model.specs.declared.value.Value.{Value}
 use Rattle.spec_model.specs.Values.{Assignment}
@@ -16,8 +16,7 @@ use Rattle.gr1_law.specs.Counter.{CounterMemory, targets, IsGiven}
 use Rattle.strategy_parts.proofs.Holdings.{held_stays, has_move}
 use Rattle.strategy_parts.proofs.Reaching.{next_or_here}
 use Rattle.strategy_parts.proofs.Searching.{find-same, every_from, none_found}
-use Rattle.counterstrategy.specs.Forced.{first_forcing, IsFirstForced, MovesLead, LeadSomewhere}
-use Rattle.counterstrategy.proofs.Moving.{move_at}
+use Rattle.counterstrategy.specs.Forced.{first_forcing, IsFirstForced}
 
 module _ (g : GameData) (when : When) (b : Before) (time : is_time g when b ≡ true) where
   forcing_is : (t : StateSet) → first_forcing g when t b ≡ find (input_into g t b) (inputs_of g)

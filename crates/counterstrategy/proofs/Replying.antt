@@ -1,5 +1,5 @@
 -- What a reply tells of the new position, and what is remembered of it.
-use Rattle.std.proofs.Common.{◌≡◌, ℕ, suc, ◌<◌, Bool, true, false, not, List, length, get_or, slice_get, Some, sym, ap, ◌∙◌, subst, arith, IsTrue}
+use Rattle.std.proofs.Common.{◌≡◌, ℕ, suc, ◌<◌, Bool, true, false, List, length, get_or, slice_get, Some, sym, ap, ◌∙◌, subst, arith, IsTrue}
 use Rattle.std.proofs.lemmas.Option.{slice_get-get_or}
 use Rattle.spec_model.specs.declared.value.Value.{Value}
 use Rattle.spec_model.specs.Games.{GameData, State, listed}
@@ -8,7 +8,7 @@ use Rattle.spec_model.specs.Sets.{StateSet}
 use Rattle.regions.specs.Kept.{Kept, Stays, IsSameGame}
 use Rattle.gr1_law.specs.Layers.{IsLeastNumber}
 use Rattle.gr1_law.specs.EnvLayers.{EnvLayerSets}
-use Rattle.gr1_law.specs.Counter.{CounterMemory, IsNoted}
+use Rattle.gr1_law.specs.Counter.{CounterMemory}
 use Rattle.gr1_env.specs.declared.layers.EnvGoal.{EnvGoal}
 use Rattle.gr1_env.specs.declared.layers.EnvLayer.{EnvLayer}
 use Rattle.strategy_parts.specs.Owned.{RegionsAre}

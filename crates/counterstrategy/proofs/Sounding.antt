@@ -1,5 +1,5 @@
 -- What is sound stays so, and serves each turn and each reply.
-use Rattle.std.proofs.Common.{◌≡◌, ℕ, suc, ◌<◌, List, Vec, length, slice_get, slice_index, Some, sym, ap, ◌∙◌, subst}
+use Rattle.std.proofs.Common.{ℕ, suc, List, Vec, length, Some, sym, ap, ◌∙◌, subst}
 use Rattle.std.specs.declared.alloc.Global.{Global}
 use Rattle.spec_model.specs.Values.{Assignment}
 use Rattle.spec_model.specs.Games.{GameData, State}
@@ -17,7 +17,7 @@ use Rattle.strategy_parts.specs.Owned.{RegionsAre}
 use Rattle.strategy_parts.proofs.Holdings.{regions_stay}
 use Rattle.counterstrategy.specs.declared.kit.Kit.{Kit}
 use Rattle.counterstrategy.specs.declared.place.Place.{Place}
-use Rattle.counterstrategy.specs.Forced.{MovesLead, IsChain, ChainsLead}
+use Rattle.counterstrategy.specs.Forced.{ChainsLead}
 use Rattle.counterstrategy.specs.Settled.{tops, holds_in, LayersAre, GoalsAre}
 use Rattle.counterstrategy.specs.Places.{IsAt}
 use Rattle.counterstrategy.specs.Turns.{IsTurn, IsReply, ServesTurn, ServesReply}

@@ -1,12 +1,12 @@
 -- The moves that serve a turn, and the input that they give.
-use Rattle.std.proofs.Common.{◌≡◌, ℕ, zero, suc, ◌+◌, ◌*◌, ◌≤◌, ◌<◌, true, false, List, Vec, length, get_or, slice_get, slice_index, Some, None, is_some, refl, sym, ap, ◌∙◌, subst, arith}
+use Rattle.std.proofs.Common.{◌≡◌, ℕ, zero, suc, ◌+◌, ◌*◌, ◌≤◌, ◌<◌, true, false, List, Vec, length, get_or, slice_get, Some, None, is_some, refl, sym, ap, ◌∙◌, subst, arith}
 use Rattle.std.proofs.lemmas.Bool.{false≢true}
-use Rattle.std.proofs.lemmas.Option.{slice_get_within, get_or_from_slice_get}
+use Rattle.std.proofs.lemmas.Option.{get_or_from_slice_get}
 use Rattle.std.specs.declared.alloc.Global.{Global}
 use Rattle.spec_model.specs.declared.value.Value.{Value}
 use Rattle.spec_model.specs.Values.{Assignment}
 use Rattle.spec_model.specs.Games.{GameData}
-use Rattle.spec_model.specs.Steps.{Before, is_state}
+use Rattle.spec_model.specs.Steps.{Before}
 use Rattle.spec_model.specs.Sets.{StateSet}
 use Rattle.regions.specs.declared.types.When.{When}
 use Rattle.regions.specs.declared.types.When.TheVariants.{First, Later}
@@ -18,8 +18,8 @@ use Rattle.gr1_law.specs.Counter.{CounterMemory}
 use Rattle.strategy_parts.specs.Positions.{IsWholeBefore, values_at}
 use Rattle.counterstrategy.specs.declared.kit.Kit.{Kit}
 use Rattle.counterstrategy.specs.declared.place.Place.{Place}
-use Rattle.counterstrategy.specs.Forced.{IsFirstForced, MovesLead, IsChain}
-use Rattle.counterstrategy.specs.Turns.{IsInHold, ServesTurn}
+use Rattle.counterstrategy.specs.Forced.{IsFirstForced, MovesLead}
+use Rattle.counterstrategy.specs.Turns.{ServesTurn}
 use Rattle.counterstrategy.proofs.Moving.{moves_stay, move_at}
 
 -- ---- all but the first set

@@ -1,11 +1,11 @@
 -- A turn after each play that is stood for, and what is remembered after each legal reply.
-use Rattle.std.proofs.Common.{◌≡◌, ℕ, suc, ◌+◌, ◌<◌, ◌≤◌, inl, inr, Bool, true, false, not, ◌||◌, if◌then◌else◌, List, [], ◌∷◌, count_by, length, slice_index, Some, None, is_some, refl, sym, ◌∙◌, ap, subst, arith, IsTrue}
+use Rattle.std.proofs.Common.{◌≡◌, ℕ, suc, ◌<◌, ◌≤◌, inl, inr, Bool, true, false, not, ◌||◌, if◌then◌else◌, List, [], ◌∷◌, count_by, length, slice_index, Some, None, is_some, refl, sym, ◌∙◌, ap, subst, arith, IsTrue}
 use Rattle.std.specs.List.{list_any, list_all}
 use Rattle.std.proofs.lemmas.Bool.{and_parts, and_from, or_cases, false≢true}
 use Rattle.spec_model.specs.Values.{Assignment}
 use Rattle.spec_model.specs.Rules.{Run}
 use Rattle.spec_model.specs.Unrealizable.{NoteData, is_shift}
-use Rattle.spec_model.specs.Games.{GameData, State, inputs_of, outputs_of}
+use Rattle.spec_model.specs.Games.{GameData, inputs_of, outputs_of}
 use Rattle.spec_model.specs.Steps.{Before, IsClosed, is_input, is_output, is_state, legal_output, reached}
 use Rattle.spec_model.specs.Sets.{StateSet, input_into, environment_forces, IsPartOf}
 use Rattle.gr1_law.specs.Layers.{goal_sets, assumption_sets}
@@ -14,10 +14,10 @@ use Rattle.gr1_law.specs.Counter.{CounterMemory, first_counter, IsGiven, IsNoted
 use Rattle.gr1_law.specs.CounterLaws.{IsLostWith}
 use Rattle.gr1_law.proofs.Chains.{in_settled}
 use Rattle.gr1_law.proofs.Delays.{delay_in_next, delay-inside, delay_stays}
-use Rattle.gr1_law.proofs.CounterSteps.{CounterReady, CounterStands, input_exists, given_input, given_leads, note_exists, stands_next}
+use Rattle.gr1_law.proofs.CounterSteps.{CounterReady, input_exists, given_input, given_leads, note_exists, stands_next}
 use Rattle.gr1_law.proofs.CounterTrails.{answered}
 use Rattle.strategy_parts.specs.Positions.{IsWholeBefore, IsClosedAt}
-use Rattle.counterstrategy.specs.Turns.{IsInHold, IsTurn, IsReply}
+use Rattle.counterstrategy.specs.Turns.{IsTurn, IsReply}
 
 -- a play without a state has no position
 pub none_yet : (g : GameData) (e : EnvLayerSets) (h : Run) (notes : List NoteData) (b : Before) (k : CounterMemory) → AnsweredPlay g e h notes b k → is_some b ≡ false → (h ≡ []) × (notes ≡ []) × (b ≡ None) × (k ≡ first_counter)

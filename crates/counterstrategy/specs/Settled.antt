@@ -1,7 +1,5 @@
 -- What is looked at to remember a position: the regions of the layers, of the goals and of the assumptions.
 use Rattle.std.specs.Prelude.{◌≡◌, ℕ, suc, List, map, length, slice_get, Some}
-use Rattle.spec_model.specs.Games.{GameData, State}
-use Rattle.spec_model.specs.Sets.{StateSet}
 use Rattle.regions.specs.Kept.{Kept}
 use Rattle.gr1_law.specs.Layers.{goal_sets, goal_set, assumption_sets, assumption_set}
 use Rattle.gr1_law.specs.EnvLayers.{EnvLayerSets}

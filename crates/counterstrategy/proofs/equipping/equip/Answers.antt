@@ -1,4 +1,4 @@
-use Rattle.std.proofs.Common.{◌≡◌, ◌++◌, ◌∷◌, List, Vec, map, sym, subst, arith}
+use Rattle.std.proofs.Common.{◌++◌, Vec, map, sym, subst, arith}
 use Rattle.std.specs.declared.alloc.Global.{Global}
 use Rattle.regions.specs.Kept.{States}
 use Rattle.gr1_law.specs.Layers.{goal_sets, assumption_sets}

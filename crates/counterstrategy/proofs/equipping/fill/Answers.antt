@@ -1,11 +1,11 @@
-use Rattle.std.proofs.Common.{◌≡◌, [], List, refl, sym, ap, subst, arith}
+use Rattle.std.proofs.Common.{[], refl, sym, subst, arith}
 use Rattle.std.proofs.lemmas.Result.{IfErr-weaker}
 use Rattle.spec_model.specs.Sets.{no_states}
 use Rattle.regions.specs.Kept.{NoStates}
 use Rattle.regions.proofs.Holding.{set_is}
 use Rattle.gr1_sys.proofs.Holdings.{on_err}
 use Rattle.gr1_env.specs.Held.{all_regions}
-use Rattle.strategy_parts.specs.Owned.{HoldsAll, MakesAll}
+use Rattle.strategy_parts.specs.Owned.{MakesAll}
 use Rattle.strategy_parts.specs.Told.{AsksFor, TellsHalt}
 use Rattle.strategy_parts.proofs.Telling.{each_stays, nothing_made, told}
 use Rattle.counterstrategy.specs.Owned.{moves_in}

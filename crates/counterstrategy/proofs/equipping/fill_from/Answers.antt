@@ -1,4 +1,4 @@
-use Rattle.std.proofs.Common.{◌∷◌, [], List, subst, sym}
+use Rattle.std.proofs.Common.{[], List, subst, sym}
 use Rattle.std.proofs.lemmas.Result.{IfErr-weaker}
 use Rattle.regions.specs.declared.types.When.TheVariants.{First}
 use Rattle.gr1_sys.proofs.Holdings.{on_err}

@@ -1,6 +1,6 @@
-use Rattle.std.proofs.Common.{◌≡◌, ◌∷◌, ◌∙◌, ◌+◌, ◌*◌, suc, length, Some, List, Vec, sym, ap, subst, arith}
+use Rattle.std.proofs.Common.{◌∙◌, ◌+◌, ◌*◌, suc, length, List, Vec, sym, ap, subst, arith}
 use Rattle.std.specs.declared.alloc.Global.{Global}
-use Rattle.std.proofs.lemmas.Option.{slice_get_within, get_or_from_slice_get}
+use Rattle.std.proofs.lemmas.Option.{slice_get_within}
 use Rattle.regions.specs.declared.types.When.TheVariants.{First, Later}
 use Rattle.counterstrategy.specs.Forced.{MovesLead}
 use Rattle.counterstrategy.proofs.Forcing.{first_into_layer, first_into_hold}

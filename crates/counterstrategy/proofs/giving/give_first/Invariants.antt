@@ -4,7 +4,7 @@ use Rattle.spec_model.specs.Steps.{Before}
 use Rattle.spec_model.specs.Sets.{StateSet}
 use Rattle.regions.specs.declared.types.When.{When}
 use Rattle.regions.specs.Kept.{Stays, IsSameGame}
-use Rattle.regions.specs.Rules.{AreBefore, input_count}
+use Rattle.regions.specs.Rules.{AreBefore}
 use Rattle.counterstrategy.specs.Forced.{MovesLead, IsFirstForced}
 use Rattle.counterstrategy.proofs.giving.give_first.Given as goal
 

@@ -1,4 +1,4 @@
-use Rattle.std.proofs.Common.{◌≡◌, suc, arith}
+use Rattle.std.proofs.Common.{suc, arith}
 use Rattle.strategy_parts.proofs.Holdings.{nothing_done, same_game}
 use Rattle.counterstrategy.proofs.Moving.{moves_stay}
 use Rattle.counterstrategy.proofs.Forcing.{found_by, gives, not_before, is_forced}

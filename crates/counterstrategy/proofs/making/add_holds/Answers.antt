@@ -1,19 +1,17 @@
-use Rattle.std.proofs.Common.{◌≡◌, ◌∙◌, ◌∷◌, [], ◌++◌, List, Vec, take, refl, sym, ap, subst}
+use Rattle.std.proofs.Common.{◌∙◌, ◌++◌, List, take, refl, sym, ap, subst}
 use Rattle.std.proofs.lemmas.List.{append_assoc, append-nil}
-use Rattle.std.specs.declared.alloc.Global.{Global}
 use Rattle.spec_model.specs.declared.value.Owner.TheVariants.{Env}
 use Rattle.regions.specs.declared.types.When.TheVariants.{Later}
 use Rattle.regions.specs.Kept.{HasRegion}
 use Rattle.gr1_sys.specs.Held.{HasEach}
 use Rattle.gr1_sys.proofs.Holdings.{on_err}
 use Rattle.gr1_env.specs.declared.layers.EnvGoal.{EnvGoal}
-use Rattle.gr1_env.specs.declared.layers.EnvLayer.{EnvLayer}
 use Rattle.gr1_env.specs.Held.{list_regions}
 use Rattle.gr1_env.proofs.Gathered.{gather-push}
 use Rattle.strategy_parts.specs.Told.{IsIn, AreTargets, TellsHalt, leadings}
 use Rattle.strategy_parts.proofs.Holdings.{same_then, same_game}
 use Rattle.strategy_parts.proofs.Telling.{has_every, has_each, take_next}
-use Rattle.counterstrategy.specs.Owned.{list_items, goal_lists, goal_delays, all_lists, all_delays, AreLike}
+use Rattle.counterstrategy.specs.Owned.{list_items, goal_lists, goal_delays, AreLike}
 use Rattle.counterstrategy.specs.Made.{Adds}
 use Rattle.counterstrategy.proofs.Adding.{list_items-append, nothing_added}
 use Rattle.counterstrategy.proofs.Erring.{err_told}

@@ -1,4 +1,4 @@
-use Rattle.std.proofs.Common.{◌≡◌, ◌∷◌, [], List, take, refl, sym, ap, subst}
+use Rattle.std.proofs.Common.{◌∷◌, [], List, take, refl, sym, subst}
 use Rattle.spec_model.specs.declared.value.Owner.TheVariants.{Env}
 use Rattle.regions.specs.Kept.{HasRegion}
 use Rattle.gr1_sys.proofs.Holdings.{on_err}

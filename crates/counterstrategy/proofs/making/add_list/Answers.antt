@@ -1,7 +1,7 @@
-use Rattle.std.proofs.Common.{◌≡◌, ◌∙◌, ◌∷◌, [], ◌++◌, List, length, refl, sym, ap, subst, arith}
+use Rattle.std.proofs.Common.{◌∙◌, ◌∷◌, [], ◌++◌, List, length, refl, sym, ap, subst, arith}
 use Rattle.spec_model.specs.declared.value.Owner.TheVariants.{Env}
 use Rattle.regions.specs.declared.types.When.TheVariants.{Later}
-use Rattle.strategy_parts.specs.Owned.{MakesAll, move_items}
+use Rattle.strategy_parts.specs.Owned.{MakesAll}
 use Rattle.strategy_parts.specs.Told.{leadings}
 use Rattle.counterstrategy.specs.Owned.{list_items, AreLike}
 use Rattle.counterstrategy.proofs.Adding.{list_items-append, list_items-push, none_of_some, one_added, like_both, as_many}

@@ -1,13 +1,11 @@
-use Rattle.std.proofs.Common.{◌≡◌, ◌++◌, ◌∷◌, List, Vec, take}
+use Rattle.std.proofs.Common.{◌++◌, List, Vec, take}
 use Rattle.std.specs.declared.alloc.Global.{Global}
 use Rattle.spec_model.specs.declared.value.Owner.TheVariants.{Env}
 use Rattle.regions.specs.declared.types.When.TheVariants.{Later}
 use Rattle.regions.specs.Kept.{IsSameGame}
 use Rattle.gr1_env.specs.Held.{list_regions}
-use Rattle.strategy_parts.specs.Owned.{move_items}
 use Rattle.strategy_parts.specs.Told.{leadings}
-use Rattle.counterstrategy.specs.Settled.{tops}
-use Rattle.counterstrategy.specs.Owned.{list_items, goal_lists, goal_delays, all_lists, all_delays, AreLike}
+use Rattle.counterstrategy.specs.Owned.{list_items, AreLike}
 use Rattle.counterstrategy.specs.Made.{Adds}
 use Rattle.counterstrategy.proofs.making.add_lists.Given as goal
 

@@ -1,5 +1,4 @@
-use Rattle.std.proofs.Common.{◌≡◌, ◌∙◌, ◌∷◌, [], ◌++◌, List, refl, sym, ap, subst, arith}
-use Rattle.spec_model.specs.declared.value.Owner.TheVariants.{Env}
+use Rattle.std.proofs.Common.{◌∙◌, ◌∷◌, [], ◌++◌, List, refl, sym, ap, subst, arith}
 use Rattle.regions.specs.Kept.{Move, Inputs, States, InMoves}
 use Rattle.strategy_parts.specs.Owned.{move_items}
 use Rattle.strategy_parts.specs.Told.{AsksFor}

@@ -1,8 +1,8 @@
-use Rattle.std.proofs.Common.{rules, ◌≡◌, ◌<◌, ◌+◌, ◌∙◌, suc, length, get_or, slice_get, Some, List, sym, ap, subst, arith}
+use Rattle.std.proofs.Common.{rules, ◌<◌, suc, length, get_or, List, sym, subst, arith}
 use Rattle.strategy_parts.specs.Owned.{RegionsAre}
 use Rattle.strategy_parts.proofs.Holdings.{regions_stay}
-use Rattle.counterstrategy.specs.Settled.{tops, holds_in}
-use Rattle.counterstrategy.proofs.Replying.{low_is, layer_found, least_hold, first_asm, holds_there, goal_is}
+use Rattle.counterstrategy.specs.Settled.{holds_in}
+use Rattle.counterstrategy.proofs.Replying.{low_is, layer_found, first_asm, holds_there, goal_is}
 use Rattle.counterstrategy.proofs.noting.aim.Goals as goal
 
 pub offset_bounds-layers-low : goal.offset_bounds-layers-low

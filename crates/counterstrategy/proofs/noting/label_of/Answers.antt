@@ -1,5 +1,3 @@
-use Rattle.std.proofs.Common.{◌∙◌, sym, refl}
-use Rattle.spec_model.specs.GameViews.{goal_data}
 use Rattle.counterstrategy.proofs.Labelling.{label_there}
 use Rattle.counterstrategy.proofs.noting.label_of.Goals as goal
 

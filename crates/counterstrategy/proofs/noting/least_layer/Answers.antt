@@ -1,4 +1,4 @@
-use Rattle.std.proofs.Common.{◌≡◌, ◌<◌, length, get_or, sym, arith}
+use Rattle.std.proofs.Common.{get_or, arith}
 use Rattle.strategy_parts.proofs.Holdings.{stays_then, same_then}
 use Rattle.strategy_parts.proofs.Reaching.{region_held, has_at, later_part, this_part}
 use Rattle.counterstrategy.specs.Settled.{tops}

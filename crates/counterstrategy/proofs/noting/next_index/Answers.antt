@@ -1,4 +1,4 @@
-use Rattle.std.proofs.Common.{◌≡◌, ◌<◌, ◌+◌, length, not, true, false, refl, sym, ap, ◌∙◌, arith}
+use Rattle.std.proofs.Common.{length}
 use Rattle.gr1_law.specs.Layers.{assumption_set}
 use Rattle.strategy_parts.proofs.Holdings.{nothing_done, same_game}
 use Rattle.strategy_parts.proofs.Reaching.{region_held, has_at}

@@ -1,7 +1,7 @@
-use Rattle.std.proofs.Common.{◌≡◌, ◌<◌, ◌∙◌, not, length, List, true, if◌then◌else◌, sym, ap, subst, arith}
-use Rattle.spec_model.specs.Games.{GameData, State}
+use Rattle.std.proofs.Common.{◌≡◌, ◌∙◌, not, length, List, true, if◌then◌else◌, sym, ap, subst, arith}
+use Rattle.spec_model.specs.Games.{GameData}
 use Rattle.spec_model.specs.Steps.{is_state}
-use Rattle.gr1_law.specs.Layers.{goal_set, assumption_set, assumption_sets}
+use Rattle.gr1_law.specs.Layers.{goal_set, assumption_set}
 use Rattle.gr1_law.specs.Counter.{next_assumption}
 use Rattle.strategy_parts.specs.Owned.{RegionsAre}
 use Rattle.strategy_parts.proofs.Holdings.{stays_then, same_then, regions_stay}

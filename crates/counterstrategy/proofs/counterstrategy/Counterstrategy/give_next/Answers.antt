@@ -1,4 +1,4 @@
-use Rattle.std.proofs.Common.{◌≡◌, ◌∙◌, ◌++◌, take, drop, length, vec_len, List, refl, sym, ap, subst, arith}
+use Rattle.std.proofs.Common.{◌≡◌, ◌∙◌, ◌++◌, take, drop, length, List, refl, sym, ap, subst, arith}
 use Rattle.spec_model.specs.Games.{GameData}
 use Rattle.spec_model.specs.Values.{Assignment}
 use Rattle.regions.specs.Rules.{input_count}

@@ -1,4 +1,4 @@
-use Rattle.std.proofs.Common.{◌≡◌, ◌∙◌, None, IsTrue, sym, ap, subst}
+use Rattle.std.proofs.Common.{◌∙◌, None, IsTrue, sym, ap, subst}
 use Rattle.spec_model.specs.Games.{GameData}
 use Rattle.spec_model.specs.Steps.{is_input, legal_output}
 use Rattle.gr1_env.specs.Solved.{counts_of}

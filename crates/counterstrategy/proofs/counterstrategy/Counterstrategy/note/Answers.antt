@@ -1,4 +1,4 @@
-use Rattle.std.proofs.Common.{◌∙◌, List, length, sym, ap, arith}
+use Rattle.std.proofs.Common.{List, length, ap, arith}
 use Rattle.spec_model.specs.GameViews.{goal_data}
 use Rattle.spec_model.specs.Games.{GameData}
 use Rattle.strategy_parts.proofs.Owning.{length_map}
