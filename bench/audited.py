@@ -1,8 +1,8 @@
 #!/usr/bin/env python3
 """audited.py PROGRAM LIFT FOLDER COUNT: how many positions a second `PROGRAM audit` judges.
 
-Two logs of COUNT positions that break no line go through it: one of the lift of the specification LIFT, which goes up and down
-and is called where it is, and one of a bus of 64 clients with a line for each, that a request stays until it is granted. Each log
+Two logs that break no line go through it: COUNT positions of the lift of the specification LIFT, which goes up and down
+and is called where it is, and a 20th as many of a bus of 64 clients with a line for each, that a request stays until it is granted. Each log
 is audited by a specification of the same variables without lines too, which tells how long the lines take to be read.
 """
 import subprocess
@@ -66,11 +66,11 @@ def seconds(program, specification, log, count):
 
 
 def main():
-    program, lift, folder, count = sys.argv[1], sys.argv[2], sys.argv[3], int(sys.argv[4])
+    program, lift, folder, most = sys.argv[1], sys.argv[2], sys.argv[3], int(sys.argv[4])
     with open(lift, encoding="ascii") as text:
-        cases = [("lift", text.read(), lift_positions), ("bus", bus(), bus_positions)]
+        cases = [("lift", text.read(), lift_positions, most), ("bus", bus(), bus_positions, most // 20)]
     print("| Log | Positions | s | s without lines | Positions/s | Judged/s |\n|---|---|---|---|---|---|")
-    for name, text, positions in cases:
+    for name, text, positions, count in cases:
         log = write(f"{folder}/{name}.log", "".join(p + "\n" for p in positions(count)))
         whole = seconds(program, write(f"{folder}/{name}.spectra", text), log, count)
         read = seconds(program, write(f"{folder}/{name}_read.spectra", without_lines(text)), log, count)
