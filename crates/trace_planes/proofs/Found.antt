@@ -1,7 +1,7 @@
 -- What is found on a run that goes on, and that nothing is found exactly on plays.
-use Rattle.std.proofs.Common.{◌≡◌, ℕ, true, false, [], ◌∷◌, ◌++◌, Option, Some, None, is_none, refl, sym, ap, subst, ◌∙◌, append_assoc, IsTrue, ◌↔◌, ◌+◌, arith}
+use Rattle.std.proofs.Common.{◌≡◌, true, false, [], ◌∷◌, ◌++◌, Option, Some, None, is_none, refl, sym, ap, subst, ◌∙◌, append_assoc, IsTrue, ◌↔◌}
 use Rattle.std.proofs.lemmas.Bool.{and_parts, and_from}
-use Rattle.std.proofs.lemmas.List.{append-nil, length-append}
+use Rattle.std.proofs.lemmas.List.{append-nil}
 use Rattle.spec_model.specs.declared.game.Label.{Label}
 use Rattle.spec_model.specs.Values.{Assignment}
 use Rattle.spec_model.specs.Rules.{Position, Run, after}
@@ -18,8 +18,10 @@ use Rattle.hidden_game.proofs.FirstBroken as inputs
 use Rattle.hidden_game.proofs.FirstAnswer as outputs
 use Rattle.trace_planes.specs.declared.finding.Finding.{Finding}
 use Rattle.trace_planes.specs.declared.judge.Judge.{Judge}
+use Rattle.trace_planes.specs.declared.plain.Plain.{Plain}
 use Rattle.trace_planes.specs.Findings.{or_else, broken_after, broken_in_game, found_after, first_from, first_finding}
-use Rattle.trace_planes.specs.Audits.{AreWhole, JudgesAfter, IsJudged, IsCheckedUpTo}
+use Rattle.trace_planes.specs.Rows.{AreWhole}
+use Rattle.trace_planes.specs.Audits.{JudgesAfter, IsJudged, HasJudged}
 
 module _ {X : Type 0} where
   or_else-none : (a : Option X) → or_else a None ≡ a
@@ -61,11 +63,11 @@ whole_push g [] p whole input output = (input, output, tt)
 whole_push g (q ∷ h) p whole input output = (whole.0, whole.1, whole_push g h p whole.2 input output)
 
 module _ (g : GameData) (made : WellMade g) where
-  reached_whole : (b : Before) (x y : Assignment) → IsWholeBefore g b → IsTrue (is_input g x) → IsTrue (is_output g y) → IsTrue (is_state g (reached g b x y))
+  pub reached_whole : (b : Before) (x y : Assignment) → IsWholeBefore g b → IsTrue (is_input g x) → IsTrue (is_output g y) → IsTrue (is_state g (reached g b x y))
   reached_whole None x y whole input output = (closed g made).first x y input output
   reached_whole (Some s) x y whole input output = (closed g made).later s x y whole input output
 
-  whole_after : (h : Run) (x y : Assignment) → IsWholeBefore g (last_state g h) → IsTrue (is_input g x) → IsTrue (is_output g y) → IsWholeBefore g (last_state g (after h x y))
+  pub whole_after : (h : Run) (x y : Assignment) → IsWholeBefore g (last_state g h) → IsTrue (is_input g x) → IsTrue (is_output g y) → IsWholeBefore g (last_state g (after h x y))
   whole_after h x y whole input output = subst (IsWholeBefore g) (sym (last_state-after g h x y)) (reached_whole (last_state g h) x y whole input output)
 
   module _ (b : Before) (x y : Assignment) (whole : IsWholeBefore g b) (input : IsTrue (is_input g x)) (output : IsTrue (is_output g y)) where
@@ -114,6 +116,9 @@ module _ (g : GameData) (made : WellMade g) where
 
 -- ---- one position more
 
+pub judged_of : (a : Plain) (g : GameData) (h : Run) → HasJudged a g h → IsJudged a.judge a.found g h
+judged_of a g h st = record { game = st.game; found = st.found; judges = st.judges }
+
 -- what is found with one position more
 pub finding-push : (g : GameData) (h : Run) (p : Position) → first_finding g (h ++ p ∷ []) ≡ or_else (first_finding g h) (found_after h (broken_in_game g h p))
 finding-push g h p = first_from-push (broken_in_game g) [] h p
@@ -143,13 +148,3 @@ module _ (g : GameData) (h : Run) (p : Position) (j j' : Judge) (f f' : Option F
       not_none : (a : Option Finding) → is_none a ≡ false → a ≡ None → ⊥
       not_none None e is = cc
       not_none (Some x) e is = cc
-
-pub waits_more : (g : GameData) (h : Run) (p : Position) (room room' : ℕ) → room' + 1 ≡ room → IsCheckedUpTo g h room → IsCheckedUpTo g (h ++ p ∷ []) room'
-waits_more g h p room room' less before =
-    record {
-      checked = before.checked;
-      waiting = before.waiting ++ p ∷ [];
-      parts = ap (λ (r : Run). r ++ p ∷ []) before.parts ∙ append_assoc before.checked before.waiting (p ∷ []);
-      legal = before.legal;
-      counted = let sum = before.counted in omega (arith, sum, less, length-append before.waiting (p ∷ []));
-    }

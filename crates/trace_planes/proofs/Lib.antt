@@ -5,3 +5,7 @@ mod Bits
 mod FirstZero
 mod EqualCodes
 mod ExampleMoves
+mod PlanesOfParts
+mod Kept
+mod InColumns
+mod ClearRows

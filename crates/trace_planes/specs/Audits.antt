@@ -1,5 +1,5 @@
 -- Which run an audit stands for.
-use Rattle.std.specs.Prelude.{◌≡◌, ℕ, ◌+◌, true, false, not, List, [], ◌∷◌, ◌++◌, length, Option, Some, None, IsTrue}
+use Rattle.std.specs.Prelude.{◌≡◌, ℕ, ◌+◌, ◌*◌, ◌<◌, ◌≤◌, vec_capacity, true, false, not, List, ◌++◌, length, Option, Some, None, IsTrue}
 use Rattle.spec_model.specs.declared.value.Value.{Value}
 use Rattle.spec_model.specs.GameViews.{game_data}
 use Rattle.spec_model.specs.Rules.{Position, Run}
@@ -12,9 +12,11 @@ use Rattle.hidden_game.specs.Judged.{IsJudgeOf, IsOutputJudgeOf}
 use Rattle.hidden_game.specs.Sights.{as_values, IsReadAt}
 use Rattle.trace_planes.specs.declared.place.Place.{Place}
 use Rattle.trace_planes.specs.declared.judge.Judge.{Judge}
+use Rattle.trace_planes.specs.declared.plain.Plain.{Plain}
 use Rattle.trace_planes.specs.declared.audit.Audit.{Audit}
 use Rattle.trace_planes.specs.declared.finding.Finding.{Finding}
 use Rattle.trace_planes.specs.Findings.{first_finding}
+use Rattle.trace_planes.specs.Rows.{AreWhole, AreRows}
 
 -- ---- where a run is
 
@@ -46,17 +48,41 @@ pub record IsPosition (g : GameData) (p : Position) (values : List Value) : Type
   pub output : IsTrue (is_output g p.output)
   pub listed : values ≡ p.input ++ p.output
 
--- each position has a value for each variable
-abbrev pub AreWhole : GameData → Run → Type 0
-AreWhole g [] = Unit {0}
-AreWhole g (p ∷ h) = IsTrue (is_input g p.input) × IsTrue (is_output g p.output) × AreWhole g h
+-- ---- the plain audit
+
+-- what is found on the run, and while it is nothing a judge after its last state
+pub record IsJudged (j : Judge) (first : Option Finding) (g : GameData) (h : Run) : Type 0 where
+  pub game : game_data j.game ≡ g
+  pub found : first ≡ first_finding g h
+  pub judges : first_finding g h ≡ None → JudgesAfter j g (last_state g h)
+
+-- The plain audit of a game has judged this run.
+pub record HasJudged (a : Plain) (g : GameData) (h : Run) : Type 0 where
+  pub made : WellMade g
+  pub whole : AreWhole g h
+  pub counted : a.pushed ≡ length h
+  pub game : game_data a.judge.game ≡ g
+  pub found : a.found ≡ first_finding g h
+  pub judges : first_finding g h ≡ None → JudgesAfter a.judge g (last_state g h)
+
+-- something holds of each run that it has judged
+abbrev pub OfEachJudged : Plain → (GameData → Run → Type 0) → Type 0
+OfEachJudged a P = (g : GameData) (h : Run) → HasJudged a g h → P g h
+
+-- ---- the audit
 
 abbrev pub game_of : Audit → GameData
-game_of a = game_data a.judge.game
+game_of a = game_data a.plain.judge.game
 
 -- how many positions can be pushed before the next check
 abbrev pub room_of : Audit → ℕ
 room_of a = a.room
+
+-- the memory that a check needs was taken
+pub record HasRoom (a : Audit) (g : GameData) : Type 0 where
+  pub rows : 4096 * a.width ≤ vec_capacity a.rows
+  pub columns : length a.columns.items ≡ 4096 * length g.variables
+  pub clear : length a.clear.items ≡ 64
 
 -- the run is parted into the positions that were checked, none of which breaks a line, and those that wait
 pub record IsCheckedUpTo (g : GameData) (h : Run) (room : ℕ) : Type 0 where
@@ -66,19 +92,14 @@ pub record IsCheckedUpTo (g : GameData) (h : Run) (room : ℕ) : Type 0 where
   pub legal : first_finding g checked ≡ None
   pub counted : length waiting + room ≡ 4096
 
--- what is found on the run, and while it is nothing a judge after its last state
-pub record IsJudged (j : Judge) (first : Option Finding) (g : GameData) (h : Run) : Type 0 where
-  pub game : game_data j.game ≡ g
-  pub found : first ≡ first_finding g h
-  pub judges : first_finding g h ≡ None → JudgesAfter j g (last_state g h)
-
 -- The audit of a game stands for this run: these positions were pushed.
 pub record Stands (a : Audit) (g : GameData) (h : Run) : Type 0 where
-  pub made : WellMade g
-  pub whole : AreWhole g h
-  pub counted : a.pushed ≡ length h
-  pub judged : IsJudged a.judge a.found g h
   pub checked : IsCheckedUpTo g h a.room
+  pub judged : HasJudged a.plain g checked.checked
+  pub rows : AreRows g a.width checked.waiting a.rows.items
+  pub counted : a.pushed ≡ length h
+  pub few : length h < 18446744073709551616
+  pub room : HasRoom a g
 
 -- something holds of each run that it stands for
 abbrev pub OfEachRun : Audit → (GameData → Run → Type 0) → Type 0

@@ -7,7 +7,8 @@ use Rattle.spec_model.specs.Syntax.{Formula, VariableData}
 use Rattle.spec_model.specs.Rules.{Run}
 use Rattle.spec_model.specs.Games.{GameData}
 use Rattle.trace_planes.specs.declared.audit.Audit.{Audit}
-use Rattle.trace_planes.specs.Audits.{Stands, room_of}
+use Rattle.trace_planes.specs.declared.plain.Plain.{Plain}
+use Rattle.trace_planes.specs.Audits.{Stands, HasJudged, room_of}
 
 abbrev pub boolean : List ℕ → Owner → VariableData
 boolean name owner = record { name = name; owner = owner; domain = TruthValues }
@@ -38,3 +39,11 @@ pub record HasPushed (a : Audit) (n room : ℕ) : Type 0 where
   pub variables : game.variables ≡ two_variables
   pub pushed : length run ≡ n
   pub left : room_of a ≡ room
+
+-- so many positions were pushed into a plain audit of such a game
+pub record HasPut (a : Plain) (n : ℕ) : Type 0 where
+  pub game : GameData
+  pub run : Run
+  pub judged : HasJudged a game run
+  pub variables : game.variables ≡ two_variables
+  pub pushed : length run ≡ n

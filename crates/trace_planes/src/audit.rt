@@ -1,48 +1,48 @@
 //! The audit of a run. Only `Audit::make` takes memory.
+//!
+//! The values of the positions that wait for a check are kept as they come. A check writes them as columns of codes, works out
+//! on planes after how many moves a line is broken first, and has those moves gone past and the others judged. The first
+//! position that waits is always judged: its move begins at a position that was checked before.
 
-ghost use Rattle.std.specs.Prelude.{◌≡◌, ◌↔◌, ◌<◌, ◌+◌, ◌++◌, suc, true, [], ◌∷◌, length, None, is_none, option_map, IfOk};
+ghost use Rattle.std.specs.Prelude.{◌≡◌, ◌↔◌, ◌<◌, ◌+◌, ◌++◌, true, [], ◌∷◌, length, None, is_none, IfOk};
 ghost use Rattle.spec_model.specs.GameViews.{game_data};
 ghost use Rattle.spec_model.specs.GameRules.{rules_of_game};
 ghost use Rattle.spec_model.specs.Rules.{Position, Run};
 ghost use Rattle.spec_model.specs.Plays.{IsPlay};
 ghost use Rattle.spec_model.specs.Games.{GameData};
 ghost use Rattle.spec_model.specs.WellMade.{WellMade};
-ghost use Rattle.trace_planes.specs.Audits.{Stands, IsJudged, IsPosition, OfEachRun, game_of, room_of};
+ghost use Rattle.trace_planes.specs.Audits.{Stands, IsPosition, OfEachRun, game_of, room_of};
 ghost use Rattle.trace_planes.specs.Findings.{first_finding};
 
 use crate::finding::Finding;
-use crate::judge::Judge;
-use spec_model::game::{Game, Label};
+use crate::passing::{clear_rows, judge_rows};
+use crate::plain::Plain;
+use spec_model::game::Game;
 use spec_model::value::Value;
 use std::alloc::{AllocError, Global};
 
 /// How many positions can be pushed before a check.
 const ROOM: usize = 4_096;
 
-/// Judges the positions of a run as they come.
+/// The words of scratch planes: two or three planes for each level of a line, of which there are at most 512.
+const SCRATCH: usize = 64 * 3 * 512;
+
+/// Judges the positions of a run.
 #[derive(Debug, Drop)]
 pub struct Audit {
-    judge: Judge,
+    plain: Plain,
+    /// The values of the positions that wait, one behind the other.
+    rows: Vec<Value>,
+    /// How many values a position has.
+    width: usize,
     /// How many positions can be pushed before the next check.
     room: usize,
     /// How many positions were pushed.
     pushed: u64,
-    /// The first finding so far.
-    found: Option<Finding>,
-}
-
-/// What is found at the next position, where so many were pushed before.
-fn found_there(broken: Option<Label>, before: u64) -> Option<Finding>
-    requires { before < 18446744073709551615 }
-    ensures { result ≡ option_map (λ l. record { label = l; position = suc before }) broken }
-{
-    match broken {
-        Some(label) => Some(Finding {
-            label,
-            position: before + 1,
-        }),
-        None => None,
-    }
+    columns: Vec<u16>,
+    scratch: Vec<u64>,
+    /// At which moves all lines hold.
+    clear: Vec<u64>,
 }
 
 impl Audit {
@@ -52,11 +52,19 @@ impl Audit {
         ensures begins { IfOk result (λ a. Stands a (game_data game) []) }
         ensures room { IfOk result (λ a. room_of a ≡ 4096) }
     {
+        let width = game.vars.len();
+        let Some(cells) = width.checked_mul(ROOM) else {
+            return Err(AllocError);
+        };
         Ok(Audit {
-            judge: Judge::make(alloc, game)?,
+            plain: Plain::make(alloc, game)?,
+            rows: Vec::with_capacity(alloc, cells)?,
+            width,
             room: ROOM,
             pushed: 0,
-            found: None,
+            columns: vec![in alloc; 0_u16; cells]?,
+            scratch: vec![in alloc; 0_u64; SCRATCH]?,
+            clear: vec![in alloc; 0_u64; 64]?,
         })
     }
 
@@ -67,19 +75,6 @@ impl Audit {
         self.room
     }
 
-    /// Judges the next position, unless something was found before.
-    fn judge_next(&mut self, state: &[Value])
-        requires stands { (g : GameData) × (h : Run) × Stands self.old g h × (length h < 18446744073709551615) }
-        requires position { (p : Position) × IsPosition (game_of self.old) p state.now }
-        ensures judged { OfEachRun self.old (λ g h. (p : Position) → IsPosition g p state.now → IsJudged self.new.judge self.new.found g (h ++ p ∷ [])) }
-        ensures counts { (self.new.room ≡ self.old.room) × (self.new.pushed ≡ self.old.pushed) }
-    {
-        if self.found.is_none() {
-            let broken = self.judge.next(state);
-            self.found = found_there(broken, self.pushed);
-        }
-    }
-
     /// Takes the next position: the values of its inputs, and then of its outputs. It takes no memory.
     pub fn push(&mut self, state: &[Value])
         requires stands { (g : GameData) × (h : Run) × Stands self.old g h × (length h < 18446744073709551615) }
@@ -88,7 +83,7 @@ impl Audit {
         ensures pushed { OfEachRun self.old (λ g h. (p : Position) → IsPosition g p state.now → Stands self.new g (h ++ p ∷ [])) }
         ensures room { room_of self.new + 1 ≡ room_of self.old }
     {
-        self.judge_next(state);
+        self.rows.extend_from_slice(state).unwrap();
         self.pushed += 1;
         self.room -= 1;
     }
@@ -101,7 +96,19 @@ impl Audit {
         ensures goes_on { OfEachRun self.old (λ g h. result ≡ None → Stands self.new g h) }
         ensures room { room_of self.new ≡ 4096 }
     {
+        let count = ROOM - self.room;
+        let clear = clear_rows(
+            &self.plain,
+            &self.rows,
+            self.width,
+            count,
+            &mut self.columns,
+            &mut self.scratch,
+            &mut self.clear,
+        );
+        judge_rows(&mut self.plain, &self.rows, self.width, count, clear);
+        self.rows.clear();
         self.room = ROOM;
-        self.found
+        self.plain.found
     }
 }

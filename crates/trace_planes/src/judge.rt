@@ -26,7 +26,7 @@ pub struct Judge {
 }
 
 /// The input and the output of a position.
-fn moves<'a>(game: &Game, values: &'a [Value]) -> (&'a [Value], &'a [Value])
+pub fn moves<'a>(game: &Game, values: &'a [Value]) -> (&'a [Value], &'a [Value])
     requires { (p : Position) × IsPosition (game_data game.now) p values.now }
     ensures { (p : Position) → IsPosition (game_data game.now) p values.now → (result.0.now ≡ p.input) × (result.1.now ≡ p.output) }
 {
@@ -116,5 +116,16 @@ impl Judge {
         let broken = self.first_broken(input, output);
         self.place.go_on(&self.game, input, output);
         broken
+    }
+    /// The next position has come, given as its values; nothing is judged.
+    pub fn pass(&mut self, values: &[Value])
+        requires judges { (b : Before) × JudgesAfter self.old (game_data self.old.game) b }
+        requires position { (p : Position) × IsPosition (game_data self.old.game) p values.now }
+        ensures after { (b : Before) (p : Position) → JudgesAfter self.old (game_data self.old.game) b → IsPosition (game_data self.old.game) p values.now →
+            JudgesAfter self.new (game_data self.old.game) (Some (reached (game_data self.old.game) b p.input p.output)) }
+        ensures game { self.new.game ≡ self.old.game }
+    {
+        let (input, output) = moves(&self.game, values);
+        self.place.go_on(&self.game, input, output);
     }
 }

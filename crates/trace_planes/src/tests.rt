@@ -5,8 +5,9 @@ ghost use Rattle.spec_model.specs.Syntax.{Variable, Implication};
 ghost use Rattle.spec_model.specs.Views.{formula, variable_data};
 ghost use Rattle.spec_model.specs.GameViews.{game_data};
 ghost use Rattle.spec_model.specs.WellMade.{WellMade};
-ghost use Rattle.trace_planes.specs.Examples.{two_variables, game_with, HasPushed};
+ghost use Rattle.trace_planes.specs.Examples.{two_variables, game_with, HasPushed, HasPut};
 
+use crate::plain::Plain;
 use crate::{Audit, Finding, and_planes, equal_codes, first_zero, not_plane, or_planes};
 use spec_model::expr::Expr;
 use spec_model::game::{Game, Label};
@@ -111,6 +112,37 @@ fn after_many(alloc: Global) -> Result<(Option<Finding>, Option<Finding>), Alloc
     Ok((first, check(&mut audit)))
 }
 
+fn plain(alloc: Global, game: Game) -> Result<Plain, AllocError>
+    requires made { WellMade (game_data game) }
+    requires variables { (game_data game).variables ≡ two_variables }
+    ensures { IfOk result (λ a. HasPut a 0) }
+{
+    Plain::make(alloc, game)
+}
+
+fn put_plain(plain: &mut Plain, a: bool, g: bool)
+    requires { (n : ℕ) × HasPut plain.old n × (n < 10000) }
+    ensures { (n : ℕ) → HasPut plain.old n → HasPut plain.new (suc n) }
+{
+    plain.push(&[Value::Bool(a), Value::Bool(g)]);
+}
+
+/// What the audit and the plain audit find after three positions.
+fn both_after_three(
+    alloc: Global,
+    moves: [(bool, bool); 3],
+) -> Result<(Option<Finding>, Option<Finding>), AllocError> {
+    let mut audit = audit(alloc, awaited(alloc)?)?;
+    let mut plain = plain(alloc, awaited(alloc)?)?;
+    put(&mut audit, moves[0].0, moves[0].1);
+    put_plain(&mut plain, moves[0].0, moves[0].1);
+    put(&mut audit, moves[1].0, moves[1].1);
+    put_plain(&mut plain, moves[1].0, moves[1].1);
+    put(&mut audit, moves[2].0, moves[2].1);
+    put_plain(&mut plain, moves[2].0, moves[2].1);
+    Ok((check(&mut audit), plain.found))
+}
+
 fn found(line: u32, position: u64) -> Option<Finding> {
     Some(Finding {
         label: Label { line, part: 0 },
@@ -129,6 +161,21 @@ fn the_least_position_is_named_with_its_first_line(rt: HostRuntime) -> Result<()
     ];
     for (moves, wanted) in cases {
         assert_eq!(rt; after_two(rt.alloc(), moves)?, wanted, "{moves:?}");
+    }
+    Ok(())
+}
+
+#[test]
+fn planes_find_what_the_plain_audit_finds(rt: HostRuntime) -> Result<(), Fail> {
+    let all = [(false, false), (false, true), (true, false), (true, true)];
+    for first in all {
+        for second in all {
+            for third in all {
+                let moves = [first, second, third];
+                let (by_planes, plainly) = both_after_three(rt.alloc(), moves)?;
+                assert_eq!(rt; by_planes, plainly, "{moves:?}");
+            }
+        }
     }
     Ok(())
 }

@@ -53,7 +53,7 @@ fn first_open(a: &[u64]) -> usize
 }
 
 /// How many words are begun by so many bits.
-fn words_for(bits: usize) -> usize
+pub fn words_for(bits: usize) -> usize
     ensures enough { bits ≤ 64 * result }
     ensures begun { 64 * result < bits + 64 }
 {

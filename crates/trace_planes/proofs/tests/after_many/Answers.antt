@@ -1,4 +1,4 @@
-use Rattle.std.proofs.Common.{◌≡◌, ℕ, suc, ◌+◌, ◌-◌, ◌≤◌, sym, subst, ◌∙◌, arith}
+use Rattle.std.proofs.Common.{◌≡◌, ℕ, suc, ◌+◌, ◌-◌, subst, arith}
 use Rattle.trace_planes.specs.Examples.{HasPushed}
 use Rattle.trace_planes.proofs.ExampleMoves.{none_here}
 use Rattle.trace_planes.proofs.tests.after_many.Goals as goal

@@ -1,6 +1,5 @@
 use Rattle.std.proofs.Common.{◌++◌, ◌∷◌, [], suc, ap, ◌∙◌, arith}
 use Rattle.spec_model.specs.Games.{GameData}
-use Rattle.spec_model.specs.Syntax.{VariableData}
 use Rattle.spec_model.proofs.Running.{length-after}
 use Rattle.trace_planes.specs.Audits.{game_of}
 use Rattle.trace_planes.proofs.ExampleMoves.{both, one_position}

@@ -6,19 +6,19 @@ use Rattle.spec_model.specs.Games.{GameData}
 use Rattle.spec_model.specs.Steps.{reached}
 use Rattle.trace_planes.specs.Audits.{JudgesAfter, IsPosition}
 use Rattle.trace_planes.specs.Findings.{broken_after, found_after}
-use Rattle.trace_planes.proofs.Found.{none_of, judged_first, judged_before}
-use Rattle.trace_planes.proofs.audit.Audit.judge_next.Goals as goal
+use Rattle.trace_planes.proofs.Found.{none_of, judged_of, judged_first, judged_before}
+use Rattle.trace_planes.proofs.plain.Plain.judge_next.Goals as goal
 
 pub returns-then-is_none-clause-judged : goal.returns-then-is_none-clause-judged
 returns-then-is_none-clause-judged c = λ g h st p is.
     let a = c.args.self.now in
     let b = last_state g h in
-    let same = st.judged.game in
+    let same = st.game in
     let none = ap not (c.is_none.ensures ∙ ap not c.if-is_none.true) in
-    let judges = subst (λ (k : GameData). JudgesAfter a.judge k b) (sym same) (st.judged.judges (sym st.judged.found ∙ none_of a.found none)) in
+    let judges = subst (λ (k : GameData). JudgesAfter a.judge k b) (sym same) (st.judges (sym st.found ∙ none_of a.found none)) in
     let position = subst (λ (k : GameData). IsPosition k p c.args.state.now) (sym same) is in
     let broken = c.next-broken.ensures.broken b p judges position ∙ ap (λ (k : GameData). broken_after k b p) same in
-    judged_first g h p a.judge c.next-broken.new.self a.found c.found_there-self.result st.judged (ap game_data c.next-broken.ensures.game) none
+    judged_first g h p a.judge c.next-broken.new.self a.found c.found_there-self.result (judged_of a g h st) (ap game_data c.next-broken.ensures.game) none
     (c.found_there-self.ensures
     ∙ (ap (λ (n : ℕ). option_map (λ (l : Label). record { label = l; position = suc n }) c.next-broken.result) st.counted
     ∙ ap (found_after h) broken))
@@ -27,4 +27,4 @@ returns-then-is_none-clause-judged c = λ g h st p is.
 pub returns-else-is_none-clause-judged : goal.returns-else-is_none-clause-judged
 returns-else-is_none-clause-judged c = λ g h st p is.
     let a = c.args.self.now in
-    judged_before g h p a.judge a.judge a.found a.found st.judged refl (ap not (c.is_none.ensures ∙ ap not c.if-is_none.false)) refl
+    judged_before g h p a.judge a.judge a.found a.found (judged_of a g h st) refl (ap not (c.is_none.ensures ∙ ap not c.if-is_none.false)) refl
