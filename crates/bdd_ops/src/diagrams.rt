@@ -4,6 +4,7 @@ ghost use Rattle.node_table.specs.Table.{count_of};
 ghost use Rattle.bdd_store.specs.State.{IsEdge, IsRoot, diagram_of, KeepsEdges, SameRoots, AddsRoot, IsFull, IsStore, IsNewStore, IsReached, IsConstant, HasParts};
 ghost use Rattle.bdd_ops.specs.Functions.{split, Ignores, IgnoresTo, is_among, joined, joined_over, join_of};
 ghost use Rattle.bdd_ops.specs.Contents.{Contents, AreRight, function_at, list_at, over_op};
+ghost use Rattle.bdd_ops.specs.Calls.{KeepsRoots};
 ghost use Rattle.bdd_ops.specs.Steps.{IsSplitAt, IsChoice, IsSplit, Grows, SameNodes, HasFunction, level_at};
 
 use crate::OutOfMemory;
@@ -56,8 +57,7 @@ impl Diagrams {
         ensures live { (n : ℕ) → IsEdge self.new.state n ↔ ((n < 2) ⊎ IsReached self.old.state n) }
         ensures meaning { (n : ℕ) → IsEdge self.new.state n → diagram_of self.new.state n ≡ diagram_of self.old.state n }
         ensures roots { SameRoots self.old.state self.new.state }
-        ensures levels { self.new.state.table.levels ≡ self.old.state.table.levels }
-        ensures budget { self.new.state.table.budget ≡ self.old.state.table.budget }
+        ensures keeps { KeepsRoots self.old self.new }
     {
         self.store.reclaim();
     }

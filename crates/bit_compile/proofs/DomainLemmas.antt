@@ -1,10 +1,9 @@
 -- How many values a domain has, and the places of whole numbers.
-use Rattle.std.proofs.Common.{◌≡◌, ℕ, zero, suc, ◌+◌, ◌<◌, ℤ, pos, ◌+ℤ◌, ◌-ℤ◌, ◌≤ℤ◌, ◌<ℤ◌, nat_abs, int_le, Bool, true, false, not, ◌==◌, map, drop, get_or, Some, None, is_some, neg_ℤ, Result, Ok, Err, IfOk, ◌++◌, append_assoc, int_lt, nat_lt, ◌^◌, ◌&&◌, List, [], ◌∷◌, length, refl, sym, ◌∙◌, ap, subst, arith, cond, ◌⊎◌, inl, inr}
+use Rattle.std.proofs.Common.{◌≡◌, ℕ, zero, suc, ◌+◌, ◌<◌, ℤ, pos, ◌+ℤ◌, ◌-ℤ◌, ◌≤ℤ◌, nat_abs, int_le, Bool, true, false, not, ◌==◌, map, drop, get_or, Some, None, is_some, neg_ℤ, Result, Ok, Err, IfOk, ◌++◌, append_assoc, int_lt, nat_lt, ◌^◌, ◌&&◌, List, [], ◌∷◌, length, refl, ◌∙◌, ap, subst, arith, cond}
 use Rattle.std.proofs.lemmas.Int.{ints}
 use Rattle.std.proofs.lemmas.Bool.Decides.{Decides-int_eq}
 use Rattle.std.specs.Ordering.{int_eq}
 use Rattle.std.specs.List.{position_or_len}
-use Rattle.spec_model.specs.declared.value.Value.{Value}
 use Rattle.spec_model.specs.declared.value.Value.TheVariants as value
 use Rattle.std.proofs.lemmas.Bool.{false≢true, and_parts, and_from}
 use Rattle.std.specs.List.{list_all}
@@ -15,7 +14,7 @@ use Rattle.spec_model.specs.Games.{HiddenData, GameData}
 use Rattle.spec_model.specs.WellMade.{is_domain, is_table, are_tables}
 use Rattle.game_values.proofs.Lists.{map_drop}
 use Rattle.bit_compile.specs.Domains.{IsCountable, table_domain, state_domains}
-use Rattle.spec_model.specs.Values.{DomainData, TruthValues, Enumeration, WholeNumbers, values_of, rising_from, same_value, rank_of}
+use Rattle.spec_model.specs.Values.{DomainData, TruthValues, Enumeration, WholeNumbers, rising_from, same_value, rank_of}
 use Rattle.spec_model.specs.Sizes.{domain_size}
 
 length-rising : (z : ℤ) (n : ℕ) → length (rising_from z n) ≡ n

@@ -1,7 +1,6 @@
 -- Bits are those of at most one state, and a state is a value of each domain.
-use Rattle.std.proofs.Common.{◌≡◌, ℕ, zero, suc, ◌+◌, ◌^◌, ◌<◌, ◌≤◌, ℤ, pos, ◌-ℤ◌, ◌≤ℤ◌, Bool, true, false, not, ◌&&◌, ◌||◌, nat_lt, List, [], ◌∷◌, ◌++◌, length, map, get_or, refl, sym, ◌∙◌, ap, subst, arith, IsTrue}
+use Rattle.std.proofs.Common.{◌≡◌, ℕ, suc, ◌^◌, ◌<◌, pos, ◌-ℤ◌, ◌≤ℤ◌, Bool, true, false, not, nat_lt, List, [], ◌∷◌, ◌++◌, length, map, get_or, refl, sym, ◌∙◌, ap, arith}
 use Rattle.std.proofs.lemmas.Bool.{false≢true, and_parts, and_from}
-use Rattle.std.proofs.lemmas.Bool.Decides.{nat_tests}
 use Rattle.std.proofs.lemmas.Int.{ints}
 use Rattle.std.proofs.lemmas.List.Sums.{passes_at_first}
 use Rattle.std.specs.List.{list_any, position_or_len}
@@ -9,16 +8,14 @@ use borrow.Author.Tests.{ltb-true}
 use Rattle.spec_model.specs.declared.value.Value.{Value}
 use Rattle.spec_model.specs.declared.value.Value.TheVariants as value
 use Rattle.spec_model.specs.Values.{DomainData, is_assignment, same_value, values_of, rank_of}
-use Rattle.spec_model.specs.Diagrams.{Bits}
 use Rattle.spec_model.specs.Moves.{is_env, domains_of}
 use Rattle.spec_model.specs.Games.{HiddenData, GameData, State, listed}
-use Rattle.spec_model.specs.Steps.{are_hidden_values, is_state, is_input, is_output}
+use Rattle.spec_model.specs.Steps.{are_hidden_values, is_state, is_input}
 use Rattle.spec_model.proofs.AllStates.{same_value-true}
 use Rattle.spec_model.proofs.Domains.{in_range}
-use Rattle.game_values.specs.declared.seen.At.{At}
 use Rattle.bit_compile.specs.Domains.{table_domain, state_domains, width_of}
-use Rattle.bit_compile.specs.Codes.{has_number, level_at, width_at, code_at, domain_in, HasValues}
-use Rattle.bit_compile.specs.CodeLaws.{OneState, IsListed}
+use Rattle.bit_compile.specs.Codes.{level_at, width_at, code_at, domain_in}
+use Rattle.bit_compile.specs.CodeLaws.{OneState}
 use Rattle.bit_compile.proofs.WidthLemmas.{bits_suffice}
 use Rattle.bit_compile.proofs.NumberLemmas.{one_number}
 use Rattle.bit_compile.proofs.SlotLemmas.{value_among, length-assignment}

@@ -4,3 +4,4 @@ pub mod WidthLemmas
 pub mod DomainLemmas
 pub mod BitLemmas
 pub mod LawLemmas
+pub mod MakingLemmas

@@ -9,13 +9,17 @@ ghost use Rattle.spec_model.specs.Diagrams.{bits_of};
 ghost use Rattle.spec_model.specs.Moves.{is_of, domains_of};
 ghost use Rattle.game_values.specs.declared.seen.At.{At};
 ghost use Rattle.bit_compile.specs.Domains.{state_domains, table_domain, level_count, IsCountable};
+ghost use Rattle.bit_compile.specs.Making.{Makes};
 ghost use Rattle.bit_compile.specs.Codes.{AreLaidOut, HasValues, IsOutside, has_number, domain_in, width_at, level_at};
 
 use crate::OutOfMemory;
 use crate::domains::{code, copy, domain_of, size};
+use crate::named::number;
 use crate::numbers::{width_for, write_number};
 use crate::slots::Slot;
+use bdd_ops::{Diagrams, Root};
 use game_values::seen::At;
+use regions::Halt;
 use spec_model::game::{Game, Hidden};
 use spec_model::value::{Domain, Owner, Value, Var};
 use std::alloc::{AllocError, Global};
@@ -147,12 +151,29 @@ impl Codes {
         requires { k < length self.now }
         ensures level { result ≡ level_at self.now at k }
         ensures within { result + width_at self.now k ≤ level_count self.now }
+        ensures few { level_count self.now < 2 ^ 32 }
     {
         let slot = self.slot(k);
         match at {
             At::Now => slot.first,
             At::Next => slot.first + slot.width,
         }
+    }
+
+    /// The diagram that is true where the hidden table or variable at this place of a state has the value with this
+    /// code, at present or next.
+    pub fn has_code(
+        &self,
+        diagrams: &mut Diagrams,
+        at: At,
+        k: usize,
+        n: usize,
+    ) -> Result<Root, Halt>
+        requires known { k < length self.now }
+        requires levels { level_count self.now ≤ diagrams.old.state.table.levels }
+        ensures { Makes diagrams.old diagrams.new result (has_number (level_at self.now at k) (width_at self.now k) n) }
+    {
+        number(diagrams, self.level(at, k), self.width(k), n)
     }
 
     /// Writes the bits of one value of a state.

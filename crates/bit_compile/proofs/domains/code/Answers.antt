@@ -1,11 +1,9 @@
-use Rattle.std.proofs.Common.{◌≡◌, ◌≤ℤ◌, true, sym, ap, ◌∙◌, subst, rules, w64, FitsSigned}
+use Rattle.std.proofs.Common.{◌≡◌, true, sym, ◌∙◌, subst, rules, w64, FitsSigned}
 use Rattle.std.proofs.lemmas.Bool.{false≢true}
 use Rattle.std.proofs.lemmas.Int.{to_z-of_z}
 use Rattle.std.specs.List.{list_any}
-use Rattle.spec_model.specs.declared.value.Value.{Value}
-use Rattle.spec_model.specs.declared.value.Value.TheVariants as value
 use Rattle.spec_model.specs.Views.{domain_data}
-use Rattle.spec_model.specs.Values.{same_value, values_of, rank_of, WholeNumbers}
+use Rattle.spec_model.specs.Values.{same_value, values_of, WholeNumbers}
 use Rattle.spec_model.proofs.Domains.{none_in_range, none_named, no_number, no_name, in_range}
 use Rattle.bit_compile.proofs.DomainLemmas.{place-whole, place-names}
 use Rattle.bit_compile.proofs.domains.code.Goals as goal

@@ -1,4 +1,4 @@
-use Rattle.std.proofs.Common.{ℕ, ◌<◌, ◌≤◌, ◌==◌, rules, sym, arith, length}
+use Rattle.std.proofs.Common.{◌==◌, rules, sym, arith, length}
 use Rattle.std.proofs.lemmas.List.Sums.{position_or_len_is}
 use Rattle.std.proofs.lemmas.Bool.Decides.{nat_tests}
 use Rattle.bit_compile.proofs.domains.place.Goals as goal

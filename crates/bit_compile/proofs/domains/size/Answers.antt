@@ -1,4 +1,4 @@
-use Rattle.std.proofs.Common.{◌≡◌, ◌+◌, ◌≤ℤ◌, ◌-ℤ◌, nat_abs, sym, ap, ◌∙◌, subst, rules, w64, FitsSigned}
+use Rattle.std.proofs.Common.{◌≡◌, ◌+◌, ◌-ℤ◌, nat_abs, sym, ap, ◌∙◌, subst, rules, w64, FitsSigned}
 use Rattle.std.proofs.lemmas.Int.{to_z-of_z}
 use Rattle.spec_model.specs.Views.{domain_data}
 use Rattle.spec_model.specs.Sizes.{domain_size}

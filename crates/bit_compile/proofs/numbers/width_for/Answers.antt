@@ -1,4 +1,4 @@
-use Rattle.std.proofs.Common.{◌≡◌, ◌≤◌, ◌^◌, sym, rules, arith}
+use Rattle.std.proofs.Common.{◌≤◌, ◌^◌, sym, arith}
 use Rattle.std.proofs.Math.Pow.{pow_mono}
 use Rattle.std.proofs.Math.Facts.{Fits-lt-pow}
 use Rattle.bit_compile.proofs.WidthLemmas.{bits_for-is}

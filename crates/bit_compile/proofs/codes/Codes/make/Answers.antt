@@ -1,8 +1,5 @@
-use Rattle.std.proofs.Common.{◌≡◌, ◌++◌, [], map, ap, sym, ◌∙◌, rules, append_assoc, true, nat_lt, Result, IfOk}
-use Rattle.std.specs.List.{list_all}
-use Rattle.spec_model.specs.Views.{variable_data}
+use Rattle.std.proofs.Common.{map}
 use Rattle.spec_model.specs.GameViews.{game_data, hidden_data}
-use Rattle.bit_compile.specs.Domains.{state_domains}
 use Rattle.bit_compile.proofs.DomainLemmas.{tables_filled, joined_domains}
 use Rattle.bit_compile.proofs.codes.Codes.make.Goals as goal
 

@@ -1,4 +1,4 @@
-use Rattle.std.proofs.Common.{◌≡◌, ◌++◌, ◌∷◌, [], ◌+◌, ◌*◌, ◌^◌, ◌<◌, ◌∙◌, ap, map, rules, arith}
+use Rattle.std.proofs.Common.{◌≡◌, ◌∷◌, [], ◌+◌, ◌*◌, ◌^◌, ◌<◌, ◌∙◌, ap, map, rules}
 use Rattle.std.proofs.lemmas.List.{map-append}
 use Rattle.spec_model.specs.Views.{domain_data}
 use Rattle.spec_model.specs.Needs.{bits_for}

@@ -1,4 +1,4 @@
-use Rattle.std.proofs.Common.{◌≡◌, ◌<◌, ◌+◌, arith, rules, length, get_or, false, ap, ◌∙◌}
+use Rattle.std.proofs.Common.{◌<◌, arith, length, ◌∙◌}
 use Rattle.bit_compile.proofs.SlotLemmas.{value_among, length-assignment}
 use Rattle.bit_compile.proofs.BitLemmas.{one_written, one_kept, other_stays}
 use Rattle.bit_compile.proofs.codes.Codes.write.Goals as goal

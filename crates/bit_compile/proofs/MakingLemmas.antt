@@ -1,0 +1,192 @@
+-- Operations tried once more, and roots given back between them.
+use Rattle.std.proofs.Common.{◌≡◌, ℕ, ◌+◌, ◌<◌, Bool, true, false, Result, Ok, Err, is_ok, not, ◌&&◌, ◌-◌, ◌^◌, nat_le, zero, suc, refl, sym, ◌∙◌, ap, subst, arith, inl, inr, ◌⊎◌, cond, ◌==◌}
+use Rattle.std.proofs.lemmas.Bool.{false≢true}
+use Rattle.std.proofs.lemmas.Bool.Decides.{nat_tests}
+use Rattle.node_table.specs.Table.{diagram_at, count_of}
+use Rattle.bdd_ops.specs.Functions.{joined, join_of}
+use Rattle.spec_model.specs.Diagrams.{Diagram, Function, IsPartOf, value}
+use Rattle.bdd_store.specs.declared.fault.StoreFault.{StoreFault}
+use Rattle.bdd_store.specs.declared.fault.StoreFault.TheVariants as fault
+use Rattle.bdd_store.specs.State.{State, IsEdge, IsRoot, IsReached, diagram_of, AddsRoot, SameRoots, WasThere}
+use Rattle.bdd_ops.specs.Contents.{Contents}
+use Rattle.bdd_ops.specs.Calls.{GivesRoot, KeepsRoots}
+use Rattle.regions.specs.declared.types.Halt.{Halt}
+use Rattle.regions.specs.declared.types.Halt.TheVariants as halt
+use Rattle.bit_compile.specs.Codes.{has_number}
+use Rattle.bit_compile.specs.Making.{halted, Makes, MakesOnce, IsNeeded, digit, with_digit}
+
+pub root_stays : (old new : State) (n : ℕ) → SameRoots old new → IsRoot old n → IsRoot new n
+root_stays old new n same root = subst (λ (k : ℕ). 0 < k) (sym (same n)) root
+
+pub keeps_then : (a b c : Contents) → KeepsRoots a b → SameRoots a.state b.state → KeepsRoots b c → KeepsRoots a c
+keeps_then a b c first same second =
+    record {
+      levels = second.levels ∙ first.levels;
+      budget = second.budget ∙ first.budget;
+      meaning = λ n root. second.meaning n (root_stays a.state b.state n same root) ∙ first.meaning n root;
+    }
+
+not_budget : {n : ℕ} {E : Type 0} → Ok n ≡ Err halt.Budget → E
+not_budget e = absurd (false≢true (sym (ap is_ok e)))
+
+abbrev is_memory : Result ℕ Halt → Bool
+is_memory (Ok n) = false
+is_memory (Err halt.Budget) = false
+is_memory (Err halt.Memory) = true
+
+not_memory : {E : Type 0} (r : Result ℕ Halt) → is_memory r ≡ true → r ≡ Err halt.Budget → E
+not_memory r is e = absurd (false≢true (sym (ap is_memory e) ∙ is))
+
+-- what the first try gave
+pub at_once : (old new : Contents) (r : ℕ) (f : Function) (MayMake : Diagram → Type 0) → GivesRoot old new (Ok r) f MayMake → MakesOnce old new (Ok r) f MayMake
+at_once old new r f MayMake gives =
+    record {
+      makes = record { meaning = gives.meaning; added = gives.added; refused = gives.refused; keeps = gives.keeps; full = λ e. not_budget e };
+      cause = λ e. not_budget e;
+    }
+
+pub no_memory : (old new : Contents) (f : Function) (MayMake : Diagram → Type 0) → GivesRoot old new (Err fault.Memory) f MayMake → MakesOnce old new (Err halt.Memory) f MayMake
+no_memory old new f MayMake gives =
+    record {
+      makes = record { meaning = gives.meaning; added = gives.added; refused = gives.refused; keeps = gives.keeps; full = λ e. not_memory (Err halt.Memory) refl e };
+      cause = λ e. not_memory (Err halt.Memory) refl e;
+    }
+
+-- what reclaiming gives and leaves
+pub record Reclaims (old new : Contents) : Type 0 where
+  pub live : (n : ℕ) → IsEdge new.state n → (n < 2) ⊎ IsReached old.state n
+  pub meaning : (n : ℕ) → IsEdge new.state n → diagram_of new.state n ≡ diagram_of old.state n
+  pub roots : SameRoots old.state new.state
+  pub keeps : KeepsRoots old new
+
+module _ (old mid freed new : Contents) (f : Function) (MayMake : Diagram → Type 0) (first : GivesRoot old mid (Err fault.Full) f MayMake) (reclaims : Reclaims mid freed) where
+  pub same_roots : SameRoots old.state freed.state
+  same_roots n = reclaims.roots n ∙ first.refused n
+
+  pub keeps_freed : KeepsRoots old freed
+  keeps_freed = keeps_then old mid freed first.keeps first.refused reclaims.keeps
+
+  needed : SameRoots freed.state new.state → KeepsRoots freed new → (n : ℕ) → WasThere freed.state new.state n → IsNeeded new.state MayMake n
+  needed same keeps n there = by_cases (reclaims.live n there.0)
+    where
+      by_cases : (n < 2) ⊎ IsReached mid.state n → IsNeeded new.state MayMake n
+      by_cases (inl constant) = inl constant
+      by_cases (inr reached) =
+          let r = reached.0 in
+          let in_freed = root_stays mid.state freed.state r reclaims.roots reached.1 in
+          let whole = keeps.meaning r in_freed ∙ reclaims.keeps.meaning r reached.1 in
+          let part = there.1 ∙ reclaims.meaning n there.0 in
+          inr (inl (r, root_stays freed.state new.state r same in_freed, subst (λ (d : Diagram). IsPartOf d (diagram_of new.state r)) (sym part) (subst (λ (d : Diagram). IsPartOf (diagram_of mid.state n) d) (sym whole) reached.3)))
+
+  pub again : (r : Result ℕ StoreFault) → GivesRoot freed new r f MayMake → MakesOnce old new (halted r) f MayMake
+  again (Ok r) gives =
+      record {
+        makes = record {
+          meaning = gives.meaning;
+          added = λ n. gives.added n ∙ ap (λ k. k + cond (n == r) 1 0) (same_roots n);
+          refused = gives.refused;
+          keeps = keeps_then old freed new keeps_freed same_roots gives.keeps;
+          full = λ e. not_budget e;
+        };
+        cause = λ e. not_budget e;
+      }
+  again (Err fault.Full) gives =
+      record {
+        makes = record {
+          meaning = gives.meaning;
+          added = gives.added;
+          refused = λ n. gives.refused n ∙ same_roots n;
+          keeps = keeps_then old freed new keeps_freed same_roots gives.keeps;
+          full = λ e. gives.full refl;
+        };
+        cause = λ e. record {
+          full = gives.full refl;
+          needed = λ n edge. elim (gives.made n edge) [
+            | inl there ↦ needed gives.refused gives.keeps n there
+            | inr made ↦ inr (inr made)
+          ];
+        };
+      }
+  again (Err fault.Memory) gives =
+      record {
+        makes = record {
+          meaning = gives.meaning;
+          added = gives.added;
+          refused = λ n. gives.refused n ∙ same_roots n;
+          keeps = keeps_then old freed new keeps_freed same_roots gives.keeps;
+          full = λ e. not_memory (Err halt.Memory) refl e;
+        };
+        cause = λ e. not_memory (Err halt.Memory) refl e;
+      }
+
+-- an operation on two kept roots, tried again on what is left
+pub again_on : (F : Diagram → Diagram → Function) (M : Diagram → Diagram → Diagram → Type 0) (old mid freed new : Contents) (a b : ℕ) (r : Result ℕ StoreFault) → IsRoot old.state a → IsRoot old.state b → GivesRoot old mid (Err fault.Full) (F (diagram_of old.state a) (diagram_of old.state b)) (M (diagram_of old.state a) (diagram_of old.state b)) → Reclaims mid freed → GivesRoot freed new r (F (diagram_of freed.state a) (diagram_of freed.state b)) (M (diagram_of freed.state a) (diagram_of freed.state b)) → MakesOnce old new (halted r) (F (diagram_of old.state a) (diagram_of old.state b)) (M (diagram_of old.state a) (diagram_of old.state b))
+again_on F M old mid freed new a b r root_a root_b first reclaims gives =
+    let f = F (diagram_of old.state a) (diagram_of old.state b) in
+    let may = M (diagram_of old.state a) (diagram_of old.state b) in
+    let keeps = keeps_freed old mid freed new f may first reclaims in
+    let with_a = subst (λ (d : Diagram). GivesRoot freed new r (F d (diagram_of freed.state b)) (M d (diagram_of freed.state b))) (keeps.meaning a root_a) gives in
+    let with_b = subst (λ (d : Diagram). GivesRoot freed new r (F (diagram_of old.state a) d) (M (diagram_of old.state a) d)) (keeps.meaning b root_b) with_a in
+    again old mid freed new f may first reclaims r with_b
+
+pub told_makes : (old new : Contents) (r : Result ℕ StoreFault) (f : Function) (MayMake : Diagram → Type 0) → GivesRoot old new r f MayMake → Makes old new (halted r) f
+told_makes old new (Ok r) f MayMake gives = record { meaning = gives.meaning; added = gives.added; refused = gives.refused; keeps = gives.keeps; full = λ e. not_budget e }
+told_makes old new (Err fault.Full) f MayMake gives = record { meaning = gives.meaning; added = gives.added; refused = gives.refused; keeps = gives.keeps; full = λ e. gives.full refl }
+told_makes old new (Err fault.Memory) f MayMake gives = record { meaning = gives.meaning; added = gives.added; refused = gives.refused; keeps = gives.keeps; full = λ e. not_memory (Err halt.Memory) refl e }
+
+-- a refusal is one of whatever was to be made
+pub fails : (old new : Contents) (h : Halt) (f g : Function) → Makes old new (Err h) f → Makes old new (Err h) g
+fails old new h f g makes = record { meaning = tt; added = tt; refused = makes.refused; keeps = makes.keeps; full = makes.full }
+
+pub root_added : (old mid : Contents) (b : ℕ) (g : Function) → Makes old mid (Ok b) g → (n : ℕ) → IsRoot old.state n → IsRoot mid.state n
+root_added old mid b g makes n root = let more = makes.added n in omega (arith, more, root)
+
+pub is_root : (old mid : Contents) (b : ℕ) (g : Function) → Makes old mid (Ok b) g → IsRoot mid.state b
+is_root old mid b g makes = let more = makes.added b in grind (arith, more, nat_tests)
+
+-- a root that was made on the way is given back
+module _ (old mid whole new : Contents) (b : ℕ) (g f : Function) (first : Makes old mid (Ok b) g) (back : AddsRoot new.state whole.state b) (table : new.state.table ≡ whole.state.table) where
+  keeps_back : KeepsRoots mid whole → KeepsRoots old new
+  keeps_back keeps =
+      record {
+        levels = ap (λ t. t.levels) table ∙ (keeps.levels ∙ first.keeps.levels);
+        budget = ap (λ t. t.budget) table ∙ (keeps.budget ∙ first.keeps.budget);
+        meaning = λ n root. ap (λ t. diagram_at t n) table ∙ (keeps.meaning n (root_added old mid b g first n root) ∙ first.keeps.meaning n root);
+      }
+
+  pub given_back : (r : Result ℕ Halt) → Makes mid whole r f → Makes old new r f
+  given_back (Ok r) makes =
+      record {
+        meaning = ap (λ t. value (diagram_at t r)) table ∙ makes.meaning;
+        added = λ n. (let one = back n in let two = makes.added n in let three = first.added n in omega (arith, one, two, three));
+        refused = tt;
+        keeps = keeps_back makes.keeps;
+        full = λ e. not_budget e;
+      }
+  given_back (Err h) makes =
+      record {
+        meaning = tt;
+        added = tt;
+        refused = λ n. (let one = back n in let two = makes.refused n in let three = first.added n in omega (arith, one, two, three));
+        keeps = keeps_back makes.keeps;
+        full = λ e. subst (λ t. count_of t ≡ t.budget) (sym table) (makes.full e);
+      }
+
+-- a digit before others
+pub both_digits : (level : ℕ) (high : Bool) (f g h : Function) → f ≡ digit level high → g ≡ h → joined (join_of true) f g ≡ with_digit level high h
+both_digits level true f g h is same = ap (λ (k : Function). joined (join_of true) k g) is ∙ ap (λ (k : Function). joined (join_of true) (digit level true) k) same
+both_digits level false f g h is same = ap (λ (k : Function). joined (join_of true) k g) is ∙ ap (λ (k : Function). joined (join_of true) (digit level false) k) same
+
+pub number_step : (level width n rest : ℕ) (high : Bool) → 0 < width → high ≡ nat_le (2 ^ (width - 1)) n → rest ≡ cond high (n - 2 ^ (width - 1)) n → with_digit level high (has_number (level + 1) (width - 1) rest) ≡ has_number level width n
+number_step level zero n rest high some is left = absurd (omega arith)
+number_step level (suc w) n rest true some is left =
+    let next : level + 1 ≡ suc level = omega arith in
+    let less : suc w - 1 ≡ w = omega arith in
+    let here : nat_le (2 ^ w) n ≡ true = sym (is ∙ ap (λ k. nat_le (2 ^ k) n) less) in
+    let low : rest ≡ n - 2 ^ w = left ∙ ap (λ k. n - 2 ^ k) less in
+    rw (next, less, low) (ap (λ b s. cond b (s level && has_number (suc level) w (n - 2 ^ w) s) (not (s level) && has_number (suc level) w n s)) (sym here))
+number_step level (suc w) n rest false some is left =
+    let next : level + 1 ≡ suc level = omega arith in
+    let less : suc w - 1 ≡ w = omega arith in
+    let here : nat_le (2 ^ w) n ≡ false = sym (is ∙ ap (λ k. nat_le (2 ^ k) n) less) in
+    rw (next, less, left) (ap (λ b s. cond b (s level && has_number (suc level) w (n - 2 ^ w) s) (not (s level) && has_number (suc level) w n s)) (sym here))

@@ -1,0 +1,49 @@
+-- What making a diagram in several operations gives and leaves, and when a budget ends it.
+use Rattle.std.specs.Prelude.{◌≡◌, ◌<◌, ◌⊎◌, ℕ, Bool, true, false, not, ◌&&◌, Result, Ok, Err, IfOk, OnErr}
+use Rattle.spec_model.specs.Diagrams.{Diagram, Function, IsPartOf}
+use Rattle.bdd_store.specs.declared.fault.StoreFault.{StoreFault}
+use Rattle.bdd_store.specs.declared.fault.StoreFault.TheVariants as fault
+use Rattle.bdd_store.specs.State.{State, IsEdge, IsRoot, diagram_of, AddsRoot, SameRoots, IsFull}
+use Rattle.bdd_ops.specs.Contents.{Contents, function_at}
+use Rattle.bdd_ops.specs.Calls.{KeepsRoots}
+use Rattle.regions.specs.declared.types.Halt.{Halt}
+use Rattle.regions.specs.declared.types.Halt.TheVariants as halt
+
+-- a store's refusal as a halt
+abbrev pub halted : Result ℕ StoreFault → Result ℕ Halt
+halted (Ok r) = Ok r
+halted (Err fault.Full) = Err halt.Budget
+halted (Err fault.Memory) = Err halt.Memory
+
+-- the result is a root of this function, or a refusal that leaves what is kept; `Budget` comes only where the store holds
+-- exactly its budget of nodes
+pub record Makes (old new : Contents) (result : Result ℕ Halt) (f : Function) : Type 0 where
+  pub meaning : IfOk result (λ r. function_at new r ≡ f)
+  pub added : IfOk result (λ r. AddsRoot old.state new.state r)
+  pub refused : OnErr result (SameRoots old.state new.state)
+  pub keeps : KeepsRoots old new
+  pub full : result ≡ Err halt.Budget → IsFull new.state
+
+-- the node is a constant, or stands in a kept root, or is an unfinished result
+abbrev pub IsNeeded : State → (Diagram → Type 0) → ℕ → Type 0
+IsNeeded s MayMake n = (n < 2) ⊎ (((r : ℕ) × IsRoot s r × IsPartOf (diagram_of s n) (diagram_of s r)) ⊎ MayMake (diagram_of s n))
+
+-- the store holds exactly its budget of nodes, and needs each of them
+pub record IsCrowded (s : State) (MayMake : Diagram → Type 0) : Type 0 where
+  pub full : IsFull s
+  pub needed : (n : ℕ) → IsEdge s n → IsNeeded s MayMake n
+
+-- one operation, tried once more where it was refused
+pub record MakesOnce (old new : Contents) (result : Result ℕ Halt) (f : Function) (MayMake : Diagram → Type 0) : Type 0 where
+  pub makes : Makes old new result f
+  pub cause : result ≡ Err halt.Budget → IsCrowded new.state MayMake
+
+-- the level's bit is this one, and the function is true
+abbrev pub with_digit : ℕ → Bool → Function → Function
+with_digit level true f s = s level && f s
+with_digit level false f s = not (s level) && f s
+
+-- the level's bit is this one
+abbrev pub digit : ℕ → Bool → Function
+digit level true s = s level
+digit level false s = not (s level)
