@@ -1,9 +1,10 @@
 #!/usr/bin/env python3
 """audited.py PROGRAM LIFT FOLDER COUNT: how many positions a second `PROGRAM audit` judges.
 
-Two logs that break no line go through it: COUNT positions of the lift of the specification LIFT, which goes up and down
-and is called where it is, and a 20th as many of a bus of 64 clients with a line for each, that a request stays until it is granted. Each log
-is audited by a specification of the same variables without lines too, which tells how long the lines take to be read.
+Two logs that break no line go through it: COUNT positions of the lift of the specification LIFT, which goes up and
+down and is called where it is, and a 20th as many of a bus of 64 clients with a line for each, that a request stays
+until it is granted. Each log is audited by a specification of the same variables without lines too, which tells how
+long the lines take to be read.
 """
 import subprocess
 import sys
