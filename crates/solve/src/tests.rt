@@ -5,7 +5,7 @@ mod samples;
 ghost use Rattle.spec_model.specs.Views.{spec_data};
 ghost use Rattle.solve.specs.Samples.{IsSample};
 
-use crate::{Separation, SolveFault, core_of, separated};
+use crate::{Numbers, Separation, SolveFault, Verdict, core_of, separated, verdict};
 use samples::{blocked, cornered, free, hoping, stuck};
 use spec_model::spec::Spec;
 use std::alloc::Global;
@@ -19,6 +19,43 @@ fn answers(alloc: Global, spec: Spec) -> Result<Answers, SolveFault>
     let separation = separated(alloc, &spec)?;
     let core = core_of(alloc, &spec)?;
     Ok((separation, core))
+}
+
+// Who wins with a part of the guarantees; the strategy is closed.
+fn winner(alloc: Global, spec: &Spec, kept: &[u32]) -> Result<Numbers, SolveFault>
+    requires { IsSample (spec_data spec.now) }
+{
+    match verdict(alloc, spec, kept)? {
+        Verdict::Realizable { k, play } => {
+            let _g = play.close();
+            Ok(Numbers::Realizable { k })
+        }
+        Verdict::Unrealizable { n, m, play } => {
+            let _g = play.close();
+            Ok(Numbers::Unrealizable { n, m })
+        }
+    }
+}
+
+// Who wins with a part of the guarantees of which 2 and 3 can't be kept together.
+fn blocked_winner(alloc: Global, kept: &[u32]) -> Result<Numbers, SolveFault> {
+    let spec = blocked(alloc)?;
+    winner(alloc, &spec, kept)
+}
+
+#[test]
+fn a_part_of_the_guarantees_is_judged(rt: HostRuntime) -> Result<(), Fail> {
+    let alloc = rt.alloc();
+    // (the guarantees kept, who wins)
+    let cases: [(&[u32], Numbers); 3] = [
+        (&[], Numbers::Realizable { k: 2 }),
+        (&[1, 3], Numbers::Realizable { k: 3 }),
+        (&[2, 3], Numbers::Unrealizable { n: 2, m: 2 }),
+    ];
+    for (kept, by_hand) in cases {
+        assert_eq!(rt; blocked_winner(alloc, kept)?, by_hand);
+    }
+    Ok(())
 }
 
 #[test]
