@@ -13,41 +13,45 @@ fn words_of(alloc: Global, line: &str) -> Result<Vec<String>, Fail> {
     Ok(words)
 }
 
+const USUAL: u32 = 4_194_304;
+
+const MOST: u32 = 134_217_728;
+
+// A command line, and the command, the file and the budget that it asks for.
+const ASKED: [(&str, Command, &str, u32); 19] = [
+    ("spectra synth a", Command::Synth, "a", USUAL),
+    ("spectra --nodes 65537 run a", Command::Run, "a", 65_537),
+    ("spectra run --nodes 65537 a", Command::Run, "a", 65_537),
+    ("spectra synth a --nodes=65537", Command::Synth, "a", 65_537),
+    // The program's own name isn't looked at.
+    ("--help run a", Command::Run, "a", USUAL),
+    // The first positional word is the command, and the second the file, whatever it says.
+    ("spectra run synth", Command::Run, "synth", USUAL),
+    ("spectra core a", Command::Core, "a", USUAL),
+    ("spectra separate a", Command::Separate, "a", USUAL),
+    ("spectra counter a", Command::Counter, "a", USUAL),
+    ("spectra audit a", Command::Audit, "a", USUAL),
+    ("spectra run a=b/é", Command::Run, "a=b/é", USUAL),
+    ("spectra run ", Command::Run, "", USUAL),
+    // A budget is digits, from 2 to 134,217,728.
+    ("spectra run a --nodes 2", Command::Run, "a", 2),
+    (
+        "spectra run a --nodes=000134217728",
+        Command::Run,
+        "a",
+        MOST,
+    ),
+    // A hyphen alone is positional, and so are words behind two hyphens.
+    ("spectra synth -", Command::Synth, "-", USUAL),
+    ("spectra run -- --help", Command::Run, "--help", USUAL),
+    ("spectra -- run -5", Command::Run, "-5", USUAL),
+    ("spectra run a --", Command::Run, "a", USUAL),
+    ("spectra --nodes 5 -- run --", Command::Run, "--", 5),
+];
+
 #[test]
 fn words_ask_for_a_command_a_file_and_a_budget(rt: HostRuntime) -> Result<(), Fail> {
-    let usual = 4_194_304;
-    let most = 134_217_728;
-    let cases = [
-        ("spectra synth a", Command::Synth, "a", usual),
-        ("spectra --nodes 65537 run a", Command::Run, "a", 65_537),
-        ("spectra run --nodes 65537 a", Command::Run, "a", 65_537),
-        ("spectra synth a --nodes=65537", Command::Synth, "a", 65_537),
-        // The program's own name isn't looked at.
-        ("--help run a", Command::Run, "a", usual),
-        // The first positional word is the command, and the second the file, whatever it says.
-        ("spectra run synth", Command::Run, "synth", usual),
-        ("spectra core a", Command::Core, "a", usual),
-        ("spectra separate a", Command::Separate, "a", usual),
-        ("spectra counter a", Command::Counter, "a", usual),
-        ("spectra audit a", Command::Audit, "a", usual),
-        ("spectra run a=b/é", Command::Run, "a=b/é", usual),
-        ("spectra run ", Command::Run, "", usual),
-        // A budget is digits, from 2 to 134,217,728.
-        ("spectra run a --nodes 2", Command::Run, "a", 2),
-        (
-            "spectra run a --nodes=000134217728",
-            Command::Run,
-            "a",
-            most,
-        ),
-        // A hyphen alone is positional, and so are words behind two hyphens.
-        ("spectra synth -", Command::Synth, "-", usual),
-        ("spectra run -- --help", Command::Run, "--help", usual),
-        ("spectra -- run -5", Command::Run, "-5", usual),
-        ("spectra run a --", Command::Run, "a", usual),
-        ("spectra --nodes 5 -- run --", Command::Run, "--", 5),
-    ];
-    for (line, command, file, nodes) in cases {
+    for (line, command, file, nodes) in ASKED {
         let words = words_of(rt.alloc(), line)?;
         let expected = Request {
             command,
