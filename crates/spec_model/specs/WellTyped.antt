@@ -199,12 +199,16 @@ abbrev mutual
   positions_in_each Regulars.none = 0
   positions_in_each (Regulars.one_more r rs) = positions_in r + positions_in_each rs
 
+abbrev pub has_some : Regulars → Bool
+has_some Regulars.none = false
+has_some (Regulars.one_more r rs) = true
+
 abbrev mutual
-  -- no repeat has an upper number below its lower one, or a number above 256
+  -- no repeat has an upper number below its lower one, or a number above 256, and each choice has an alternative
   pub repeats_well : Regular → Bool
   repeats_well (Atom e) = true
   repeats_well (Sequence rs) = each_repeats_well rs
-  repeats_well (Choice rs) = each_repeats_well rs
+  repeats_well (Choice rs) = has_some rs && each_repeats_well rs
   repeats_well (Repetition r low None) = nat_le low 256 && repeats_well r
   repeats_well (Repetition r low (Some high)) = nat_le low high && (nat_le high 256 && repeats_well r)
 

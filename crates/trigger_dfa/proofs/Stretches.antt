@@ -6,7 +6,8 @@ use Rattle.spec_model.specs.Meaning.{Reading, holds_at}
 use Rattle.spec_model.specs.Triggers.{some_from, some_place, splits_into, matches, matches_all, matches_some}
 use Rattle.spec_model.specs.TriggerStates.{Written, Bracket, Empty, Then, Either, Star, copies, written, written_in_turn, written_besides}
 use Rattle.trigger_dfa.specs.Reads.{InPieces, Reads}
-use Rattle.trigger_dfa.specs.Laws.{has_some, is_readable, are_readable, NoneIsMissed, WrittenOutReads}
+use Rattle.spec_model.specs.WellTyped.{has_some}
+use Rattle.trigger_dfa.specs.Laws.{is_readable, are_readable, NoneIsMissed, WrittenOutReads}
 
 -- ---- places
 

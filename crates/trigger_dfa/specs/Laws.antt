@@ -4,12 +4,9 @@ use Rattle.spec_model.specs.Syntax.{Regular, Atom, Sequence, Choice, Repetition,
 use Rattle.spec_model.specs.Meaning.{Reading}
 use Rattle.spec_model.specs.Triggers.{matches, splits_into, is_pending}
 use Rattle.spec_model.specs.TriggerStates.{written}
+use Rattle.spec_model.specs.WellTyped.{has_some}
 use Rattle.trigger_dfa.specs.Reads.{Reads}
 use Rattle.trigger_dfa.specs.Standings.{table_of, entry_along}
-
-abbrev pub has_some : Regulars → Bool
-has_some Regulars.none = false
-has_some (Regulars.one_more r rs) = true
 
 abbrev mutual
   -- no repeat has an upper number below its lower one, and there is an alternative wherever one is to be taken
