@@ -19,6 +19,7 @@ mod expanding;
 mod judging;
 mod laws;
 mod made;
+mod player;
 mod reading;
 mod sight;
 
