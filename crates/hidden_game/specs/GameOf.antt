@@ -2,10 +2,9 @@
 use Rattle.std.specs.Prelude.{ℕ, suc, Bool, not, if◌then◌else◌, List, [], ◌∷◌, ◌++◌, length, map, Option, Some, None, option_map, slice_get, flat_map}
 use Rattle.std.specs.List.{filter_map}
 use Rattle.spec_model.specs.declared.spec.Role.{Role}
-use Rattle.spec_model.specs.Syntax.{Formula, Entry, Content, Initial, Safety, Recurring, PatternUse, TriggerUse, PatternData, TriggerData, Statement, Specification}
+use Rattle.spec_model.specs.Syntax.{Formula, Entry, Content, Initial, Safety, Recurring, PatternUse, TriggerUse, Statement, Specification}
 use Rattle.spec_model.specs.Moves.{is_assumption, is_guarantee}
 use Rattle.spec_model.specs.Sizes.{past_operators}
-use Rattle.spec_model.specs.TriggerStates.{trigger_atoms}
 use Rattle.spec_model.specs.Games.{GameData, GoalData, HiddenData}
 use Rattle.past_bits.specs.Entries.{with_entries}
 use Rattle.past_bits.specs.Bits.{tables_of}
@@ -22,23 +21,20 @@ use Rattle.hidden_game.specs.declared.player.Time.TheVariants.{First, Always}
 abbrev pub entered : Specification → Formula → Formula
 entered s e = with_entries (past_operators s) e
 
--- a table with other atoms
-abbrev pub with_atoms : HiddenData → List Formula → HiddenData
-with_atoms h es = record h { atoms = es }
+-- The table of a line that uses a pattern or is a trigger, over the line's formulas: the pattern's table with the arguments
+-- for its atoms, or the trigger's with its different brackets.
+abbrev pub line_table : Specification → Content → Option HiddenData
+line_table s (PatternUse p args) = option_map (λ p. record (rows_of p) { atoms = args }) (slice_get s.patterns p)
+line_table s (TriggerUse t) = option_map table_of (slice_get s.triggers t)
+line_table s _ = None
 
--- the table of a pattern's use: its atoms are the arguments
-abbrev pub pattern_table : Specification → List Formula → PatternData → HiddenData
-pattern_table s args p = with_atoms (rows_of p) (map (entered s) args)
+-- the table with entries in its atoms in place of past operators
+abbrev pub entered_table : Specification → HiddenData → HiddenData
+entered_table s h = record h { atoms = map (entered s) h.atoms }
 
--- the table of a trigger: its atoms are the different brackets
-abbrev pub trigger_table : Specification → TriggerData → HiddenData
-trigger_table s tr = with_atoms (table_of tr) (map (entered s) (trigger_atoms tr))
-
--- the table of a line that uses a pattern or is a trigger
+-- the line's table in the game
 abbrev pub table_for : Specification → Content → Option HiddenData
-table_for s (PatternUse p args) = option_map (pattern_table s args) (slice_get s.patterns p)
-table_for s (TriggerUse t) = option_map (trigger_table s) (slice_get s.triggers t)
-table_for s _ = None
+table_for s c = option_map (entered_table s) (line_table s c)
 
 -- those of several lines, in text order
 abbrev pub tables_for : Specification → List Statement → List HiddenData
