@@ -15,9 +15,10 @@ use Rattle.spec_model.specs.WellMade.{WellMade, is_stepwise, are_stepwise, await
 use Rattle.hidden_game.specs.GameOf.{game_of}
 use Rattle.hidden_game.specs.declared.expanding.Player.TheVariants.{Environment, System}
 use Rattle.hidden_game.proofs.Plain.{state_of, IsLast, MovesAgree}
-use Rattle.hidden_game.proofs.Readings.{Share, Suits, value_now}
+use Rattle.game_play.proofs.OutputReads.{input_shared, reads_both, not_false, or_none}
+use Rattle.game_play.proofs.Readings.{Share, Suits, value_now}
 use Rattle.hidden_game.proofs.Lines.{none_found, lines_hold}
-use Rattle.hidden_game.proofs.Choices.{some_choice, all_alike}
+use Rattle.game_play.proofs.Choices.{some_choice, all_alike}
 
 -- ---- places in a run
 
@@ -37,33 +38,7 @@ length_after : (h : Run) (p : Position) → length (h ++ p ∷ []) ≡ suc (leng
 length_after [] p = refl
 length_after (q ∷ h) p = ap suc (length_after h p)
 
--- ---- what two positions with the same input share
-
-module _ (vs : List VariableData) (x y y' : Assignment) where
-  abbrev with_output : Assignment → Position
-  with_output z = record { input = x; output = z }
-
-  pub input_shared : (k : ℕ) → not (is_output_variable vs k) ≡ true → value_among vs (with_output y) k ≡ value_among vs (with_output y') k
-  input_shared k own = by_owner (option_map (λ (v : VariableData). v.owner) (slice_get vs k)) refl
-    where
-      by_owner : (o : Option Owner) → option_map (λ (v : VariableData). v.owner) (slice_get vs k) ≡ o → value_among vs (with_output y) k ≡ value_among vs (with_output y') k
-      by_owner None e = cc
-      by_owner (Some Env) e = cc
-      by_owner (Some Sys) e = absurd (owned (slice_get vs k) e own)
-        where
-          owned : (o : Option VariableData) → option_map (λ (v : VariableData). v.owner) o ≡ Some Sys → not (unwrap_or (option_map (λ (v : VariableData). not (is_env v.owner)) o) false) ≡ true → ⊥
-          owned None e own = cc
-          owned (Some v) e own = let sys : v.owner ≡ Sys = cc in cc
-
 -- ---- what a formula over steps reads at present
-
-pub reads_both : (test : ℕ → Bool) (ks ms : List ℕ) → list_any test (ks ++ ms) ≡ (list_any test ks || list_any test ms)
-reads_both test [] ms = refl
-reads_both test (k ∷ ks) ms = first (test k) (reads_both test ks ms)
-  where
-    first : (b : Bool) → list_any test (ks ++ ms) ≡ (list_any test ks || list_any test ms) → (b || list_any test (ks ++ ms)) ≡ ((b || list_any test ks) || list_any test ms)
-    first true rest = refl
-    first false rest = rest
 
 module _ (s : Specification) where
   same_in_both : (a b : Formula) → reads_present_output s a ≡ reads_output s.variables [] a → reads_present_output s b ≡ reads_output s.variables [] b →
@@ -106,14 +81,6 @@ module _ (s : Specification) where
 twice : (b : Bool) → not (not b) ≡ b
 twice true = refl
 twice false = refl
-
-pub not_false : (b : Bool) → not b ≡ true → b ≡ false
-not_false true h = absurd (cc)
-not_false false h = refl
-
-pub or_none : (a b : Bool) → (a || b) ≡ false → (a ≡ false) × (b ≡ false)
-or_none true b h = absurd (cc)
-or_none false b h = (refl, h)
 
 module _ (s : Specification) (x y : Assignment) where
   -- the position that is being made, as far as it is there: with the output, or without

@@ -17,8 +17,8 @@ use Rattle.hidden_game.specs.GameOf.{game_of, binds, said, numbered, lines_for}
 use Rattle.spec_model.specs.FirstBroken.{numbers_where, breaks, broken_by, broken_with, lesser, least}
 use Rattle.hidden_game.proofs.Plain.{IsLast}
 use Rattle.hidden_game.proofs.Agreeing.{asm_first, asm_always, gar_first, gar_always}
-use Rattle.hidden_game.proofs.Least.{lesser-assoc, least-append}
-use Rattle.hidden_game.proofs.FirstBroken.{initial_breaks, safety_breaks}
+use Rattle.game_play.proofs.Least.{lesser-assoc, least-append}
+use Rattle.game_play.proofs.FirstBroken.{initial_breaks, safety_breaks}
 
 lesser-comm : (a b : Option ℕ) → lesser a b ≡ lesser b a
 lesser-comm None None = refl

@@ -1,17 +1,8 @@
 pub mod Plain
 pub mod Parts
-pub mod Readings
 pub mod Lines
-pub mod Choices
 pub mod Agreeing
 pub mod Recurrences
-pub mod Sights
-pub mod Tables
-pub mod Least
-pub mod AnyOutput
-pub mod FirstBroken
-pub mod FirstAnswer
-pub mod SeenMoves
 pub mod Breaking
 pub mod Stepwise
 pub mod MadeGames
