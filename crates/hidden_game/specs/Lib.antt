@@ -1,3 +1,2 @@
 pub mod GameOf
-pub mod Sights
-pub mod Judged
+pub mod Laws
