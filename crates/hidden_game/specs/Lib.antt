@@ -1,2 +1,1 @@
 pub mod GameOf
-pub mod Laws
