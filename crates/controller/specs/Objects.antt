@@ -9,7 +9,7 @@ use Rattle.spec_model.specs.Sets.{StateSet, system_forces}
 use Rattle.spec_model.specs.WellMade.{WellMade}
 use Rattle.regions.specs.declared.types.When.TheVariants.{First}
 use Rattle.regions.specs.Kept.{Kept, Item, Stays, IsSameGame}
-use Rattle.hidden_game.specs.Judged.{IsJudgeOf}
+use Rattle.game_play.specs.Judged.{IsJudgeOf}
 use Rattle.gr1_law.specs.Layers.{LayerSets, IsWinning, AreGreatestRanks, goal_set, goal_sets, assumption_sets}
 use Rattle.gr1_law.specs.Choice.{Memory, first_memory, IsChosen, ChosenPlay}
 use Rattle.gr1_sys.specs.Held.{AllHaveParts, ranks_of}

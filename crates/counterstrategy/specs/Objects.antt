@@ -9,7 +9,7 @@ use Rattle.spec_model.specs.WellMade.{WellMade}
 use Rattle.regions.specs.declared.types.When.TheVariants.{First, Later}
 use Rattle.regions.specs.Kept.{Kept, Item, Stays, IsSameGame}
 use Rattle.regions.specs.Rules.{input_count}
-use Rattle.hidden_game.specs.Judged.{IsOutputJudgeOf}
+use Rattle.game_play.specs.Judged.{IsOutputJudgeOf}
 use Rattle.gr1_law.specs.Layers.{goal_sets, assumption_sets}
 use Rattle.gr1_law.specs.EnvLayers.{EnvLayerSets}
 use Rattle.gr1_law.specs.Counter.{CounterMemory, first_counter, IsGiven, IsNoted, note_of, AnsweredPlay}

@@ -1,3 +1,1 @@
 pub mod GameOf
-pub mod Sights
-pub mod Judged

@@ -8,29 +8,12 @@ ghost use Rattle.spec_model.specs.WellMade.{WellMade};
 ghost use Rattle.spec_model.specs.WellTyped.{WellTyped, all_hidden};
 ghost use Rattle.hidden_game.specs.GameOf.{game_of, binds as binds_lem, recurs as recurs_lem, said as said_lem, recurring as recurring_lem, line_for, lines_for, goal_for, goals_for};
 
+use crate::player::{Player, Time};
 use spec_model::copy::{copy_expr, copy_vars};
 use spec_model::expr::Expr;
 use spec_model::game::{Game, Goal, Label};
 use spec_model::spec::{Body, Line, Role, Spec};
 use std::alloc::{AllocError, Global};
-
-/// Whom a line binds.
-#[derive(Clone, Copy, Debug, PartialEq, Eq)]
-pub enum Player {
-    /// The environment, by assumptions.
-    Environment,
-    /// The system, by guarantees and monitors' lines.
-    System,
-}
-
-/// When a line is judged.
-#[derive(Clone, Copy, Debug, PartialEq, Eq)]
-pub enum Time {
-    /// At the first position.
-    First,
-    /// At each position.
-    Always,
-}
 
 /// The game of a specification without past operators, patterns and triggers: its variables, and its lines in text
 /// order, by the player that they bind and the time at which they are judged. `AllocError`: no memory was given.

@@ -5,15 +5,16 @@ ghost use Rattle.spec_model.specs.Syntax.{Specification};
 ghost use Rattle.spec_model.specs.Agreement.{Agrees};
 ghost use Rattle.spec_model.specs.Laws.{NumbersRise};
 ghost use Rattle.spec_model.specs.WellMade.{WellMade};
-ghost use Rattle.spec_model.specs.WellTyped.{WellTyped, all_hidden};
+ghost use Rattle.spec_model.specs.WellTyped.{WellTyped};
 ghost use Rattle.hidden_game.specs.GameOf.{game_of};
 
-/// The game of a well-typed specification that needs no hidden tables is well made, and agrees with it: after each run, by
-/// the state that the hidden values give, it has its legal moves, its recurring goals, and its first broken assumption and
-/// guarantee or monitor's line.
+/// The game of a well-typed specification is well made, and agrees with it: after each run, by the state that the hidden
+/// values give, it has its legal moves, its recurring goals with their labels, and its first broken assumption and guarantee
+/// or monitor's line. Equal specifications have equal games.
 pub fn games_agree()
-    ensures made { (s : Specification) → WellTyped s → all_hidden s ≡ 0 → WellMade (game_of s) }
-    ensures agrees { (s : Specification) → WellTyped s → all_hidden s ≡ 0 → Agrees s (game_of s) }
+    ensures made { (s : Specification) → WellTyped s → WellMade (game_of s) }
+    ensures agrees { (s : Specification) → WellTyped s → Agrees s (game_of s) }
+    ensures equal { (s t : Specification) → s ≡ t → game_of s ≡ game_of t }
 {}
 
 /// The lines of a well-typed specification are numbered in text order.

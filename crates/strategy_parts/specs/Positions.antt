@@ -6,7 +6,7 @@ use Rattle.spec_model.specs.Values.{Assignment}
 use Rattle.spec_model.specs.Games.{GameData}
 use Rattle.spec_model.specs.Steps.{Before, is_state, is_input, is_output, reached}
 use Rattle.regions.specs.Rules.{listed_before, input_count, output_count}
-use Rattle.hidden_game.specs.Sights.{AreCells}
+use Rattle.game_play.specs.Sights.{AreCells}
 use Rattle.strategy_parts.specs.declared.position.Position.{Position}
 
 abbrev pub values_at : Position → List Value

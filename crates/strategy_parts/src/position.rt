@@ -5,10 +5,10 @@ ghost use Rattle.spec_model.specs.GameViews.{game_data};
 ghost use Rattle.spec_model.specs.Steps.{Before, is_state, reached};
 ghost use Rattle.spec_model.specs.Games.{State, listed, first_hidden as first_hidden_lem, next_hidden as next_hidden_lem};
 ghost use Rattle.spec_model.specs.WellMade.{WellMade};
-ghost use Rattle.hidden_game.specs.Sights.{AreCells};
+ghost use Rattle.game_play.specs.Sights.{AreCells};
 ghost use Rattle.strategy_parts.specs.Positions.{IsAfter, IsClosedAt, values_at};
 
-use hidden_game::{first_hidden, next_hidden};
+use game_play::{first_hidden, next_hidden};
 use spec_model::game::Game;
 use spec_model::value::Value;
 use spec_model::variables::{count_inputs, count_outputs};

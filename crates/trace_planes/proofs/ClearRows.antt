@@ -14,8 +14,8 @@ use Rattle.spec_model.specs.Steps.{Before, reached, is_state, is_input, is_outpu
 use Rattle.spec_model.specs.FirstBroken.{first_broken, first_broken_output, least, broken_by, breaks}
 use Rattle.spec_model.specs.WellMade.{WellMade, is_safety_assumption}
 use Rattle.spec_model.proofs.Running.{last_state-after}
-use Rattle.hidden_game.proofs.FirstBroken as inputs
-use Rattle.hidden_game.proofs.FirstAnswer as outputs
+use Rattle.game_play.proofs.FirstBroken as inputs
+use Rattle.game_play.proofs.FirstAnswer as outputs
 use Rattle.trace_planes.specs.Columns.{AreRead, code_of}
 use Rattle.trace_planes.specs.Moves.{IsMove, are_kept}
 use Rattle.trace_planes.specs.Findings.{or_else, broken_after, broken_in_game}

@@ -14,8 +14,8 @@ use Rattle.spec_model.specs.FirstBroken.{first_broken, first_broken_output}
 use Rattle.spec_model.specs.WellMade.{WellMade}
 use Rattle.spec_model.proofs.Closed.{closed}
 use Rattle.spec_model.proofs.Running.{last_state-after}
-use Rattle.hidden_game.proofs.FirstBroken as inputs
-use Rattle.hidden_game.proofs.FirstAnswer as outputs
+use Rattle.game_play.proofs.FirstBroken as inputs
+use Rattle.game_play.proofs.FirstAnswer as outputs
 use Rattle.trace_planes.specs.declared.finding.Finding.{Finding}
 use Rattle.trace_planes.specs.declared.judge.Judge.{Judge}
 use Rattle.trace_planes.specs.declared.plain.Plain.{Plain}

@@ -8,8 +8,8 @@ use Rattle.spec_model.specs.Games.{GameData, first_hidden}
 use Rattle.spec_model.specs.GameRules.{last_state}
 use Rattle.spec_model.specs.Steps.{Before, is_state, is_input, is_output}
 use Rattle.spec_model.specs.WellMade.{WellMade}
-use Rattle.hidden_game.specs.Judged.{IsJudgeOf, IsOutputJudgeOf}
-use Rattle.hidden_game.specs.Sights.{as_values, IsReadAt}
+use Rattle.game_play.specs.Judged.{IsJudgeOf, IsOutputJudgeOf}
+use Rattle.game_play.specs.Sights.{as_values, IsReadAt}
 use Rattle.trace_planes.specs.declared.place.Place.{Place}
 use Rattle.trace_planes.specs.declared.judge.Judge.{Judge}
 use Rattle.trace_planes.specs.declared.plain.Plain.{Plain}

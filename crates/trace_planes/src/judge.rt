@@ -10,7 +10,7 @@ ghost use Rattle.trace_planes.specs.Audits.{JudgesAfter, IsPosition};
 ghost use Rattle.trace_planes.specs.Findings.{broken_after};
 
 use crate::place::Place;
-use hidden_game::{InputJudge, OutputJudge};
+use game_play::{InputJudge, OutputJudge};
 use spec_model::game::{Game, Label};
 use spec_model::value::Value;
 use spec_model::variables::count_inputs;

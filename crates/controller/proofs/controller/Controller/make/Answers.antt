@@ -1,6 +1,6 @@
 use Rattle.std.proofs.Common.{◌∙◌, ◌∷◌, List, None, refl, sym, subst}
 use Rattle.spec_model.specs.Games.{GameData}
-use Rattle.hidden_game.specs.Judged.{IsJudgeOf}
+use Rattle.game_play.specs.Judged.{IsJudgeOf}
 use Rattle.regions.specs.declared.types.When.TheVariants.{First, Later}
 use Rattle.gr1_law.specs.Choice.{first_memory, ChosenPlay}
 use Rattle.gr1_sys.specs.Held.{HasEach, all_regions}

@@ -1,7 +1,7 @@
 use Rattle.std.proofs.Common.{◌≡◌, ◌∙◌, ◌+◌, List, Some, false, sym, subst, arith}
 use Rattle.spec_model.specs.Steps.{reached}
 use Rattle.spec_model.specs.Games.{GameData}
-use Rattle.hidden_game.specs.Judged.{IsJudgeOf}
+use Rattle.game_play.specs.Judged.{IsJudgeOf}
 use Rattle.gr1_sys.specs.Held.{ranks_of}
 use Rattle.controller.specs.Objects.{AreSound, items_of}
 use Rattle.controller.specs.Settled.{Settles}

@@ -2,7 +2,7 @@ use Rattle.std.proofs.Common.{◌≡◌, ◌∙◌, ◌+◌, List, Vec, Some, tr
 use Rattle.std.specs.declared.alloc.Global.{Global}
 use Rattle.spec_model.specs.Games.{GameData, State, listed}
 use Rattle.spec_model.specs.Steps.{is_state, reached}
-use Rattle.hidden_game.specs.Judged.{IsJudgeOf}
+use Rattle.game_play.specs.Judged.{IsJudgeOf}
 use Rattle.gr1_law.specs.Layers.{goal_set, goal_sets}
 use Rattle.gr1_law.specs.Choice.{Memory, goal_aimed, goal_stays}
 use Rattle.gr1_sys.specs.Held.{ranks_of}

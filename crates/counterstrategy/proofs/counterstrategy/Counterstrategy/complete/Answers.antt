@@ -4,7 +4,7 @@ use Rattle.spec_model.specs.Rules.{after}
 use Rattle.spec_model.specs.Games.{GameData}
 use Rattle.spec_model.specs.Steps.{reached}
 use Rattle.regions.specs.Rules.{input_count}
-use Rattle.hidden_game.specs.Judged.{IsOutputJudgeOf}
+use Rattle.game_play.specs.Judged.{IsOutputJudgeOf}
 use Rattle.gr1_law.specs.Layers.{goal_set}
 use Rattle.gr1_law.specs.Counter.{CounterMemory, note_of, AnsweredPlay}
 use Rattle.gr1_env.specs.Solved.{counts_of}

@@ -2,7 +2,7 @@ use Rattle.std.proofs.Common.{◌≡◌, ◌∙◌, ◌++◌, take, drop, length
 use Rattle.spec_model.specs.Games.{GameData}
 use Rattle.spec_model.specs.Values.{Assignment}
 use Rattle.regions.specs.Rules.{input_count}
-use Rattle.hidden_game.specs.Judged.{IsOutputJudgeOf}
+use Rattle.game_play.specs.Judged.{IsOutputJudgeOf}
 use Rattle.gr1_law.specs.Counter.{IsGiven, AnsweredPlay}
 use Rattle.gr1_env.specs.Solved.{counts_of}
 use Rattle.strategy_parts.specs.Positions.{IsWholeBefore}

@@ -2,7 +2,7 @@ use Rattle.std.proofs.Common.{◌∙◌, List, None, refl, sym, ap, subst}
 use Rattle.std.proofs.lemmas.Bool.{false≢true}
 use Rattle.spec_model.specs.Games.{GameData}
 use Rattle.regions.specs.Rules.{input_count}
-use Rattle.hidden_game.specs.Judged.{IsOutputJudgeOf}
+use Rattle.game_play.specs.Judged.{IsOutputJudgeOf}
 use Rattle.gr1_law.specs.Counter.{first_counter, AnsweredPlay}
 use Rattle.gr1_sys.specs.Held.{HasEach}
 use Rattle.gr1_env.specs.Held.{all_regions}

@@ -1,0 +1,10 @@
+pub mod OutputReads
+pub mod Readings
+pub mod Choices
+pub mod Sights
+pub mod Tables
+pub mod Least
+pub mod AnyOutput
+pub mod FirstBroken
+pub mod FirstAnswer
+pub mod SeenMoves
