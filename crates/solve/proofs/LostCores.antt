@@ -2,7 +2,7 @@
 use Rattle.std.proofs.Common.{◌≡◌, ℕ, ◌<◌, List, length, sym, ap, subst, inr}
 use Rattle.std.specs.List.{All}
 use Rattle.spec_model.specs.Syntax.{Specification}
-use Rattle.spec_model.specs.WellTyped.{WellTyped, all_hidden}
+use Rattle.spec_model.specs.WellTyped.{WellTyped}
 use Rattle.spec_model.specs.Cores.{Realizable, Unrealizable, guarantees_of, IsLeft}
 use Rattle.spec_model.specs.Needs.{Tried}
 use Rattle.core_min.specs.Sets as sets
@@ -28,14 +28,14 @@ module _ (s t : Specification) (is : t ≡ s) (n : ℕ) (count : n ≡ length (g
   pub left_below : (places : List ℕ) → sets.IsLeft IsWon n places → All (λ place. place < length (guarantees_of s)) places
   left_below places left = subst (λ (k : ℕ). All (λ place. place < k) places) count (left_is_set IsWon n places left).below
 
-  pub left_numbers : WellTyped s → all_hidden s ≡ 0 → (places : List ℕ) → sets.IsLeft IsWon n places → IsLeft s (at_places (guarantees_of s) places)
-  left_numbers typed plain places left = left_at s typed plain places (on_whole (λ u k. sets.IsLeft (λ set. Realizable (part_at u set)) k places) left)
+  pub left_numbers : WellTyped s → (places : List ℕ) → sets.IsLeft IsWon n places → IsLeft s (at_places (guarantees_of s) places)
+  left_numbers typed places left = left_at s typed places (on_whole (λ u k. sets.IsLeft (λ set. Realizable (part_at u set)) k places) left)
 
-  pub many_tried : WellTyped s → all_hidden s ≡ 0 → (set : List ℕ) (fault : SolveFault) → sets.IsAsked IsWon n set → IsFaultOf (part_at t set) fault → fault ≡ TooManyStates →
+  pub many_tried : WellTyped s → (set : List ℕ) (fault : SolveFault) → sets.IsAsked IsWon n set → IsFaultOf (part_at t set) fault → fault ≡ TooManyStates →
       (tried : Specification) × Tried s tried × HasManyStates tried
-  many_tried typed plain set fault asked allowed is_many =
+  many_tried typed set fault asked allowed is_many =
       let many : HasManyStates (part_at t set) = subst (IsFaultOf (part_at t set)) is_many allowed in (
         part_at s set,
-        inr (asked_at s typed plain set (on_whole (λ u k. sets.IsAsked (λ set. Realizable (part_at u set)) k set) asked)),
+        inr (asked_at s typed set (on_whole (λ u k. sets.IsAsked (λ set. Realizable (part_at u set)) k set) asked)),
         subst (λ (u : Specification). HasManyStates (part_at u set)) is many,
       )

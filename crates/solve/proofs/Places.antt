@@ -7,7 +7,7 @@ use Rattle.std.proofs.lemmas.List.Kept.{AllPairs-cons}
 use Rattle.std.proofs.lemmas.List.FromFn.{length-range_with_len, get_or-range_with_len, fill_by_all}
 use Rattle.spec_model.specs.Syntax.{Specification, Statement}
 use Rattle.spec_model.specs.Moves.{is_guarantee}
-use Rattle.spec_model.specs.WellTyped.{WellTyped, all_hidden}
+use Rattle.spec_model.specs.WellTyped.{WellTyped}
 use Rattle.spec_model.specs.Laws.{NumbersRise}
 use Rattle.spec_model.specs.Cores.{Realizable, Unrealizable, with_guarantees, less, guarantees_of, Leaves, IsLeft}
 use Rattle.spec_model.specs.Needs.{AskedFrom}
@@ -68,7 +68,7 @@ all_inside n = All-from_get_or (λ p. p < n) (sets.below n) 0 (λ i h.
 
 -- ---- trying
 
-module _ (s : Specification) (typed : WellTyped s) (plain : all_hidden s ≡ 0) where
+module _ (s : Specification) (typed : WellTyped s) where
   abbrev IsPlace : ℕ → Type 0
   IsPlace p = p < length (guarantees_of s)
 
@@ -79,7 +79,7 @@ module _ (s : Specification) (typed : WellTyped s) (plain : all_hidden s ≡ 0) 
   is_less set p inside there = less_at (guarantees_of s) (numbers_rise s.lines (lines_rise s typed)) set p inside there
 
   lost_at : (set : List ℕ) (p : ℕ) → All IsPlace set → IsPlace p → sets.IsLosing IsWinning (sets.without set p) → Unrealizable (with_guarantees s (less (at_places (guarantees_of s) set) (get_or (guarantees_of s) p 0)))
-  lost_at set p inside there lost = subst (λ (ns : List ℕ). Unrealizable (with_guarantees s ns)) (sym (is_less set p inside there)) (loses (part_at s (sets.without set p)) (solvable s typed plain _) lost)
+  lost_at set p inside there lost = subst (λ (ns : List ℕ). Unrealizable (with_guarantees s ns)) (sym (is_less set p inside there)) (loses (part_at s (sets.without set p)) (solvable s typed _) lost)
 
   won_at : (set : List ℕ) (p : ℕ) → All IsPlace set → IsPlace p → IsWinning (sets.without set p) → Realizable (with_guarantees s (less (at_places (guarantees_of s) set) (get_or (guarantees_of s) p 0)))
   won_at set p inside there won = subst (λ (ns : List ℕ). Realizable (with_guarantees s ns)) (sym (is_less set p inside there)) won

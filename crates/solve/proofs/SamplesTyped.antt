@@ -74,7 +74,7 @@ hoping_fine = record { lines = refl; roles = refl; few = omega arith; rising = r
 -- ---- what the calls ask
 
 asked : (ls : List Statement) → IsFine ls → (s : Specification) → s ≡ sample ls → IsSample s
-asked ls fine s is = subst IsSample (sym is) (record { typed = well ls fine; plain = fine.plain; room = record { numbers = fine.room; few_nodes = fine.nodes } })
+asked ls fine s is = subst IsSample (sym is) (record { typed = well ls fine; room = record { numbers = fine.room; few_nodes = fine.nodes } })
 
 pub free_is_sample : (s : Specification) → s ≡ sample free → IsSample s
 free_is_sample = asked free free_fine

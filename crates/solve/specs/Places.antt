@@ -7,7 +7,7 @@ use Rattle.std.proofs.lemmas.List.{get_or-map, length-map}
 use Rattle.std.proofs.lemmas.List.Elements.{Contains-get_or}
 use Rattle.std.proofs.lemmas.List.Folds.{Any-from_list_any, list_any-from_Any}
 use Rattle.spec_model.specs.Syntax.{Specification}
-use Rattle.spec_model.specs.WellTyped.{WellTyped, all_hidden}
+use Rattle.spec_model.specs.WellTyped.{WellTyped}
 use Rattle.spec_model.specs.Cores.{Realizable, with_guarantees, is_in, guarantees_of}
 use Rattle.spec_model.proofs.Restricted.{restricted_is_well_typed}
 use Rattle.spec_parts.proofs.FewerHidden.{part_needs_no_more}
@@ -37,13 +37,12 @@ IsFaultOf s Memory = Unit {0}
 -- ---- the law
 
 -- each part of a well-typed specification is well typed, and has a game
-pub solvable : (s : Specification) → WellTyped s → all_hidden s ≡ 0 → (kept : List ℕ) → IsSolvable (with_guarantees s kept)
-solvable s typed plain kept =
+pub solvable : (s : Specification) → WellTyped s → (kept : List ℕ) → IsSolvable (with_guarantees s kept)
+solvable s typed kept =
     let part : Specification = with_guarantees s kept in
     let part_typed = restricted_is_well_typed s typed kept in
-    let part_plain : all_hidden part ≡ 0 = le-zero (subst (λ n. all_hidden part ≤ n) plain (part_needs_no_more s kept)) in
-    let games = typed_games_made part part_typed part_plain in
-    record { rises = lines_rise part part_typed; game = game_of part; agrees = game_agrees part part_typed part_plain games; made = games }
+    let games = typed_games_made part part_typed in
+    record { rises = lines_rise part part_typed; game = game_of part; agrees = game_agrees part part_typed games; made = games }
 
 -- the numbers at places of a part are among those at the places of the whole
 among : (numbers places part : List ℕ) → IsPartOf part places → (n : ℕ) → is_in (at_places numbers part) n ≡ true → is_in (at_places numbers places) n ≡ true
@@ -64,7 +63,7 @@ among numbers places part inside n there =
     )
 
 -- a part of what can be kept can be kept
-pub parts_win : (s : Specification) → WellTyped s → all_hidden s ≡ 0 → PartsWin (λ places. Realizable (part_at s places))
-parts_win s typed plain places part inside won =
-    part_stays s (at_places (guarantees_of s) places) (at_places (guarantees_of s) part) (solvable s typed plain (at_places (guarantees_of s) part))
+pub parts_win : (s : Specification) → WellTyped s → PartsWin (λ places. Realizable (part_at s places))
+parts_win s typed places part inside won =
+    part_stays s (at_places (guarantees_of s) places) (at_places (guarantees_of s) part) (solvable s typed (at_places (guarantees_of s) part))
     (among (guarantees_of s) places part inside) won

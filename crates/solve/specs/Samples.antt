@@ -5,7 +5,7 @@ use Rattle.spec_model.specs.declared.value.Value.TheVariants as value
 use Rattle.spec_model.specs.declared.spec.Role.{Role}
 use Rattle.spec_model.specs.declared.spec.Role.TheVariants.{Assumption, Guarantee, Monitor}
 use Rattle.spec_model.specs.Values.{TruthValues}
-use Rattle.spec_model.specs.WellTyped.{WellTyped, all_hidden}
+use Rattle.spec_model.specs.WellTyped.{WellTyped}
 use Rattle.spec_model.specs.Cores.{HasRoomForOne}
 use Rattle.spec_model.specs.Syntax.{Constant, Variable, Negation, Disjunction, formulas, Content, Safety, Recurring, Statement, VariableData, Specification}
 
@@ -47,5 +47,4 @@ hoping =
 -- what the calls on it ask
 pub record IsSample (s : Specification) : Type 0 where
   pub typed : WellTyped s
-  pub plain : all_hidden s ≡ 0
   pub room : HasRoomForOne s

@@ -3,7 +3,7 @@
 ghost use Rattle.std.specs.Prelude.{◌≡◌, IfOk, IfSome, MatchOption, IsErrOf};
 ghost use Rattle.spec_model.specs.Syntax.{Specification};
 ghost use Rattle.spec_model.specs.Views.{spec_data};
-ghost use Rattle.spec_model.specs.WellTyped.{WellTyped, all_hidden};
+ghost use Rattle.spec_model.specs.WellTyped.{WellTyped};
 ghost use Rattle.spec_model.specs.Cores.{Realizable, Unrealizable, IsLeft, IsCore};
 ghost use Rattle.spec_model.specs.Needs.{Tried};
 ghost use Rattle.solve.specs.States.{HasManyStates};
@@ -21,7 +21,6 @@ use std::alloc::Global;
 /// the specifications that are so tried has more than 1,024. `Memory`: none was given.
 pub fn core_of(alloc: Global, spec: &Spec) -> Result<Option<Vec<u32>>, SolveFault>
     requires typed { WellTyped (spec_data spec.now) }
-    requires plain { all_hidden (spec_data spec.now) ≡ 0 }
     ensures answer { let s = spec_data spec.now in IfOk result (λ core. MatchOption core (Realizable s) (λ _. Unrealizable s)) }
     ensures left { IfOk result (λ core. IfSome core (λ left. IsLeft (spec_data spec.now) left.items)) }
     ensures core { IfOk result (λ core. IfSome core (λ left. IsCore (spec_data spec.now) left.items)) }
@@ -40,7 +39,6 @@ pub fn core_of(alloc: Global, spec: &Spec) -> Result<Option<Vec<u32>>, SolveFaul
 /// The core of a specification that is unrealizable, likewise. It may be empty, where what isn't a guarantee can't be kept.
 pub fn core_of_lost(alloc: Global, spec: &Spec) -> Result<Vec<u32>, SolveFault>
     requires typed { WellTyped (spec_data spec.now) }
-    requires plain { all_hidden (spec_data spec.now) ≡ 0 }
     requires lost { Unrealizable (spec_data spec.now) }
     ensures left { IfOk result (λ left. IsLeft (spec_data spec.now) left.items) }
     ensures core { IfOk result (λ left. IsCore (spec_data spec.now) left.items) }

@@ -2,7 +2,7 @@
 
 ghost use Rattle.std.specs.Prelude.{◌≡◌, IfOk, OnOk, IsErrOf};
 ghost use Rattle.spec_model.specs.Views.{spec_data};
-ghost use Rattle.spec_model.specs.WellTyped.{WellTyped, all_hidden};
+ghost use Rattle.spec_model.specs.WellTyped.{WellTyped};
 ghost use Rattle.spec_model.specs.Cores.{with_guarantees};
 ghost use Rattle.solve.specs.States.{HasFewStates, HasManyStates};
 ghost use Rattle.solve.specs.Verdicts.{AreNumbersOf, IsVerdictOn};
@@ -19,7 +19,6 @@ use std::alloc::Global;
 /// Who wins a specification, with the numbers. `TooManyStates`: there are more than 1,024. `Memory`: none was given.
 pub fn whole_numbers(alloc: Global, spec: &Spec) -> Result<Numbers, SolveFault>
     requires typed { WellTyped (spec_data spec.now) }
-    requires plain { all_hidden (spec_data spec.now) ≡ 0 }
     ensures numbers { IfOk result (AreNumbersOf (spec_data spec.now)) }
     ensures few { OnOk result (HasFewStates (spec_data spec.now)) }
     ensures too_many_states { IsErrOf result SolveFault.TooManyStates → HasManyStates (spec_data spec.now) }
@@ -33,7 +32,6 @@ pub fn whole_numbers(alloc: Global, spec: &Spec) -> Result<Numbers, SolveFault>
 /// 1,024. `Memory`: none was given.
 pub fn whole_verdict(alloc: Global, spec: &Spec) -> Result<Verdict, SolveFault>
     requires typed { WellTyped (spec_data spec.now) }
-    requires plain { all_hidden (spec_data spec.now) ≡ 0 }
     ensures verdict { IfOk result (IsVerdictOn (spec_data spec.now)) }
     ensures few { OnOk result (HasFewStates (spec_data spec.now)) }
     ensures too_many_states { IsErrOf result SolveFault.TooManyStates → HasManyStates (spec_data spec.now) }
@@ -55,7 +53,6 @@ pub fn whole_verdict(alloc: Global, spec: &Spec) -> Result<Verdict, SolveFault>
 /// `TooManyStates`: it has more than 1,024. `Memory`: none was given.
 pub fn numbers(alloc: Global, spec: &Spec, kept: &[u32]) -> Result<Numbers, SolveFault>
     requires typed { WellTyped (spec_data spec.now) }
-    requires plain { all_hidden (spec_data spec.now) ≡ 0 }
     ensures numbers { IfOk result (AreNumbersOf (with_guarantees (spec_data spec.now) kept.now)) }
     ensures few { OnOk result (HasFewStates (with_guarantees (spec_data spec.now) kept.now)) }
     ensures too_many_states { IsErrOf result SolveFault.TooManyStates → HasManyStates (with_guarantees (spec_data spec.now) kept.now) }
@@ -68,7 +65,6 @@ pub fn numbers(alloc: Global, spec: &Spec, kept: &[u32]) -> Result<Numbers, Solv
 /// 1,024. `Memory`: none was given.
 pub fn verdict(alloc: Global, spec: &Spec, kept: &[u32]) -> Result<Verdict, SolveFault>
     requires typed { WellTyped (spec_data spec.now) }
-    requires plain { all_hidden (spec_data spec.now) ≡ 0 }
     ensures verdict { IfOk result (IsVerdictOn (with_guarantees (spec_data spec.now) kept.now)) }
     ensures few { OnOk result (HasFewStates (with_guarantees (spec_data spec.now) kept.now)) }
     ensures too_many_states { IsErrOf result SolveFault.TooManyStates → HasManyStates (with_guarantees (spec_data spec.now) kept.now) }

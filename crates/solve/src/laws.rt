@@ -2,7 +2,7 @@
 
 ghost use Rattle.std.specs.Prelude.{◌≡◌};
 ghost use Rattle.spec_model.specs.Syntax.{Specification};
-ghost use Rattle.spec_model.specs.WellTyped.{WellTyped, all_hidden};
+ghost use Rattle.spec_model.specs.WellTyped.{WellTyped};
 ghost use Rattle.solve.specs.Winners.{NeverBoth, OneOfBoth};
 
 /// No specification is won by both sides, whatever the numbers.
@@ -10,7 +10,7 @@ pub fn no_specification_is_won_by_both()
     ensures { (s : Specification) → NeverBoth s }
 {}
 
-/// One of the two wins each well-typed specification that needs no hidden tables.
+/// One of the two wins each well-typed specification.
 pub fn one_of_both_wins()
-    ensures { (s : Specification) → WellTyped s → all_hidden s ≡ 0 → OneOfBoth s }
+    ensures { (s : Specification) → WellTyped s → OneOfBoth s }
 {}

@@ -4,7 +4,7 @@ ghost use Rattle.std.specs.Prelude.{◌≡◌, ◌≤◌, ◌<◌, length, map, 
 ghost use Rattle.std.proofs.Props.{props};
 ghost use Rattle.spec_model.specs.Views.{line_data, spec_data};
 ghost use Rattle.spec_model.specs.Moves.{is_guarantee};
-ghost use Rattle.spec_model.specs.WellTyped.{WellTyped, all_hidden};
+ghost use Rattle.spec_model.specs.WellTyped.{WellTyped};
 ghost use Rattle.spec_model.specs.Cores.{guarantees_of};
 ghost use Rattle.solve.specs.Places.{at_places};
 ghost use Rattle.solve.specs.OneSpelling.{IsName-prop};
@@ -31,7 +31,6 @@ pub struct Parts<'a> {
     /// The part that the last fault was answered for.
     asked: Vec<usize>,
     ghost typed: { WellTyped (spec_data spec.now) } by { Prim.hlevel (props, IsName-prop) },
-    ghost plain: { all_hidden (spec_data spec.now) ≡ 0 },
     ghost numbered: { numbers.now ≡ guarantees_of (spec_data spec.now) },
     ghost part_room: { length numbers.now ≤ vec_capacity part },
     ghost asked_room: { length numbers.now ≤ vec_capacity asked },
@@ -43,7 +42,6 @@ impl<'a> Parts<'a> {
     /// Takes all the room that judging parts wants for itself.
     pub fn make(alloc: Global, spec: &'a Spec, numbers: &'a [u32]) -> Result<Parts<'a>, AllocError>
         requires typed { WellTyped (spec_data spec.now) }
-        requires plain { all_hidden (spec_data spec.now) ≡ 0 }
         requires numbers { numbers.now ≡ guarantees_of (spec_data spec.now) }
         ensures { IfOk result (λ p. whole_of p ≡ spec_data spec.now) }
     {
@@ -91,7 +89,7 @@ impl Judge for Parts<'_> {
         }
     }
 
-    ghost parts = { λ p. parts_win (whole_of p) p.typed p.plain };
+    ghost parts = { λ p. parts_win (whole_of p) p.typed };
 }
 
 /// The line numbers of the guarantees, in text order.

@@ -2,7 +2,7 @@
 
 ghost use Rattle.std.specs.Prelude.{◌≡◌, [], IfOk, OnOk, IsErrOf};
 ghost use Rattle.spec_model.specs.Views.{spec_data};
-ghost use Rattle.spec_model.specs.WellTyped.{WellTyped, all_hidden};
+ghost use Rattle.spec_model.specs.WellTyped.{WellTyped};
 ghost use Rattle.hidden_game.specs.GameOf.{game_of};
 ghost use Rattle.region_rows.specs.Slots.{kept_in};
 ghost use Rattle.solve.specs.States.{HasFewStates, HasManyStates};
@@ -17,7 +17,6 @@ use std::alloc::Global;
 /// Rows of the game of a specification. Nothing is held at first.
 pub fn rows_of(alloc: Global, spec: &Spec) -> Result<RegionRows, SolveFault>
     requires typed { WellTyped (spec_data spec.now) }
-    requires plain { all_hidden (spec_data spec.now) ≡ 0 }
     ensures made { IfOk result (λ r. rows_kept r ≡ kept_in (game_of (spec_data spec.now)) []) }
     ensures few { OnOk result (HasFewStates (spec_data spec.now)) }
     ensures too_many_states { IsErrOf result SolveFault.TooManyStates → HasManyStates (spec_data spec.now) }

@@ -2,7 +2,7 @@
 
 ghost use Rattle.std.specs.Prelude.{◌≡◌, IfOk, OnOk, IsErrOf};
 ghost use Rattle.spec_model.specs.Views.{spec_data};
-ghost use Rattle.spec_model.specs.WellTyped.{WellTyped, all_hidden};
+ghost use Rattle.spec_model.specs.WellTyped.{WellTyped};
 ghost use Rattle.spec_model.specs.Cores.{HasRoomForOne, forced as forced_lem};
 ghost use Rattle.solve.specs.States.{HasFewStates, HasManyStates};
 ghost use Rattle.solve.specs.Separations.{IsSeparationOf};
@@ -28,7 +28,6 @@ pub enum Separation {
 /// given.
 pub fn separated(alloc: Global, spec: &Spec) -> Result<Separation, SolveFault>
     requires typed { WellTyped (spec_data spec.now) }
-    requires plain { all_hidden (spec_data spec.now) ≡ 0 }
     requires room { HasRoomForOne (spec_data spec.now) }
     ensures separation { IfOk result (IsSeparationOf (spec_data spec.now)) }
     ensures few { OnOk result (HasFewStates (forced_lem (spec_data spec.now))) }

@@ -51,7 +51,7 @@ returns-in-Ok-clause-left c =
     let there : c.deref-in-Ok.result.now ≡ guarantees_of s = c.deref-in-Ok.ensures.value ∙ numbers in
     let items : c.in_ok-numbers_at-in-Ok.field-0.items ≡ at_places (guarantees_of s) c.in-Ok.places.items =
     c.in_ok-numbers_at-in-Ok.ensures ∙ (ap (λ ns. at_places ns c.deref-in-Ok-2.result.now) there ∙ ap (at_places (guarantees_of s)) c.deref-in-Ok-2.ensures.value) in
-    subst (IsLeft s) (sym items) (left_numbers s (whole_of c.in_ok-parts.parts) is c.len.result count c.requires.typed c.requires.plain c.in-Ok.places.items c.in-Ok.ensures.left)
+    subst (IsLeft s) (sym items) (left_numbers s (whole_of c.in_ok-parts.parts) is c.len.result count c.requires.typed c.in-Ok.places.items c.in-Ok.ensures.left)
 
 pub returns-in-Ok-clause-core : goal.returns-in-Ok-clause-core
 returns-in-Ok-clause-core c =
@@ -63,8 +63,8 @@ returns-in-Ok-clause-core c =
     let there : c.deref-in-Ok.result.now ≡ guarantees_of s = c.deref-in-Ok.ensures.value ∙ numbers in
     let items : c.in_ok-numbers_at-in-Ok.field-0.items ≡ at_places (guarantees_of s) c.in-Ok.places.items =
     c.in_ok-numbers_at-in-Ok.ensures ∙ (ap (λ ns. at_places ns c.deref-in-Ok-2.result.now) there ∙ ap (at_places (guarantees_of s)) c.deref-in-Ok-2.ensures.value) in
-    let left = left_numbers s (whole_of c.in_ok-parts.parts) is c.len.result count c.requires.typed c.requires.plain c.in-Ok.places.items c.in-Ok.ensures.left in
-    subst (IsCore s) (sym items) (left_is_core s (solvable s c.requires.typed c.requires.plain) _ c.requires.lost left)
+    let left = left_numbers s (whole_of c.in_ok-parts.parts) is c.len.result count c.requires.typed c.in-Ok.places.items c.in-Ok.ensures.left in
+    subst (IsCore s) (sym items) (left_is_core s (solvable s c.requires.typed) _ c.requires.lost left)
 
 pub returns-clause-too_many_states : goal.returns-clause-too_many_states
 returns-clause-too_many_states c = λ is_many.
@@ -75,4 +75,4 @@ returns-clause-too_many_states c = λ is_many.
     let is : whole_of c.in_ok-parts.parts ≡ s = c.in_ok-parts.ensures in
     let cause = rw c.in-Err-Judge.field-0-is at c.in-Err-Judge.ensures.cause in
     let same : c.in-Err-Judge.fault ≡ TooManyStates = cc is_many in
-    many_tried s (whole_of c.in_ok-parts.parts) is c.len.result count c.requires.typed c.requires.plain cause.set c.in-Err-Judge.fault cause.asked cause.answered.allowed same
+    many_tried s (whole_of c.in_ok-parts.parts) is c.len.result count c.requires.typed cause.set c.in-Err-Judge.fault cause.asked cause.answered.allowed same

@@ -9,4 +9,4 @@ use Rattle.solve.proofs.deciding.whole_numbers.Goals as goal
 pub returns-clause-numbers : goal.returns-clause-numbers
 returns-clause-numbers c =
     let game = c.in_ok-layers.ensures.same.game ∙ ap (λ (k : Kept RowRegion RowMove). k.game) c.in_ok-g.ensures.made in
-    numbers_of (spec_data c.args.spec.now) c.requires.typed c.requires.plain _ game _ c.counted.ensures
+    numbers_of (spec_data c.args.spec.now) c.requires.typed _ game _ c.counted.ensures

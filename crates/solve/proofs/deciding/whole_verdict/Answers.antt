@@ -12,11 +12,11 @@ returns-in_ok-k-in-BySystem-clause-verdict c =
     let game = c.in_ok-layers.ensures.same.game ∙ ap (λ (k : Kept RowRegion RowMove). k.game) c.in_ok-g.ensures.made in
     let s = spec_data c.args.spec.now in
     let p = c.in_ok-k-in-BySystem.ensures in
-    (won_by s c.requires.typed c.requires.plain _ game _ p.won, p.plays s (agrees_with s c.requires.typed c.requires.plain _ game))
+    (won_by s c.requires.typed _ game _ p.won, p.plays s (agrees_with s c.requires.typed _ game))
 
 pub returns-in_ok-n-in-ByEnvironment-clause-verdict : goal.returns-in_ok-n-in-ByEnvironment-clause-verdict
 returns-in_ok-n-in-ByEnvironment-clause-verdict c =
     let game = c.in_ok-layers.ensures.same.game ∙ ap (λ (k : Kept RowRegion RowMove). k.game) c.in_ok-g.ensures.made in
     let s = spec_data c.args.spec.now in
     let p = c.in_ok-n-in-ByEnvironment.ensures in
-    (lost_by s c.requires.typed c.requires.plain _ game _ _ p.lost, p.plays s (agrees_with s c.requires.typed c.requires.plain _ game) (lines_rise s c.requires.typed))
+    (lost_by s c.requires.typed _ game _ _ p.lost, p.plays s (agrees_with s c.requires.typed _ game) (lines_rise s c.requires.typed))

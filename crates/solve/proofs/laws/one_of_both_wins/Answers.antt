@@ -4,4 +4,4 @@ use Rattle.solve.proofs.Found.{one_found}
 use Rattle.solve.proofs.laws.one_of_both_wins.Goals as goal
 
 pub returns : goal.returns
-returns c s typed plain = let games = made.typed_games_made s typed plain in one_found s (game_agrees s typed plain games) games (made.lines_rise s typed)
+returns c s typed = let games = made.typed_games_made s typed in one_found s (game_agrees s typed games) games (made.lines_rise s typed)
