@@ -12,4 +12,3 @@ mod Owning
 mod Makings
 mod Begun
 pub mod Serving
-mod ExampleMoves

@@ -5,4 +5,3 @@ pub mod Settled
 pub mod Owned
 pub mod Made
 pub mod Objects
-pub mod Examples

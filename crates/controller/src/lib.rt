@@ -22,6 +22,3 @@ mod spending;
 mod turning;
 
 pub use controller::Controller;
-
-#[cfg(test)]
-mod tests;

@@ -14,4 +14,3 @@ mod Completing
 mod Erring
 mod Filling
 pub mod Serving
-mod ExampleMoves

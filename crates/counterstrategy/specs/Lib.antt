@@ -5,4 +5,3 @@ pub mod Turns
 pub mod Owned
 pub mod Made
 pub mod Objects
-pub mod Examples

@@ -20,6 +20,3 @@ mod noting;
 mod place;
 
 pub use counterstrategy::{Counterstrategy, Note};
-
-#[cfg(test)]
-mod tests;

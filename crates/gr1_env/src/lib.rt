@@ -19,6 +19,3 @@ mod spending;
 
 pub use layers::{EnvGoal, EnvLayer, EnvLayers};
 pub use solving::solve_env;
-
-#[cfg(test)]
-mod tests;

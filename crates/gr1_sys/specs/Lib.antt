@@ -3,4 +3,3 @@ pub mod Givens
 pub mod Solved
 pub mod Solution
 pub mod Moment
-pub mod Examples

@@ -21,6 +21,3 @@ pub use joining::{and_in, or_in};
 pub use layers::{SysLayer, SysLayers};
 pub use solving::solve_sys;
 pub use spending::spend_all;
-
-#[cfg(test)]
-mod tests;

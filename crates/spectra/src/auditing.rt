@@ -6,7 +6,7 @@ ghost use Rattle.spec_model.specs.Syntax.{Specification};
 ghost use Rattle.spec_model.specs.Views.{spec_data};
 ghost use Rattle.spec_model.specs.GameViews.{game_data};
 ghost use Rattle.spec_model.specs.WellMade.{WellMade};
-ghost use Rattle.spec_model.specs.WellTyped.{WellTyped, all_hidden};
+ghost use Rattle.spec_model.specs.WellTyped.{WellTyped};
 ghost use Rattle.spec_model.specs.Agreement.{Agrees};
 ghost use Rattle.session_lines.specs.Views.{AreForLogs, pending_of};
 ghost use Rattle.session.specs.Audits.{IsAuditOf};
@@ -60,7 +60,7 @@ fn read_log<I: Source, O: Sink>(room: Room, input: &mut I, output: &mut O) -> St
     close_audit(&mut lines, end, output)
 }
 
-/// Audits a log of a well-typed specification that needs no hidden tables, whoever wins it, and says how that ended. All the
+/// Audits a log of a well-typed specification, whoever wins it, and says how that ended. All the
 /// room is taken before the input is read.
 pub fn audit<I: Source, O: Sink>(
     alloc: Global,
@@ -69,7 +69,6 @@ pub fn audit<I: Source, O: Sink>(
     output: &mut O,
 ) -> Status
     requires typed { WellTyped (spec_data spec.now) }
-    requires plain { all_hidden (spec_data spec.now) ≡ 0 }
     ensures { let at = moments I.left O.written I.faults O.faults in
         Audits (spec_data spec.now) (at input.old output.old) (at input.new output.new) result ⊎ WantsMemory (at input.old output.old) (at input.new output.new) result }
 {

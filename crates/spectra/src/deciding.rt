@@ -2,7 +2,7 @@
 
 ghost use Rattle.std.specs.Prelude.{◌≡◌};
 ghost use Rattle.spec_model.specs.Views.{spec_data};
-ghost use Rattle.spec_model.specs.WellTyped.{WellTyped, all_hidden};
+ghost use Rattle.spec_model.specs.WellTyped.{WellTyped};
 ghost use Rattle.spec_model.specs.Cores.{HasRoomForOne};
 ghost use Rattle.solve.specs.States.{HasFewStates};
 ghost use Rattle.solve.specs.Winners.{IsWonByEnvironment};
@@ -39,7 +39,6 @@ fn say_no_verdict<O: Sink>(alloc: Global, name: &str, fault: SolveFault, output:
 // `synth`: says who wins.
 fn serve_synth<O: Sink>(alloc: Global, request: Request<'_>, spec: &Spec, output: &mut O) -> Status
     requires typed { WellTyped (spec_data spec.now) }
-    requires plain { all_hidden (spec_data spec.now) ≡ 0 }
     ensures { OverOutput O.written O.faults output.old output.new (λ before after. ServesSpecification commands.Synth request.entry.nodes request.entry.file.now before after (spec_data spec.now) result) }
 {
     match whole_numbers(alloc, spec) {
@@ -58,7 +57,6 @@ fn serve_run<I: Source, O: Sink>(
     output: &mut O,
 ) -> Status
     requires typed { WellTyped (spec_data spec.now) }
-    requires plain { all_hidden (spec_data spec.now) ≡ 0 }
     ensures { let at = moments I.left O.written I.faults O.faults in
         ServesSpecification commands.Run request.entry.nodes request.entry.file.now (at input.old output.old) (at input.new output.new) (spec_data spec.now) result }
 {
@@ -81,7 +79,6 @@ fn serve_counter<I: Source, O: Sink>(
     output: &mut O,
 ) -> Status
     requires typed { WellTyped (spec_data spec.now) }
-    requires plain { all_hidden (spec_data spec.now) ≡ 0 }
     ensures { let at = moments I.left O.written I.faults O.faults in
         ServesSpecification commands.Counter request.entry.nodes request.entry.file.now (at input.old output.old) (at input.new output.new) (spec_data spec.now) result }
 {
@@ -107,7 +104,6 @@ fn serve_lost_core<O: Sink>(
     output: &mut O,
 ) -> Status
     requires typed { WellTyped (spec_data spec.now) }
-    requires plain { all_hidden (spec_data spec.now) ≡ 0 }
     requires few { HasFewStates (spec_data spec.now) }
     requires lost { IsWonByEnvironment (spec_data spec.now) n m }
     ensures { OverOutput O.written O.faults output.old output.new (λ before after. ServesSpecification commands.Core request.entry.nodes request.entry.file.now before after (spec_data spec.now) result) }
@@ -122,7 +118,6 @@ fn serve_lost_core<O: Sink>(
 // written.
 fn serve_core<O: Sink>(alloc: Global, request: Request<'_>, spec: &Spec, output: &mut O) -> Status
     requires typed { WellTyped (spec_data spec.now) }
-    requires plain { all_hidden (spec_data spec.now) ≡ 0 }
     ensures { OverOutput O.written O.faults output.old output.new (λ before after. ServesSpecification commands.Core request.entry.nodes request.entry.file.now before after (spec_data spec.now) result) }
 {
     match whole_numbers(alloc, spec) {
@@ -140,7 +135,6 @@ fn serve_separate<O: Sink>(
     output: &mut O,
 ) -> Status
     requires typed { WellTyped (spec_data spec.now) }
-    requires plain { all_hidden (spec_data spec.now) ≡ 0 }
     requires room { HasRoomForOne (spec_data spec.now) }
     ensures { OverOutput O.written O.faults output.old output.new (λ before after. ServesSpecification commands.Separate request.entry.nodes request.entry.file.now before after (spec_data spec.now) result) }
 {
@@ -151,7 +145,7 @@ fn serve_separate<O: Sink>(
     }
 }
 
-/// Does what the command wants with a well-typed specification that needs no hidden tables.
+/// Does what the command wants with a well-typed specification.
 pub fn serve_specification<I: Source, O: Sink>(
     alloc: Global,
     request: Request<'_>,
@@ -160,7 +154,6 @@ pub fn serve_specification<I: Source, O: Sink>(
     output: &mut O,
 ) -> Status
     requires typed { WellTyped (spec_data spec.now) }
-    requires plain { all_hidden (spec_data spec.now) ≡ 0 }
     requires room { HasRoomForOne (spec_data spec.now) }
     ensures { let at = moments I.left O.written I.faults O.faults in
         ServesSpecification request.entry.command request.entry.nodes request.entry.file.now (at input.old output.old) (at input.new output.new) (spec_data spec.now) result }

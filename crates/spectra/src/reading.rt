@@ -6,7 +6,7 @@ ghost use Rattle.spectra_lexer.specs.Tokens.{AreTokens};
 ghost use Rattle.spectra_trees.specs.Lexemes.{lexemes};
 ghost use Rattle.spectra_trees.specs.Views.{tree_data};
 ghost use Rattle.spectra_parser.specs.Texts.{IsBuilt};
-ghost use Rattle.spec_model.specs.WellTyped.{WellTyped, all_hidden};
+ghost use Rattle.spec_model.specs.WellTyped.{WellTyped};
 ghost use Rattle.spec_model.specs.Cores.{HasRoomForOne};
 ghost use Rattle.spectra.specs.declared.reading.ReadFault.TheVariants.{Syntax};
 ghost use Rattle.spectra.specs.Reading.{Reads, Explains};
@@ -42,7 +42,6 @@ fn meaning(alloc: Global, text: &[u8], tokens: &[Token], tree: Tree) -> Result<S
     requires built { IsBuilt (lexemes text.now tokens.now) (tree_data tree) }
     ensures reads { IfOk result (λ s. Reads text.now (spec_data s)) }
     ensures typed { IfOk result (λ s. WellTyped (spec_data s)) }
-    ensures plain { IfOk result (λ s. all_hidden (spec_data s) ≡ 0) }
     ensures room { IfOk result (λ s. HasRoomForOne (spec_data s)) }
     ensures fault { IfErr result (Explains text.now tokens.now) }
 {
@@ -70,7 +69,6 @@ pub fn read(alloc: Global, text: &[u8], tokens: &[Token]) -> Result<Spec, ReadFa
     requires lexed { AreTokens text.now tokens.now }
     ensures reads { IfOk result (λ s. Reads text.now (spec_data s)) }
     ensures typed { IfOk result (λ s. WellTyped (spec_data s)) }
-    ensures plain { IfOk result (λ s. all_hidden (spec_data s) ≡ 0) }
     ensures room { IfOk result (λ s. HasRoomForOne (spec_data s)) }
     ensures fault { IfErr result (Explains text.now tokens.now) }
 {

@@ -1,0 +1,2 @@
+mod InputMoves
+mod OutputMoves

@@ -1,0 +1,9 @@
+use Rattle.regions.specs.Kept.{Stays, IsSameGame}
+use Rattle.worked_games.proofs.environment_layers.agree.Given as goal
+
+-- nothing has changed
+abbrev pub invariant-loop-a : goal.invariant-loop-a
+invariant-loop-a g l =
+    let kept = g.G.Regions.kept in
+    let first = kept l.fn.g in
+    record { stays : Stays first (kept l.g); same : IsSameGame first (kept l.g) }
