@@ -1,10 +1,4 @@
-pub mod Plain
-pub mod Parts
-pub mod Lines
-pub mod Agreeing
-pub mod Recurrences
-pub mod Breaking
-pub mod Stepwise
-pub mod MadeGames
-pub mod StateCounts
-pub mod Agreed
+pub mod Limits
+pub mod GoalParts
+pub mod Making
+mod SamplesTyped

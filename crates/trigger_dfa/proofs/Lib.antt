@@ -19,3 +19,4 @@ mod Walked
 mod Collected
 mod TableRows
 mod WholeTable
+pub mod TypedTriggers
