@@ -1,3 +1,4 @@
 pub mod GameOf
+pub mod Laws
 pub mod Sources
 pub mod Samples

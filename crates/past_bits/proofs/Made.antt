@@ -1,5 +1,5 @@
 -- The tables of a well-typed specification's operators are well made.
-use Rattle.std.proofs.Common.{◌≡◌, ℕ, suc, ◌+◌, Bool, true, false, not, ◌&&◌, ◌||◌, ◌==◌, cond, List, [], ◌∷◌, ◌++◌, length, map, flat_map, is_some, refl, sym, ap, ◌∙◌, arith, append_assoc}
+use Rattle.std.proofs.Common.{◌≡◌, ℕ, suc, ◌+◌, Bool, true, false, not, ◌&&◌, ◌||◌, ◌==◌, cond, List, [], ◌∷◌, ◌++◌, length, map, flat_map, is_some, refl, sym, ap, ◌∙◌, arith, append_assoc, append-nil}
 use Rattle.std.specs.List.{list_any, list_all}
 use Rattle.std.proofs.lemmas.Bool.{and_parts, and_from, false≢true}
 use Rattle.std.proofs.lemmas.List.Folds.{list_all-append}
@@ -97,21 +97,22 @@ ones pre = map (λ e. 1) pre
 past_first : (counts : List ℕ) (k : ℕ) → has_table (1 ∷ counts) (1 + k) 0 ≡ has_table counts k 0
 past_first counts k = let next : 1 + k ≡ suc k = omega arith in rw next refl
 
-pub has_at : (pre post : List Formula) (e : Formula) → list_any (same_formula e) pre ≡ true → has_table (ones pre) (place_of (pre ++ post) e) 0 ≡ true
-has_at [] post e is = absurd (false≢true is)
-has_at (x ∷ pre) post e is = at (same_formula e x) refl is (has_at pre post e)
+pub has_at : (pre post : List Formula) (more : List ℕ) (e : Formula) → list_any (same_formula e) pre ≡ true → has_table (ones pre ++ more) (place_of (pre ++ post) e) 0 ≡ true
+has_at [] post more e is = absurd (false≢true is)
+has_at (x ∷ pre) post more e is = at (same_formula e x) refl is (has_at pre post more e)
   where
-    at : (b : Bool) → same_formula e x ≡ b → list_any (same_formula e) (x ∷ pre) ≡ true → (list_any (same_formula e) pre ≡ true → has_table (ones pre) (place_of (pre ++ post) e) 0 ≡ true) →
-        has_table (1 ∷ ones pre) (place_of (x ∷ (pre ++ post)) e) 0 ≡ true
+    at : (b : Bool) → same_formula e x ≡ b → list_any (same_formula e) (x ∷ pre) ≡ true → (list_any (same_formula e) pre ≡ true → has_table (ones pre ++ more) (place_of (pre ++ post) e) 0 ≡ true) →
+        has_table (1 ∷ (ones pre ++ more)) (place_of (x ∷ (pre ++ post)) e) 0 ≡ true
     at true same there rest = rw same refl
-    at false same there rest = rw same (past_first (ones pre) (place_of (pre ++ post) e) ∙ rest (rw same at there))
+    at false same there rest = rw same (past_first (ones pre ++ more) (place_of (pre ++ post) e) ∙ rest (rw same at there))
 
-module _ (domains : List DomainData) (ops pre post : List Formula) (split : ops ≡ pre ++ post) where
+-- where the tables of the operators may be followed by more
+module _ (domains : List DomainData) (ops pre post : List Formula) (split : ops ≡ pre ++ post) (more : List ℕ) where
   abbrev sc : Scope
   sc = record { domains = domains; tables = [] }
 
   abbrev over : Scope
-  over = record { domains = domains; tables = ones pre }
+  over = record { domains = domains; tables = ones pre ++ more }
 
   truth_is : (b : Bool) → b ≡ true → truth_if true ≡ truth_if b
   truth_is true is = refl
@@ -154,7 +155,7 @@ module _ (domains : List DomainData) (ops pre post : List Formula) (split : ops 
     kind_same (Remainder a n) k has = ap (λ p. reduced p n) (kind_same a (one_reduced (kind_of sc a) n k) has)
     kind_same (PastOf op es) k has =
         let there = (and_parts (list_any (same_formula (PastOf op es)) pre) true (both_covered pre (past_trees_of_all es) (PastOf op es ∷ []) has).1).0 in
-        ap truth_if (ap (λ os. has_table (ones pre) (place_of os (PastOf op es)) 0) split ∙ has_at pre post (PastOf op es) there)
+        ap truth_if (ap (λ os. has_table (ones pre ++ more) (place_of os (PastOf op es)) 0) split ∙ has_at pre post more (PastOf op es) there)
         ∙ truth_is (count_of es == operands_of op && are_truths sc es) (truth_holds (count_of es == operands_of op && are_truths sc es) k)
     kind_same (Entry h n) k has = absurd (false≢true k)
 
@@ -226,10 +227,12 @@ module _ (domains : List DomainData) (ops : List Formula) where
       let plains = and_parts (is_plain false e) (are_plain false es) plain in
       let there = both_covered pre (past_trees e) (past_trees_of_all es) has in
       let steps = stepwise ops e plains.0 in
-      let kind = ap is_truth (kind_same domains ops pre post split e (some_truth (kind_of (record { domains = domains; tables = [] }) e) ks.0) there.0) ∙ ks.0 in
+      let kind =
+      ap (λ counts. is_truth (kind_of (record { domains = domains; tables = counts }) (with_entries ops e))) (sym (append-nil (ones pre)))
+      ∙ (ap is_truth (kind_same domains ops pre post split [] e (some_truth (kind_of (record { domains = domains; tables = [] }) e) ks.0) there.0) ∙ ks.0) in
       and_from _ _ (and_from _ _ (and_from _ _ kind steps.0) (ap not steps.1)) (atoms_made pre post split es ks.1 plains.1 there.1)
 
-  length-listed : (es : Formulas) → length (listed (each_with_entries ops es)) ≡ count_of es
+  pub length-listed : (es : Formulas) → length (listed (each_with_entries ops es)) ≡ count_of es
   length-listed Formulas.none = refl
   length-listed (Formulas.one_more e es) = ap suc (length-listed es)
 

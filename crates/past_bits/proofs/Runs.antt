@@ -40,7 +40,7 @@ first_value : (r : Reading) (ops : List Formula) (e : Formula) → (table_of ops
 first_value r ops (PastOf op es) = refl
 first_value r ops _ = refl
 
-first_values : (r : Reading) (ops es : List Formula) → map (λ h. h.first) (map (table_of ops) es) ≡ map (value_of r 0) es
+pub first_values : (r : Reading) (ops es : List Formula) → map (λ h. h.first) (map (table_of ops) es) ≡ map (value_of r 0) es
 first_values r ops [] = refl
 first_values r ops (e ∷ es) = λ i. first_value r ops e i ∷ first_values r ops es i
 
@@ -92,7 +92,7 @@ module _ (s : Specification) (g : GameData) (ordered : AreOrdered s) (begins : B
       let all = entries t in
       ap (λ xs. get_or (get_or xs (place_of ops e) []) 0 false) all.1
       ∙ (ap (λ os. get_or (get_or (map (entries_of (reading_of s h) t) ops ++ all.0) (place_of os e) []) 0 false) (sym (append-nil ops))
-      ∙ ap (λ x. get_or x 0 false) (at_place (entries_of (reading_of s h) t) ops [] all.0 e there))
+      ∙ ap (λ x. get_or x 0 false) (at_place (entries_of (reading_of s h) t) ops [] all.0 [] e there))
 
   pub formula_agrees : (t : ℕ) (e : Formula) → is_plain true e ≡ true → covers ops (past_trees e) ≡ true → value_at (game_reading g h) (with_entries ops e) t ≡ value_at (reading_of s h) e t
   formula_agrees t e plain has =
@@ -104,7 +104,7 @@ module _ (s : Specification) (g : GameData) (ordered : AreOrdered s) (begins : B
 
 -- ---- a formula of a line
 
-covers_one : {X : Type 0} (known : List Formula) (trees : X → List Formula) (xs : List X) (k : ℕ) (x : X) → k < length xs → get_or xs k x ≡ x → covers known (flat_map trees xs) ≡ true → covers known (trees x) ≡ true
+pub covers_one : {X : Type 0} (known : List Formula) (trees : X → List Formula) (xs : List X) (k : ℕ) (x : X) → k < length xs → get_or xs k x ≡ x → covers known (flat_map trees xs) ≡ true → covers known (trees x) ≡ true
 covers_one known trees [] k x below is has = absurd (omega arith)
 covers_one known trees (y ∷ xs) zero x below is has = subst (λ y. covers known (trees y) ≡ true) is (both_covered known (trees y) (flat_map trees xs) has).0
 covers_one known trees (y ∷ xs) (suc k) x below is has = covers_one known trees xs k x (omega arith) is (both_covered known (trees y) (flat_map trees xs) has).1

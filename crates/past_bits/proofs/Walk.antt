@@ -29,20 +29,20 @@ value_of r t _ = 0
 abbrev pub entries_of : Reading → ℕ → Formula → List Bool
 entries_of r t e = holds_at r e t ∷ []
 
-past_first : (x : List Bool) (xs : List (List Bool)) (k : ℕ) → get_or (x ∷ xs) (1 + k) [] ≡ get_or xs k []
-past_first x xs k = let next : 1 + k ≡ suc k = omega arith in rw next refl
+past_first : {X : Type 0} (x : X) (xs : List X) (k : ℕ) (d : X) → get_or (x ∷ xs) (1 + k) d ≡ get_or xs k d
+past_first x xs k d = let next : 1 + k ≡ suc k = omega arith in rw next refl
 
 -- what stands at the place of a tree that is there
-pub at_place : (f : Formula → List Bool) (pre post : List Formula) (more : List (List Bool)) (e : Formula) → list_any (same_formula e) pre ≡ true →
-    get_or (map f pre ++ more) (place_of (pre ++ post) e) [] ≡ f e
-at_place f [] post more e is = absurd (false≢true is)
-at_place f (x ∷ pre) post more e is = at (same_formula e x) refl is (at_place f pre post more e)
+pub at_place : {X : Type 0} (f : Formula → X) (pre post : List Formula) (more : List X) (d : X) (e : Formula) → list_any (same_formula e) pre ≡ true →
+    get_or (map f pre ++ more) (place_of (pre ++ post) e) d ≡ f e
+at_place f [] post more d e is = absurd (false≢true is)
+at_place f (x ∷ pre) post more d e is = at (same_formula e x) refl is (at_place f pre post more d e)
   where
     at : (b : Bool) → same_formula e x ≡ b → list_any (same_formula e) (x ∷ pre) ≡ true →
-        (list_any (same_formula e) pre ≡ true → get_or (map f pre ++ more) (place_of (pre ++ post) e) [] ≡ f e) →
-        get_or (f x ∷ (map f pre ++ more)) (place_of (x ∷ (pre ++ post)) e) [] ≡ f e
+        (list_any (same_formula e) pre ≡ true → get_or (map f pre ++ more) (place_of (pre ++ post) e) d ≡ f e) →
+        get_or (f x ∷ (map f pre ++ more)) (place_of (x ∷ (pre ++ post)) e) d ≡ f e
     at true same there rest = rw same (ap f (sym (same_formula-true e x same)))
-    at false same there rest = rw same (past_first (f x) (map f pre ++ more) (place_of (pre ++ post) e) ∙ rest (rw same at there))
+    at false same there rest = rw same (past_first (f x) (map f pre ++ more) (place_of (pre ++ post) e) d ∙ rest (rw same at there))
 
 length-listed : (ops : List Formula) (r : Reading) (es : Formulas) → length (listed (each_with_entries ops es)) ≡ length (truths_at r es)
 length-listed ops r Formulas.none = refl
@@ -66,7 +66,7 @@ module _ (ops : List Formula) (vs : List VariableData) (p : Position) (r : Readi
       (λ op fs u w is there.
       ap (λ xs. get_or (get_or xs (place_of ops (PastOf op fs)) []) 0 false) (so_far ∙ sym (append-nil (map (entries_of r t) pre)))
       ∙ (ap (λ os. get_or (get_or (map (entries_of r t) pre ++ []) (place_of os (PastOf op fs)) []) 0 false) split
-      ∙ (ap (λ x. get_or x 0 false) (at_place (entries_of r t) pre post [] (PastOf op fs) there) ∙ ap (λ w. past_of op (truths_at r fs) w) (sym is))))
+      ∙ (ap (λ x. get_or x 0 false) (at_place (entries_of r t) pre post [] [] (PastOf op fs) there) ∙ ap (λ w. past_of op (truths_at r fs) w) (sym is))))
       (λ no. absurd (false≢true no))
       es 0 t refl plain inner
 

@@ -19,4 +19,5 @@ mod Walked
 mod Collected
 mod TableRows
 mod WholeTable
+pub mod FilledTables
 pub mod TypedTriggers
