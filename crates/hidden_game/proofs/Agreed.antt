@@ -1,5 +1,5 @@
 -- The game of a well-typed specification agrees with it.
-use Rattle.std.proofs.Common.{◌≡◌, ℕ, ◌&&◌, option_map, refl, sym, ap}
+use Rattle.std.proofs.Common.{◌≡◌, ◌&&◌, option_map, refl, sym, ap}
 use Rattle.spec_model.specs.Syntax.{Specification}
 use Rattle.spec_model.specs.Moves.{rules_of}
 use Rattle.spec_model.specs.Steps.{is_input, is_output}
@@ -8,7 +8,6 @@ use Rattle.spec_model.specs.FirstBroken.{line_label}
 use Rattle.spec_model.specs.Agreement.{Agrees}
 use Rattle.spec_model.specs.WellTyped.{WellTyped}
 use Rattle.hidden_game.specs.GameOf.{game_of}
-use Rattle.hidden_game.specs.Laws.{UsesNoPattern}
 use Rattle.hidden_game.proofs.Known.{operators_ordered, lines_known}
 use Rattle.hidden_game.proofs.MadeGames.{typed_games_made, lines_rise}
 use Rattle.hidden_game.proofs.Agreeing.{inputs_agree, outputs_agree}
@@ -16,7 +15,7 @@ use Rattle.hidden_game.proofs.Goals.{assumptions_agree, guarantees_agree}
 use Rattle.hidden_game.proofs.Breaking.{breaks_agree, answers_agree}
 use Rattle.hidden_game.proofs.StateCounts.{states_few}
 
-module _ (s : Specification) (typed : WellTyped s) (free : UsesNoPattern s) where
+module _ (s : Specification) (typed : WellTyped s) where
   rules_agree : rules_of_game (game_of s) ≡ rules_of s
   rules_agree =
       let ordered = operators_ordered s typed in
@@ -26,8 +25,8 @@ module _ (s : Specification) (typed : WellTyped s) (free : UsesNoPattern s) wher
       record {
         legal_input = λ h x. is_input (game_of s) x && sym (inputs_agree s ordered made known h x) i;
         legal_output = λ h x y. is_output (game_of s) y && sym (outputs_agree s ordered made known h x y) i;
-        assumptions = sym (assumptions_agree s typed free) i;
-        guarantees = sym (guarantees_agree s typed free) i;
+        assumptions = sym (assumptions_agree s typed) i;
+        guarantees = sym (guarantees_agree s typed) i;
       }
 
   pub game_agrees : Agrees s (game_of s)

@@ -1,12 +1,12 @@
 -- How the game of a specification judges its lines after a run: as the specification does.
-use Rattle.std.proofs.Common.{◌≡◌, ℕ, zero, suc, ◌<◌, Bool, true, false, not, ◌&&◌, ◌||◌, List, [], ◌∷◌, ◌++◌, length, get_or, Some, None, is_some, is_none, if◌then◌else◌, refl, sym, ap, ◌∙◌, subst, arith}
+use Rattle.std.proofs.Common.{◌≡◌, ℕ, zero, suc, Bool, true, false, not, ◌||◌, [], ◌∷◌, ◌++◌, length, get_or, Some, is_some, is_none, if◌then◌else◌, refl, sym, ap, ◌∙◌, subst, arith}
 use Rattle.std.specs.List.{list_all}
 use Rattle.std.proofs.lemmas.Bool.{and_parts}
 use Rattle.spec_model.specs.Values.{Assignment, truth_of}
 use Rattle.spec_model.specs.Syntax.{Formula, Initial, Safety, Statement, Specification}
 use Rattle.spec_model.specs.Meaning.{holds_at}
 use Rattle.spec_model.specs.Rules.{Run, Position, after, after_input}
-use Rattle.spec_model.specs.Moves.{is_env, nothing, value_among, reading_of, has_next, reads_present_output, at_first, one_before, fails_at, broken_by_input, broken_by_output, input_breaks, output_breaks, broken_assumption, broken_guarantee, is_assumption}
+use Rattle.spec_model.specs.Moves.{is_env, nothing, value_among, reading_of, has_next, reads_present_output, at_first, one_before, fails_at, broken_by_input, broken_by_output, input_breaks, output_breaks, broken_assumption, broken_guarantee}
 use Rattle.spec_model.specs.Games.{GameData, State, entry_at, hidden_at, state_at, game_reading, step_reading, outputs_of, nothing_read}
 use Rattle.spec_model.specs.Steps.{Before, are_hidden_values, waits_for_output, line_holds, reached, assumptions_hold, guarantees_hold, legal_input as legal_input_from}
 use Rattle.spec_model.specs.GameRules.{before_at, last_state}

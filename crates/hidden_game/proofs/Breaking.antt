@@ -7,7 +7,7 @@ use Rattle.spec_model.specs.Syntax.{Formula, Content, Initial, Safety, Recurring
 use Rattle.spec_model.specs.Values.{Assignment}
 use Rattle.spec_model.specs.Rules.{Run, after, after_input}
 use Rattle.spec_model.specs.Moves.{has_next, broken_assumption, broken_guarantee, broken_by_input, broken_by_output}
-use Rattle.spec_model.specs.Steps.{Before, reached, are_hidden_values, line_holds, waits_for_output}
+use Rattle.spec_model.specs.Steps.{Before, reached, line_holds, waits_for_output}
 use Rattle.spec_model.specs.WellMade.{WellMade, is_step_formula, is_state_formula, is_initial_assumption, is_safety_assumption, scope_of}
 use Rattle.spec_model.specs.Laws.{NumbersRise}
 use Rattle.hidden_game.specs.declared.player.Player.{Player}

@@ -1,13 +1,13 @@
 -- What is known of the lines of a well-typed specification: their formulas have kinds, their operators have tables, and their
 -- own tables are whole.
-use Rattle.std.proofs.Common.{◌≡◌, ℕ, ◌*◌, ◌^◌, Bool, true, false, not, cond, ◌&&◌, ◌||◌, ◌==◌, nat_lt, nat_le, List, [], ◌∷◌, ◌++◌, length, map, flat_map, filter, Option, Some, None, option_map, unwrap_or, slice_get, refl, sym, ap, ◌∙◌}
+use Rattle.std.proofs.Common.{◌≡◌, ◌*◌, ◌^◌, Bool, true, false, not, cond, ◌&&◌, ◌||◌, ◌==◌, nat_lt, nat_le, List, [], ◌∷◌, ◌++◌, length, flat_map, filter, Option, Some, None, option_map, unwrap_or, slice_get, refl, sym, ap, ◌∙◌}
 use Rattle.std.specs.List.{list_all}
 use Rattle.std.proofs.lemmas.Bool.{and_parts, and_from, eqb-true, eq-eqb}
 use Rattle.std.proofs.lemmas.List.{length-map}
 use Rattle.std.proofs.lemmas.List.Folds.{list_all-append}
 use Rattle.spec_model.specs.Syntax.{Formula, Constant, Variable, NextOf, Negation, Conjunction, Disjunction, Implication, Equivalence, Comparison, Sum, Difference, Product, Remainder, PastOf, Entry, Formulas, Content, Initial, Safety, Recurring, PatternUse, TriggerUse, Regular, PatternData, TriggerData, Statement, Specification}
 use Rattle.spec_model.specs.Moves.{is_assumption, has_next, some_has_next}
-use Rattle.spec_model.specs.Sizes.{past_trees, past_operators, atoms_of, formulas_of, distinct, same_formula, product, domain_size}
+use Rattle.spec_model.specs.Sizes.{past_trees, past_operators, atoms_of, formulas_of, distinct, same_formula}
 use Rattle.spec_model.specs.Steps.{below, is_output_variable}
 use Rattle.spec_model.specs.Games.{HiddenData}
 use Rattle.spec_model.specs.Typing.{kind_of, is_truth}
@@ -22,7 +22,7 @@ use Rattle.pattern_rows.specs.Rows.{rows_of}
 use Rattle.pattern_rows.specs.Laws.{is_filled}
 use Rattle.pattern_rows.proofs.Cells.{holds_at_place}
 use Rattle.pattern_rows.proofs.Filled.{filled, typed_has_table}
-use Rattle.trigger_dfa.specs.Standings.{standings, value_of, table_of}
+use Rattle.trigger_dfa.specs.Standings.{value_of, table_of}
 use Rattle.trigger_dfa.proofs.FilledTables.{some_value, all_cells, nexts_below}
 use Rattle.game_play.proofs.OutputReads.{not_false, or_none}
 use Rattle.hidden_game.specs.GameOf.{line_table}

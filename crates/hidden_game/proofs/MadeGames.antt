@@ -10,10 +10,10 @@ use Rattle.spec_model.specs.Values.{DomainData, TruthValues, WholeNumbers, Enume
 use Rattle.spec_model.specs.Syntax.{Formula, PastOf, Entry, Content, Initial, Safety, Recurring, PatternUse, TriggerUse, Statement, VariableData, Specification}
 use Rattle.spec_model.specs.Typing.{Scope, kind_of, is_truth, truth_if, has_table}
 use Rattle.spec_model.specs.Games.{GoalData, HiddenData}
-use Rattle.spec_model.specs.Moves.{is_assumption, has_next, reads_present_output, is_output}
+use Rattle.spec_model.specs.Moves.{is_assumption, has_next, reads_present_output}
 use Rattle.spec_model.specs.Sizes.{past_operators, past_trees_of_all}
-use Rattle.spec_model.specs.Steps.{is_output_variable, waits_for_output}
-use Rattle.spec_model.specs.WellMade.{WellMade, is_domain, scope_of, is_step_formula, is_state_formula, is_initial_assumption, is_safety_assumption, awaits_output, is_table, are_tables, cell_count, is_stepwise}
+use Rattle.spec_model.specs.Steps.{is_output_variable}
+use Rattle.spec_model.specs.WellMade.{WellMade, is_domain, scope_of, is_step_formula, is_state_formula, is_initial_assumption, is_safety_assumption, is_table, are_tables, cell_count}
 use Rattle.spec_model.specs.Laws.{NumbersRise}
 use Rattle.spec_model.specs.WellTyped.{WellTyped, scope_of_specification, reads_some, shifts_some, is_typed, is_typed_state, is_typed_content, is_typed_line, is_domain_of, are_rising}
 use Rattle.past_bits.specs.Bits.{table_of, tables_of}
@@ -22,7 +22,7 @@ use Rattle.past_bits.proofs.Ordered.{covers, is_in_order, AreOrdered}
 use Rattle.past_bits.proofs.Made.{ones, kind_same, tables_made}
 use Rattle.past_bits.proofs.Typed.{lines_have_kinds}
 use Rattle.pattern_rows.specs.Laws.{is_filled}
-use Rattle.game_play.proofs.OutputReads.{not_false, or_none}
+use Rattle.game_play.proofs.OutputReads.{not_false}
 use Rattle.hidden_game.specs.declared.player.Player.{Player}
 use Rattle.hidden_game.specs.declared.player.Player.TheVariants.{Environment, System}
 use Rattle.hidden_game.specs.declared.player.Time.{Time}

@@ -1,13 +1,12 @@
 -- The game of a well-typed specification has no more states than the specification's size.
-use Rattle.std.proofs.Common.{◌≡◌, ℕ, zero, suc, ◌*◌, ◌^◌, ◌≤◌, Bool, true, false, not, if◌then◌else◌, List, [], ◌∷◌, ◌++◌, length, map, Option, Some, None, option_map, unwrap_or, slice_get, refl, sym, ◌∙◌, ap, subst, arith}
+use Rattle.std.proofs.Common.{◌≡◌, ℕ, ◌*◌, ◌^◌, ◌≤◌, Bool, true, false, not, if◌then◌else◌, List, [], ◌∷◌, ◌++◌, length, map, Option, Some, None, option_map, unwrap_or, slice_get, refl, sym, ◌∙◌, ap, subst, arith}
 use Rattle.std.proofs.Math.Nat.{pow-suc, mul-le-mul_left, mul-le-mul_right}
-use Rattle.std.proofs.lemmas.Bool.{and_parts}
 use Rattle.std.proofs.lemmas.List.{length-map, map-append}
-use Rattle.std.specs.List.{list_all, cons_option}
+use Rattle.std.specs.List.{cons_option}
 use Rattle.spec_model.specs.Values.{DomainData, assignments_of}
 use Rattle.spec_model.specs.Syntax.{Formula, PastOf, Content, Initial, Safety, Recurring, PatternUse, TriggerUse, VariableData, PatternData, TriggerData, Statement, Specification}
 use Rattle.spec_model.specs.Moves.{is_env, domains_of}
-use Rattle.spec_model.specs.Games.{HiddenData, inputs_of, outputs_of}
+use Rattle.spec_model.specs.Games.{HiddenData}
 use Rattle.spec_model.specs.Steps.{below, hidden_values, states_of}
 use Rattle.spec_model.specs.Sizes.{product, domain_size, hidden_size, past_operators, size_of}
 use Rattle.spec_model.specs.WellTyped.{WellTyped, is_typed_trigger}

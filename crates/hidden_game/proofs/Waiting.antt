@@ -1,5 +1,5 @@
 -- Which hidden tables read an output at present, and which assumptions wait for it: those that the specification tells.
-use Rattle.std.proofs.Common.{◌≡◌, ℕ, suc, ◌^◌, Bool, true, false, ◌&&◌, ◌||◌, ◌==◌, List, [], ◌∷◌, ◌++◌, length, map, get_or, refl, sym, ap, ◌∙◌, append_assoc, append-nil}
+use Rattle.std.proofs.Common.{◌≡◌, ◌^◌, Bool, true, false, ◌&&◌, ◌||◌, ◌==◌, List, [], ◌∷◌, ◌++◌, length, map, get_or, refl, sym, ap, ◌∙◌, append_assoc, append-nil}
 use Rattle.std.specs.List.{list_any}
 use Rattle.std.proofs.lemmas.Bool.{and_parts, false≢true}
 use Rattle.std.proofs.lemmas.List.{map-append}
@@ -12,10 +12,9 @@ use Rattle.spec_model.specs.Sizes.{same_formula, past_trees_of_all, past_operato
 use Rattle.spec_model.specs.Steps.{is_output_variable, reads_output, some_reads_output, varies, reads_letter, tables_reading_output, waits_for_output}
 use Rattle.spec_model.specs.Typing.{count_of, operands_of}
 use Rattle.spec_model.specs.Games.{HiddenData}
-use Rattle.spec_model.specs.WellTyped.{is_nested_well}
 use Rattle.past_bits.specs.Tables.{entry_cells}
-use Rattle.past_bits.specs.Entries.{place_of, with_entries, each_with_entries}
-use Rattle.past_bits.specs.Bits.{table_with, table_of, tables_of}
+use Rattle.past_bits.specs.Entries.{place_of, each_with_entries}
+use Rattle.past_bits.specs.Bits.{table_with, table_of}
 use Rattle.past_bits.proofs.Plain.{is_plain, are_plain}
 use Rattle.past_bits.proofs.Ordered.{covers, is_in_order, AreOrdered}
 use Rattle.past_bits.proofs.Made.{length-listed}

@@ -1,4 +1,3 @@
 pub mod GameOf
-pub mod Laws
 pub mod Sources
 pub mod Samples

@@ -7,14 +7,13 @@ ghost use Rattle.spec_model.specs.Laws.{NumbersRise};
 ghost use Rattle.spec_model.specs.WellMade.{WellMade};
 ghost use Rattle.spec_model.specs.WellTyped.{WellTyped};
 ghost use Rattle.hidden_game.specs.GameOf.{game_of};
-ghost use Rattle.hidden_game.specs.Laws.{UsesNoPattern};
 
-/// The game of a well-typed specification is well made. Where no line uses a pattern it agrees with the specification:
-/// after each run, by the state that the hidden values give, it has its legal moves, its recurring goals with their labels,
-/// and its first broken assumption and guarantee or monitor's line. Equal specifications have equal games.
+/// The game of a well-typed specification is well made, and agrees with it: after each run, by the state that the hidden
+/// values give, it has its legal moves, its recurring goals with their labels, and its first broken assumption and guarantee
+/// or monitor's line. Equal specifications have equal games.
 pub fn games_agree()
     ensures made { (s : Specification) → WellTyped s → WellMade (game_of s) }
-    ensures agrees { (s : Specification) → WellTyped s → UsesNoPattern s → Agrees s (game_of s) }
+    ensures agrees { (s : Specification) → WellTyped s → Agrees s (game_of s) }
     ensures equal { (s t : Specification) → s ≡ t → game_of s ≡ game_of t }
 {}
 

@@ -1,10 +1,10 @@
 -- The table of a trigger is whole, and the triggers of a well-typed specification are read and have few values.
-use Rattle.std.proofs.Common.{◌≡◌, ℕ, zero, suc, ◌+◌, ◌*◌, ◌^◌, ◌<◌, ◌≤◌, Bool, true, false, not, cond, ◌&&◌, nat_lt, nat_le, List, [], ◌∷◌, ◌++◌, Some, None, filter, flat_map, map, length, refl, sym, ◌∙◌, ap, subst, arith, length-append}
+use Rattle.std.proofs.Common.{◌≡◌, ℕ, suc, ◌*◌, ◌^◌, ◌≤◌, Bool, true, false, not, cond, ◌&&◌, nat_lt, nat_le, List, [], ◌∷◌, Some, None, filter, flat_map, map, length, refl, sym, ◌∙◌, ap, arith, length-append}
 use Rattle.std.specs.List.{list_all}
 use Rattle.std.proofs.lemmas.Bool.{and_parts, and_from, lt-ltb, leb-true}
 use Rattle.std.proofs.lemmas.List.{length-map}
 use Rattle.std.proofs.lemmas.List.Folds.{list_all-append}
-use Rattle.spec_model.specs.Syntax.{Formula, Regular, Atom, Sequence, Choice, Repetition, Regulars, TriggerData, Specification}
+use Rattle.spec_model.specs.Syntax.{Regular, Atom, Sequence, Choice, Repetition, Regulars, TriggerData, Specification}
 use Rattle.spec_model.specs.Meaning.{Reading}
 use Rattle.spec_model.specs.Triggers.{is_pending}
 use Rattle.spec_model.specs.TriggerStates.{Positions, letters, said_by, has_last, side_states, trigger_atoms, trigger_states}
