@@ -67,3 +67,9 @@ few_goals s typed k p there =
 -- an element of the program's list is that of the specification's
 pub element : {X Y : Type 0} (v : X → Y) (xs : List X) (k : ℕ) (x : X) → k < length xs → x ≡ get_or xs k x → slice_get (map v xs) k ≡ Some (v x)
 element v xs k x inside is = slice_get-map v xs k ∙ ap (λ o. option_map v o) (slice_get-get_or xs k x inside ∙ ap Some (sym is))
+
+-- there is one at each place
+pub some_element : {X Y : Type 0} (v : X → Y) (xs : List X) (k : ℕ) → k < length xs → (y : Y) × (slice_get (map v xs) k ≡ Some y)
+some_element v [] k inside = absurd (omega arith)
+some_element v (x ∷ xs) zero inside = (v x, refl)
+some_element v (x ∷ xs) (suc k) inside = some_element v xs k (omega arith)

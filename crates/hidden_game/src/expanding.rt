@@ -7,7 +7,6 @@ ghost use Rattle.spec_model.specs.Agreement.{Agrees};
 ghost use Rattle.spec_model.specs.WellMade.{WellMade};
 ghost use Rattle.spec_model.specs.WellTyped.{WellTyped};
 ghost use Rattle.hidden_game.specs.GameOf.{game_of};
-ghost use Rattle.hidden_game.specs.Laws.{UsesNoPattern};
 ghost use Rattle.hidden_game.specs.Sources.{IsSource};
 
 use crate::player::{Player, Time};
@@ -24,13 +23,10 @@ pub fn expand(alloc: Global, spec: &Spec) -> Result<Game, AllocError>
     requires typed { WellTyped (spec_data spec.now) }
     ensures game { IfOk result (λ game. game_data game ≡ game_of (spec_data spec.now)) }
     ensures made { IfOk result (λ game. WellMade (game_data game)) }
-    ensures agrees { UsesNoPattern (spec_data spec.now) → IfOk result (λ game. Agrees (spec_data spec.now) (game_data game)) }
+    ensures agrees { IfOk result (λ game. Agrees (spec_data spec.now) (game_data game)) }
 {
     let operators = Operators::of_spec(alloc, spec)?;
-    let source = Source {
-        spec,
-        operators: &operators,
-    };
+    let source = Source { spec, operators };
     source.game(alloc)
 }
 

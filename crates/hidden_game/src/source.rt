@@ -11,10 +11,10 @@ use spec_model::spec::Spec;
 use std::alloc::{AllocError, Global};
 
 /// A specification and its past operators.
-#[derive(Clone, Copy)]
+#[derive(Drop)]
 pub struct Source<'a> {
     pub spec: &'a Spec,
-    pub operators: &'a Operators<'a>,
+    pub operators: Operators<'a>,
 }
 
 impl<'a> Source<'a> {
@@ -31,6 +31,10 @@ impl<'a> Source<'a> {
         requires source { IsSource self.now }
         ensures { IfOk result (λ copies. map formula copies.items ≡ map (entered_lem (spec_data self.now.spec.now)) (map formula es.now)) }
     {
-        self.operators.each(alloc, es)
+        let mut copies = Vec::new(alloc);
+        for e in es {
+            copies.push(self.entered(alloc, e)?)?;
+        }
+        Ok(copies)
     }
 }

@@ -1,6 +1,6 @@
 //! The hidden tables of a specification.
 
-ghost use Rattle.std.specs.Prelude.{◌≡◌, ◌++◌, length, map, replicate, None, IfOk, OnOk};
+ghost use Rattle.std.specs.Prelude.{◌≡◌, ◌++◌, map, option_map, IfOk, OnOk};
 ghost use Rattle.std.specs.Option.{option_to_list};
 ghost use Rattle.spec_model.specs.Syntax.{PatternUse, TriggerUse};
 ghost use Rattle.spec_model.specs.Views.{formula, content_data, pattern_data, trigger_data, spec_data};
@@ -10,7 +10,7 @@ ghost use Rattle.pattern_rows.specs.Laws.{HasTable};
 ghost use Rattle.pattern_rows.specs.Rows.{rows_of};
 ghost use Rattle.trigger_dfa.specs.Narrow.{IsNarrow};
 ghost use Rattle.trigger_dfa.specs.Standings.{table_of};
-ghost use Rattle.hidden_game.specs.GameOf.{entered_table, table_for, hidden_of};
+ghost use Rattle.hidden_game.specs.GameOf.{entered_table, table_for, tables_for, hidden_of};
 ghost use Rattle.hidden_game.specs.Sources.{IsSource, IsKept, AreKept};
 
 use crate::source::Source;
@@ -26,7 +26,7 @@ fn copy_truths(alloc: Global, tables: &[Vec<bool>]) -> Result<Vec<Vec<bool>>, Al
 {
     let mut copies = Vec::new(alloc);
     for table in tables {
-        copies.push(table.clone()?)?;
+        copies.push(Vec::from_slice(alloc, table)?)?;
     }
     Ok(copies)
 }
@@ -70,13 +70,22 @@ fn table_of_trigger(alloc: Global, trigger: &Trigger) -> Result<Hidden, AllocErr
 
 /// For each pattern, that no rows are kept yet.
 fn nothing_kept(alloc: Global, patterns: &[Pattern]) -> Result<Vec<Option<Hidden>>, AllocError>
-    ensures { IfOk result (λ kept. kept.items ≡ replicate (length patterns.now) None) }
+    ensures kept { IfOk result (λ kept. AreKept (map pattern_data patterns.now) kept.items) }
 {
     let mut kept = Vec::new(alloc);
     for k in 0..patterns.len() {
         kept.push(None)?;
     }
     Ok(kept)
+}
+
+fn add_table(hidden: &mut Vec<Hidden>, table: Option<Hidden>) -> Result<(), AllocError>
+    ensures { OnOk result (map hidden_data hidden.new.items ≡ map hidden_data hidden.old.items ++ option_to_list (option_map hidden_data table)) }
+{
+    if let Some(h) = table {
+        hidden.push(h)?;
+    }
+    Ok(())
 }
 
 impl<'a> Source<'a> {
@@ -123,50 +132,66 @@ impl<'a> Source<'a> {
         })
     }
 
-    fn add_use(
+    /// The table of a use of the pattern with this number.
+    fn use_table(
         &self,
         alloc: Global,
         p: usize,
         arguments: &[Expr],
         kept: &mut [Option<Hidden>],
-        hidden: &mut Vec<Hidden>,
-    ) -> Result<(), AllocError>
+    ) -> Result<Option<Hidden>, AllocError>
         requires source { IsSource self.now }
         requires typed { WellTyped (spec_data self.now.spec.now) }
         requires kept { AreKept (spec_data self.now.spec.now).patterns kept.old }
-        ensures added { OnOk result (map hidden_data hidden.new.items
-            ≡ map hidden_data hidden.old.items ++ option_to_list (table_for (spec_data self.now.spec.now) (PatternUse p (map formula arguments.now)))) }
+        ensures table { IfOk result (λ h. option_map hidden_data h ≡ table_for (spec_data self.now.spec.now) (PatternUse p (map formula arguments.now))) }
         ensures kept { OnOk result (AreKept (spec_data self.now.spec.now).patterns kept.new) }
     {
-        if p < self.spec.patterns.len() {
-            let table = self.table_of_use(alloc, &self.spec.patterns[p], &mut kept[p], arguments)?;
-            hidden.push(table)?;
+        if p >= self.spec.patterns.len() {
+            return Ok(None);
         }
-        Ok(())
+        let pattern = &self.spec.patterns[p];
+        let table = self.table_of_use(alloc, pattern, &mut kept[p], arguments)?;
+        Ok(Some(table))
     }
 
-    fn add_trigger(
-        &self,
-        alloc: Global,
-        t: usize,
-        hidden: &mut Vec<Hidden>,
-    ) -> Result<(), AllocError>
+    /// The table of the trigger with this number.
+    fn table_at(&self, alloc: Global, t: usize) -> Result<Option<Hidden>, AllocError>
         requires source { IsSource self.now }
         requires typed { WellTyped (spec_data self.now.spec.now) }
-        ensures { OnOk result (map hidden_data hidden.new.items
-            ≡ map hidden_data hidden.old.items ++ option_to_list (table_for (spec_data self.now.spec.now) (TriggerUse t))) }
+        ensures table { IfOk result (λ h. option_map hidden_data h ≡ table_for (spec_data self.now.spec.now) (TriggerUse t)) }
     {
-        if t < self.spec.triggers.len() {
-            hidden.push(self.trigger_table(alloc, &self.spec.triggers[t])?)?;
+        if t >= self.spec.triggers.len() {
+            return Ok(None);
         }
-        Ok(())
+        let trigger = &self.spec.triggers[t];
+        let table = self.trigger_table(alloc, trigger)?;
+        Ok(Some(table))
     }
 
-    /// Adds the table of a line that uses a pattern or is a trigger.
-    fn add_table(
+    /// The table of a line, if it uses a pattern or is a trigger.
+    fn line_table(
         &self,
         alloc: Global,
         body: &Body,
+        kept: &mut [Option<Hidden>],
+    ) -> Result<Option<Hidden>, AllocError>
+        requires source { IsSource self.now }
+        requires typed { WellTyped (spec_data self.now.spec.now) }
+        requires kept { AreKept (spec_data self.now.spec.now).patterns kept.old }
+        ensures table { IfOk result (λ h. option_map hidden_data h ≡ table_for (spec_data self.now.spec.now) (content_data body.now)) }
+        ensures kept { OnOk result (AreKept (spec_data self.now.spec.now).patterns kept.new) }
+    {
+        match body {
+            Body::Pattern(p, arguments) => self.use_table(alloc, *p as usize, arguments, kept),
+            Body::Trigger(t) => self.table_at(alloc, *t as usize),
+            Body::Initial(_) | Body::Safety(_) | Body::Recurring(_) => Ok(None),
+        }
+    }
+
+    /// Adds the tables of the lines that have one, in text order.
+    fn add_line_tables(
+        &self,
+        alloc: Global,
         kept: &mut [Option<Hidden>],
         hidden: &mut Vec<Hidden>,
     ) -> Result<(), AllocError>
@@ -174,20 +199,13 @@ impl<'a> Source<'a> {
         requires typed { WellTyped (spec_data self.now.spec.now) }
         requires kept { AreKept (spec_data self.now.spec.now).patterns kept.old }
         ensures added { OnOk result (map hidden_data hidden.new.items
-            ≡ map hidden_data hidden.old.items ++ option_to_list (table_for (spec_data self.now.spec.now) (content_data body.now))) }
-        ensures kept { OnOk result (AreKept (spec_data self.now.spec.now).patterns kept.new) }
+            ≡ map hidden_data hidden.old.items ++ tables_for (spec_data self.now.spec.now) (spec_data self.now.spec.now).lines) }
     {
-        match body {
-            Body::Pattern(p, arguments) => self.add_use(
-                alloc,
-                *p as usize,
-                arguments,
-                kept,
-                hidden,
-            ),
-            Body::Trigger(t) => self.add_trigger(alloc, *t as usize, hidden),
-            Body::Initial(_) | Body::Safety(_) | Body::Recurring(_) => Ok(()),
+        for line in &self.spec.lines {
+            let table = self.line_table(alloc, &line.body, kept)?;
+            add_table(hidden, table)?;
         }
+        Ok(())
     }
 
     /// The tables of the past operators, and then those of the lines that have one, in text order.
@@ -198,9 +216,7 @@ impl<'a> Source<'a> {
     {
         let mut hidden = self.operators.tables(alloc)?;
         let mut kept = nothing_kept(alloc, &self.spec.patterns)?;
-        for line in &self.spec.lines {
-            self.add_table(alloc, &line.body, &mut kept, &mut hidden)?;
-        }
+        self.add_line_tables(alloc, &mut kept, &mut hidden)?;
         Ok(hidden)
     }
 }

@@ -11,6 +11,6 @@ pub returns-clause-made : goal.returns-clause-made
 returns-clause-made c = IfOk-weaker _ _ _ (λ g e. subst WellMade (sym e) (typed_games_made (spec_data c.args.spec.now) c.requires.typed)) c.game.ensures
 
 pub returns-clause-agrees : goal.returns-clause-agrees
-returns-clause-agrees c = λ none.
+returns-clause-agrees c =
     let s = spec_data c.args.spec.now in
-    IfOk-weaker _ _ _ (λ g e. subst (Agrees s) (sym e) (game_agrees s c.requires.typed none)) c.game.ensures
+    IfOk-weaker _ _ _ (λ g e. subst (Agrees s) (sym e) (game_agrees s c.requires.typed)) c.game.ensures

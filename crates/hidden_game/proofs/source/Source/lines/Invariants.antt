@@ -1,7 +1,7 @@
 use Rattle.std.proofs.Common.{◌≡◌, ◌++◌, map, drop}
 use Rattle.spec_model.specs.Views.{formula, line_data, spec_data}
 use Rattle.hidden_game.specs.GameOf.{lines_for}
-use Rattle.hidden_game.proofs.sorting.Source.lines.Given as goal
+use Rattle.hidden_game.proofs.source.Source.lines.Given as goal
 
 abbrev pub invariant-loop-line : goal.invariant-loop-line
 invariant-loop-line l =

@@ -3,7 +3,7 @@ use Rattle.spec_model.specs.Views.{line_data, spec_data}
 use Rattle.spec_model.specs.GameViews.{goal_data}
 use Rattle.spec_model.specs.Sizes.{past_operators}
 use Rattle.hidden_game.specs.GameOf.{goals_for}
-use Rattle.hidden_game.proofs.labelling.Source.goals.Given as goal
+use Rattle.hidden_game.proofs.source.Source.goals.Given as goal
 
 -- the goals so far and those of the lines that are left
 abbrev pub invariant-loop-line : goal.invariant-loop-line
