@@ -9,3 +9,7 @@ pub mod Breaking
 pub mod Goals
 pub mod StateCounts
 pub mod Agreed
+pub mod Limits
+pub mod GoalParts
+pub mod Making
+mod SamplesTyped
