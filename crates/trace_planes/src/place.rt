@@ -87,6 +87,18 @@ impl Place {
         })
     }
 
+    /// Goes to where another is.
+    pub fn take(&mut self, other: &Place)
+        requires lengths { (length self.old.state.items ≡ length other.now.state.items) × (length self.old.cells.items ≡ length other.now.cells.items) × (length self.old.next.items ≡ length other.now.next.items) }
+        ensures started { self.new.started ≡ other.now.started }
+        ensures values { (self.new.state.items ≡ other.now.state.items) × (self.new.cells.items ≡ other.now.cells.items) × (self.new.next.items ≡ other.now.next.items) }
+    {
+        self.state.copy_from_slice(&other.state);
+        self.cells.copy_from_slice(&other.cells);
+        self.next.copy_from_slice(&other.next);
+        self.started = other.started;
+    }
+
     /// Goes on to the state that an input and an output lead to.
     pub fn go_on(&mut self, game: &Game, input: &[Value], output: &[Value])
         requires made { WellMade (game_data game.now) }
