@@ -33,7 +33,7 @@ module _ {X : Type 0} (d : X) (f : ℕ → X) (out : List X) (k : ℕ) (v : X) (
 
 -- the next 64 places, or those that are left
 pub reached : (from len n : ℕ) → from ≤ len → n ≡ min (len - from) 64 → from + n ≡ min (from + 64) len
-reached from len n within is = grind arith
+reached from len n within is = omega (arith, within, is)
 
 -- ---- values of formulas
 
@@ -110,6 +110,9 @@ pub next_reads : (e : Formula) (k : ℕ) (cs : ColumnData) (bits : ℕ) (P : Val
 next_reads e k cs bits P plane is has = λ j below r t seen. has j below r (suc t) (seen_next cs j r t seen) ∙ ap (λ (h : Formula). P (value_at r h (suc t))) (sym is)
 
 -- ---- entries
+
+abbrev pub one_if : Bool → ℕ
+one_if b = if b then 1 else 0
 
 pub entry_bits : (cs : ColumnData) (at bits table part n : ℕ) (h : HiddenData) (codes out : List ℕ) → ((cell : ℕ) → get_or (map (λ d. entries_in d cell) cs.tables) table [] ≡ entries_in h cell) →
     4096 * table + 4096 ≤ length cs.cells → length codes ≡ bits → n ≡ bits →

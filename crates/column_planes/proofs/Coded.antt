@@ -14,10 +14,10 @@ use Rattle.spec_model.specs.GameViews.{hidden_data}
 use Rattle.spec_model.specs.Games.{entries_in}
 use Rattle.column_planes.specs.Columns.{value_of_code, domain_in}
 
-pub domain_of-variable : (vars : List Var) (k : ℕ) (v : Var) → k < length vars → v ≡ get_or vars k v → domain_in (map variable_data vars) k ≡ domain_data v.domain
-domain_of-variable [] k v below is = absurd (omega arith)
-domain_of-variable (u ∷ vars) zero v below is = ap (λ (x : Var). domain_data x.domain) (sym is)
-domain_of-variable (u ∷ vars) (suc k) v below is = domain_of-variable vars k v (omega arith) is
+pub domain_of-variable : (vars : List Var) (k : ℕ) (v : Var) → k < length vars → domain_in (map variable_data vars) k ≡ domain_data (get_or vars k v).domain
+domain_of-variable [] k v below = absurd (omega arith)
+domain_of-variable (u ∷ vars) zero v below = refl
+domain_of-variable (u ∷ vars) (suc k) v below = domain_of-variable vars k v (omega arith)
 
 -- whole numbers are the same exactly where they are as far above a third
 steps_same : (lo : ℤ) (c code : ℕ) → (c == code) ≡ int_eq (lo +ℤ pos c) (lo +ℤ pos code)
@@ -39,7 +39,7 @@ only_name names v None is = tt
 only_name names v (Some code) is = λ c. subst (λ w. (c == code) ≡ same_value (value.Name c) w) is refl
 
 -- the entries of a hidden table at a cell
-pub entries_of-hidden : (hs : List Hidden) (k : ℕ) (h : Hidden) (cell : ℕ) → k < length hs → h ≡ get_or hs k h → get_or (map (λ d. entries_in d cell) (map hidden_data hs)) k [] ≡ entries_in (hidden_data h) cell
-entries_of-hidden [] k h cell below is = absurd (omega arith)
-entries_of-hidden (u ∷ hs) zero h cell below is = ap (λ (x : Hidden). entries_in (hidden_data x) cell) (sym is)
-entries_of-hidden (u ∷ hs) (suc k) h cell below is = entries_of-hidden hs k h cell (omega arith) is
+pub entries_of-hidden : (hs : List Hidden) (k : ℕ) (h : Hidden) (cell : ℕ) → k < length hs → get_or (map (λ d. entries_in d cell) (map hidden_data hs)) k [] ≡ entries_in (hidden_data (get_or hs k h)) cell
+entries_of-hidden [] k h cell below = absurd (omega arith)
+entries_of-hidden (u ∷ hs) zero h cell below = refl
+entries_of-hidden (u ∷ hs) (suc k) h cell below = entries_of-hidden hs k h cell (omega arith)

@@ -12,32 +12,32 @@ use Rattle.spec_model.proofs.Running.{last_state-after}
 use Rattle.hidden_game.specs.Sights.{AreCells, cell_in, entries_at}
 use Rattle.column_planes.specs.Columns.{entry_in}
 use Rattle.trace_planes.specs.declared.place.Place.{Place}
-use Rattle.trace_planes.specs.Audits.{IsReadAfter, IsAt}
+use Rattle.trace_planes.specs.Audits.{IsReadAfter, IsAt, IsCopy}
 use Rattle.trace_planes.specs.Rows.{HasCells, KeepsOthers, state_among}
 use Rattle.trace_planes.proofs.InColumns.{below_or_from}
 
 -- a place with the same values is after the same state
-pub at_copy : (g : GameData) (b : Before) (p q : Place) → q.started ≡ p.started → (q.state.items ≡ p.state.items) × (q.cells.items ≡ p.cells.items) × (q.next.items ≡ p.next.items) → IsAt g b p → IsAt g b q
-at_copy g b p q started same at =
+pub at_copy : (g : GameData) (b : Before) (p q : Place) → IsCopy p q → IsAt g b p → IsAt g b q
+at_copy g b p q same at =
     record {
       read = reads b at.read;
       sized =
           record {
-            state = ap (λ (vs : List Value). length vs) same.0 ∙ at.sized.state;
-            cells = ap (λ (vs : List Value). length vs) same.1 ∙ at.sized.cells;
-            next = ap (λ (vs : List Value). length vs) same.2 ∙ at.sized.next;
+            state = ap (λ (vs : List Value). length vs) same.state ∙ at.sized.state;
+            cells = ap (λ (vs : List Value). length vs) same.cells ∙ at.sized.cells;
+            next = ap (λ (vs : List Value). length vs) same.next ∙ at.sized.next;
           };
     }
   where
     reads : (c : Before) → IsReadAfter g c p → IsReadAfter g c q
-    reads None read = (started ∙ read.0, same.2 ∙ read.1)
+    reads None read = (same.started ∙ read.0, same.next ∙ read.1)
     reads (Some s) read = (
-      started ∙ read.0,
+      same.started ∙ read.0,
       read.1,
       record {
-        lists = read.2.lists ∙ sym same.0;
-        read = subst (λ (cs : List Value). AreCells g s cs) (sym same.1) read.2.read;
-        next = same.2 ∙ read.2.next;
+        lists = read.2.lists ∙ sym same.state;
+        read = subst (λ (cs : List Value). AreCells g s cs) (sym same.cells) read.2.read;
+        next = same.next ∙ read.2.next;
       },
     )
 

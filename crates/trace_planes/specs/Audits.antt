@@ -32,6 +32,13 @@ pub record IsSized (g : GameData) (p : Place) : Type 0 where
   pub cells : length p.cells.items ≡ length g.hidden
   pub next : length p.next.items ≡ length g.hidden
 
+-- the places have the same values
+pub record IsCopy (p q : Place) : Type 0 where
+  pub started : q.started ≡ p.started
+  pub state : q.state.items ≡ p.state.items
+  pub cells : q.cells.items ≡ p.cells.items
+  pub next : q.next.items ≡ p.next.items
+
 -- The place is after this state.
 pub record IsAt (g : GameData) (b : Before) (p : Place) : Type 0 where
   pub read : IsReadAfter g b p

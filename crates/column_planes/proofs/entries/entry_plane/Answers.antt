@@ -1,9 +1,10 @@
-use Rattle.std.proofs.Common.{◌≡◌, ◌+◌, ◌-◌, ◌*◌, Bool, false, if◌then◌else◌, List, Vec, length, map, take, drop, get_or, ap, subst, ◌∙◌, arith}
+use Rattle.std.proofs.Common.{◌≡◌, ◌+◌, ◌-◌, ◌*◌, Bool, false, List, Vec, length, map, take, drop, get_or, ap, subst, ◌∙◌, arith}
+use Rattle.std.specs.declared.alloc.Global.{Global}
 use Rattle.spec_model.specs.Syntax.{Entry}
 use Rattle.spec_model.specs.GameViews.{hidden_data}
 use Rattle.column_planes.specs.Columns.{IsPlaneOf, column_data}
 use Rattle.column_planes.proofs.Coded.{entries_of-hidden}
-use Rattle.column_planes.proofs.Blocks.{entry_bits}
+use Rattle.column_planes.proofs.Blocks.{entry_bits, one_if}
 use Rattle.column_planes.proofs.entries.entry_plane.Goals as goal
 
 pub returns-clause-plane : goal.returns-clause-plane
@@ -15,15 +16,16 @@ returns-clause-plane c = λ read.
     let bits = c.args.c.bits in
     let first = 4096 * table + at in
     let n : first + bits - first ≡ bits = omega arith in
-    let h = c.index-c-table.result in
+    let h = get_or c.args.c.hidden.now table c.index-c-table.result in
     let sized = c.write_entries.ensures.lengths in
     let front = c.split_at_mut-codes.ensures.front_len in
     let many : length c.write_entries.new.codes ≡ bits = omega (arith, sized, front) in
     subst (λ m. IsPlaneOf cs bits m (Entry table part) c.equal_codes.new.out) c.first_place.ensures.value
     (entry_bits cs at bits table part (first + bits - first) (hidden_data h) c.write_entries.new.codes c.equal_codes.new.out
-    (λ cell. entries_of-hidden c.args.c.hidden.now table h cell (omega (arith, c.if-c-table.false)) c.index-c-table.is)
+    (λ cell. entries_of-hidden c.args.c.hidden.now table c.index-c-table.result cell (omega (arith, c.if-c-table.false)))
     (omega (arith, c.if-c-start.false)) many n
     (λ j below.
     c.write_entries.ensures.truths j (omega (arith, below, front))
-    ∙ ap (λ ts. if get_or (map (λ t. get_or t (get_or (take (first + bits - first) (drop first cs.cells)) j 0) false) (map (λ t. t.items) ts)) part false then 1 else 0) c.deref.ensures.value)
+    ∙ ap one_if
+    (ap (λ (ts : List (Vec Bool Global)). get_or (map (λ (t : List Bool). get_or t (get_or (take (first + bits - first) (drop first cs.cells)) j 0) false) (map (λ (v : Vec Bool Global). v.items) ts)) part false) c.deref.ensures.value))
     c.equal_codes.ensures.bits)

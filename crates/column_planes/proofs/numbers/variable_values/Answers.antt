@@ -1,4 +1,4 @@
-use Rattle.std.proofs.Common.{◌≡◌, ◌+◌, ◌-◌, ◌*◌, length, subst, ◌∙◌, arith}
+use Rattle.std.proofs.Common.{◌≡◌, ◌+◌, ◌-◌, ◌*◌, length, get_or, subst, ◌∙◌, arith}
 use Rattle.std.proofs.lemmas.List.{length-map}
 use Rattle.spec_model.specs.Syntax.{Variable}
 use Rattle.spec_model.specs.Views.{domain_data, variable_data}
@@ -19,6 +19,6 @@ returns-clause-values c = λ read.
     let long = length-map c.args.c.vars.now variable_data in
     let v = c.index-c-k.result in
     subst (λ m. AreValuesOf cs m c.args.from (Variable k) c.write_values.new.out) c.first_place.ensures.value
-    (variable_values cs at c.args.from c.write_values.new.out k (first + many - first) (domain_data v.domain) (omega (arith, long, c.if-c-k.false))
-    (domain_of-variable c.args.c.vars.now k v (omega (arith, c.if-c-k.false)) c.index-c-k.is) n
+    (variable_values cs at c.args.from c.write_values.new.out k (first + many - first) (domain_data (get_or c.args.c.vars.now k v).domain) (omega (arith, long, c.if-c-k.false))
+    (domain_of-variable c.args.c.vars.now k v (omega (arith, c.if-c-k.false))) n
     (λ i below. c.write_values.ensures.values read i (omega (arith, below, sized))))

@@ -14,16 +14,19 @@ use Rattle.trace_planes.proofs.InColumns.{rest_room, rest_next, position_there}
 use Rattle.trace_planes.proofs.Walking.{at_copy, last_among, cells_there, cells_more}
 use Rattle.trace_planes.proofs.walk.write_all_cells.Goals as goal
 
-pub take-requires : goal.take-requires
-take-requires c =
-    let s = c.requires.sized.1 in
-    let p = c.requires.rows.2.place.sized in
-    (s.state ∙ sym p.state, s.cells ∙ sym p.cells, s.next ∙ sym p.next)
+pub take-requires-clause-state : goal.take-requires-clause-state
+take-requires-clause-state c = c.requires.sized.1.state ∙ sym c.requires.rows.2.place.sized.state
+
+pub take-requires-clause-cells : goal.take-requires-clause-cells
+take-requires-clause-cells c = c.requires.sized.1.cells ∙ sym c.requires.rows.2.place.sized.cells
+
+pub take-requires-clause-next : goal.take-requires-clause-next
+take-requires-clause-next c = c.requires.sized.1.next ∙ sym c.requires.rows.2.place.sized.next
 
 pub loop-i-init : goal.loop-i-init
 loop-i-init c =
     let g = game_data c.args.judge.now.game in
-    let at_start = λ (h : Run). at_copy g (last_state g h) c.args.judge.now.place c.take.new.self c.take.ensures.started c.take.ensures.values in
+    let at_start = λ (h : Run). at_copy g (last_state g h) c.args.judge.now.place c.take.new.self c.take.ensures in
     record {
       sized = refl;
       ahead = (at_start c.requires.rows.0 c.requires.rows.2.place).sized;
