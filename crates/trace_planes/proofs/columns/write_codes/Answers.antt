@@ -1,6 +1,8 @@
-use Rattle.std.proofs.Common.{◌≡◌, ◌<◌, ◌+◌, ◌*◌, length, map, take, ap, ◌∙◌, arith}
+use Rattle.std.proofs.Common.{◌≡◌, ◌<◌, ◌+◌, ◌*◌, length, map, take, sym, ap, ◌∙◌, arith}
 use Rattle.std.proofs.lemmas.List.{length-map, length-take-le, length-set}
-use Rattle.spec_model.specs.Views.{variable_data}
+use Rattle.spec_model.specs.declared.value.Var.{Var}
+use Rattle.spec_model.specs.Views.{variable_data, domain_data}
+use Rattle.spec_model.specs.Rules.{Position}
 use Rattle.spec_model.specs.Moves.{value_among}
 use Rattle.column_planes.specs.Columns.{value_of_code, domain_in}
 use Rattle.column_planes.proofs.Coded.{domain_of-variable}
@@ -22,7 +24,7 @@ loop-k-preserved c =
     let k = c.loop-k.k in
     let codes = c.loop-k.codes in
     let code = c.in-Some.code in
-    let p = record { input = c.args.input.now; output = c.args.output.now } in
+    let p : Position = record { input = c.args.input.now; output = c.args.output.now } in
     let inside : 4096 * k + c.args.i < length codes = omega (arith, c.loop-k.invariant.sized, c.requires.sized, c.requires.within, c.loop-k-test.true) in
     record {
       sized = length-set codes (4096 * k + c.args.i) code ∙ c.loop-k.invariant.sized;
@@ -34,6 +36,6 @@ loop-k-preserved c =
       few = omega (arith, c.loop-k.invariant.few, c.inputs_in-ins.ensures.within);
       written = codes_more codes c.args.i k code inside c.requires.within
           (λ n d. value_of_code (domain_in (map variable_data vars) n) d ≡ value_among (map variable_data vars) p n) c.loop-k.invariant.written
-          (ap (λ d. value_of_code d code) (domain_of-variable vars k c.index-vars-k.result (omega (arith, c.loop-k-test.true))) ∙ (c.in-Some.ensures ∙ c.value_of.ensures));
+          (ap (λ d. value_of_code d code) (domain_of-variable vars k c.index-vars-k.result (omega (arith, c.loop-k-test.true)) ∙ ap (λ (v : Var). domain_data v.domain) (sym c.index-vars-k.is)) ∙ (c.in-Some.ensures ∙ c.value_of.ensures));
       others = others_more codes c.args.i k code inside c.requires.within c.args.codes.now c.loop-k.invariant.others;
     }
