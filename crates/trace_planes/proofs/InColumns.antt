@@ -12,6 +12,7 @@ use Rattle.spec_model.specs.Games.{GameData}
 use Rattle.spec_model.specs.Steps.{is_input, is_output}
 use Rattle.game_values.proofs.Typed.{count-cons}
 use Rattle.trace_planes.specs.Audits.{IsPosition}
+use Rattle.column_planes.specs.Columns.{value_of_code, domain_in}
 use Rattle.trace_planes.specs.Rows.{AreWhole, AreRows, rows_of, KeepsOthers, HasCodes, HasColumns}
 use Rattle.trace_planes.proofs.Placing.{length_fits, length-domains_of}
 
@@ -22,13 +23,13 @@ module _ (codes : List ℕ) (i k w : ℕ) (inside : 4096 * k + i < length codes)
   pub others_more : (old : List ℕ) → KeepsOthers i old codes → KeepsOthers i old (slice_set codes (4096 * k + i) w)
   others_more old before = λ k' j below off. get_or-set_other codes (4096 * k + i) (4096 * k' + j) w 0 (λ e. off (omega (arith, e, below, low))) ∙ before k' j below off
 
-  pub codes_more : (f : ℕ → ℕ) → ((k' : ℕ) → k' < k → get_or codes (4096 * k' + i) 0 ≡ f k') → w ≡ f k → (k' : ℕ) → k' < k + 1 → get_or (slice_set codes (4096 * k + i) w) (4096 * k' + i) 0 ≡ f k'
-  codes_more f before is k' below =
+  pub codes_more : (P : ℕ → ℕ → Type 0) → ((k' : ℕ) → k' < k → P k' (get_or codes (4096 * k' + i) 0)) → P k w → (k' : ℕ) → k' < k + 1 → P k' (get_or (slice_set codes (4096 * k + i) w) (4096 * k' + i) 0)
+  codes_more P before is k' below =
       elim (below_or_from k' k) [
-        | inl less ↦ get_or-set_other codes (4096 * k + i) (4096 * k' + i) w 0 (λ e. absurd (omega (arith, e, less))) ∙ before k' less
+        | inl less ↦ subst (P k') (sym (get_or-set_other codes (4096 * k + i) (4096 * k' + i) w 0 (λ e. absurd (omega (arith, e, less))))) (before k' less)
         | inr from ↦
-            let same : k' ≡ k = omega (arith, from, below) in
-            ap (λ n. get_or (slice_set codes (4096 * k + i) w) (4096 * n + i) 0) same ∙ (get_or-set_same codes (4096 * k + i) w 0 inside ∙ (is ∙ ap f (sym same)))
+            let same : k ≡ k' = omega (arith, from, below) in
+            subst (λ n. P n (get_or (slice_set codes (4096 * k + i) w) (4096 * n + i) 0)) same (subst (P k) (sym (get_or-set_same codes (4096 * k + i) w 0 inside)) is)
       ]
 
 -- ---- how many inputs stand before a variable
@@ -124,7 +125,7 @@ module _ (g : GameData) (width : ℕ) (ps : Run) (rows : List Value) (are : AreR
 pub columns_more : (g : GameData) (ps : Run) (i : ℕ) (codes new : List ℕ) → i < 4096 → HasColumns codes g i ps → KeepsOthers i codes new → HasCodes new i g.variables (get_or ps i nothing) → HasColumns new g (i + 1) ps
 columns_more g ps i codes new low before others here i' below =
     elim (below_or_from i' i) [
-      | inl less ↦ λ k fits. others k i' (omega (arith, less, low)) (λ e. absurd (omega (arith, e, less))) ∙ before i' less k fits
+      | inl less ↦ λ k fits. ap (value_of_code (domain_in g.variables k)) (others k i' (omega (arith, less, low)) (λ e. absurd (omega (arith, e, less)))) ∙ before i' less k fits
       | inr from ↦ let same : i ≡ i' = omega (arith, from, below) in subst (λ (n : ℕ). HasCodes new n g.variables (get_or ps n nothing)) same here
     ]
 

@@ -1,11 +1,8 @@
 mod Placing
 mod Found
-mod Lanes
-mod Bits
-mod FirstZero
-mod EqualCodes
 mod ExampleMoves
-mod PlanesOfParts
 mod Kept
 mod InColumns
+mod Walking
 mod ClearRows
+mod Clearing

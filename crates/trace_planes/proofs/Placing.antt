@@ -48,7 +48,7 @@ module _ (g : GameData) (made : WellMade g) (b : Before) (p : Place) (here : IsA
       at (Some s) read = (closed g made).later s x y read.1 input output
 
   pub sized : length p.state.items ≡ length p.next.items + (length x + length y)
-  sized = omega (arith, here.state, here.next, length_fits (domains_of is_env g.variables) x input, length_fits (domains_of (λ o. not (is_env o)) g.variables) y output)
+  sized = omega (arith, here.sized.state, here.sized.next, length_fits (domains_of is_env g.variables) x input, length_fits (domains_of (λ o. not (is_env o)) g.variables) y output)
 
   -- the values of the state that is reached
   pub listed_next : listed (reached g b x y) ≡ p.next.items ++ (x ++ y)
@@ -56,7 +56,7 @@ module _ (g : GameData) (made : WellMade g) (b : Before) (p : Place) (here : IsA
 
   pub room_next : length (listed (reached g b x y)) ≡ length g.hidden + (length (domains_of is_env g.variables) + length (domains_of (λ o. not (is_env o)) g.variables))
   room_next =
-      ap (λ (vs : List Value). length vs) listed_next ∙ (length-append p.next.items (x ++ y) ∙ (ap (λ n. length p.next.items + n) (length-append x y) ∙ (sym sized ∙ here.state)))
+      ap (λ (vs : List Value). length vs) listed_next ∙ (length-append p.next.items (x ++ y) ∙ (ap (λ n. length p.next.items + n) (length-append x y) ∙ (sym sized ∙ here.sized.state)))
 
 -- the values of a position are its inputs, as many as there are input variables, and then its outputs
 module _ (g : GameData) (p : Position) (values : List Value) (is : IsPosition g p values) (n : ℕ) (counted : n ≡ count_by (λ (v : VariableData). is_env v.owner) g.variables) where

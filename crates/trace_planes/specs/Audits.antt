@@ -13,6 +13,7 @@ use Rattle.game_play.specs.Sights.{as_values, IsReadAt}
 use Rattle.trace_planes.specs.declared.place.Place.{Place}
 use Rattle.trace_planes.specs.declared.judge.Judge.{Judge}
 use Rattle.trace_planes.specs.declared.plain.Plain.{Plain}
+use Rattle.trace_planes.specs.declared.workspace.Workspace.{Workspace}
 use Rattle.trace_planes.specs.declared.audit.Audit.{Audit}
 use Rattle.trace_planes.specs.declared.finding.Finding.{Finding}
 use Rattle.trace_planes.specs.Findings.{first_finding}
@@ -25,12 +26,23 @@ abbrev pub IsReadAfter : GameData → Before → Place → Type 0
 IsReadAfter g None p = (p.started ≡ false) × (p.next.items ≡ as_values (first_hidden g))
 IsReadAfter g (Some s) p = (p.started ≡ true) × IsTrue (is_state g s) × IsReadAt g s p.state.items p.cells.items p.next.items
 
--- The place is after this state.
-pub record IsAt (g : GameData) (b : Before) (p : Place) : Type 0 where
-  pub read : IsReadAfter g b p
+-- it has room for a state of the game
+pub record IsSized (g : GameData) (p : Place) : Type 0 where
   pub state : length p.state.items ≡ length g.hidden + (length (domains_of is_env g.variables) + length (domains_of (λ o. not (is_env o)) g.variables))
   pub cells : length p.cells.items ≡ length g.hidden
   pub next : length p.next.items ≡ length g.hidden
+
+-- the places have the same values
+pub record IsCopy (p q : Place) : Type 0 where
+  pub started : q.started ≡ p.started
+  pub state : q.state.items ≡ p.state.items
+  pub cells : q.cells.items ≡ p.cells.items
+  pub next : q.next.items ≡ p.next.items
+
+-- The place is after this state.
+pub record IsAt (g : GameData) (b : Before) (p : Place) : Type 0 where
+  pub read : IsReadAfter g b p
+  pub sized : IsSized g p
 
 -- it judges the moves of the game after this state
 pub record JudgesAfter (j : Judge) (g : GameData) (b : Before) : Type 0 where
@@ -78,11 +90,17 @@ game_of a = game_data a.plain.judge.game
 abbrev pub room_of : Audit → ℕ
 room_of a = a.room
 
+-- there is room for what a check writes
+pub record IsWorkspaceOf (g : GameData) (w : Workspace) : Type 0 where
+  pub columns : length w.columns.items ≡ 4096 * length g.variables
+  pub cells : length w.cells.items ≡ 4096 * length g.hidden
+  pub ahead : IsSized g w.ahead
+  pub clear : length w.clear.items ≡ 64
+
 -- the memory that a check needs was taken
 pub record HasRoom (a : Audit) (g : GameData) : Type 0 where
   pub rows : 4096 * a.width ≤ vec_capacity a.rows
-  pub columns : length a.columns.items ≡ 4096 * length g.variables
-  pub clear : length a.clear.items ≡ 64
+  pub work : IsWorkspaceOf g a.work
 
 -- the run is parted into the positions that were checked, none of which breaks a line, and those that wait
 pub record IsCheckedUpTo (g : GameData) (h : Run) (room : ℕ) : Type 0 where

@@ -1,7 +1,5 @@
 pub mod Findings
 pub mod Rows
 pub mod Audits
-pub mod Planes
-pub mod Columns
 pub mod Moves
 pub mod Examples

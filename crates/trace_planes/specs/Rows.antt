@@ -4,10 +4,11 @@ use Rattle.spec_model.specs.declared.value.Value.{Value}
 use Rattle.spec_model.specs.Syntax.{VariableData}
 use Rattle.spec_model.specs.Rules.{Position, Run}
 use Rattle.spec_model.specs.Moves.{nothing, value_among}
-use Rattle.spec_model.specs.Games.{GameData}
-use Rattle.trace_planes.specs.Columns.{code_of}
+use Rattle.spec_model.specs.GameRules.{last_state}
+use Rattle.spec_model.specs.Games.{GameData, State, entry_at}
+use Rattle.column_planes.specs.Columns.{value_in, entry_in}
 use Rattle.trace_planes.specs.Findings.{broken_in_game}
-use Rattle.spec_model.specs.Steps.{is_input, is_output}
+use Rattle.spec_model.specs.Steps.{is_input, is_output, reached}
 
 -- each position has a value for each variable
 abbrev pub AreWhole : GameData → Run → Type 0
@@ -27,7 +28,7 @@ pub record AreRows (g : GameData) (width : ℕ) (ps : Run) (rows : List Value) :
 
 -- the columns have the codes of a position
 abbrev pub HasCodes : List ℕ → (i : ℕ) → List VariableData → Position → Type 0
-HasCodes codes i vs p = (k : ℕ) → k < length vs → get_or codes (4096 * k + i) 0 ≡ code_of (value_among vs p k)
+HasCodes codes i vs p = (k : ℕ) → k < length vs → value_in vs codes k i ≡ value_among vs p k
 
 -- those of the other positions stay
 abbrev pub KeepsOthers : (i : ℕ) → (old new : List ℕ) → Type 0
@@ -36,6 +37,14 @@ KeepsOthers i old new = (k j : ℕ) → j < 4096 → j ≢ i → get_or new (409
 -- the columns have the codes of the first n positions
 abbrev pub HasColumns : List ℕ → GameData → (n : ℕ) → Run → Type 0
 HasColumns codes g n ps = (i : ℕ) → i < n → HasCodes codes i g.variables (get_or ps i nothing)
+
+-- the state that a run comes to by the i-th of some positions more
+abbrev pub state_among : GameData → (h ps : Run) → (i : ℕ) → State
+state_among g h ps i = reached g (last_state g (h ++ take i ps)) (get_or ps i nothing).input (get_or ps i nothing).output
+
+-- the columns have the cells of the hidden tables at the first n positions after a run, as far as there are columns
+abbrev pub HasCells : List ℕ → GameData → (h : Run) → (n : ℕ) → (ps : Run) → Type 0
+HasCells cells g h n ps = (i : ℕ) → i < n → (table part : ℕ) → 4096 * table + 4096 ≤ length cells → entry_in g.hidden cells table part i ≡ entry_at g (state_among g h ps i) table part
 
 -- ---- which positions are clear
 

@@ -17,15 +17,13 @@ ghost use Rattle.trace_planes.specs.Findings.{first_finding};
 use crate::finding::Finding;
 use crate::passing::{clear_rows, judge_rows};
 use crate::plain::Plain;
+use crate::workspace::Workspace;
 use spec_model::game::Game;
 use spec_model::value::Value;
 use std::alloc::{AllocError, Global};
 
 /// How many positions can be pushed before a check.
 const ROOM: usize = 4_096;
-
-/// The words of scratch planes: two or three planes for each level of a line, of which there are at most 512.
-const SCRATCH: usize = 64 * 3 * 512;
 
 /// Judges the positions of a run.
 #[derive(Debug, Drop)]
@@ -39,10 +37,7 @@ pub struct Audit {
     room: usize,
     /// How many positions were pushed.
     pushed: u64,
-    columns: Vec<u16>,
-    scratch: Vec<u64>,
-    /// At which moves all lines hold.
-    clear: Vec<u64>,
+    work: Workspace,
 }
 
 impl Audit {
@@ -56,15 +51,14 @@ impl Audit {
         let Some(cells) = width.checked_mul(ROOM) else {
             return Err(AllocError);
         };
+        let work = Workspace::make(alloc, &game)?;
         Ok(Audit {
             plain: Plain::make(alloc, game)?,
             rows: Vec::with_capacity(alloc, cells)?,
             width,
             room: ROOM,
             pushed: 0,
-            columns: vec![in alloc; 0_u16; cells]?,
-            scratch: vec![in alloc; 0_u64; SCRATCH]?,
-            clear: vec![in alloc; 0_u64; 64]?,
+            work,
         })
     }
 
@@ -98,13 +92,11 @@ impl Audit {
     {
         let count = ROOM - self.room;
         let clear = clear_rows(
-            &self.plain,
+            &self.plain.judge,
             &self.rows,
             self.width,
             count,
-            &mut self.columns,
-            &mut self.scratch,
-            &mut self.clear,
+            &mut self.work,
         );
         judge_rows(&mut self.plain, &self.rows, self.width, count, clear);
         self.rows.clear();

@@ -5,12 +5,10 @@ ghost use Rattle.spec_model.specs.Views.{formula};
 ghost use Rattle.spec_model.specs.GameViews.{game_data};
 ghost use Rattle.spec_model.specs.Steps.{line_holds};
 ghost use Rattle.spec_model.specs.Games.{State, GameData};
-ghost use Rattle.trace_planes.specs.Columns.{AreWords};
+ghost use Rattle.column_planes.specs.Columns.{AreWords, column_data};
 ghost use Rattle.trace_planes.specs.Moves.{IsMove, IsPlaneOfMoves, NarrowsTo, are_kept};
 
-use crate::planes::and_planes;
-use crate::truths::{Columns, plane, write_all};
-use crate::zeros::first_zero;
+use column_planes::{Columns, and_planes, first_zero, plane, write_all};
 use game_values::seen::At;
 use spec_model::expr::Expr;
 use spec_model::game::Game;
@@ -18,7 +16,7 @@ use spec_model::game::Game;
 /// Writes at which moves a line holds; a late one is judged at the position before.
 fn line_plane(e: &Expr, late: bool, c: Columns, room: &mut [u64], out: &mut [u64]) -> bool
     requires words { AreWords c.bits (length out.old) }
-    ensures plane { result ≡ true → IsPlaneOfMoves c.entry.codes.now c.entry.bits (λ g r s. line_holds g late (Some r) s (formula e.now)) out.new }
+    ensures plane { result ≡ true → IsPlaneOfMoves (column_data c.entry) c.entry.bits (λ g r s. line_holds g late (Some r) s (formula e.now)) out.new }
     ensures lengths { length out.new ≡ length out.old }
     ensures room { length room.new ≡ length room.old }
 {
@@ -39,7 +37,7 @@ fn narrow(
 ) -> bool
     requires words { AreWords c.bits (length out.old) }
     requires flagged { length late.now ≡ length lines.now }
-    ensures plane { result ≡ true → NarrowsTo c.entry.codes.now c.entry.bits (λ g r s. are_kept g r s late.now (map (λ l. (l.0, formula l.1)) lines.now)) out.old out.new }
+    ensures plane { result ≡ true → NarrowsTo (column_data c.entry) c.entry.bits (λ g r s. are_kept g r s late.now (map (λ l. (l.0, formula l.1)) lines.now)) out.old out.new }
     ensures lengths { length out.new ≡ length out.old }
     ensures room { length room.new ≡ length room.old }
 {
@@ -70,7 +68,7 @@ fn all_lines(
 ) -> bool
     requires words { AreWords c.bits (length out.old) }
     requires flagged { (length waits.now ≡ length game.now.safe_asm.items) × (length nexts.now ≡ length game.now.safe_gar.items) }
-    ensures plane { result ≡ true → IsPlaneOfMoves c.entry.codes.now c.entry.bits (λ g r s. are_kept g r s waits.now (game_data game.now).safe_asm && are_kept g r s nexts.now (game_data game.now).safe_gar) out.new }
+    ensures plane { result ≡ true → IsPlaneOfMoves (column_data c.entry) c.entry.bits (λ g r s. are_kept g r s waits.now (game_data game.now).safe_asm && are_kept g r s nexts.now (game_data game.now).safe_gar) out.new }
     ensures lengths { length out.new ≡ length out.old }
     ensures room { length room.new ≡ length room.old }
 {
@@ -91,7 +89,7 @@ pub fn clear_moves(
     requires words { AreWords c.bits (length out.old) }
     requires flagged { (length waits.now ≡ length game.now.safe_asm.items) × (length nexts.now ≡ length game.now.safe_gar.items) }
     ensures within { result ≤ c.entry.bits }
-    ensures clear { (j : ℕ) → j < result → (g : GameData) (r s : State) → IsMove c.entry.codes.now j g r s →
+    ensures clear { (j : ℕ) → j < result → (g : GameData) (r s : State) → IsMove (column_data c.entry) j g r s →
         (are_kept g r s waits.now (game_data game.now).safe_asm && are_kept g r s nexts.now (game_data game.now).safe_gar) ≡ true }
     ensures lengths { length out.new ≡ length out.old }
 {

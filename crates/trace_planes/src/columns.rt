@@ -1,26 +1,19 @@
 //! The codes of positions, in a column for each variable.
 
-ghost use Rattle.std.specs.Prelude.{◌≡◌, ℕ, ◌<◌, ◌≤◌, ◌*◌, ◌+◌, not, map, take, length, slice_index, count_by, if◌then◌else◌, vec_len};
+ghost use Rattle.std.specs.Prelude.{◌≡◌, ℕ, true, ◌<◌, ◌≤◌, ◌*◌, ◌+◌, not, map, take, length, slice_index, count_by, if◌then◌else◌, vec_len};
 ghost use Rattle.spec_model.specs.Views.{variable_data};
 ghost use Rattle.spec_model.specs.GameViews.{game_data};
 ghost use Rattle.spec_model.specs.Games.{GameData};
 ghost use Rattle.spec_model.specs.Rules.{Position, Run};
 ghost use Rattle.spec_model.specs.Moves.{is_env, value_among};
 ghost use Rattle.trace_planes.specs.Audits.{IsPosition};
-ghost use Rattle.trace_planes.specs.Columns.{code_of};
 ghost use Rattle.trace_planes.specs.Rows.{AreRows, HasCodes, HasColumns, KeepsOthers};
 
 use crate::judge::moves;
-use game_values::values::{truth, value_or};
+use column_planes::code_in;
+use game_values::values::value_or;
 use spec_model::game::Game;
 use spec_model::value::{Owner, Value, Var};
-
-/// The code of a value.
-fn code(value: Value) -> u16
-    ensures { result ≡ code_of value }
-{
-    u16::from(truth(value))
-}
 
 /// The value of a variable; so many inputs and outputs stand before it.
 fn value_of(
@@ -54,35 +47,48 @@ fn inputs_in(v: &Var) -> usize
     }
 }
 
-/// Writes the codes of a position.
-fn write_codes(vars: &[Var], input: &[Value], output: &[Value], i: usize, codes: &mut [u16])
+/// Writes the codes of a position. False where a value has none.
+fn write_codes(vars: &[Var], input: &[Value], output: &[Value], i: usize, codes: &mut [u16]) -> bool
     requires sized { length codes.old ≡ 4096 * length vars.now }
     requires within { i < 4096 }
-    ensures codes { HasCodes codes.new i (map variable_data vars.now) (record { input = input.now; output = output.now }) }
+    ensures codes { result ≡ true → HasCodes codes.new i (map variable_data vars.now) (record { input = input.now; output = output.now }) }
     ensures others { KeepsOthers i codes.old codes.new }
     ensures lengths { length codes.new ≡ length codes.old }
 {
     let mut ins = 0;
     for k in 0..vars.len() {
         let v = &vars[k];
-        codes[4_096 * k + i] = code(value_of(vars, k, input, output, ins, k - ins));
+        let Some(code) = code_in(&v.domain, value_of(vars, k, input, output, ins, k - ins)) else {
+            return false;
+        };
+        codes[4_096 * k + i] = code;
         ins += inputs_in(v);
     }
+    true
 }
 
-/// Writes the codes of some positions; their values are given one behind the other.
-pub fn write_columns(game: &Game, rows: &[Value], width: usize, count: usize, codes: &mut [u16])
+/// Writes the codes of some positions; their values are given one behind the other. False where a value has none.
+pub fn write_columns(
+    game: &Game,
+    rows: &[Value],
+    width: usize,
+    count: usize,
+    codes: &mut [u16],
+) -> bool
     requires sized { length codes.old ≡ 4096 * length (game_data game.now).variables }
     requires few { count ≤ 4096 }
     requires rows { (ps : Run) × AreRows (game_data game.now) width ps rows.now × (length ps ≡ count) }
-    ensures columns { (ps : Run) → AreRows (game_data game.now) width ps rows.now → length ps ≡ count → HasColumns codes.new (game_data game.now) count ps }
+    ensures columns { result ≡ true → (ps : Run) → AreRows (game_data game.now) width ps rows.now → length ps ≡ count → HasColumns codes.new (game_data game.now) count ps }
     ensures lengths { length codes.new ≡ length codes.old }
 {
     let mut rest = rows;
     for i in 0..count {
         let (row, others) = rest.split_at(width);
         let (input, output) = moves(game, row);
-        write_codes(&game.vars, input, output, i, codes);
+        if !write_codes(&game.vars, input, output, i, codes) {
+            return false;
+        }
         rest = others;
     }
+    true
 }

@@ -2,44 +2,43 @@
 
 ghost use Rattle.std.specs.Prelude.{◌≡◌, ℕ, ◌+◌, ◌*◌, ◌<◌, ◌≤◌, ◌++◌, true, [], ◌∷◌, length, None};
 ghost use Rattle.spec_model.specs.GameViews.{game_data};
+ghost use Rattle.spec_model.specs.GameRules.{last_state};
 ghost use Rattle.spec_model.specs.Rules.{Position, Run};
 ghost use Rattle.spec_model.specs.Games.{GameData};
-ghost use Rattle.trace_planes.specs.Audits.{HasJudged, IsPosition, OfEachJudged};
-ghost use Rattle.trace_planes.specs.Findings.{broken_in_game, first_finding};
-ghost use Rattle.trace_planes.specs.Rows.{AreRows, AreClear};
+ghost use Rattle.trace_planes.specs.Audits.{HasJudged, IsPosition, IsWorkspaceOf, JudgesAfter, OfEachJudged};
+ghost use Rattle.trace_planes.specs.Findings.{broken_in_game};
+ghost use Rattle.trace_planes.specs.Rows.{AreWhole, AreRows, AreClear, HasColumns, HasCells};
 
 use crate::clear::clear_moves;
 use crate::columns::write_columns;
+use crate::judge::Judge;
 use crate::plain::Plain;
-use crate::truths::Columns;
-use crate::zeros::words_for;
+use crate::walk::write_all_cells;
+use crate::workspace::Workspace;
+use column_planes::{Columns, words_for};
 use spec_model::value::Value;
 
-/// How many positions after the first break no line, as far as planes tell.
-pub fn clear_rows(
-    plain: &Plain,
-    rows: &[Value],
-    width: usize,
+/// How many positions after the first break no line, as far as columns tell.
+fn clear_by_columns(
+    judge: &Judge,
     count: usize,
-    columns: &mut [u16],
+    codes: &[u16],
+    cells: &[usize],
     room: &mut [u64],
     out: &mut [u64],
 ) -> usize
-    requires stands { (g : GameData) × (h : Run) × (ps : Run) × HasJudged plain.now g h × (first_finding g h ≡ None) × AreRows g width ps rows.now × (length ps ≡ count) }
-    requires few { count ≤ 4096 }
-    requires sized { length columns.old ≡ 4096 * length (game_data plain.now.judge.game).variables }
+    requires some { (0 < count) × (count ≤ 4096) }
+    requires judges { (h : Run) × JudgesAfter judge.now (game_data judge.now.game) (last_state (game_data judge.now.game) h) }
     requires words { length out.old ≡ 64 }
-    ensures clear { (g : GameData) (h ps : Run) → HasJudged plain.now g h → first_finding g h ≡ None → AreRows g width ps rows.now → length ps ≡ count → AreClear g h ps result }
-    ensures lengths { (length columns.new ≡ length columns.old) × (length out.new ≡ length out.old) }
+    ensures clear { let g = game_data judge.now.game in (h ps : Run) → JudgesAfter judge.now g (last_state g h) → AreWhole g ps → length ps ≡ count → HasColumns codes.now g count ps → HasCells cells.now g h count ps → AreClear g h ps result }
+    ensures lengths { length out.new ≡ length out.old }
 {
-    if count == 0 {
-        return 0;
-    }
-    let judge = &plain.judge;
-    write_columns(&judge.game, rows, width, count, columns);
     let bits = count - 1;
     let c = Columns {
-        codes: columns,
+        vars: &judge.game.vars,
+        hidden: &judge.game.hidden,
+        codes,
+        cells,
         bits,
     };
     let (front, _) = out.split_at_mut(words_for(bits));
@@ -50,6 +49,49 @@ pub fn clear_rows(
         c,
         room,
         front,
+    )
+}
+
+/// How many positions after the first break no line, as far as planes tell. The cells of hidden tables are written only where
+/// planes tell nothing without them.
+pub fn clear_rows(
+    judge: &Judge,
+    rows: &[Value],
+    width: usize,
+    count: usize,
+    work: &mut Workspace,
+) -> usize
+    requires few { count ≤ 4096 }
+    requires sized { IsWorkspaceOf (game_data judge.now.game) work.old }
+    requires rows { let g = game_data judge.now.game in (h ps : Run) × JudgesAfter judge.now g (last_state g h) × AreRows g width ps rows.now × (length ps ≡ count) }
+    ensures clear { let g = game_data judge.now.game in (h ps : Run) → JudgesAfter judge.now g (last_state g h) → AreRows g width ps rows.now → length ps ≡ count → AreClear g h ps result }
+    ensures sized { IsWorkspaceOf (game_data judge.now.game) work.new }
+{
+    if count == 0 {
+        return 0;
+    }
+    if !write_columns(&judge.game, rows, width, count, &mut work.columns) {
+        return 0;
+    }
+    let clear = clear_by_columns(
+        judge,
+        count,
+        &work.columns,
+        &[],
+        &mut work.scratch,
+        &mut work.clear,
+    );
+    if 0 < clear || judge.game.hidden.is_empty() {
+        return clear;
+    }
+    write_all_cells(judge, &mut work.ahead, rows, width, count, &mut work.cells);
+    clear_by_columns(
+        judge,
+        count,
+        &work.columns,
+        &work.cells,
+        &mut work.scratch,
+        &mut work.clear,
     )
 }
 

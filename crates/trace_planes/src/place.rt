@@ -6,7 +6,7 @@ ghost use Rattle.spec_model.specs.Steps.{Before, is_state, is_input, is_output, 
 ghost use Rattle.spec_model.specs.Games.{State, listed, first_hidden as first_hidden_lem, next_hidden as next_hidden_lem};
 ghost use Rattle.spec_model.specs.WellMade.{WellMade};
 ghost use Rattle.game_play.specs.Sights.{AreCells};
-ghost use Rattle.trace_planes.specs.Audits.{IsAt};
+ghost use Rattle.trace_planes.specs.Audits.{IsAt, IsCopy};
 
 use game_play::{first_hidden, next_hidden};
 use spec_model::game::Game;
@@ -69,6 +69,14 @@ fn write_next(game: &Game, state: &[Value], cells: &mut Vec<Value>, next: &mut V
     next_hidden(game, state, cells, next);
 }
 
+/// Writes some values over as many others.
+fn copy(to: &mut Vec<Value>, from: &[Value])
+    requires { length to.old.items ≡ length from.now }
+    ensures { to.new.items ≡ from.now }
+{
+    to.copy_from_slice(from);
+}
+
 impl Place {
     /// Before the first position. `AllocError`: no memory was given.
     pub fn make(alloc: Global, game: &Game) -> Result<Place, AllocError>
@@ -85,6 +93,19 @@ impl Place {
             cells: vec![in alloc; Value::Bool(false); hidden]?,
             next,
         })
+    }
+
+    /// Goes to where another is.
+    pub fn take(&mut self, other: &Place)
+        requires state { length self.old.state.items ≡ length other.now.state.items }
+        requires cells { length self.old.cells.items ≡ length other.now.cells.items }
+        requires next { length self.old.next.items ≡ length other.now.next.items }
+        ensures { IsCopy other.now self.new }
+    {
+        copy(&mut self.state, &other.state);
+        copy(&mut self.cells, &other.cells);
+        copy(&mut self.next, &other.next);
+        self.started = other.started;
     }
 
     /// Goes on to the state that an input and an output lead to.

@@ -4,7 +4,7 @@ use crate::tests::{Run, parts};
 use std::test::Fail;
 
 // The statements after `spec X`, the log, what is written, and the status.
-const AUDITS: [&str; 12] = [
+const AUDITS: [&str; 20] = [
     // The assumption reads the present g, so that it is judged at the second position.
     "env boolean a; sys boolean g; asm alw g -> a; gar alw g; => a=false g=true\na=true g=true\n => audit broken #1 line 2\n => 1",
     "env boolean a; sys boolean g; asm alw g -> a; gar alw g; => a=false g=false\na=true g=true\n => audit broken #2 line 1\n => 1",
@@ -22,6 +22,15 @@ const AUDITS: [&str; 12] = [
     "sys boolean g; gar alwEv g; => g=false\n => audit ok 1\n => 0",
     "sys Int(0..1024) x; gar ini x = 1; => x=2\n => audit broken #1 line 1\n => 1",
     "gar alw; =>  => t.spectra:2:8: fault 4 Unexpected\n => 3",
+    // Values are compared with one another, at one position and at the next.
+    "sys Int(0..3) f; gar alw next(f) = f + 1 | f = 3; => f=0\nf=1\nf=2\nf=3\nf=0\n => audit ok 5\n => 0",
+    "sys Int(0..3) f; gar alw next(f) = f + 1 | f = 3; => f=0\nf=2\n => audit broken #1 line 2\n => 1",
+    "sys Int(-2..2) f; gar alw f mod 2 = 0; => f=-2\nf=0\nf=-1\n => audit broken #1 line 3\n => 1",
+    "sys Int(0..9) f; gar alw f * f < 50; => f=0\nf=7\nf=8\n => audit broken #1 line 3\n => 1",
+    "sys Int(1000000..1000003) f; gar alw f != 1000002; => f=1000000\nf=1000003\nf=1000002\n => audit broken #1 line 3\n => 1",
+    "env {A, B} m; sys {A, B} n; gar alw n = m; => m=A n=A\nm=B n=B\nm=B n=A\n => audit broken #1 line 3\n => 1",
+    "env {A, B} m; gar alw true; asm alw m = A -> next(m) != A; => m=A\nm=B\nm=A\nm=A\n => audit broken #2 line 4\n => 1",
+    "sys boolean a; sys boolean b; gar alw (a | b) = b; => a=false b=false\na=true b=true\na=true b=false\n => audit broken #1 line 3\n => 1",
 ];
 
 #[test]
@@ -63,6 +72,30 @@ fn a_long_log_is_audited_in_pieces(rt: HostRuntime) -> Result<(), Fail> {
             &log,
         )
         .writes(&rt, alloc, written, number)?;
+    }
+    Ok(())
+}
+
+#[test]
+fn numbers_are_compared_in_pieces(rt: HostRuntime) -> Result<(), Fail> {
+    let alloc = rt.alloc();
+    for broken in [0usize, 2, 64, 65, 66, 4_096, 4_097, 4_098, 4_999] {
+        let mut log = String::new(alloc);
+        for line in 1..=5_000usize {
+            let f = if line == broken { 13 } else { (line - 1) % 12 };
+            log.push_str(&format!(in alloc; "f={f}\n")?)?;
+        }
+        let written = if broken == 0 {
+            format!(in alloc; "audit ok 5000\n")?
+        } else {
+            format!(in alloc; "audit broken #1 line {broken}\n")?
+        };
+        Run::of(
+            "spectra audit t.spectra",
+            b"spec X sys Int(0..13) f; gar alw next(f) = f + 1 | f = 11 & next(f) = 0;",
+            &log,
+        )
+        .writes(&rt, alloc, &written, u8::from(broken > 0))?;
     }
     Ok(())
 }

@@ -1,7 +1,7 @@
 use Rattle.std.proofs.Common.{ℕ, ◌&&◌, List, map, ap, ◌∙◌, arith}
 use Rattle.spec_model.specs.declared.expr.Expr.{Expr}
 use Rattle.spec_model.specs.Views.{formula}
-use Rattle.trace_planes.specs.Planes.{bit_in}
+use Rattle.column_planes.specs.Planes.{bit_in}
 use Rattle.trace_planes.specs.Moves.{are_kept}
 use Rattle.trace_planes.proofs.clear.all_lines.Goals as goal
 

@@ -1,8 +1,8 @@
 use Rattle.std.proofs.Common.{ℕ, ◌+◌, ◌&&◌, List, map, drop, sym, ap, ◌∙◌, arith}
 use Rattle.spec_model.specs.Views.{formula}
-use Rattle.trace_planes.specs.Planes.{bit_in}
+use Rattle.column_planes.specs.Planes.{bit_in}
 use Rattle.trace_planes.specs.Moves.{are_kept}
-use Rattle.trace_planes.proofs.PlanesOfParts.{and_three}
+use Rattle.column_planes.proofs.PlanesOfParts.{and_three}
 use Rattle.trace_planes.proofs.Kept.{kept_from}
 use Rattle.trace_planes.proofs.clear.narrow.Goals as goal
 

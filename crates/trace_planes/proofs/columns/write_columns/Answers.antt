@@ -45,11 +45,11 @@ loop-i-preserved c =
           columns_more g ps i c.loop-i.codes c.write_codes.new.codes (omega (arith, c.loop-i-test.true, c.requires.few)) (c.loop-i.invariant.columns ps rows many) c.write_codes.ensures.others
           (subst (λ (x : List Value). HasCodes c.write_codes.new.codes i g.variables (record { input = x; output = p.output })) parts.0
           (subst (λ (y : List Value). HasCodes c.write_codes.new.codes i g.variables (record { input = c.moves.result.0.now; output = y })) parts.1
-          (subst (λ (vs : List Var). HasCodes c.write_codes.new.codes i (map variable_data vs) (record { input = c.moves.result.0.now; output = c.moves.result.1.now })) c.deref.ensures.value c.write_codes.ensures.codes)));
+          (subst (λ (vs : List Var). HasCodes c.write_codes.new.codes i (map variable_data vs) (record { input = c.moves.result.0.now; output = c.moves.result.1.now })) c.deref.ensures.value (c.write_codes.ensures.codes c.if-not-write_codes.false))));
     }
 
 pub returns-clause-columns : goal.returns-clause-columns
-returns-clause-columns c = λ ps rows many.
+returns-clause-columns c = λ written ps rows many.
     let g = game_data c.args.game.now in
     let whole : c.loop-i.i ≡ c.args.count = let most = c.loop-i.auto.i-end in omega (arith, c.loop-i-test.false, most) in
     subst (λ (n : ℕ). (i : ℕ) → i < n → HasCodes c.loop-i.codes i g.variables (get_or ps i nothing)) whole (c.loop-i.invariant.columns ps rows many)

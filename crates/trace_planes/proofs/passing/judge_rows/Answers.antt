@@ -4,7 +4,7 @@ use Rattle.spec_model.specs.Games.{GameData}
 use Rattle.spec_model.specs.Rules.{Run}
 use Rattle.spec_model.specs.Moves.{nothing}
 use Rattle.trace_planes.specs.Audits.{HasJudged, IsPosition}
-use Rattle.trace_planes.proofs.Lanes.{take-all}
+use Rattle.column_planes.proofs.Lanes.{take-all}
 use Rattle.trace_planes.proofs.InColumns.{rest_room, rest_next, position_there}
 use Rattle.trace_planes.proofs.passing.judge_rows.Goals as goal
 

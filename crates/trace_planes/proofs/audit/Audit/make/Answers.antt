@@ -17,7 +17,6 @@ returns-clause-begins c =
       room =
           record {
             rows = let most = c.in_ok-with_capacity.ensures.capacity in omega (arith, cells.1, most);
-            columns = let many = c.in_ok-vec.ensures.len in let own = c.in_ok-vec.field-0.ok.0 in omega (arith, cells.1, many, own, c.len-width.ensures, len, long);
-            clear = let many = c.in_ok-vec-3.ensures.len in let own = c.in_ok-vec-3.field-0.ok.0 in omega (arith, many, own);
+            work = c.in_ok-work.ensures;
           };
     }

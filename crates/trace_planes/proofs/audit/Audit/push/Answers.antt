@@ -58,5 +58,5 @@ returns-clause-pushed c = λ g h st p is.
           };
       counted = let before = st.counted in let more = length-after h p in omega (arith, before, more);
       few = let fits = s.3 in let more = length-after h p in let first = s.2.counted in let same = st.counted in omega (arith, fits, more, first, same);
-      room = record { rows = let cap = c.extend_from_slice.ensures.capacity in let before = st.room.rows in omega (arith, cap, before); columns = st.room.columns; clear = st.room.clear };
+      room = record { rows = let cap = c.extend_from_slice.ensures.capacity in let before = st.room.rows in omega (arith, cap, before); work = st.room.work };
     }

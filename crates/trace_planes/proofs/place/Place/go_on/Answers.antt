@@ -42,7 +42,10 @@ returns c = λ b here.
           next = c.write_next.ensures.value s in_game (lists ∙ sym c.deref-2.ensures.value);
         },
       );
-      state = ap (λ (vs : List Value). length vs) (sym lists) ∙ room_next g c.requires.made b p here x y c.requires.input c.requires.output;
-      cells = c.write_next.ensures.tables;
-      next = c.write_next.ensures.room;
+      sized =
+          record {
+            state = ap (λ (vs : List Value). length vs) (sym lists) ∙ room_next g c.requires.made b p here x y c.requires.input c.requires.output;
+            cells = c.write_next.ensures.tables;
+            next = c.write_next.ensures.room;
+          };
     }

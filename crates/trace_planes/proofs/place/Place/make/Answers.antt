@@ -21,7 +21,10 @@ returns c =
     let sized = c.in_ok-vec.ensures.len in
     record {
       read = (refl, c.write_first.ensures.value);
-      state = omega (arith, many, ins, outs, sized, length-map c.args.game.now.hidden.items hidden_data);
-      cells = omega (arith, many, c.in_ok-vec-2.ensures.len, length-map c.args.game.now.hidden.items hidden_data);
-      next = c.write_first.ensures.room;
+      sized =
+          record {
+            state = omega (arith, many, ins, outs, sized, length-map c.args.game.now.hidden.items hidden_data);
+            cells = omega (arith, many, c.in_ok-vec-2.ensures.len, length-map c.args.game.now.hidden.items hidden_data);
+            next = c.write_first.ensures.room;
+          };
     }

@@ -1,0 +1,7 @@
+pub mod Lanes
+mod Bits
+mod FirstZero
+mod EqualCodes
+pub mod PlanesOfParts
+pub mod Coded
+mod Blocks

@@ -1,6 +1,0 @@
-use Rattle.std.proofs.Common.{bit_and}
-use Rattle.trace_planes.proofs.Lanes.{eight_of_both}
-use Rattle.trace_planes.proofs.planes.and_eight.Goals as goal
-
-pub returns-clause-written : goal.returns-clause-written
-returns-clause-written c = eight_of_both bit_and c.args.a.now c.args.b.now c.args.out.now c.args.at c.requires.lengths.0 c.requires.lengths.1 c.requires.room c.requires.written

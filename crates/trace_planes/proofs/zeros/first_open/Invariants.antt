@@ -1,6 +1,0 @@
-use Rattle.std.proofs.Common.{◌*◌}
-use Rattle.trace_planes.specs.Planes.{IsFullUpTo}
-use Rattle.trace_planes.proofs.zeros.first_open.Given as goal
-
-abbrev pub invariant-loop-k : goal.invariant-loop-k
-invariant-loop-k l = IsFullUpTo l.a (8 * l.k)

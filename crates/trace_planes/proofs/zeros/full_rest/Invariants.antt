@@ -1,5 +1,0 @@
-use Rattle.trace_planes.specs.Planes.{IsFullUpTo}
-use Rattle.trace_planes.proofs.zeros.full_rest.Given as goal
-
-abbrev pub invariant-loop-k : goal.invariant-loop-k
-invariant-loop-k l = IsFullUpTo l.a l.k
