@@ -131,6 +131,17 @@ found_with_true fixed f level top levels s le below idle none high =
 pub found_with_none : (fixed : List (Option Bool)) (f : Function) (level top : ℕ) → level ≤ top → HasNoneWith fixed f top false → HasNoneWith fixed f top true → HasNone fixed f level
 found_with_none fixed f level top le low high = none_from_before fixed f level top le (none_of_both fixed f top low high)
 
+-- functions that are the same on all bits that agree have the same first bits
+pub first_agreeing : (fixed : List (Option Bool)) (f g : Function) (level count : ℕ) (s : Bits) → ((t : Bits) → Agrees fixed level t → g t ≡ f t) → IsFirst fixed g level count s → IsFirst fixed f level count s
+first_agreeing fixed f g level count s same first = record {
+  agrees = first.agrees;
+  true_there = sym (same s first.agrees) ∙ first.true_there;
+  first = λ t agrees makes. first.first t agrees (same t agrees ∙ makes);
+}
+
+pub none_agreeing : (fixed : List (Option Bool)) (f g : Function) (level : ℕ) → ((t : Bits) → Agrees fixed level t → g t ≡ f t) → HasNone fixed g level → HasNone fixed f level
+none_agreeing fixed f g level same none t agrees makes = none t agrees (same t agrees ∙ makes)
+
 -- ---- the bits that come first
 
 -- bits that stay before a level come first there as they did

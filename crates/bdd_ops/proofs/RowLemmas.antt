@@ -1,15 +1,16 @@
 -- Rows of edges, place by place and as conjunctions.
-use Rattle.std.proofs.Common.{◌≡◌, ℕ, zero, suc, ◌<◌, ◌≤◌, ◌+◌, inl, inr, sym, ◌∙◌, ap, subst, refl, arith, Bool, true, false, ◌&&◌, Option, List, [], ◌∷◌, length, get_or, set, get_or-set_same, get_or-set_other, min}
+use Rattle.std.proofs.Common.{◌≡◌, ℕ, zero, suc, ◌<◌, ◌≤◌, ◌+◌, inl, inr, sym, ◌∙◌, ap, subst, refl, arith, Bool, true, false, ◌&&◌, Option, List, [], ◌∷◌, length, get_or, set, get_or-set_same, get_or-set_other, min, map}
 use Rattle.std.proofs.lemmas.Bool.{cases_eq}
-use Rattle.std.proofs.lemmas.List.{get_or_default, length-set}
+use Rattle.std.specs.List.{All}
+use Rattle.std.proofs.lemmas.List.{get_or_default, get_or-map, length-map}
 use Rattle.spec_model.specs.Diagrams.{Bits, Function, constant, value}
 use Rattle.bdd_store.specs.declared.edge.Edge.{Edge}
-use Rattle.bdd_store.specs.State.{IsEdge, diagram_of}
+use Rattle.bdd_store.specs.State.{IsEdge, IsRoot, diagram_of}
 use Rattle.bdd_ops.specs.Contents.{Contents, function_at}
 use Rattle.bdd_ops.specs.Steps.{IsSplitAt, level_at}
 use Rattle.bdd_ops.specs.Paths.{Agrees}
 use Rattle.bdd_ops.proofs.PathLemmas.{at_bit}
-use Rattle.bdd_ops.specs.Together.{all_in, IsRow, IsChosen, IsSettled, SettlesRow}
+use Rattle.bdd_ops.specs.Together.{all_in, IsRow, IsChosen, IsSettled, SettlesRow, SettlesSome, IsLeast}
 
 -- ---- conjunctions
 
@@ -115,3 +116,51 @@ row_false c fixed old i e f below reads settled is level row s agrees =
     let from : level ≤ level_at c e.0 = subst (λ (x : Edge). level ≤ level_at c x.0) (sym reads) (row.from i e below) in
     let is_false : function_at c e.0 s ≡ false = sym (settled.same s (agrees_above fixed level (level_at c e.0) s from agrees)) ∙ ap (λ d. value d s) is in
     one_false c old s i e below (ap (λ (x : Edge). function_at c x.0 s) (sym reads) ∙ is_false)
+
+-- one edge more is settled
+pub settles_more : (c : Contents) (fixed : List (Option Bool)) (old new : List Edge) (i : ℕ) (e f : Edge) → i < length new → length new ≡ length old → e ≡ get_or new i e → IsSettled c fixed e f → SettlesSome c fixed old new i → SettlesSome c fixed old (set new i f) (i + 1)
+settles_more c fixed old new i e f inside long reads settled some =
+    let was : e ≡ get_or old i e = reads ∙ some.rest i e (omega arith) in
+    record {
+      each = pairs_more (IsSettled c fixed) old new i e f (omega arith) inside was settled some.each;
+      rest = rest_more old new i f some.rest;
+    }
+
+-- any live edges stand at level 0 or later
+pub row_from_live : (c : Contents) (row : List Edge) → All (λ e. IsEdge c.state e.0) row → IsRow c 0 row
+row_from_live c row live = record { live = live; from = λ k d below. omega arith }
+
+-- the edges of kept roots are live
+pub edges_live : (c : Contents) (row : List Edge) (roots : List ℕ) → roots ≡ map (λ (e : Edge). e.0) row → ((n : ℕ) → IsRoot c.state n → IsEdge c.state n) → All (λ n. IsRoot c.state n) roots → All (λ e. IsEdge c.state e.0) row
+edges_live c row roots is live kept k d below =
+    let named : All (λ n. IsRoot c.state n) (map (λ (e : Edge). e.0) row) = subst (λ (ns : List ℕ). All (λ n. IsRoot c.state n) ns) is kept in
+    let inside : k < length (map (λ (e : Edge). e.0) row) = omega (arith, length-map row (λ (e : Edge). e.0)) in
+    let root : IsRoot c.state (get_or row k d).0 = subst (λ (n : ℕ). IsRoot c.state n) (get_or-map (λ (e : Edge). e.0) row k d d.0 below) (named k d.0 inside) in
+    live (get_or row k d).0 root
+
+-- ---- the least level
+
+min_left : (a b : ℕ) → min a b ≤ a
+min_left a b = omega arith
+
+min_right : (a b : ℕ) → min a b ≤ b
+min_right a b = omega arith
+
+pub least_more : (c : Contents) (row : List Edge) (levels i least next : ℕ) (e : Edge) → i < length row → e ≡ get_or row i e → next ≡ min least (level_at c e.0) → IsLeast c row levels i least → IsLeast c row levels (i + 1) next
+least_more c row levels i least next e inside reads is so_far = record {
+  within = let bound : least ≤ levels = so_far.within in omega (arith, min_left least (level_at c e.0));
+  from = λ k d below.
+      elim (cases_eq k i) [
+        | inl same ↦
+            let here : get_or row k d ≡ e = ap (λ (n : ℕ). get_or row n d) same ∙ (get_or_default row i d e inside ∙ sym reads) in
+            let le : next ≤ level_at c e.0 = omega (arith, min_right least (level_at c e.0)) in
+            subst (λ (x : Edge). next ≤ level_at c x.0) (sym here) le
+        | inr other ↦
+            let before : least ≤ level_at c (get_or row k d).0 = so_far.from k d (omega arith) in
+            omega (arith, min_left least (level_at c e.0))
+      ];
+  no_less = λ level within row_is.
+      let below_least : level ≤ least = so_far.no_less level within row_is in
+      let below_edge : level ≤ level_at c e.0 = subst (λ (x : Edge). level ≤ level_at c x.0) (sym reads) (row_is.from i e inside) in
+      omega arith;
+}

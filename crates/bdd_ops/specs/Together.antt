@@ -47,6 +47,17 @@ pub record SettlesRow (c : Contents) (fixed : List (Option Bool)) (level : ℕ) 
   pub row : IsRow c level new
   pub same : (s : Bits) → Agrees fixed level s → all_in c new s ≡ all_in c old s
 
+-- the level is the least at which one of the first so many edges stands, and at most so many levels
+pub record IsLeast (c : Contents) (row : List Edge) (levels count least : ℕ) : Type 0 where
+  pub within : least ≤ levels
+  pub from : (k : ℕ) (d : Edge) → k < count → least ≤ level_at c (slice_index_or row k d).0
+  pub no_less : (level : ℕ) → level ≤ levels → IsRow c level row → level ≤ least
+
+-- the first so many edges of the second row are what fixed bits leave of those of the first, and the rest are the same
+pub record SettlesSome (c : Contents) (fixed : List (Option Bool)) (old new : List Edge) (count : ℕ) : Type 0 where
+  pub each : (k : ℕ) (d : Edge) → k < count → IsSettled c fixed (slice_index_or old k d) (slice_index_or new k d)
+  pub rest : (k : ℕ) (d : Edge) → count ≤ k → slice_index_or new k d ≡ slice_index_or old k d
+
 -- ---- bits
 
 -- the bit that comes first where this is fixed

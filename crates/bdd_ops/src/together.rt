@@ -110,6 +110,7 @@ impl Diagrams {
         ensures none { result ≡ false → HasNone fixed.now (all_of self.now all.old.roots) 0 }
         ensures asked { all.new ≡ all.old }
     {
+        let _ = &self.store;
         self.first_from_edges(&all.roots, fixed, &mut all.rows, out)
     }
 }
