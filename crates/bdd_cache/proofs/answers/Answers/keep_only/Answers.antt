@@ -10,5 +10,5 @@ returns c =
     let size : length c.sweep.new.cells.items ≡ length c.self.inside.cells.items = omega arith in
     let exactly : List Answer → List Answer → Type 0 = λ old new. (answer : Answer) → IsKept new answer ↔ (IsKept old answer × HasLiveNodes c.args.live.now answer) in
     let swept : exactly c.self.inside.cells.items c.sweep.new.cells.items = λ answer.
-        (swept_kept c.args.live.now _ _ NONE size c.sweep.ensures.swept answer, kept_swept c.args.live.now _ _ NONE size c.sweep.ensures.swept answer) in
+    (swept_kept c.args.live.now _ _ NONE size c.sweep.ensures.swept answer, kept_swept c.args.live.now _ _ NONE size c.sweep.ensures.swept answer) in
     subst (λ (old : List Answer). exactly old c.aim_for.new.self) c.self.view_is (subst (λ (new : List Answer). exactly c.self.inside.cells.items new) (sym c.aim_for.ensures) swept)
