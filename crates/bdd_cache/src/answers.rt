@@ -11,14 +11,18 @@ use std::marker::Model;
 /// The cells of a new table. The numbers of cells are powers of two.
 const FIRST: usize = 4096;
 /// The cells that memory is taken for. What isn't used isn't touched.
-const MOST: usize = 1 << 20;
+const MOST: usize = 1 << 22;
+/// How many cells serve a place of a node: more find little more, and each sweep passes all of them.
+const CELLS_FOR_A_PLACE: usize = 8;
 
 /// Answers, each in the cell that its key leads to.
 #[derive(Drop)]
 pub struct Answers {
     cells: Vec<Answer>,
-    /// How many answers may still be put before the table grows.
+    /// How many answers may still be put before the number of cells is thought over.
     room: usize,
+    /// The table grows while it has fewer cells, and is halved while it has more than twice as many.
+    aim: usize,
 }
 
 impl Model for Answers {
@@ -62,7 +66,11 @@ impl Answers {
     {
         let mut cells = Vec::with_capacity(alloc, MOST)?;
         cells.resize(FIRST, NONE)?;
-        Ok(Answers { cells, room: FIRST })
+        Ok(Answers {
+            cells,
+            room: FIRST,
+            aim: MOST,
+        })
     }
 
     /// The answer of operation `op` on `a`, `b` and `c`, if the table has it.
@@ -74,24 +82,27 @@ impl Answers {
         if is_it { Some(cell.r) } else { None }
     }
 
-    /// Keeps an answer, in the place of at most one other. Operations have numbers from 1 on.
+    /// Keeps an answer, in the place of at most one other, and where the table is halved, of those in its second half.
+    /// Operations have numbers from 1 on.
     pub fn put(&mut self, op: u32, a: u32, b: u32, c: u32, r: u32)
         ensures added { 0 < op → IsKept self.new (record { op = op; a = a; b = b; c = c; r = r }) }
         ensures others { (answer : Answer) → IsKept self.new answer → (answer ≡ record { op = op; a = a; b = b; c = c; r = r }) ⊎ IsKept self.old answer }
     {
         if self.room == 0 {
-            self.grow();
+            self.fit();
         }
         self.room = self.room.saturating_sub(1);
         let place = self.place(op, a, b, c);
         self.cells[place] = Answer { op, a, b, c, r };
     }
 
-    /// Removes each answer with a node that isn't live: its flag is false, or there is none.
+    /// Removes each answer with a node that isn't live: its flag is false, or there is none. From then on the table aims
+    /// at a number of cells for each flag.
     pub fn keep_only(&mut self, live: &[bool])
         ensures { (answer : Answer) → IsKept self.new answer ↔ (IsKept self.old answer × HasLiveNodes live.now answer) }
     {
         sweep(&mut self.cells, live);
+        self.aim_for(live.len());
     }
 
     /// Removes all answers.
@@ -110,13 +121,36 @@ impl Answers {
         mixed(op, a, b, c) & (self.cells.len() - 1)
     }
 
+    /// Aims at a number of cells for so many places of a node. The next answer that is put halves a table that has too many.
+    fn aim_for(&mut self, places: usize)
+        ensures { self.new ≡ self.old }
+    {
+        self.aim = places.saturating_mul(CELLS_FOR_A_PLACE).clamp(FIRST, MOST);
+        if self.aim < self.cells.len() / 2 {
+            self.room = 0;
+        }
+    }
+
+    /// Halves the table where it has more than twice as many cells as it aims at, and else may double it. What stands in
+    /// the first half is where its key leads to among half as many cells.
+    fn fit(&mut self)
+        ensures { (answer : Answer) → IsKept self.new answer → IsKept self.old answer }
+    {
+        let half = self.cells.len() / 2;
+        if self.aim < half {
+            self.cells.truncate(half);
+        } else {
+            self.grow();
+        }
+    }
+
     /// Writes the cells a second time behind themselves, within the memory that was taken: one more bit of a key's
     /// number leads to one of the two cells that hold what its cell held.
     fn grow(&mut self)
         ensures { (answer : Answer) → IsKept self.new answer ↔ IsKept self.old answer }
     {
         self.room = self.cells.len();
-        if self.cells.len() < MOST {
+        if self.cells.len() < self.aim {
             let _ = self.cells.extend_from_within(..);
         }
     }

@@ -13,3 +13,5 @@ pub mod ListCallLemmas
 pub mod ShiftLemmas
 pub mod TestLemmas
 pub mod PathLemmas
+pub mod RowLemmas
+pub mod FirstLemmas

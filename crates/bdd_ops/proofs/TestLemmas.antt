@@ -1,5 +1,7 @@
 -- What tests need: a list of three levels that rises over all but the last, and roots that stay.
-use Rattle.std.proofs.Common.{◌≡◌, Bool, ℕ, zero, suc, ◌<◌, ◌==◌, if◌then◌else◌, ap, refl, arith, [], ◌∷◌, slice_index_or}
+use Rattle.std.proofs.Common.{◌≡◌, Bool, ℕ, zero, suc, ◌<◌, ◌==◌, if◌then◌else◌, ap, sym, subst, refl, arith, List, [], ◌∷◌, ◌++◌, slice_index_or}
+use Rattle.std.specs.List.{All}
+use Rattle.std.proofs.lemmas.List.Elements.{All-nil, All-push}
 use Rattle.spec_model.specs.Diagrams.{Function}
 use Rattle.std.proofs.lemmas.Bool.{eq-eqb}
 use Rattle.bdd_store.specs.State.{State, IsRoot, AddsRoot}
@@ -20,6 +22,11 @@ rises_but_last levels f three ignores = rw three (record { known = λ x small de
   rising f ignores (suc x) (suc zero) before small dep_x dep_y = omega arith
   rising f ignores x (suc (suc zero)) before small dep_x dep_y = absurd (dep_y ignores)
   rising f ignores x (suc (suc (suc y))) before small dep_x dep_y = omega arith
+
+-- two kept roots that are asked for are kept
+pub both_kept : (s : State) (roots : List ℕ) (a b : ℕ) → roots ≡ ([] ++ a ∷ []) ++ b ∷ [] → IsRoot s a → IsRoot s b → All (λ n. IsRoot s n) roots
+both_kept s roots a b is a_kept b_kept =
+    subst (λ (ns : List ℕ). All (λ n. IsRoot s n) ns) (sym is) (All-push (λ n. IsRoot s n) (a ∷ []) b (All-push (λ n. IsRoot s n) [] a (All-nil (λ n. IsRoot s n)) a_kept) b_kept)
 
 abbrev one_if : Bool → ℕ
 one_if b = if b then 1 else 0

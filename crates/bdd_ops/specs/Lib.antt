@@ -4,3 +4,4 @@ pub mod Steps
 pub mod Calls
 pub mod Paths
 pub mod Reading
+pub mod Together

@@ -11,6 +11,7 @@
 
 mod calls;
 mod choice;
+mod common_paths;
 mod diagrams;
 mod joins;
 pub mod laws;
@@ -21,10 +22,13 @@ mod paths;
 mod quantify;
 mod relate;
 mod remembered;
+mod rows;
 mod shift;
+mod together;
 
 pub use bdd_store::{Root, StoreFault};
 pub use diagrams::Diagrams;
+pub use together::Conjunction;
 /// Memory ran out.
 pub use std::alloc::AllocError as OutOfMemory;
 

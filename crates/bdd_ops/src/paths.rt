@@ -21,7 +21,7 @@ fn allows(fixed: Option<bool>, bit: bool) -> bool
 }
 
 /// Whether a bit may stand at a level.
-fn allows_at(fixed: &[Option<bool>], level: usize, bit: bool) -> bool
+pub fn allows_at(fixed: &[Option<bool>], level: usize, bit: bool) -> bool
     requires { level < length fixed.now }
     ensures { IsTrue result ↔ AgreesAt (fixed_at fixed.now level) bit }
 {
@@ -30,7 +30,7 @@ fn allows_at(fixed: &[Option<bool>], level: usize, bit: bool) -> bool
 
 impl Diagrams {
     /// Which constant an edge is that has no level.
-    fn truth(&self, e: Edge) -> bool
+    pub(crate) fn truth(&self, e: Edge) -> bool
         requires live { IsEdge self.now.state e.0 }
         requires outer { self.now.state.table.levels ≤ level_at self.now e.0 }
         ensures { diagram_of self.now.state e.0 ≡ constant result }

@@ -4,6 +4,7 @@ ghost use Rattle.std.specs.Prelude.{◌≡◌, ◌<◌, ◌≤◌, ℕ};
 ghost use Rattle.bdd_store.specs.State.{IsRoot, AddsRoot, SameRoots};
 
 use crate::*;
+use std::alloc::Global;
 use std::process::Abort;
 use std::test::Fail;
 
@@ -177,6 +178,53 @@ fn first_bits_where_the_last_two_differ(rt: HostRuntime) -> Result<(), Fail> {
         assert_eq!(rt; first_bits(&diagrams, &a, fixed), bits, "{fixed:?} fixed");
     }
     diagrams.release(a);
+    Ok(())
+}
+
+/// The first bits that make two roots true, where there are any.
+fn common_bits(
+    rt: &impl Abort,
+    diagrams: &Diagrams,
+    alloc: Global,
+    a: &Root,
+    b: &Root,
+    fixed: [Option<bool>; 3],
+) -> Option<[bool; 3]>
+    requires a_kept { IsRoot diagrams.now.state a.now }
+    requires b_kept { IsRoot diagrams.now.state b.now }
+    requires levels { diagrams.now.state.table.levels ≡ 3 }
+{
+    let mut both = Conjunction::make(alloc, 3, 2).expect(rt, "rows");
+    diagrams.include(a, &mut both);
+    diagrams.include(b, &mut both);
+    let mut out = [true; 3];
+    diagrams
+        .first_common_path(&mut both, &fixed, &mut out)
+        .then_some(out)
+}
+
+#[test]
+fn first_bits_where_the_last_two_differ_and_the_first_is_true(rt: HostRuntime) -> Result<(), Fail> {
+    // (what is fixed, the first bits)
+    let cases = [
+        ([None, None, None], Some([true, false, true])),
+        ([None, None, Some(false)], Some([true, true, false])),
+        ([Some(true), Some(true), None], Some([true, true, false])),
+        ([Some(false), None, None], None),
+        ([None, Some(true), Some(true)], None),
+    ];
+    let mut diagrams = Diagrams::make(rt.alloc(), 3, 64)?;
+    let a = of_table(&rt, &mut diagrams, 0x66, 0, 0);
+    let b = of_table(&rt, &mut diagrams, 0xf0, 0, 0);
+    for (fixed, bits) in cases {
+        assert_eq!(rt;
+            common_bits(&rt, &diagrams, rt.alloc(), &a, &b, fixed),
+            bits,
+            "{fixed:?} fixed"
+        );
+    }
+    diagrams.release(a);
+    diagrams.release(b);
     Ok(())
 }
 

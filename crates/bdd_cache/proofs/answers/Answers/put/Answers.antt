@@ -11,7 +11,7 @@ returns-clause-others c = λ answer kept.
     elim (written_or_kept c.self-2.inside.cells.items _ _ answer c.place-place.ensures kept) [
       | inl written ↦ inl written
       | inr stayed ↦ elim c.if-self-eq0.branch [
-        | then-self-eq0 w ↦ inr ((w.grow.ensures answer).0 (subst P (c.self-2.view_is ∙ w.self-is) stayed))
+        | then-self-eq0 w ↦ inr (w.fit.ensures answer (subst P (c.self-2.view_is ∙ w.self-is) stayed))
         | else-self-eq0 w ↦ inr (subst P (c.self-2.view_is ∙ w.self-is) stayed)
       ]
     ]

@@ -1,0 +1,7 @@
+use Rattle.std.proofs.Common.{◌≡◌, ◌++◌, string_bytes}
+use Rattle.std.specs.List.{flat_map}
+use Rattle.spec_gen.specs.Arbiter.{clients, answer_line}
+use Rattle.spec_gen.proofs.text.write_answers.Given as goal
+
+abbrev pub invariant-loop-i : goal.invariant-loop-i
+invariant-loop-i l = string_bytes l.text ≡ string_bytes l.initial.text ++ flat_map answer_line (clients l.i-counter)
