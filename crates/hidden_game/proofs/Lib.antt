@@ -9,3 +9,4 @@ pub mod Breaking
 pub mod Goals
 pub mod StateCounts
 pub mod Agreed
+pub mod FewerStates
