@@ -9,6 +9,7 @@ pub mod Breaking
 pub mod Goals
 pub mod StateCounts
 pub mod Agreed
+pub mod FewerStates
 pub mod Limits
 pub mod GoalParts
 pub mod Making

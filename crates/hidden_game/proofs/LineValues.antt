@@ -86,7 +86,7 @@ module _ (s : Specification) where
       at None rest = rest
       at (Some h) rest = ap (λ hs. entered_table s h ∷ hs) rest
 
-  table_known : (c : Content) → is_known_content s c ≡ true → is_known_or_none s (line_table s c) ≡ true
+  pub table_known : (c : Content) → is_known_content s c ≡ true → is_known_or_none s (line_table s c) ≡ true
   table_known (Initial e) known = refl
   table_known (Safety e) known = refl
   table_known (Recurring e) known = refl

@@ -24,11 +24,11 @@ use Rattle.hidden_game.proofs.LineValues.{tables_in, tables_entered}
 
 -- ---- products
 
-product-append : (ms ns : List ℕ) → product (ms ++ ns) ≡ product ms * product ns
+pub product-append : (ms ns : List ℕ) → product (ms ++ ns) ≡ product ms * product ns
 product-append [] ns = let e : product ns ≡ 1 * product ns = omega arith in e
 product-append (m ∷ ms) ns = ap (λ n. m * n) (product-append ms ns) ∙ (let e : m * (product ms * product ns) ≡ m * product ms * product ns = grind arith in e)
 
-times_fit : (a b c d : ℕ) → a ≤ c → b ≤ d → a * b ≤ c * d
+pub times_fit : (a b c d : ℕ) → a ≤ c → b ≤ d → a * b ≤ c * d
 times_fit a b c d less more = let one = mul-le-mul_right b less in let two = mul-le-mul_left c more in omega (arith, one, two)
 
 -- ---- states
@@ -51,10 +51,10 @@ assignments_counted : (ds : List DomainData) → length (assignments_of ds) ≡ 
 assignments_counted [] = refl
 assignments_counted (d ∷ ds) = length-assignments d ds ∙ ap (λ n. domain_size d * n) (assignments_counted ds)
 
-abbrev values_in : List HiddenData → List ℕ
+abbrev pub values_in : List HiddenData → List ℕ
 values_in hs = map (λ h. h.values) hs
 
-hidden_counted : (hs : List HiddenData) → length (hidden_values hs) ≡ product (values_in hs)
+pub hidden_counted : (hs : List HiddenData) → length (hidden_values hs) ≡ product (values_in hs)
 hidden_counted [] = refl
 hidden_counted (h ∷ hs) =
     length-grid (λ v. map (λ vs. v ∷ vs) (hidden_values hs)) (length (hidden_values hs)) (λ v. length-map (hidden_values hs) (λ vs. v ∷ vs)) (below h.values)
@@ -63,13 +63,21 @@ hidden_counted (h ∷ hs) =
 -- ---- hidden tables
 
 -- an operator's table has two values
-operators_fit : (ops es : List Formula) → product (values_in (map (table_of ops) es)) ≤ 2 ^ length es
+pub operators_fit : (ops es : List Formula) → product (values_in (map (table_of ops) es)) ≤ 2 ^ length es
 operators_fit ops [] = omega arith
 operators_fit ops (e ∷ es) = let power = pow-suc 2 (length es) in let both = times_fit (table_of ops e).values (product (values_in (map (table_of ops) es))) 2 (2 ^ length es) (two_values e) (operators_fit ops es) in omega (arith, power, both)
   where
     two_values : (e : Formula) → (table_of ops e).values ≤ 2
     two_values (PastOf op fs) = omega arith
     two_values _ = omega arith
+
+-- the values of all tables: those of the operators' times those of the lines'
+pub hidden_product : (s : Specification) → length (hidden_values (hidden_of s)) ≡ product (values_in (tables_of (past_operators s))) * product (values_in (map (entered_table s) (tables_in s s.lines)))
+hidden_product s =
+    hidden_counted (hidden_of s)
+    ∙ (ap (λ hs. product (values_in (tables_of (past_operators s) ++ hs))) (tables_entered s s.lines)
+    ∙ (ap product (map-append (λ (h : HiddenData). h.values) (tables_of (past_operators s)) (map (entered_table s) (tables_in s s.lines)))
+    ∙ product-append (values_in (tables_of (past_operators s))) (values_in (map (entered_table s) (tables_in s s.lines)))))
 
 -- a line's table has no more values than the line may have, if it has a table
 abbrev Fits : Option HiddenData → ℕ → Type 0
@@ -103,12 +111,7 @@ module _ (s : Specification) (typed : WellTyped s) where
 
   hidden_fit : length (hidden_values (hidden_of s)) ≤ 2 ^ length (past_operators s) * product (map (λ (l : Statement). hidden_size s l.content) s.lines)
   hidden_fit =
-      subst (λ n. n ≤ 2 ^ length (past_operators s) * product (map (λ (l : Statement). hidden_size s l.content) s.lines))
-      (sym
-      (hidden_counted (hidden_of s)
-      ∙ (ap (λ hs. product (values_in (tables_of (past_operators s) ++ hs))) (tables_entered s s.lines)
-      ∙ (ap product (map-append (λ (h : HiddenData). h.values) (tables_of (past_operators s)) (map (entered_table s) (tables_in s s.lines)))
-      ∙ product-append (values_in (tables_of (past_operators s))) (values_in (map (entered_table s) (tables_in s s.lines)))))))
+      subst (λ n. n ≤ 2 ^ length (past_operators s) * product (map (λ (l : Statement). hidden_size s l.content) s.lines)) (sym (hidden_product s))
       (times_fit _ _ _ _ (operators_fit (past_operators s) (past_operators s)) (lines_fit s.lines))
 
   pub states_few : length (states_of (game_of s)) ≤ size_of s

@@ -1,23 +1,29 @@
--- With other guarantees a specification has as many states.
+-- With fewer guarantees a specification has no more states.
 use Rattle.std.proofs.Common.{◌≡◌, ℕ, List, [], ◌∷◌, inl, inr, subst, arith}
 use Rattle.spec_model.specs.Syntax.{Specification}
-use Rattle.spec_model.specs.Cores.{less, guarantees_of}
+use Rattle.spec_model.specs.Cores.{less, with_guarantees, guarantees_of}
 use Rattle.spec_model.specs.Needs.{AskedFrom, Tried}
+use Rattle.spec_model.specs.WellTyped.{WellTyped}
+use Rattle.hidden_game.proofs.FewerStates.{part_states}
 use Rattle.solve.specs.States.{HasManyStates}
 use Rattle.spectra_words.specs.declared.words.Command.{Command}
 use Rattle.spectra_words.specs.declared.words.Command.TheVariants.{Synth, Run, Core, Separate, Counter, Audit}
 use Rattle.spectra.specs.Top.{IsSmall, IsLarge}
 
-many_of_asked : (s : Specification) (kept ns : List ℕ) (t : Specification) → AskedFrom s kept ns t → HasManyStates t → HasManyStates s
-many_of_asked s kept [] t asked many = absurd asked
-many_of_asked s kept (n ∷ ns) t (inl is) many = subst HasManyStates is many
-many_of_asked s kept (n ∷ ns) t (inr (inl dropped)) many = many_of_asked s (less kept n) ns t dropped.1 many
-many_of_asked s kept (n ∷ ns) t (inr (inr needed)) many = many_of_asked s kept ns t needed.1 many
+module _ (s : Specification) (typed : WellTyped s) where
+  many_of_part : (kept : List ℕ) → HasManyStates (with_guarantees s kept) → HasManyStates s
+  many_of_part kept many = let fewer = part_states s kept typed in omega (arith, fewer, many)
 
--- where one that is tried for a core has too many, so has the whole
-pub many_of_tried : (s t : Specification) → Tried s t → HasManyStates t → HasManyStates s
-many_of_tried s t (inl is) many = subst HasManyStates is many
-many_of_tried s t (inr asked) many = many_of_asked s (guarantees_of s) (guarantees_of s) t asked many
+  many_of_asked : (kept ns : List ℕ) (t : Specification) → AskedFrom s kept ns t → HasManyStates t → HasManyStates s
+  many_of_asked kept [] t asked many = absurd asked
+  many_of_asked kept (n ∷ ns) t (inl is) many = many_of_part (less kept n) (subst HasManyStates is many)
+  many_of_asked kept (n ∷ ns) t (inr (inl dropped)) many = many_of_asked (less kept n) ns t dropped.1 many
+  many_of_asked kept (n ∷ ns) t (inr (inr needed)) many = many_of_asked kept ns t needed.1 many
+
+  -- where one that is tried for a core has too many, so has the whole
+  pub many_of_tried : (t : Specification) → Tried s t → HasManyStates t → HasManyStates s
+  many_of_tried t (inl is) many = subst HasManyStates is many
+  many_of_tried t (inr asked) many = many_of_asked (guarantees_of s) (guarantees_of s) t asked many
 
 -- no specification is small and large for a command
 pub small_or_large : (command : Command) (s : Specification) → IsSmall command s → IsLarge command s → ⊥

@@ -101,14 +101,15 @@ fn lines(alloc: Global) -> Result<Vec<Line>, AllocError>
     let always = past(alloc, Past::Historically, once_c(alloc)?)?;
     let met = vec![in alloc; once_c(alloc)?]?;
     let c = vec![in alloc; Expr::Var(0)]?;
-    vec![in alloc;
+    let all = vec![in alloc;
         line(1, Role::Assumption, Body::Safety(stays)),
         line(2, Role::Assumption, Body::Safety(either)),
         line(3, Role::Guarantee, Body::Recurring(always)),
         line(4, Role::Guarantee, Body::Pattern(0, met)),
         line(5, Role::Guarantee, Body::Trigger(0)),
         line(6, Role::Guarantee, Body::Pattern(0, c)),
-    ]
+    ]?;
+    Ok(all)
 }
 
 fn variables(alloc: Global) -> Result<Vec<Var>, AllocError>
@@ -134,7 +135,6 @@ fn built(alloc: Global) -> Result<Spec, AllocError>
     })
 }
 
-#[tactic(auto, using(crate::proofs::SamplesTyped::mixed_is_typed))]
 pub fn mixed(alloc: Global) -> Result<Spec, AllocError>
     ensures { IfOk result (λ s. WellTyped (spec_data s)) }
 {

@@ -13,4 +13,4 @@ returns-in-Ok g c = λ left faults.
 
 pub returns-in-Err : goal.returns-in-Err
 returns-in-Err g c = λ left faults.
-    not_decided _ _ _ _ _ _ _ _ (λ is. let tried = c.in-Err.ensures.too_many_states (ap (λ e. Err e) is) in many_of_tried _ tried.0 tried.1 tried.2) (c.say_no_verdict.ensures left faults)
+    not_decided _ _ _ _ _ _ _ _ (λ is. let tried = c.in-Err.ensures.too_many_states (ap (λ e. Err e) is) in many_of_tried _ c.requires.typed tried.0 tried.1 tried.2) (c.say_no_verdict.ensures left faults)

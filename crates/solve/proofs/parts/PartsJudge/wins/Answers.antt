@@ -1,11 +1,15 @@
-use Rattle.std.proofs.Common.{◌≡◌, length, refl, ◌∙◌, ap, subst, arith}
+use Rattle.std.proofs.Common.{◌≡◌, Err, length, refl, ◌∙◌, ap, subst, arith}
 use Rattle.std.proofs.lemmas.Bool.{false≢true}
 use Rattle.spec_model.specs.Cores.{with_guarantees, guarantees_of}
 use Rattle.core_min.proofs.Few.{few}
 use Rattle.solve.specs.Winners.{IsWonBySystem, IsWonByEnvironment}
 use Rattle.solve.specs.Verdicts.{AreNumbersOf}
 use Rattle.solve.specs.Judged.{whole_of}
-use Rattle.solve.specs.Places.{at_places, part_at}
+use Rattle.spec_model.specs.Syntax.{Specification}
+use Rattle.solve.specs.declared.fault.SolveFault.{SolveFault}
+use Rattle.solve.specs.declared.fault.SolveFault.TheVariants.{TooManyStates, Memory}
+use Rattle.solve.specs.States.{HasManyStates}
+use Rattle.solve.specs.Places.{at_places, part_at, IsFaultOf}
 use Rattle.solve.proofs.Wholly.{won_within, lost_within, not_both}
 use Rattle.solve.proofs.parts.PartsJudge.wins.Goals as goal
 
@@ -45,3 +49,18 @@ returns-in-Ok-Unrealizable-clause-answer c =
     let found = subst (AreNumbersOf (with_guarantees s c.deref.result.now)) c.in-Ok-Unrealizable.field-0-is c.in-Ok-Unrealizable.ensures.numbers in
     let lost = lost_within (part_at s c.args.kept.now) n m (subst (λ ns. IsWonByEnvironment (with_guarantees s ns) n m) part found) in
     (λ yes. absurd (false≢true yes), λ wins. absurd (not_both (part_at s c.args.kept.now) lost wins))
+
+fault_of : (t : Specification) (fault : SolveFault) → (fault ≡ TooManyStates → HasManyStates t) → IsFaultOf t fault
+fault_of t TooManyStates many = many refl
+fault_of t Memory many = tt
+
+pub returns-in-Err-clause-cause : goal.returns-in-Err-clause-cause
+returns-in-Err-clause-cause c =
+    let s = whole_of c.args.self.now in
+    let part : c.deref.result.now ≡ at_places (guarantees_of s) c.args.kept.now =
+    c.deref.ensures.value ∙ (c.pick.ensures.picked ∙ ap (λ ns. at_places ns c.args.kept.now) c.args.self.now.numbered) in
+    record {
+      rose = search;
+      latest = search;
+      allowed = fault_of (part_at s c.args.kept.now) c.in-Err.fault (λ is. subst (λ ns. HasManyStates (with_guarantees s ns)) part (c.in-Err.ensures.too_many_states (ap (λ e. Err e) is)));
+    }
