@@ -10,3 +10,7 @@ pub mod Goals
 pub mod StateCounts
 pub mod Agreed
 pub mod FewerStates
+pub mod Limits
+pub mod GoalParts
+pub mod Making
+mod SamplesTyped

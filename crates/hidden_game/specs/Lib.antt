@@ -1,1 +1,3 @@
 pub mod GameOf
+pub mod Sources
+pub mod Samples

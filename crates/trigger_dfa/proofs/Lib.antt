@@ -20,3 +20,4 @@ mod Collected
 mod TableRows
 mod WholeTable
 pub mod FilledTables
+pub mod TypedTriggers

@@ -1,4 +1,6 @@
-//! Worked triggers: a whole table, and the limits.
+//! Worked triggers: a whole table, the limits, and tables along runs.
+
+mod runs;
 
 use crate::{DfaFault, build};
 use spec_model::expr::{Expr, Regex};
