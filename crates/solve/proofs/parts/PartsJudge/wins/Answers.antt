@@ -1,4 +1,4 @@
-use Rattle.std.proofs.Common.{◌≡◌, Err, length, refl, ◌∙◌, ap, subst, arith}
+use Rattle.std.proofs.Common.{◌≡◌, ℕ, Result, Ok, Err, IsOk, is_ok, if◌then◌else◌, List, [], ◌++◌, Some, length, refl, ◌∙◌, ap, subst, arith}
 use Rattle.std.proofs.lemmas.Bool.{false≢true}
 use Rattle.spec_model.specs.Cores.{with_guarantees, guarantees_of}
 use Rattle.core_min.proofs.Few.{few}
@@ -54,13 +54,26 @@ fault_of : (t : Specification) (fault : SolveFault) → (fault ≡ TooManyStates
 fault_of t TooManyStates many = many refl
 fault_of t Memory many = tt
 
+-- what a cleared list has once the places were added
+kept_now : {X Y : Type 0} (result : Result X Y) (new old kept : List ℕ) → IsOk result → new ≡ (if is_ok result then old ++ kept else old) → old ≡ [] → new ≡ kept
+kept_now (Ok done) new old kept ok added none = added ∙ ap (λ xs. xs ++ kept) none
+kept_now (Err e) new old kept ok added none = absurd (false≢true ok)
+
 pub returns-in-Err-clause-cause : goal.returns-in-Err-clause-cause
 returns-in-Err-clause-cause c =
     let s = whole_of c.args.self.now in
     let part : c.deref.result.now ≡ at_places (guarantees_of s) c.args.kept.now =
     c.deref.ensures.value ∙ (c.pick.ensures.picked ∙ ap (λ ns. at_places ns c.args.kept.now) c.args.self.now.numbered) in
+    let short = few (length (guarantees_of s)) c.args.kept.now c.requires.set in
+    let same = ap length c.args.self.now.numbered in
+    let room = c.args.self.now.asked_room in
+    let capacity = c.clear.ensures.capacity in
+    let none = c.clear.ensures.len in
     record {
-      rose = search;
-      latest = search;
+      rose = omega (arith, c.saturating_add-self.ensures);
+      latest =
+          ap (λ (items : List ℕ). Some (c.in-Err.fault, items))
+          (kept_now c.extend_from_slice.result c.extend_from_slice.new.self.items c.clear.new.self.items c.args.kept.now
+          (c.extend_from_slice.ensures.succeeds (omega (arith, short, same, room, capacity, none))) c.extend_from_slice.ensures.items c.clear.ensures.items);
       allowed = fault_of (part_at s c.args.kept.now) c.in-Err.fault (λ is. subst (λ ns. HasManyStates (with_guarantees s ns)) part (c.in-Err.ensures.too_many_states (ap (λ e. Err e) is)));
     }
