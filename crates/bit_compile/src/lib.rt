@@ -9,14 +9,18 @@
 #![tactic(auto)]
 
 mod codes;
+mod compiling;
 mod domains;
 pub mod laws;
 mod named;
 mod numbers;
+pub mod operation;
+pub mod proper;
 mod slots;
 pub mod steps;
 
 pub use codes::Codes;
+pub use compiling::compile;
 /// Memory ran out.
 pub use std::alloc::AllocError as OutOfMemory;
 
