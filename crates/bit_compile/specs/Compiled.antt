@@ -1,5 +1,5 @@
 -- The function of the bits that a formula of a game stands for: what it reads is compared with the codes of the values.
-use Rattle.std.specs.Prelude.{ℕ, zero, suc, ◌+◌, ◌*◌, ◌^◌, ℤ, pos, ◌+ℤ◌, ◌-ℤ◌, ◌*ℤ◌, Bool, true, false, not, ◌&&◌, ◌||◌, List, [], ◌∷◌, ◌++◌, Option, None, Some, option_map, slice_get, get_or, map, length, take, count_by, ◌-◌}
+use Rattle.std.specs.Prelude.{ℕ, zero, suc, ◌+◌, ◌*◌, ◌^◌, ℤ, pos, ◌+ℤ◌, ◌-ℤ◌, ◌*ℤ◌, Bool, true, false, not, ◌&&◌, ◌||◌, List, [], ◌∷◌, ◌++◌, Option, None, Some, option_map, slice_get, get_or, map, length, take, count_by, ◌-◌, ◌==◌, nat_abs, int_lt, if◌then◌else◌}
 use Rattle.std.specs.List.{list_any, list_all}
 use Rattle.std.specs.Int.{int_rem_euclid, int_min, int_max}
 use Rattle.std.specs.Bool.{beq}
@@ -13,13 +13,12 @@ use Rattle.spec_model.specs.Syntax.{Formula, Constant, Variable, NextOf, Negatio
 use Rattle.spec_model.specs.Meaning.{compare_values}
 use Rattle.spec_model.specs.Moves.{is_env}
 use Rattle.spec_model.specs.Games.{HiddenData, GameData, letter_of}
-use Rattle.spec_model.specs.Steps.{below}
 use Rattle.spec_model.specs.Diagrams.{Function}
 use Rattle.game_values.specs.declared.seen.At.{At}
 use Rattle.game_values.specs.declared.seen.At.TheVariants.{Now, Next}
 use Rattle.bit_compile.specs.declared.operation.Operation.{Operation}
 use Rattle.bit_compile.specs.declared.operation.Operation.TheVariants.{Add, Sub, Mul, Mod}
-use Rattle.bit_compile.specs.Domains.{state_domains}
+use Rattle.bit_compile.specs.Domains.{state_domains, table_domain}
 use Rattle.bit_compile.specs.Codes.{has_number, level_at, width_at}
 
 -- the place of a variable among the values of a state, which come after the hidden tables: inputs, then outputs
@@ -40,7 +39,7 @@ abbrev pub combined : Operation → ℤ → ℤ → ℤ
 combined Add x y = x +ℤ y
 combined Sub x y = x -ℤ y
 combined Mul x y = x *ℤ y
-combined Mod x y = int_rem_euclid x y
+combined Mod x y = if int_lt (pos 0) y then int_rem_euclid x y else pos 0
 
 -- the first number of a list that rises, and the last
 abbrev pub least : List Value → ℤ
@@ -49,13 +48,18 @@ least vs = number_of (get_or vs 0 (value.Bool false))
 abbrev pub greatest : List Value → ℤ
 greatest vs = number_of (get_or vs (length vs - 1) (value.Bool false))
 
+-- the least and the greatest product of the ends of two intervals
+abbrev pub least_product : (a b c d : ℤ) → ℤ
+least_product a b c d = int_min (int_min (a *ℤ c) (a *ℤ d)) (int_min (b *ℤ c) (b *ℤ d))
+
+abbrev pub greatest_product : (a b c d : ℤ) → ℤ
+greatest_product a b c d = int_max (int_max (a *ℤ c) (a *ℤ d)) (int_max (b *ℤ c) (b *ℤ d))
+
 -- an interval with all that an operation gives, of the numbers from the least to the greatest of each list
 abbrev pub span_of : Operation → List Value → List Value → DomainData
 span_of Add as' bs = WholeNumbers (least as' +ℤ least bs) (greatest as' +ℤ greatest bs)
 span_of Sub as' bs = WholeNumbers (least as' -ℤ greatest bs) (greatest as' -ℤ least bs)
-span_of Mul as' bs =
-    WholeNumbers (int_min (int_min (least as' *ℤ least bs) (least as' *ℤ greatest bs)) (int_min (greatest as' *ℤ least bs) (greatest as' *ℤ greatest bs)))
-    (int_max (int_max (least as' *ℤ least bs) (least as' *ℤ greatest bs)) (int_max (greatest as' *ℤ least bs) (greatest as' *ℤ greatest bs)))
+span_of Mul as' bs = WholeNumbers (least_product (least as') (greatest as') (least bs) (greatest bs)) (greatest_product (least as') (greatest as') (least bs) (greatest bs))
 span_of Mod as' bs = WholeNumbers (pos 0) (greatest bs -ℤ pos 1)
 
 -- the values that a formula may have
@@ -68,6 +72,9 @@ values_in g (Difference a b) = values_of (span_of Sub (values_in g a) (values_in
 values_in g (Product a b) = values_of (span_of Mul (values_in g a) (values_in g b))
 values_in g (Remainder a n) = values_of (span_of Mod (values_in g a) (value.Int n ∷ []))
 values_in g _ = values_of TruthValues
+
+abbrev pub numbers_below : ℕ → DomainData
+numbers_below n = WholeNumbers (pos 0) (pos n -ℤ pos 1)
 
 -- ---- cases
 
@@ -171,14 +178,25 @@ module _ (g : GameData) (entries : Entries) where
 
 -- ---- hidden tables
 
--- the table numbered k has some value, and its truth table is true at that value and at the letter of its atoms
-abbrev pub table_truth : List DomainData → ℕ → ℕ → List Function → List Bool → Function
-table_truth ds k values atoms table s =
-    list_any (λ v. is_code ds Now k v s && get_or table (v * 2 ^ length atoms + letter_of (map (λ a. a s) atoms)) false) (below values)
+-- the atoms have this letter
+abbrev pub is_letter : List Function → ℕ → Function
+is_letter atoms n s = letter_of (map (λ a. a s) atoms) == n
+
+-- each letter, where the atoms have it
+abbrev pub lettered : List Function → List Case
+lettered atoms = map (λ v. record { value = v; holds = is_letter atoms (nat_abs (number_of v)) }) (values_of (numbers_below (2 ^ length atoms)))
+
+-- whether a truth table is true at a value and a letter
+abbrev pub in_table : List Bool → ℕ → Value → Value → Bool
+in_table table letters v letter = get_or table (nat_abs (number_of v) * letters + nat_abs (number_of letter)) false
+
+-- the table numbered k has some value, its atoms some letter, and its truth table is true at the two
+abbrev pub table_truth : List DomainData → ℕ → HiddenData → List Function → List Bool → Function
+table_truth ds k h atoms table = some_pair (in_table table (2 ^ length atoms)) (coded ds Now k (table_domain h)) (lettered atoms)
 
 -- the entries of one table more
 abbrev pub table_entries : GameData → Entries → HiddenData → List Function
-table_entries g entries h = map (table_truth (state_domains g) (length entries) h.values (map (truth_in g entries Now) h.atoms)) h.tables
+table_entries g entries h = map (table_truth (state_domains g) (length entries) h (map (truth_in g entries Now) h.atoms)) h.tables
 
 -- those of each table in order, after the ones so far: the atoms of one read only the entries of earlier ones
 abbrev pub entries_after : GameData → Entries → List HiddenData → Entries

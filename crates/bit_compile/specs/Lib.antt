@@ -3,6 +3,8 @@ pub mod Codes
 pub mod CodeLaws
 pub mod Making
 pub mod Compiled
+pub mod CaseRoots
+pub mod Scenes
 pub mod CompileLaws
 pub mod Proper
 pub mod Examples

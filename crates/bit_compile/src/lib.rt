@@ -8,15 +8,22 @@
 //! Path: game, operations → **codes** → regions as diagrams.
 #![tactic(auto)]
 
+mod cases;
 mod codes;
 mod compiling;
 mod domains;
+mod folds;
 pub mod laws;
+mod letters;
 mod named;
 mod numbers;
-pub mod operation;
+mod operation;
+mod pairs;
 pub mod proper;
+mod reading;
+mod scenes;
 mod slots;
+mod spans;
 pub mod steps;
 
 pub use codes::Codes;

@@ -1,0 +1,191 @@
+-- One part more of a conjunction or disjunction.
+use Rattle.std.proofs.Common.{◌≡◌, ℕ, zero, suc, ◌+◌, ◌<◌, ◌≤◌, inl, inr, ◌⊎◌, Bool, true, false, not, ◌&&◌, ◌||◌, ◌==◌, ◌*◌, ◌/◌, ◌%◌, if◌then◌else◌, Result, Ok, List, [], ◌∷◌, ◌++◌, map, drop, length, get_or, refl, sym, ◌∙◌, ap, subst, arith}
+use Rattle.std.specs.List.{list_any, list_all, AllByRecursion}
+use Rattle.std.specs.Bool.{beq}
+use Rattle.std.proofs.lemmas.Bool.{both_ways, and_parts, and_from}
+use Rattle.std.proofs.lemmas.Bool.Decides.{nat_tests}
+use Rattle.spec_model.specs.declared.value.Value.{Value}
+use Rattle.spec_model.specs.Games.{letter_of}
+use Rattle.spec_model.specs.Diagrams.{Bits, Function}
+use Rattle.bdd_store.specs.State.{AddsRoot}
+use Rattle.regions.specs.declared.types.Halt.{Halt}
+use Rattle.bdd_ops.specs.Functions.{Join, joined, join_of}
+use Rattle.bdd_ops.specs.Contents.{Contents, function_at}
+use Rattle.bdd_ops.specs.Calls.{negated}
+use Rattle.bit_compile.proofs.MakingLemmas.{given_back}
+use Rattle.bit_compile.specs.declared.folds.Fold.{Fold}
+use Rattle.bit_compile.specs.declared.folds.Fold.TheVariants as fold
+use Rattle.bit_compile.specs.Making.{Makes}
+use Rattle.bit_compile.specs.Compiled.{Case, some_pair, is_letter, all_of}
+use Rattle.bit_compile.specs.CaseRoots.{folded, is_all}
+
+-- two functions joined, where each is known as another
+pub joined_as : (join : Join) (f f' g g' : Function) → f' ≡ f → g' ≡ g → joined join f' g' ≡ joined join f g
+joined_as join f f' g g' same_f same_g = ap (λ (k : Function). joined join k g') same_f ∙ ap (λ (k : Function). joined join f k) same_g
+
+or_assoc : (a b c : Bool) → ((a || b) || c) ≡ (a || (b || c))
+or_assoc true b c = refl
+or_assoc false b c = refl
+
+and_assoc : (a b c : Bool) → ((a && b) && c) ≡ (a && (b && c))
+and_assoc true b c = refl
+and_assoc false b c = refl
+
+pub or_false : (a : Bool) → (a || false) ≡ a
+or_false true = refl
+or_false false = refl
+
+pub and_true : (a : Bool) → (a && true) ≡ a
+and_true true = refl
+and_true false = refl
+
+-- ---- what is left of a list
+
+drop_at : {V : Type 0} (xs : List V) (i : ℕ) (x : V) → i < length xs → x ≡ get_or xs i x → drop i xs ≡ x ∷ drop (suc i) xs
+drop_at [] i x h e = absurd (omega arith)
+drop_at (y ∷ xs) zero x h e = ap (λ z. z ∷ xs) (sym e)
+drop_at (y ∷ xs) (suc i) x h e = drop_at xs i x (omega arith) e
+
+pub drop_next : {V : Type 0} (xs : List V) (i : ℕ) (x : V) → i < length xs → x ≡ get_or xs i x → drop i xs ≡ x ∷ drop (i + 1) xs
+drop_next xs i x h e = let next : i + 1 ≡ suc i = omega arith in rw next (drop_at xs i x h e)
+
+drop_past : {V : Type 0} (xs : List V) (i : ℕ) → length xs ≤ i → drop i xs ≡ []
+drop_past [] i h = drop-nil i
+  where
+    drop-nil : {V : Type 0} (i : ℕ) → drop i ([] {V}) ≡ []
+    drop-nil zero = refl
+    drop-nil (suc i) = refl
+drop_past (y ∷ xs) zero h = absurd (omega arith)
+drop_past (y ∷ xs) (suc i) h = drop_past xs i (omega arith)
+
+pub past_end : {V : Type 0} (xs : List V) (i : ℕ) → length xs ≤ i → drop i xs ≡ []
+past_end xs i h = drop_past xs i h
+
+pub nothing_left : {V : Type 0} (xs : List V) (i : ℕ) → (i < length xs → ⊥) → drop i xs ≡ []
+nothing_left xs i none = drop_past xs i (by_cases below_or_past)
+  where
+    below_or_past : (i < length xs) ⊎ (length xs ≤ i)
+    below_or_past = grind arith
+
+    by_cases : (i < length xs) ⊎ (length xs ≤ i) → length xs ≤ i
+    by_cases (inl less) = absurd (none less)
+    by_cases (inr past) = past
+
+pub all_next : {V : Type 0} (P : V → Type 0) (xs : List V) (i : ℕ) (x : V) → i < length xs → x ≡ get_or xs i x → AllByRecursion P (drop i xs) → P x × AllByRecursion P (drop (i + 1) xs)
+all_next P xs i x h e all = subst (AllByRecursion P) (drop_next xs i x h e) all
+
+-- ---- rows of pairs
+
+-- the row of a value: the pairs with it that pass
+abbrev pub row_of : (Value → Value → Bool) → Value → Function → List Case → Function
+row_of test x f ys s = list_any (λ y. test x y.value && (f s && y.holds s)) ys
+
+-- one pair more
+pub row_step : (test : Value → Value → Bool) (x : Value) (f sum more : Function) (y : Case) (rest : List Case) (target : Function) →
+    (λ s. sum s || row_of test x f (y ∷ rest) s) ≡ target → more ≡ (λ s. sum s || test x y.value && (f s && y.holds s)) → (λ s. more s || row_of test x f rest s) ≡ target
+row_step test x f sum more y rest target so_far is =
+    ap (λ (m : Function). (λ (s : Bits). m s || row_of test x f rest s)) is ∙ ((λ i s. or_assoc (sum s) (test x y.value && (f s && y.holds s)) (row_of test x f rest s) i) ∙ so_far)
+
+-- one row more
+pub rows_step : (test : Value → Value → Bool) (sum more : Function) (x : Case) (rest ys : List Case) (target : Function) →
+    (λ s. sum s || some_pair test (x ∷ rest) ys s) ≡ target → more ≡ (λ s. sum s || row_of test x.value x.holds ys s) → (λ s. more s || some_pair test rest ys s) ≡ target
+rows_step test sum more x rest ys target so_far is =
+    ap (λ (m : Function). (λ (s : Bits). m s || some_pair test rest ys s)) is ∙ ((λ i s. or_assoc (sum s) (row_of test x.value x.holds ys s) (some_pair test rest ys s) i) ∙ so_far)
+
+-- ---- conjunctions and disjunctions
+
+pub fold_first : (f : Fold) (fs : List Function) → joined (join_of (is_all f)) (λ s. is_all f) (folded f fs) ≡ folded f fs
+fold_first fold.All fs = refl
+fold_first fold.Some fs = refl
+
+pub fold_step : (f : Fold) (whole more x : Function) (rest : List Function) (target : Function) →
+    joined (join_of (is_all f)) whole (folded f (x ∷ rest)) ≡ target → more ≡ joined (join_of (is_all f)) whole x → joined (join_of (is_all f)) more (folded f rest) ≡ target
+fold_step fold.All whole more x rest target so_far is =
+    ap (λ (m : Function). joined ◌&&◌ m (folded fold.All rest)) is ∙ ((λ i s. and_assoc (whole s) (x s) (folded fold.All rest s) i) ∙ so_far)
+fold_step fold.Some whole more x rest target so_far is =
+    ap (λ (m : Function). joined ◌||◌ m (folded fold.Some rest)) is ∙ ((λ i s. or_assoc (whole s) (x s) (folded fold.Some rest s) i) ∙ so_far)
+
+pub fold_last : (f : Fold) (whole : Function) → joined (join_of (is_all f)) whole (folded f []) ≡ whole
+fold_last fold.All whole = λ i s. and_true (whole s) i
+fold_last fold.Some whole = λ i s. or_false (whole s) i
+
+-- ---- one turn of a loop
+
+-- the root that is made has its own function
+pub own : (old mid : Contents) (r : ℕ) (f : Function) → Makes old mid (Ok r) f → Makes old mid (Ok r) (function_at mid r)
+own old mid r f makes = record { meaning = refl; added = makes.added; refused = makes.refused; keeps = makes.keeps; full = makes.full }
+
+-- a new root is made with the one so far, which is given back
+pub turn : (first l mid new : Contents) (row : ℕ) (r : Result ℕ Halt) (g g' : Function) → Makes first l (Ok row) (function_at l row) → Makes l mid r g → g ≡ g' → AddsRoot new.state mid.state row → new.state.table ≡ mid.state.table → Makes first new r g'
+turn first l mid new row r g g' made step is back table = given_back first l mid new row (function_at l row) g' made back table r (subst (λ (f : Function). Makes l mid r f) is step)
+
+pub row_is : (wanted passing : Bool) (sum x x' y y' : Function) → wanted ≡ passing → x ≡ x' → y ≡ y' → (λ s. sum s || wanted && (x s && y s)) ≡ (λ s. sum s || passing && (x' s && y' s))
+row_is wanted passing sum x x' y y' w e f =
+    ap (λ (b : Bool). (λ (s : Bits). sum s || b && (x s && y s))) w
+    ∙ (ap (λ (g : Function). (λ (s : Bits). sum s || passing && (g s && y s))) e ∙ ap (λ (g : Function). (λ (s : Bits). sum s || passing && (x' s && g s))) f)
+
+-- ---- letters
+
+letter_first : (b : Bool) (rest left : ℕ) → ((if b then 1 else 0) + 2 * rest == left) ≡ (beq b (left % 2 == 1) && (rest == left / 2))
+letter_first true rest left = both_ways
+    (λ e. (let same : 1 + 2 * rest ≡ left = grind (arith, nat_tests) in and_from _ _ (let odd : left % 2 ≡ 1 = omega (arith, same) in grind (arith, nat_tests)) (let half : rest ≡ left / 2 = omega (arith, same) in grind (arith, nat_tests))))
+    (λ e. (let parts = and_parts (beq true (left % 2 == 1)) (rest == left / 2) e in let odd : left % 2 ≡ 1 = grind (arith, nat_tests) in let half : rest ≡ left / 2 = grind (arith, nat_tests) in let same : 1 + 2 * rest ≡ left = omega (arith, odd, half) in grind (arith, nat_tests)))
+letter_first false rest left = both_ways
+    (λ e. (let same : 2 * rest ≡ left = grind (arith, nat_tests) in and_from _ _ (let even : left % 2 ≡ 0 = omega (arith, same) in grind (arith, nat_tests)) (let half : rest ≡ left / 2 = omega (arith, same) in grind (arith, nat_tests))))
+    (λ e. (let parts = and_parts (beq false (left % 2 == 1)) (rest == left / 2) e in let even : left % 2 ≡ 0 = grind (arith, nat_tests) in let half : rest ≡ left / 2 = grind (arith, nat_tests) in let same : 2 * rest ≡ left = omega (arith, even, half) in grind (arith, nat_tests)))
+
+pub letter_step : (product more atom : Function) (rest : List Function) (left : ℕ) (target : Function) →
+    joined (join_of true) product (is_letter (atom ∷ rest) left) ≡ target → more ≡ (λ s. product s && beq (atom s) (left % 2 == 1)) → joined (join_of true) more (is_letter rest (left / 2)) ≡ target
+letter_step product more atom rest left target so_far is =
+    ap (λ (m : Function). joined (join_of true) m (is_letter rest (left / 2))) is
+    ∙ ((λ i s. and_assoc (product s) (beq (atom s) (left % 2 == 1)) (is_letter rest (left / 2) s) i)
+    ∙ (sym (λ i s. product s && letter_first (atom s) (letter_of (map (λ (a : Function). a s) rest)) left i) ∙ so_far))
+
+-- ---- a function as wanted
+
+beq-of_true : (b : Bool) → b ≡ beq b true
+beq-of_true true = refl
+beq-of_true false = refl
+
+beq-of_false : (b : Bool) → not b ≡ beq b false
+beq-of_false true = refl
+beq-of_false false = refl
+
+pub as_true : (f g : Function) → joined (join_of true) f g ≡ (λ s. f s && beq (g s) true)
+as_true f g = λ i s. f s && beq-of_true (g s) i
+
+pub as_false : (f g : Function) → joined (join_of true) f (negated g) ≡ (λ s. f s && beq (g s) false)
+as_false f g = λ i s. f s && beq-of_false (g s) i
+
+-- ---- the end of a loop
+
+pub finished : (first l : Contents) (r : ℕ) (f : Function) → Makes first l (Ok r) (function_at l r) → function_at l r ≡ f → Makes first l (Ok r) f
+finished first l r f made is = subst (λ (g : Function). Makes first l (Ok r) g) is made
+
+pub fold_done : (f : Fold) (whole : Function) (rest : List Function) (target : Function) → rest ≡ [] → joined (join_of (is_all f)) whole (folded f rest) ≡ target → whole ≡ target
+fold_done f whole rest target none same = sym (fold_last f whole) ∙ (sym (ap (λ (fs : List Function). joined (join_of (is_all f)) whole (folded f fs)) none) ∙ same)
+
+pub rows_done : (sum rest target : Function) → rest ≡ (λ s. false) → (λ s. sum s || rest s) ≡ target → sum ≡ target
+rows_done sum rest target none same = sym (λ i s. or_false (sum s) i) ∙ (sym (ap (λ (f : Function). (λ (s : Bits). sum s || f s)) none) ∙ same)
+
+and_false : (b : Bool) → (b && false) ≡ false
+and_false true = refl
+and_false false = refl
+
+pub letter_done : (product : Function) (rest : List Function) (left : ℕ) (target : Function) → rest ≡ [] → left ≡ 0 → joined (join_of true) product (is_letter rest left) ≡ target → product ≡ target
+letter_done product rest left target none zero same =
+    let end : (0 == left) ≡ true = grind (arith, nat_tests) in
+    sym (λ i s. and_true (product s) i)
+    ∙ (sym (ap (λ (b : Bool). (λ (s : Bits). product s && b)) end)
+    ∙ (sym (ap (λ (fs : List Function). joined (join_of true) product (is_letter fs left)) none) ∙ same))
+
+pub letter_none : (product : Function) (rest : List Function) (left : ℕ) (target : Function) → rest ≡ [] → (left ≡ 0 → ⊥) → joined (join_of true) product (is_letter rest left) ≡ target → (λ s. false) ≡ target
+letter_none product rest left target none some same =
+    let end : (0 == left) ≡ false = grind (arith, nat_tests) in
+    sym (λ i s. and_false (product s) i)
+    ∙ (sym (ap (λ (b : Bool). (λ (s : Bits). product s && b)) end)
+    ∙ (sym (ap (λ (fs : List Function). joined (join_of true) product (is_letter fs left)) none) ∙ same))
+
+pub all_of-push : (fs : List Function) (f : Function) → all_of (fs ++ f ∷ []) ≡ (λ s. all_of fs s && f s)
+all_of-push [] f = λ i s. and_true (f s) i
+all_of-push (g ∷ fs) f = ap (λ (h : Function). (λ (s : Bits). g s && h s)) (all_of-push fs f) ∙ sym (λ i s. and_assoc (g s) (all_of fs s) (f s) i)
