@@ -2,7 +2,7 @@
 use Rattle.std.proofs.Common.{◌≡◌, ℕ, zero, suc, ◌+◌, ◌<◌, ◌≤◌, inl, inr, ◌⊎◌, Bool, true, false, not, ◌&&◌, ◌||◌, ◌==◌, ◌*◌, ◌/◌, ◌%◌, if◌then◌else◌, Result, Ok, List, [], ◌∷◌, ◌++◌, map, drop, length, get_or, refl, sym, ◌∙◌, ap, subst, arith}
 use Rattle.std.specs.List.{list_any, list_all, AllByRecursion}
 use Rattle.std.specs.Bool.{beq}
-use Rattle.std.proofs.lemmas.Bool.{both_ways, and_parts, and_from}
+use Rattle.std.proofs.lemmas.Bool.{and_parts, and_from}
 use Rattle.std.proofs.lemmas.Bool.Decides.{nat_tests}
 use Rattle.spec_model.specs.declared.value.Value.{Value}
 use Rattle.spec_model.specs.Games.{letter_of}
@@ -12,6 +12,7 @@ use Rattle.regions.specs.declared.types.Halt.{Halt}
 use Rattle.bdd_ops.specs.Functions.{Join, joined, join_of}
 use Rattle.bdd_ops.specs.Contents.{Contents, function_at}
 use Rattle.bdd_ops.specs.Calls.{negated}
+use Rattle.bit_compile.proofs.NumberLemmas.{same_bools}
 use Rattle.bit_compile.proofs.MakingLemmas.{given_back}
 use Rattle.bit_compile.specs.declared.folds.Fold.{Fold}
 use Rattle.bit_compile.specs.declared.folds.Fold.TheVariants as fold
@@ -127,10 +128,10 @@ row_is wanted passing sum x x' y y' w e f =
 -- ---- letters
 
 letter_first : (b : Bool) (rest left : ℕ) → ((if b then 1 else 0) + 2 * rest == left) ≡ (beq b (left % 2 == 1) && (rest == left / 2))
-letter_first true rest left = both_ways
+letter_first true rest left = same_bools _ _
     (λ e. (let same : 1 + 2 * rest ≡ left = grind (arith, nat_tests) in and_from _ _ (let odd : left % 2 ≡ 1 = omega (arith, same) in grind (arith, nat_tests)) (let half : rest ≡ left / 2 = omega (arith, same) in grind (arith, nat_tests))))
     (λ e. (let parts = and_parts (beq true (left % 2 == 1)) (rest == left / 2) e in let odd : left % 2 ≡ 1 = grind (arith, nat_tests) in let half : rest ≡ left / 2 = grind (arith, nat_tests) in let same : 1 + 2 * rest ≡ left = omega (arith, odd, half) in grind (arith, nat_tests)))
-letter_first false rest left = both_ways
+letter_first false rest left = same_bools _ _
     (λ e. (let same : 2 * rest ≡ left = grind (arith, nat_tests) in and_from _ _ (let even : left % 2 ≡ 0 = omega (arith, same) in grind (arith, nat_tests)) (let half : rest ≡ left / 2 = omega (arith, same) in grind (arith, nat_tests))))
     (λ e. (let parts = and_parts (beq false (left % 2 == 1)) (rest == left / 2) e in let even : left % 2 ≡ 0 = grind (arith, nat_tests) in let half : rest ≡ left / 2 = grind (arith, nat_tests) in let same : 2 * rest ≡ left = omega (arith, even, half) in grind (arith, nat_tests)))
 

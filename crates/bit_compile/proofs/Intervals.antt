@@ -18,7 +18,7 @@ use Rattle.spec_model.proofs.Domains.{in_range}
 use Rattle.game_values.proofs.Spans.{IsWithin}
 use Rattle.bit_compile.specs.declared.operation.Operation.TheVariants.{Add, Sub, Mul, Mod}
 use Rattle.bit_compile.specs.Domains.{IsCountable}
-use Rattle.bit_compile.specs.Compiled.{variable_domain, least, greatest, span_of, values_in}
+use Rattle.bit_compile.specs.Compiled.{variable_domain, least, greatest, least_product, greatest_product, span_of, values_in}
 use Rattle.bit_compile.proofs.DomainLemmas.{domain_countable, length-rising}
 
 -- ---- the ends of an interval's values
@@ -80,6 +80,9 @@ interval_domain TruthValues made = tt
 interval_domain (WholeNumbers lo hi) made = let ordered = (and_parts (int_le lo hi) (is_some (whole lo hi)) made).0 in (refl, grind (arith, ints))
 interval_domain (Enumeration names) made = tt
 
+products_rise : (a b c d : ℤ) → least_product a b c d ≤ℤ greatest_product a b c d
+products_rise a b c d = omega (arith, ints, clamps)
+
 -- the span of two intervals, by their ends
 pub span_sum : (a b c d : ℤ) (vs ws : List Value) → IsInterval (Some (Whole a b)) vs → IsInterval (Some (Whole c d)) ws → span_of Add vs ws ≡ WholeNumbers (a +ℤ c) (b +ℤ d)
 span_sum a b c d vs ws h k = rw (least-is a b vs h.1 h.0, least-is c d ws k.1 k.0, greatest-is a b vs h.1 h.0, greatest-is c d ws k.1 k.0) refl
@@ -88,7 +91,7 @@ pub span_difference : (a b c d : ℤ) (vs ws : List Value) → IsInterval (Some 
 span_difference a b c d vs ws h k = rw (least-is a b vs h.1 h.0, least-is c d ws k.1 k.0, greatest-is a b vs h.1 h.0, greatest-is c d ws k.1 k.0) refl
 
 pub span_product : (a b c d : ℤ) (vs ws : List Value) → IsInterval (Some (Whole a b)) vs → IsInterval (Some (Whole c d)) ws →
-    span_of Mul vs ws ≡ WholeNumbers (int_min (int_min (a *ℤ c) (a *ℤ d)) (int_min (b *ℤ c) (b *ℤ d))) (int_max (int_max (a *ℤ c) (a *ℤ d)) (int_max (b *ℤ c) (b *ℤ d)))
+    span_of Mul vs ws ≡ WholeNumbers (least_product a b c d) (greatest_product a b c d)
 span_product a b c d vs ws h k = rw (least-is a b vs h.1 h.0, least-is c d ws k.1 k.0, greatest-is a b vs h.1 h.0, greatest-is c d ws k.1 k.0) refl
 
 interval_sum : (p q : Option Kind) (vs ws : List Value) → IsInterval p vs → IsInterval q ws → IsInterval (summed p q) (values_of (span_of Add vs ws))
@@ -100,7 +103,7 @@ interval_difference (Some (Whole a b)) (Some (Whole c d)) vs ws h k = interval_w
 interval_difference _ _ vs ws h k = tt
 
 interval_product : (p q : Option Kind) (vs ws : List Value) → IsInterval p vs → IsInterval q ws → IsInterval (multiplied p q) (values_of (span_of Mul vs ws))
-interval_product (Some (Whole a b)) (Some (Whole c d)) vs ws h k = interval_whole _ _ _ (ap values_of (span_product a b c d vs ws h k)) (omega (arith, ints, clamps))
+interval_product (Some (Whole a b)) (Some (Whole c d)) vs ws h k = interval_whole (least_product a b c d) (greatest_product a b c d) _ (ap values_of (span_product a b c d vs ws h k)) (products_rise a b c d)
 interval_product _ _ vs ws h k = tt
 
 interval_remainder : (p : Option Kind) (n : ℤ) (vs : List Value) → IsInterval (reduced p n) (values_of (span_of Mod vs (value.Int n ∷ [])))
@@ -169,11 +172,11 @@ difference_among (Some (Whole a b)) (Some (Whole c d)) vs z some is within = who
 difference_among _ _ vs z some is within = absurd (false≢true some)
 
 pub product_among : (p q : Option Kind) (vs : List Value) (z : ℤ) → is_some (multiplied p q) ≡ true → IsInterval (multiplied p q) vs → IsWithin (multiplied p q) (value.Int z) → list_any (same_value (value.Int z)) vs ≡ true
-product_among (Some (Whole a b)) (Some (Whole c d)) vs z some is within = whole_among _ _ vs z some is within
+product_among (Some (Whole a b)) (Some (Whole c d)) vs z some is within = whole_among (least_product a b c d) (greatest_product a b c d) vs z some is within
 product_among _ _ vs z some is within = absurd (false≢true some)
 
 pub remainder_among : (p : Option Kind) (n : ℤ) (vs : List Value) (z : ℤ) → is_some (reduced p n) ≡ true → IsInterval (reduced p n) vs → IsWithin (reduced p n) (value.Int z) → list_any (same_value (value.Int z)) vs ≡ true
-remainder_among (Some (Whole a b)) n vs z = at (int_lt (pos 0) n)
+remainder_among (Some (Whole a b)) n vs z some is within = at (int_lt (pos 0) n) some is within
   where
     at : (t : Bool) → is_some (if t then whole (pos 0) (n -ℤ pos 1) else None) ≡ true → IsInterval (if t then whole (pos 0) (n -ℤ pos 1) else None) vs → IsWithin (if t then whole (pos 0) (n -ℤ pos 1) else None) (value.Int z) → list_any (same_value (value.Int z)) vs ≡ true
     at true some is within = whole_among (pos 0) (n -ℤ pos 1) vs z some is within
@@ -194,7 +197,7 @@ countable_difference (Some (Whole a b)) (Some (Whole c d)) vs ws some h k = subs
 countable_difference _ _ vs ws some h k = absurd (false≢true some)
 
 pub countable_product : (p q : Option Kind) (vs ws : List Value) → is_some (multiplied p q) ≡ true → IsInterval p vs → IsInterval q ws → IsCountable (span_of Mul vs ws)
-countable_product (Some (Whole a b)) (Some (Whole c d)) vs ws some h k = subst IsCountable (sym (span_product a b c d vs ws h k)) (countable_whole _ _ (omega (arith, ints, clamps)) some)
+countable_product (Some (Whole a b)) (Some (Whole c d)) vs ws some h k = subst IsCountable (sym (span_product a b c d vs ws h k)) (countable_whole (least_product a b c d) (greatest_product a b c d) (products_rise a b c d) some)
 countable_product _ _ vs ws some h k = absurd (false≢true some)
 
 -- the divisor of a remainder is above 0

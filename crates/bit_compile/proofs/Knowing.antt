@@ -90,7 +90,7 @@ pub tables_readable : (g : GameData) (sc : Scope) → sc.domains ≡ map (λ v. 
 tables_readable g sc domains made [] e = tt
 tables_readable g sc domains made (h ∷ hs) e =
     let parts = and_parts (is_table sc (hidden_data h)) _ e in
-    (table_readable g sc domains made h parts.0, tables_readable g (record sc { tables = sc.tables ++ length h.tables.items ∷ [] }) domains made hs parts.1)
+    (table_readable g sc domains made h parts.0, tables_readable g (record sc { tables = sc.tables ++ length (hidden_data h).tables ∷ [] }) domains made hs parts.1)
 
 -- what is told of each domain, from what is told of each variable
 pub domains_made : (vs : List VariableData) → list_all (λ v. is_domain v.domain) vs ≡ true → list_all is_domain (map (λ v. v.domain) vs) ≡ true

@@ -125,6 +125,15 @@ module _ (g : GameData) (entries : Entries) (sc : Scope) (domains : sc.domains �
       there None is e = absurd (false≢true e)
       there (Some d) is e = of_domain d (domain_there g sc domains made k d is) e
 
+  means_remainder : (a : Formula) (n : ℤ) (at : At) → is_some (kind_of sc (Remainder a n)) ≡ true → Describes (cases_in g entries at a) (value_at r a (time_of at)) s → Means at (Remainder a n)
+  means_remainder a n at k is_a =
+      let x : ℤ = number_of (value_at r a (time_of at)) in
+      let gives : combined Mod x n ≡ int_rem_euclid x n = ap (λ (t : Bool). if t then int_rem_euclid x n else pos 0) (positive (kind_of sc a) n k) in
+      let among = remainder_among (kind_of sc a) n (values_in g (Remainder a n)) _ k (interval g sc domains made (Remainder a n)) (within sc r typed (Remainder a n) (time_of at)) in
+      let among_given = subst (λ (z : ℤ). list_any (same_value (value.Int z)) (values_in g (Remainder a n)) ≡ true) (sym gives) among in
+      let described = describes_result Mod (cases_in g entries at a) (only (value.Int n)) (value_at r a (time_of at)) (value.Int n) s is_a (describes_only (value.Int n) s) (values_in g (Remainder a n)) among_given in
+      record { cases = subst (λ (z : ℤ). Describes (cases_in g entries at (Remainder a n)) (value.Int z) s) gives described; truth = λ e. refl }
+
   module _ (entry : (h n : ℕ) → entry_of entries h n s ≡ r.entry h n 0) where
     mutual
       pub means : (e : Formula) (at : At) → is_some (kind_of sc e) ≡ true → is_stepwise (under at) e ≡ true → Reads IsHad at e → Means at e
@@ -195,12 +204,3 @@ module _ (g : GameData) (entries : Entries) (sc : Scope) (domains : sc.domains �
           let first = (means e at (some_truth (kind_of sc e) ks.0) ws.0 reads.0).truth ks.0 in
           let rest = some_mean es at ks.1 ws.1 reads.1 in
           ap (λ (x : Bool). x || some_of (truths_in g entries at es) s) first ∙ ap (λ (y : Bool). truth_of (value_at r e (time_of at)) || y) rest
-
-      means_remainder : (a : Formula) (n : ℤ) (at : At) → is_some (kind_of sc (Remainder a n)) ≡ true → Describes (cases_in g entries at a) (value_at r a (time_of at)) s → Means at (Remainder a n)
-      means_remainder a n at k is_a =
-          let x : ℤ = number_of (value_at r a (time_of at)) in
-          let gives : combined Mod x n ≡ int_rem_euclid x n = ap (λ (t : Bool). if t then int_rem_euclid x n else pos 0) (positive (kind_of sc a) n k) in
-          let among = remainder_among (kind_of sc a) n (values_in g (Remainder a n)) _ k (interval g sc domains made (Remainder a n)) (within sc r typed (Remainder a n) (time_of at)) in
-          let among_given = subst (λ (z : ℤ). list_any (same_value (value.Int z)) (values_in g (Remainder a n)) ≡ true) (sym gives) among in
-          let described = describes_result Mod (cases_in g entries at a) (only (value.Int n)) (value_at r a (time_of at)) (value.Int n) s is_a (describes_only (value.Int n) s) (values_in g (Remainder a n)) among_given in
-          record { cases = subst (λ (z : ℤ). Describes (cases_in g entries at (Remainder a n)) (value.Int z) s) gives described; truth = λ e. refl }

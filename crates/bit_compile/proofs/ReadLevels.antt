@@ -70,7 +70,7 @@ module _ (s t : Bits) where
       pub cases : AreSame (cases_in g entries at e)
 
     of_truth : (f : Function) → f s ≡ f t → AreSame (both_truths f)
-    of_truth f e = (ap not e, e, tt)
+    of_truth f e = (ap not e, (e, tt))
 
     mutual
       pub same : (e : Formula) (at : At) → Reads SameCodes at e → Same at e
@@ -97,7 +97,7 @@ module _ (s t : Bits) where
       same (Difference a b) at r = record { truth = refl; cases = same_results Sub (cases_in g entries at a) (cases_in g entries at b) (values_in g (Difference a b)) (same a at r.0).cases (same b at r.1).cases }
       same (Product a b) at r = record { truth = refl; cases = same_results Mul (cases_in g entries at a) (cases_in g entries at b) (values_in g (Product a b)) (same a at r.0).cases (same b at r.1).cases }
       same (Remainder a n) at r = record { truth = refl; cases = same_results Mod (cases_in g entries at a) (only (value.Int n)) (values_in g (Remainder a n)) (same a at r).cases (refl, tt) }
-      same (PastOf op es) at r = record { truth = refl; cases = (refl, refl, tt) }
+      same (PastOf op es) at r = record { truth = refl; cases = (refl, (refl, tt)) }
       same (Entry h n) at r = let is = entry h n in record { truth = is; cases = of_truth (truth_in g entries at (Entry h n)) is }
 
       same_all : (es : Formulas) (at : At) → ReadsEach SameCodes at es → all_of (truths_in g entries at es) s ≡ all_of (truths_in g entries at es) t

@@ -41,25 +41,35 @@ module _ (g : GameData) (sc : Scope) (domains : sc.domains ≡ map (λ v. v.doma
     reads (Disjunction es) at k w f = reads_each es at (truth_holds (are_truths sc es) k) w f
     reads (Implication a b) at k w f =
         let ks = and_parts (is_truth (kind_of sc a)) (is_truth (kind_of sc b)) (truth_holds (is_truth (kind_of sc a) && is_truth (kind_of sc b)) k) in
-        both a b at (some_truth (kind_of sc a) ks.0) (some_truth (kind_of sc b) ks.1) w f
+        (
+          reads a at (some_truth (kind_of sc a) ks.0) (and_parts (is_stepwise (under at) a) (is_stepwise (under at) b) w).0 (left at (has_next a) (has_next b) (awaits_output g.variables (under at) a) (awaits_output g.variables (under at) b) f),
+          reads b at (some_truth (kind_of sc b) ks.1) (and_parts (is_stepwise (under at) a) (is_stepwise (under at) b) w).1 (right at (has_next a) (has_next b) (awaits_output g.variables (under at) a) (awaits_output g.variables (under at) b) f),
+        )
     reads (Equivalence a b) at k w f =
         let ks = and_parts (is_truth (kind_of sc a)) (is_truth (kind_of sc b)) (truth_holds (is_truth (kind_of sc a) && is_truth (kind_of sc b)) k) in
-        both a b at (some_truth (kind_of sc a) ks.0) (some_truth (kind_of sc b) ks.1) w f
-    reads (Comparison c a b) at k w f = let ks = both_compared c (kind_of sc a) (kind_of sc b) k in both a b at ks.0 ks.1 w f
-    reads (Sum a b) at k w f = let ks = both_summed (kind_of sc a) (kind_of sc b) k in both a b at ks.0 ks.1 w f
-    reads (Difference a b) at k w f = let ks = both_subtracted (kind_of sc a) (kind_of sc b) k in both a b at ks.0 ks.1 w f
-    reads (Product a b) at k w f = let ks = both_multiplied (kind_of sc a) (kind_of sc b) k in both a b at ks.0 ks.1 w f
+        (
+          reads a at (some_truth (kind_of sc a) ks.0) (and_parts (is_stepwise (under at) a) (is_stepwise (under at) b) w).0 (left at (has_next a) (has_next b) (awaits_output g.variables (under at) a) (awaits_output g.variables (under at) b) f),
+          reads b at (some_truth (kind_of sc b) ks.1) (and_parts (is_stepwise (under at) a) (is_stepwise (under at) b) w).1 (right at (has_next a) (has_next b) (awaits_output g.variables (under at) a) (awaits_output g.variables (under at) b) f),
+        )
+    reads (Comparison c a b) at k w f = let ks = both_compared c (kind_of sc a) (kind_of sc b) k in (
+          reads a at ks.0 (and_parts (is_stepwise (under at) a) (is_stepwise (under at) b) w).0 (left at (has_next a) (has_next b) (awaits_output g.variables (under at) a) (awaits_output g.variables (under at) b) f),
+          reads b at ks.1 (and_parts (is_stepwise (under at) a) (is_stepwise (under at) b) w).1 (right at (has_next a) (has_next b) (awaits_output g.variables (under at) a) (awaits_output g.variables (under at) b) f),
+        )
+    reads (Sum a b) at k w f = let ks = both_summed (kind_of sc a) (kind_of sc b) k in (
+          reads a at ks.0 (and_parts (is_stepwise (under at) a) (is_stepwise (under at) b) w).0 (left at (has_next a) (has_next b) (awaits_output g.variables (under at) a) (awaits_output g.variables (under at) b) f),
+          reads b at ks.1 (and_parts (is_stepwise (under at) a) (is_stepwise (under at) b) w).1 (right at (has_next a) (has_next b) (awaits_output g.variables (under at) a) (awaits_output g.variables (under at) b) f),
+        )
+    reads (Difference a b) at k w f = let ks = both_subtracted (kind_of sc a) (kind_of sc b) k in (
+          reads a at ks.0 (and_parts (is_stepwise (under at) a) (is_stepwise (under at) b) w).0 (left at (has_next a) (has_next b) (awaits_output g.variables (under at) a) (awaits_output g.variables (under at) b) f),
+          reads b at ks.1 (and_parts (is_stepwise (under at) a) (is_stepwise (under at) b) w).1 (right at (has_next a) (has_next b) (awaits_output g.variables (under at) a) (awaits_output g.variables (under at) b) f),
+        )
+    reads (Product a b) at k w f = let ks = both_multiplied (kind_of sc a) (kind_of sc b) k in (
+          reads a at ks.0 (and_parts (is_stepwise (under at) a) (is_stepwise (under at) b) w).0 (left at (has_next a) (has_next b) (awaits_output g.variables (under at) a) (awaits_output g.variables (under at) b) f),
+          reads b at ks.1 (and_parts (is_stepwise (under at) a) (is_stepwise (under at) b) w).1 (right at (has_next a) (has_next b) (awaits_output g.variables (under at) a) (awaits_output g.variables (under at) b) f),
+        )
     reads (Remainder a n) at k w f = reads a at (one_reduced (kind_of sc a) n k) w f
     reads (PastOf op es) at k w f = tt
     reads (Entry h n) at k w f = tt
-
-    both : (a b : Formula) (at : At) → is_some (kind_of sc a) ≡ true → is_some (kind_of sc b) ≡ true → (is_stepwise (under at) a && is_stepwise (under at) b) ≡ true →
-        Flags at (has_next a || has_next b) (awaits_output g.variables (under at) a || awaits_output g.variables (under at) b) → Reads V at a × Reads V at b
-    both a b at ka kb w f =
-        let ws = and_parts (is_stepwise (under at) a) (is_stepwise (under at) b) w in (
-          reads a at ka ws.0 (left at (has_next a) (has_next b) (awaits_output g.variables (under at) a) (awaits_output g.variables (under at) b) f),
-          reads b at kb ws.1 (right at (has_next a) (has_next b) (awaits_output g.variables (under at) a) (awaits_output g.variables (under at) b) f),
-        )
 
     reads_each : (es : Formulas) (at : At) → are_truths sc es ≡ true → are_stepwise (under at) es ≡ true → Flags at (some_has_next es) (some_awaits_output g.variables (under at) es) → ReadsEach V at es
     reads_each Formulas.none at k w f = tt

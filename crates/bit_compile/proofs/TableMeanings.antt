@@ -1,9 +1,9 @@
 -- The entries of hidden tables, compiled, are those that the tables give at a state.
-use Rattle.std.proofs.Common.{◌≡◌, ℕ, zero, suc, ◌+◌, ◌-◌, ◌*◌, ◌^◌, ◌<◌, ◌≤◌, ℤ, pos, ◌+ℤ◌, ◌-ℤ◌, ◌≤ℤ◌, nat_abs, inl, inr, ◌⊎◌, Bool, true, false, not, ◌&&◌, ◌==◌, if◌then◌else◌, List, [], ◌∷◌, ◌++◌, map, length, length-append, get_or, refl, sym, ◌∙◌, ap, subst, arith, cond}
+use Rattle.std.proofs.Common.{◌≡◌, ℕ, zero, suc, ◌+◌, ◌-◌, ◌*◌, ◌^◌, ◌<◌, ◌≤◌, ℤ, pos, ◌+ℤ◌, ◌-ℤ◌, ◌≤ℤ◌, nat_abs, inl, inr, ◌⊎◌, Bool, true, false, not, ◌&&◌, ◌||◌, ◌==◌, if◌then◌else◌, List, [], ◌∷◌, ◌++◌, map, length, length-append, get_or, refl, sym, ◌∙◌, ap, subst, arith, cond}
 use Rattle.std.specs.Prelude.{int_le}
 use Rattle.std.specs.List.{list_any, list_all, AllByRecursion}
 use Rattle.std.specs.Ordering.{int_eq}
-use Rattle.std.proofs.lemmas.Bool.{both_ways, and_parts, false≢true}
+use Rattle.std.proofs.lemmas.Bool.{eqb-true, eq-eqb, and_parts, false≢true}
 use Rattle.std.proofs.lemmas.Bool.Decides.{Decides-int_eq, nat_tests}
 use Rattle.std.proofs.lemmas.Int.{ints}
 use Rattle.std.proofs.lemmas.List.{length-map}
@@ -29,6 +29,7 @@ use Rattle.game_values.proofs.TableSteps.{table_atoms}
 use Rattle.bit_compile.specs.Domains.{state_domains, table_domain}
 use Rattle.bit_compile.specs.Codes.{domain_in}
 use Rattle.bit_compile.specs.Compiled.{Case, Entries, is_code, is_letter, in_table, lettered, numbers_below, table_truth, table_entries, entries_after, entry_of, never, truth_in, coded, place_of, variable_domain}
+use Rattle.bit_compile.proofs.NumberLemmas.{same_bools}
 use Rattle.bit_compile.proofs.Describing.{Describes, some_pair-is, same_value-sym}
 use Rattle.bit_compile.proofs.Meanings.{IsHad, means, some_truth}
 use Rattle.bit_compile.proofs.ReadVariables.{reads_now}
@@ -44,22 +45,22 @@ letter_small (b ∷ bs) = let rest = letter_small bs in let double = pow-suc 2 (
     bit false h = omega (arith, h)
 
 letters_described : (fs : List Function) (l : ℕ) (s : Bits) → letter_of (map (λ a. a s) fs) ≡ l → (z : ℤ) (n : ℕ) → pos 0 ≤ℤ z →
-    AllByRecursion (λ c. c.holds s ≡ same_value c.value (value.Int (pos l))) (map (λ v. record { value = v; holds = is_letter fs (nat_abs (number_of v)) }) (rising_from z n))
+    AllByRecursion (λ (c : Case). c.holds s ≡ same_value c.value (value.Int (pos l))) (map (λ v. record { value = v; holds = is_letter fs (nat_abs (number_of v)) }) (rising_from z n))
 letters_described fs l s e z zero low = tt
 letters_described fs l s e z (suc n) low =
     (ap (λ k. k == nat_abs z) e ∙ same_number z low, letters_described fs l s e (z +ℤ pos 1) n (omega (arith, ints)))
   where
     same_number : (z : ℤ) → pos 0 ≤ℤ z → (l == nat_abs z) ≡ int_eq z (pos l)
-    same_number z low = both_ways
-        (λ h. (let same : l ≡ nat_abs z = grind (arith, nat_tests) in (Decides-int_eq z (pos l)).1 (omega (arith, ints))))
-        (λ h. (let same = (Decides-int_eq z (pos l)).0 h in let is : l ≡ nat_abs z = omega (arith, ints) in grind (arith, nat_tests)))
+    same_number z low = same_bools _ _
+      (λ h. (let same = eqb-true l (nat_abs z) h in (Decides-int_eq z (pos l)).1 (omega (arith, ints, same))))
+      (λ h. (let same = (Decides-int_eq z (pos l)).0 h in eq-eqb l (nat_abs z) (omega (arith, ints, same))))
 
-among_turned : (w : Value) (f : Value → Function) (vs : List Value) → list_any (same_value w) vs ≡ true → list_any (λ c. same_value c.value w) (map (λ v. record { value = v; holds = f v }) vs) ≡ true
+among_turned : (w : Value) (f : Value → Function) (vs : List Value) → list_any (same_value w) vs ≡ true → list_any (λ (c : Case). same_value c.value w) (map (λ v. record { value = v; holds = f v }) vs) ≡ true
 among_turned w f vs e = turned vs ∙ e
   where
-    turned : (vs : List Value) → list_any (λ c. same_value c.value w) (map (λ v. record { value = v; holds = f v }) vs) ≡ list_any (same_value w) vs
+    turned : (vs : List Value) → list_any (λ (c : Case). same_value c.value w) (map (λ v. record { value = v; holds = f v }) vs) ≡ list_any (same_value w) vs
     turned [] = refl
-    turned (v ∷ vs) = ap (λ (b : Bool). b || list_any (λ c. same_value c.value w) (map (λ u. record { value = u; holds = f u }) vs)) (same_value-sym v w) ∙ ap (λ (b : Bool). same_value w v || b) (turned vs)
+    turned (v ∷ vs) = ap (λ (b : Bool). b || list_any (λ (c : Case). same_value c.value w) (map (λ u. record { value = u; holds = f u }) vs)) (same_value-sym v w) ∙ ap (λ (b : Bool). same_value w v || b) (turned vs)
 
 describes_letter : (fs : List Function) (l : ℕ) (s : Bits) → letter_of (map (λ a. a s) fs) ≡ l → Describes (lettered fs) (value.Int (pos l)) s
 describes_letter fs l s e =
@@ -72,7 +73,7 @@ describes_letter fs l s e =
       exact = within (int_le (pos 0) (pos (2 ^ length fs) -ℤ pos 1));
     }
   where
-    within : (b : Bool) → AllByRecursion (λ c. c.holds s ≡ same_value c.value (value.Int (pos l))) (map (λ v. record { value = v; holds = is_letter fs (nat_abs (number_of v)) }) (cond b (rising_from (pos 0) (nat_abs ((pos (2 ^ length fs) -ℤ pos 1) -ℤ pos 0) + 1)) []))
+    within : (b : Bool) → AllByRecursion (λ (c : Case). c.holds s ≡ same_value c.value (value.Int (pos l))) (map (λ v. record { value = v; holds = is_letter fs (nat_abs (number_of v)) }) (cond b (rising_from (pos 0) (nat_abs ((pos (2 ^ length fs) -ℤ pos 1) -ℤ pos 0) + 1)) []))
     within true = letters_described fs l s e (pos 0) _ (omega (arith, ints))
     within false = tt
 
@@ -97,11 +98,8 @@ pub record AreRead (entries : Entries) (read : List (List Bool)) (s : Bits) : Ty
 
 pub get-pushed : {X : Type 0} (xs : List X) (x d : X) (k : ℕ) → get_or (xs ++ x ∷ []) k d ≡ (if k == length xs then x else get_or xs k d)
 get-pushed [] x d zero = refl
-get-pushed [] x d (suc k) = nothing k
-  where
-    nothing : (k : ℕ) → get_or [] k d ≡ d
-    nothing k = refl
-get-pushed (y ∷ xs) x d zero = refl
+get-pushed [] x d (suc k) = let other : (suc k == 0) ≡ false = grind (arith, nat_tests) in sym (ap (λ b. if b then x else d) other)
+get-pushed (y ∷ xs) x d zero = let other : (0 == suc (length xs)) ≡ false = grind (arith, nat_tests) in sym (ap (λ b. if b then x else y) other)
 get-pushed (y ∷ xs) x d (suc k) = get-pushed xs x d k ∙ ap (λ b. if b then x else get_or xs k d) (suc-same k (length xs))
   where
     suc-same : (m n : ℕ) → (m == n) ≡ (suc m == suc n)
