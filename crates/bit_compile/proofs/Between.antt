@@ -123,14 +123,14 @@ module _ (old mid whole new : Contents) (extra : ℕ → ℕ) (first : Between o
 
 -- ---- refusals
 
-halt_or : {V : Type 0} → Halt → Result V Halt → Halt
+abbrev halt_or : {V : Type 0} → Halt → Result V Halt → Halt
 halt_or a (Ok v) = a
 halt_or a (Err h) = h
 
-pub leaves_refusal : {V : Type 0} (old new : Contents) (h : Halt) (f : Function) → Makes old new (Err h) f → Leaves {V} old new (Err h)
+pub leaves_refusal : {V : Type 0} (old new : Contents) (h : Halt) (f : Function) → Makes old new (Err h) f → Leaves {V = V} old new (Err h)
 leaves_refusal old new h f makes = record { refused = makes.refused; keeps = makes.keeps; full = λ e. makes.full (ap (λ (k : Halt). Err k) (ap (halt_or h) e)) }
 
-pub makes_refusal : {V : Type 0} (old new : Contents) (h : Halt) (f : Function) → Leaves {V} old new (Err h) → Makes old new (Err h) f
+pub makes_refusal : {V : Type 0} (old new : Contents) (h : Halt) (f : Function) → Leaves {V = V} old new (Err h) → Makes old new (Err h) f
 makes_refusal old new h f leaves = record { meaning = tt; added = tt; refused = leaves.refused; keeps = leaves.keeps; full = λ e. leaves.full (ap (λ (k : Halt). Err k) (ap (halt_or h) e)) }
 
 -- ---- one case more
@@ -164,6 +164,10 @@ keeps_more old mid new xs cs adds first second =
       budget = second.budget ∙ first.budget;
       meaning = λ n root. second.meaning n (root_before old mid xs cs adds n root) ∙ first.meaning n root;
     }
+
+pub root_after : (l mid : Contents) (r : Result ℕ Halt) (g : Function) → Makes l mid r g → (n : ℕ) → IsRoot l.state n → IsRoot mid.state n
+root_after l mid (Ok r) g makes n root = let more = makes.added n in omega (arith, more, root)
+root_after l mid (Err h) g makes n root = let same = makes.refused n in omega (arith, same, root)
 
 -- ---- giving all back
 

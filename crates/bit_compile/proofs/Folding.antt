@@ -1,24 +1,30 @@
 -- One part more of a conjunction or disjunction.
-use Rattle.std.proofs.Common.{◌≡◌, ℕ, zero, suc, ◌+◌, ◌<◌, ◌≤◌, inl, inr, ◌⊎◌, Bool, true, false, not, ◌&&◌, ◌||◌, ◌==◌, ◌*◌, ◌/◌, ◌%◌, if◌then◌else◌, Result, Ok, List, [], ◌∷◌, ◌++◌, map, drop, length, get_or, refl, sym, ◌∙◌, ap, subst, arith}
+use Rattle.std.proofs.Common.{◌≡◌, ◌≢◌, ℕ, zero, suc, ◌+◌, ◌<◌, ◌≤◌, inl, inr, ◌⊎◌, Bool, true, false, not, ◌&&◌, ◌||◌, ◌==◌, ◌*◌, ◌/◌, ◌%◌, if◌then◌else◌, Result, Ok, Err, List, [], ◌∷◌, ◌++◌, map, drop, length, get_or, refl, sym, ◌∙◌, ap, subst, arith}
 use Rattle.std.specs.List.{list_any, list_all, AllByRecursion}
 use Rattle.std.specs.Bool.{beq}
-use Rattle.std.proofs.lemmas.Bool.{and_parts, and_from}
+use Rattle.std.proofs.lemmas.Bool.{and_parts, and_from, eqb-true, eq-eqb, ne_eqb, false≢true}
 use Rattle.std.proofs.lemmas.Bool.Decides.{nat_tests}
 use Rattle.spec_model.specs.declared.value.Value.{Value}
 use Rattle.spec_model.specs.Games.{letter_of}
 use Rattle.spec_model.specs.Diagrams.{Bits, Function}
-use Rattle.bdd_store.specs.State.{AddsRoot}
+use Rattle.bdd_store.specs.State.{AddsRoot, IsRoot}
 use Rattle.regions.specs.declared.types.Halt.{Halt}
 use Rattle.bdd_ops.specs.Functions.{Join, joined, join_of}
 use Rattle.bdd_ops.specs.Contents.{Contents, function_at}
 use Rattle.bdd_ops.specs.Calls.{negated}
 use Rattle.bit_compile.proofs.NumberLemmas.{same_bools}
-use Rattle.bit_compile.proofs.MakingLemmas.{given_back}
+use Rattle.bit_compile.proofs.MakingLemmas.{fails, given_back, is_root, root_added}
+use Rattle.bit_compile.proofs.Between.{still_kept}
 use Rattle.bit_compile.specs.declared.folds.Fold.{Fold}
 use Rattle.bit_compile.specs.declared.folds.Fold.TheVariants as fold
 use Rattle.bit_compile.specs.Making.{Makes}
 use Rattle.bit_compile.specs.Compiled.{Case, some_pair, is_letter, all_of}
-use Rattle.bit_compile.specs.CaseRoots.{folded, is_all}
+use Rattle.bit_compile.specs.CaseRoots.{AreKept, folded, is_all}
+use Rattle.bit_compile.specs.declared.cases.CaseRoot.{CaseRoot}
+
+not_true : (b : Bool) → not b ≡ true → b ≡ false
+not_true true e = absurd (false≢true e)
+not_true false e = refl
 
 -- two functions joined, where each is known as another
 pub joined_as : (join : Join) (f f' g g' : Function) → f' ≡ f → g' ≡ g → joined join f' g' ≡ joined join f g
@@ -51,26 +57,13 @@ pub drop_next : {V : Type 0} (xs : List V) (i : ℕ) (x : V) → i < length xs �
 drop_next xs i x h e = let next : i + 1 ≡ suc i = omega arith in rw next (drop_at xs i x h e)
 
 drop_past : {V : Type 0} (xs : List V) (i : ℕ) → length xs ≤ i → drop i xs ≡ []
-drop_past [] i h = drop-nil i
-  where
-    drop-nil : {V : Type 0} (i : ℕ) → drop i ([] {V}) ≡ []
-    drop-nil zero = refl
-    drop-nil (suc i) = refl
+drop_past [] zero h = refl
+drop_past [] (suc i) h = refl
 drop_past (y ∷ xs) zero h = absurd (omega arith)
 drop_past (y ∷ xs) (suc i) h = drop_past xs i (omega arith)
 
 pub past_end : {V : Type 0} (xs : List V) (i : ℕ) → length xs ≤ i → drop i xs ≡ []
 past_end xs i h = drop_past xs i h
-
-pub nothing_left : {V : Type 0} (xs : List V) (i : ℕ) → (i < length xs → ⊥) → drop i xs ≡ []
-nothing_left xs i none = drop_past xs i (by_cases below_or_past)
-  where
-    below_or_past : (i < length xs) ⊎ (length xs ≤ i)
-    below_or_past = grind arith
-
-    by_cases : (i < length xs) ⊎ (length xs ≤ i) → length xs ≤ i
-    by_cases (inl less) = absurd (none less)
-    by_cases (inr past) = past
 
 pub all_next : {V : Type 0} (P : V → Type 0) (xs : List V) (i : ℕ) (x : V) → i < length xs → x ≡ get_or xs i x → AllByRecursion P (drop i xs) → P x × AllByRecursion P (drop (i + 1) xs)
 all_next P xs i x h e all = subst (AllByRecursion P) (drop_next xs i x h e) all
@@ -120,20 +113,59 @@ own old mid r f makes = record { meaning = refl; added = makes.added; refused = 
 pub turn : (first l mid new : Contents) (row : ℕ) (r : Result ℕ Halt) (g g' : Function) → Makes first l (Ok row) (function_at l row) → Makes l mid r g → g ≡ g' → AddsRoot new.state mid.state row → new.state.table ≡ mid.state.table → Makes first new r g'
 turn first l mid new row r g g' made step is back table = given_back first l mid new row (function_at l row) g' made back table r (subst (λ (f : Function). Makes l mid r f) is step)
 
-pub row_is : (wanted passing : Bool) (sum x x' y y' : Function) → wanted ≡ passing → x ≡ x' → y ≡ y' → (λ s. sum s || wanted && (x s && y s)) ≡ (λ s. sum s || passing && (x' s && y' s))
-row_is wanted passing sum x x' y y' w e f =
-    ap (λ (b : Bool). (λ (s : Bits). sum s || b && (x s && y s))) w
-    ∙ (ap (λ (g : Function). (λ (s : Bits). sum s || passing && (g s && y s))) e ∙ ap (λ (g : Function). (λ (s : Bits). sum s || passing && (x' s && g s))) f)
+-- the sum, or both where they are wanted
+abbrev pub with_pair : Function → Bool → Function → Function → Function
+with_pair sum wanted x y s = sum s || wanted && (x s && y s)
+
+pub row_is : (wanted passing : Bool) (sum x x' y y' : Function) → wanted ≡ passing → x ≡ x' → y ≡ y' → with_pair sum wanted x y ≡ with_pair sum passing x' y'
+row_is wanted passing sum x x' y y' w e f = ap (λ b. with_pair sum b x y) w ∙ (ap (λ g. with_pair sum passing g y) e ∙ ap (λ g. with_pair sum passing x' g) f)
+
+-- the root so far is kept
+pub so_far_kept : (first l : Contents) (row : ℕ) → Makes first l (Ok row) (function_at l row) → IsRoot l.state row
+so_far_kept first l row made = is_root first l row (function_at l row) made
+
+pub still_root : (first l : Contents) (row n : ℕ) → Makes first l (Ok row) (function_at l row) → IsRoot first.state n → IsRoot l.state n
+still_root first l row n made root = root_added first l row (function_at l row) made n root
+
+pub all_still : (first l : Contents) (row : ℕ) (xs : List CaseRoot) → Makes first l (Ok row) (function_at l row) → AreKept first.state xs → AreKept l.state xs
+all_still first l row xs made kept = still_kept first.state l.state xs (λ n root. still_root first l row n made root) kept
 
 -- ---- letters
 
+odd : (rest left : ℕ) → (1 + 2 * rest == left) ≡ ((left % 2 == 1) && (rest == left / 2))
+odd rest left = same_bools _ _
+  (λ e. (let same = eqb-true (1 + 2 * rest) left e in
+    let one : left % 2 ≡ 1 = omega (arith, same) in
+    let half : rest ≡ left / 2 = omega (arith, same) in
+    and_from (left % 2 == 1) (rest == left / 2) (eq-eqb (left % 2) 1 one) (eq-eqb rest (left / 2) half)))
+  (λ e. (let parts = and_parts (left % 2 == 1) (rest == left / 2) e in
+    let one = eqb-true (left % 2) 1 parts.0 in
+    let half = eqb-true rest (left / 2) parts.1 in
+    eq-eqb (1 + 2 * rest) left (omega (arith, one, half))))
+
+even : (rest left : ℕ) → (0 + 2 * rest == left) ≡ (not (left % 2 == 1) && (rest == left / 2))
+even rest left = same_bools _ _
+  (λ e. (let same = eqb-true (0 + 2 * rest) left e in
+    let none : left % 2 ≢ 1 = omega (arith, same) in
+    let half : rest ≡ left / 2 = omega (arith, same) in
+    and_from (not (left % 2 == 1)) (rest == left / 2) (ap not (ne_eqb (left % 2) 1 none)) (eq-eqb rest (left / 2) half)))
+  (λ e. (let parts = and_parts (not (left % 2 == 1)) (rest == left / 2) e in
+    let other : (left % 2 == 1) ≡ false = not_true (left % 2 == 1) parts.0 in
+    let none : left % 2 ≢ 1 = λ same. false≢true (sym other ∙ eq-eqb (left % 2) 1 same) in
+    let half = eqb-true rest (left / 2) parts.1 in
+    eq-eqb (0 + 2 * rest) left (omega (arith, none, half))))
+
+beq_true : (b : Bool) → beq true b ≡ b
+beq_true true = refl
+beq_true false = refl
+
+beq_false : (b : Bool) → beq false b ≡ not b
+beq_false true = refl
+beq_false false = refl
+
 letter_first : (b : Bool) (rest left : ℕ) → ((if b then 1 else 0) + 2 * rest == left) ≡ (beq b (left % 2 == 1) && (rest == left / 2))
-letter_first true rest left = same_bools _ _
-    (λ e. (let same : 1 + 2 * rest ≡ left = grind (arith, nat_tests) in and_from _ _ (let odd : left % 2 ≡ 1 = omega (arith, same) in grind (arith, nat_tests)) (let half : rest ≡ left / 2 = omega (arith, same) in grind (arith, nat_tests))))
-    (λ e. (let parts = and_parts (beq true (left % 2 == 1)) (rest == left / 2) e in let odd : left % 2 ≡ 1 = grind (arith, nat_tests) in let half : rest ≡ left / 2 = grind (arith, nat_tests) in let same : 1 + 2 * rest ≡ left = omega (arith, odd, half) in grind (arith, nat_tests)))
-letter_first false rest left = same_bools _ _
-    (λ e. (let same : 2 * rest ≡ left = grind (arith, nat_tests) in and_from _ _ (let even : left % 2 ≡ 0 = omega (arith, same) in grind (arith, nat_tests)) (let half : rest ≡ left / 2 = omega (arith, same) in grind (arith, nat_tests))))
-    (λ e. (let parts = and_parts (beq false (left % 2 == 1)) (rest == left / 2) e in let even : left % 2 ≡ 0 = grind (arith, nat_tests) in let half : rest ≡ left / 2 = grind (arith, nat_tests) in let same : 2 * rest ≡ left = omega (arith, even, half) in grind (arith, nat_tests)))
+letter_first true rest left = odd rest left ∙ ap (λ x. x && (rest == left / 2)) (sym (beq_true (left % 2 == 1)))
+letter_first false rest left = even rest left ∙ ap (λ x. x && (rest == left / 2)) (sym (beq_false (left % 2 == 1)))
 
 pub letter_step : (product more atom : Function) (rest : List Function) (left : ℕ) (target : Function) →
     joined (join_of true) product (is_letter (atom ∷ rest) left) ≡ target → more ≡ (λ s. product s && beq (atom s) (left % 2 == 1)) → joined (join_of true) more (is_letter rest (left / 2)) ≡ target
@@ -174,15 +206,15 @@ and_false true = refl
 and_false false = refl
 
 pub letter_done : (product : Function) (rest : List Function) (left : ℕ) (target : Function) → rest ≡ [] → left ≡ 0 → joined (join_of true) product (is_letter rest left) ≡ target → product ≡ target
-letter_done product rest left target none zero same =
-    let end : (0 == left) ≡ true = grind (arith, nat_tests) in
+letter_done product rest left target none end_is same =
+    let end : (0 == left) ≡ true = eq-eqb 0 left (sym end_is) in
     sym (λ i s. and_true (product s) i)
     ∙ (sym (ap (λ (b : Bool). (λ (s : Bits). product s && b)) end)
     ∙ (sym (ap (λ (fs : List Function). joined (join_of true) product (is_letter fs left)) none) ∙ same))
 
 pub letter_none : (product : Function) (rest : List Function) (left : ℕ) (target : Function) → rest ≡ [] → (left ≡ 0 → ⊥) → joined (join_of true) product (is_letter rest left) ≡ target → (λ s. false) ≡ target
 letter_none product rest left target none some same =
-    let end : (0 == left) ≡ false = grind (arith, nat_tests) in
+    let end : (0 == left) ≡ false = ne_eqb 0 left (λ e. some (sym e)) in
     sym (λ i s. and_false (product s) i)
     ∙ (sym (ap (λ (b : Bool). (λ (s : Bits). product s && b)) end)
     ∙ (sym (ap (λ (fs : List Function). joined (join_of true) product (is_letter fs left)) none) ∙ same))
@@ -190,3 +222,7 @@ letter_none product rest left target none some same =
 pub all_of-push : (fs : List Function) (f : Function) → all_of (fs ++ f ∷ []) ≡ (λ s. all_of fs s && f s)
 all_of-push [] f = λ i s. and_true (f s) i
 all_of-push (g ∷ fs) f = ap (λ (h : Function). (λ (s : Bits). g s && h s)) (all_of-push fs f) ∙ sym (λ i s. and_assoc (g s) (all_of fs s) (f s) i)
+
+-- a refusal that is handed on
+pub refused_makes : (first new : Contents) (r r' : Result ℕ Halt) (h : Halt) (g f : Function) → Makes first new r g → r ≡ Err h → r' ≡ Err h → Makes first new r' f
+refused_makes first new r r' h g f makes is is' = subst (λ (x : Result ℕ Halt). Makes first new x f) (sym is') (fails first new h g f (subst (λ (x : Result ℕ Halt). Makes first new x g) is makes))

@@ -1,4 +1,4 @@
-use Rattle.std.proofs.Common.{◌≡◌, ◌+◌, ◌∙◌, Ok, List, ap, sym, subst, drop, map}
+use Rattle.std.proofs.Common.{◌≡◌, ◌+◌, ◌∙◌, Ok, List, ap, refl, sym, subst, drop, map, rules}
 use Rattle.spec_model.specs.Diagrams.{Bits, Function}
 use Rattle.bdd_store.specs.State.{IsRoot}
 use Rattle.bdd_ops.specs.Functions.{joined, join_of}
@@ -7,8 +7,8 @@ use Rattle.bit_compile.specs.declared.cases.CaseRoot.{CaseRoot}
 use Rattle.bit_compile.specs.Making.{Makes}
 use Rattle.bit_compile.specs.CaseRoots.{folded, is_all}
 use Rattle.game_values.proofs.Lists.{map_drop}
-use Rattle.bit_compile.proofs.Between.{function_stays}
-use Rattle.bit_compile.proofs.Folding.{fold_first, fold_step, fold_done, finished, own, turn, all_next, past_end}
+use Rattle.bit_compile.proofs.Between.{function_stays, root_after}
+use Rattle.bit_compile.proofs.Folding.{fold_first, fold_step, fold_done, finished, own, turn, all_next, past_end, refused_makes, so_far_kept, still_root}
 use Rattle.bit_compile.proofs.folds.folded.Goals as goal
 
 pub loop-case-preserved : goal.loop-case-preserved
@@ -50,3 +50,20 @@ returns c =
     let f : CaseRoot → Function = λ z. function_at first z.root in
     let none = ap (map f) (past_end c.args.cases.now c.loop-case.case-index c.loop-case-test.false) in
     finished first l c.loop-case.whole _ c.loop-case.invariant.made (fold_done c.args.fold (function_at l c.loop-case.whole) (map f (drop c.loop-case.case-index c.args.cases.now)) _ none c.loop-case.invariant.same)
+
+pub join_root-more-requires-clause-a_kept : goal.join_root-more-requires-clause-a_kept
+join_root-more-requires-clause-a_kept c = so_far_kept c.args.diagrams.now c.loop-case.diagrams c.loop-case.whole c.loop-case.invariant.made
+
+pub join_root-more-requires-clause-b_kept : goal.join_root-more-requires-clause-b_kept
+join_root-more-requires-clause-b_kept c =
+    let parts = all_next (λ z. IsRoot c.args.diagrams.now.state z.root) c.args.cases.now c.loop-case.case-index c.case-item.result c.loop-case-test.true c.case-item.is c.loop-case.invariant.kept in
+    still_root c.args.diagrams.now c.loop-case.diagrams c.loop-case.whole c.case-item.result.root c.loop-case.invariant.made parts.0
+
+pub release-requires : goal.release-requires
+release-requires c = root_after c.loop-case.diagrams c.join_root-more.new.diagrams c.join_root-more.result _ c.join_root-more.ensures c.loop-case.whole (so_far_kept c.args.diagrams.now c.loop-case.diagrams c.loop-case.whole c.loop-case.invariant.made)
+
+pub returns-in_err-next : goal.returns-in_err-next
+returns-in_err-next c =
+    let first = c.args.diagrams.now in
+    let made = turn first c.loop-case.diagrams c.join_root-more.new.diagrams c.release.new.self c.loop-case.whole c.join_root-more.result _ _ c.loop-case.invariant.made c.join_root-more.ensures refl c.release.ensures.released c.release.ensures.table in
+    refused_makes first c.release.new.self c.join_root-more.result c.from_residual-in_err-next.result c.in_err-next.field-0.0 _ _ made c.in_err-next.was (search rules)

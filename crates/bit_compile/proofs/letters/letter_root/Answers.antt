@@ -1,4 +1,4 @@
-use Rattle.std.proofs.Common.{◌≡◌, ◌+◌, ◌&&◌, ◌∙◌, ◌/◌, ◌%◌, ◌==◌, Ok, List, true, ap, sym, subst, drop, map}
+use Rattle.std.proofs.Common.{◌≡◌, ◌+◌, ◌&&◌, ◌∙◌, ◌/◌, ◌%◌, ◌==◌, Ok, List, true, ap, refl, sym, subst, drop, map, rules}
 use Rattle.std.specs.Bool.{beq}
 use Rattle.spec_model.specs.Diagrams.{Bits, Function}
 use Rattle.bdd_store.specs.State.{IsRoot}
@@ -8,8 +8,8 @@ use Rattle.bit_compile.specs.declared.cases.CaseRoot.{CaseRoot}
 use Rattle.bit_compile.specs.Making.{Makes}
 use Rattle.bit_compile.specs.Compiled.{is_letter}
 use Rattle.game_values.proofs.Lists.{map_drop}
-use Rattle.bit_compile.proofs.Between.{function_stays}
-use Rattle.bit_compile.proofs.Folding.{letter_step, letter_done, letter_none, finished, own, turn, all_next, past_end}
+use Rattle.bit_compile.proofs.Between.{function_stays, root_after}
+use Rattle.bit_compile.proofs.Folding.{letter_step, letter_done, letter_none, finished, own, turn, all_next, past_end, refused_makes, so_far_kept, still_root}
 use Rattle.bit_compile.proofs.letters.letter_root.Goals as goal
 
 pub loop-atom-preserved : goal.loop-atom-preserved
@@ -59,3 +59,20 @@ returns c =
     let f : CaseRoot → Function = λ z. function_at first z.root in
     let none = ap (map f) (past_end c.args.atoms.now c.loop-atom.atom-index c.loop-atom-test.false) in
     finished first l c.loop-atom.product _ c.loop-atom.invariant.made (letter_done (function_at l c.loop-atom.product) (map f (drop c.loop-atom.atom-index c.args.atoms.now)) c.loop-atom.left _ none c.if-left-ne0.false c.loop-atom.invariant.same)
+
+pub and_as-more-requires-clause-product_kept : goal.and_as-more-requires-clause-product_kept
+and_as-more-requires-clause-product_kept c = so_far_kept c.args.diagrams.now c.loop-atom.diagrams c.loop-atom.product c.loop-atom.invariant.made
+
+pub and_as-more-requires-clause-atom_kept : goal.and_as-more-requires-clause-atom_kept
+and_as-more-requires-clause-atom_kept c =
+    let parts = all_next (λ z. IsRoot c.args.diagrams.now.state z.root) c.args.atoms.now c.loop-atom.atom-index c.atom-item.result c.loop-atom-test.true c.atom-item.is c.loop-atom.invariant.kept in
+    still_root c.args.diagrams.now c.loop-atom.diagrams c.loop-atom.product c.atom-item.result.root c.loop-atom.invariant.made parts.0
+
+pub release-requires : goal.release-requires
+release-requires c = root_after c.loop-atom.diagrams c.and_as-more.new.diagrams c.and_as-more.result _ c.and_as-more.ensures c.loop-atom.product (so_far_kept c.args.diagrams.now c.loop-atom.diagrams c.loop-atom.product c.loop-atom.invariant.made)
+
+pub returns-in_err-next : goal.returns-in_err-next
+returns-in_err-next c =
+    let first = c.args.diagrams.now in
+    let made = turn first c.loop-atom.diagrams c.and_as-more.new.diagrams c.release.new.self c.loop-atom.product c.and_as-more.result _ _ c.loop-atom.invariant.made c.and_as-more.ensures refl c.release.ensures.released c.release.ensures.table in
+    refused_makes first c.release.new.self c.and_as-more.result c.from_residual-in_err-next.result c.in_err-next.field-0.0 _ _ made c.in_err-next.was (search rules)

@@ -1,4 +1,4 @@
-use Rattle.std.proofs.Common.{◌≡◌, ◌+◌, ◌||◌, ◌&&◌, ◌∙◌, List, ap, sym, subst, drop}
+use Rattle.std.proofs.Common.{◌≡◌, ◌+◌, ◌||◌, ◌&&◌, ◌∙◌, List, ap, sym, subst, drop, refl, rules}
 use Rattle.spec_model.specs.Diagrams.{Bits, Function}
 use Rattle.bdd_store.specs.State.{IsRoot}
 use Rattle.bdd_ops.specs.Contents.{function_at}
@@ -6,8 +6,8 @@ use Rattle.bit_compile.specs.declared.cases.CaseRoot.{CaseRoot}
 use Rattle.bit_compile.specs.Making.{Makes}
 use Rattle.bit_compile.specs.CaseRoots.{case_at, cases_at, passes}
 use Rattle.game_values.proofs.Lists.{map_drop}
-use Rattle.bit_compile.proofs.Between.{function_stays}
-use Rattle.bit_compile.proofs.Folding.{row_of, row_step, row_is, rows_done, finished, own, turn, all_next, past_end}
+use Rattle.bit_compile.proofs.Between.{function_stays, root_after}
+use Rattle.bit_compile.proofs.Folding.{row_of, row_step, row_is, rows_done, finished, own, turn, all_next, past_end, refused_makes, so_far_kept, still_root}
 use Rattle.bit_compile.proofs.pairs.or_row.Goals as goal
 
 pub loop-y-init : goal.loop-y-init
@@ -51,3 +51,23 @@ returns c =
     let row : List CaseRoot → Function = λ ys. row_of test x.value (function_at first x.root) (cases_at first ys) in
     let none = ap row (past_end c.args.ys.now c.loop-y.y-index c.loop-y-test.false) in
     finished first l c.loop-y.row _ c.loop-y.invariant.made (rows_done (function_at l c.loop-y.row) (row (drop c.loop-y.y-index c.args.ys.now)) _ none c.loop-y.invariant.same)
+
+pub or_wanted-more-requires-clause-sum_kept : goal.or_wanted-more-requires-clause-sum_kept
+or_wanted-more-requires-clause-sum_kept c = so_far_kept c.args.diagrams.now c.loop-y.diagrams c.loop-y.row c.loop-y.invariant.made
+
+pub or_wanted-more-requires-clause-a_kept : goal.or_wanted-more-requires-clause-a_kept
+or_wanted-more-requires-clause-a_kept c = still_root c.args.diagrams.now c.loop-y.diagrams c.loop-y.row c.args.x.now.root c.loop-y.invariant.made c.requires.x_kept
+
+pub or_wanted-more-requires-clause-b_kept : goal.or_wanted-more-requires-clause-b_kept
+or_wanted-more-requires-clause-b_kept c =
+    let parts = all_next (λ z. IsRoot c.args.diagrams.now.state z.root) c.args.ys.now c.loop-y.y-index c.y-item.result c.loop-y-test.true c.y-item.is c.loop-y.invariant.kept in
+    still_root c.args.diagrams.now c.loop-y.diagrams c.loop-y.row c.y-item.result.root c.loop-y.invariant.made parts.0
+
+pub release-requires : goal.release-requires
+release-requires c = root_after c.loop-y.diagrams c.or_wanted-more.new.diagrams c.or_wanted-more.result _ c.or_wanted-more.ensures c.loop-y.row (so_far_kept c.args.diagrams.now c.loop-y.diagrams c.loop-y.row c.loop-y.invariant.made)
+
+pub returns-in_err-next : goal.returns-in_err-next
+returns-in_err-next c =
+    let first = c.args.diagrams.now in
+    let made = turn first c.loop-y.diagrams c.or_wanted-more.new.diagrams c.release.new.self c.loop-y.row c.or_wanted-more.result _ _ c.loop-y.invariant.made c.or_wanted-more.ensures refl c.release.ensures.released c.release.ensures.table in
+    refused_makes first c.release.new.self c.or_wanted-more.result c.from_residual-in_err-next.result c.in_err-next.field-0.0 _ _ made c.in_err-next.was (search rules)

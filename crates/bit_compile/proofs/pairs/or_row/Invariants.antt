@@ -1,4 +1,5 @@
-use Rattle.std.proofs.Common.{◌≡◌, ◌||◌, Ok, drop}
+use Rattle.std.proofs.Common.{◌≡◌, false, Ok, drop}
+use Rattle.bdd_ops.specs.Functions.{joined, join_of}
 use Rattle.bdd_ops.specs.Contents.{function_at}
 use Rattle.bit_compile.specs.Making.{Makes}
 use Rattle.bit_compile.specs.CaseRoots.{AreKept, cases_at, passes}
@@ -13,5 +14,5 @@ invariant-loop-y l =
     record {
       made : Makes first l.diagrams (Ok l.row) (function_at l.diagrams l.row);
       kept : AreKept first.state (drop l.y-index l.ys);
-      same : (λ s. function_at l.diagrams l.row s || row_of (passes l.test) l.x.value f (cases_at first (drop l.y-index l.ys)) s) ≡ (λ s. function_at first l.sum s || row_of (passes l.test) l.x.value f (cases_at first l.ys) s);
+      same : joined (join_of false) (function_at l.diagrams l.row) (row_of (passes l.test) l.x.value f (cases_at first (drop l.y-index l.ys))) ≡ joined (join_of false) (function_at first l.sum) (row_of (passes l.test) l.x.value f (cases_at first l.ys));
     }

@@ -1,4 +1,4 @@
-use Rattle.std.proofs.Common.{◌≡◌, ◌+◌, ◌||◌, ◌∙◌, Ok, false, List, ap, sym, subst, drop}
+use Rattle.std.proofs.Common.{◌≡◌, ◌+◌, ◌||◌, ◌∙◌, Ok, false, List, ap, refl, sym, subst, drop, rules}
 use Rattle.spec_model.specs.Diagrams.{Bits, Function}
 use Rattle.bdd_store.specs.State.{IsRoot}
 use Rattle.bdd_ops.specs.Contents.{function_at}
@@ -7,8 +7,8 @@ use Rattle.bit_compile.specs.Making.{Makes}
 use Rattle.bit_compile.specs.Compiled.{Case, some_pair}
 use Rattle.bit_compile.specs.CaseRoots.{case_at, cases_at, passes}
 use Rattle.game_values.proofs.Lists.{map_drop}
-use Rattle.bit_compile.proofs.Between.{function_stays, cases_stay}
-use Rattle.bit_compile.proofs.Folding.{row_of, rows_step, rows_done, finished, own, turn, all_next, past_end}
+use Rattle.bit_compile.proofs.Between.{function_stays, cases_stay, root_after}
+use Rattle.bit_compile.proofs.Folding.{row_of, rows_step, rows_done, finished, own, turn, all_next, past_end, refused_makes, so_far_kept, still_root, all_still}
 use Rattle.bit_compile.proofs.pairs.pair_root.Goals as goal
 
 pub loop-x-init : goal.loop-x-init
@@ -52,3 +52,23 @@ returns c =
     let ys = cases_at first c.args.ys.now in
     let none = ap (λ (xs : List CaseRoot). some_pair (passes c.args.test.now) (cases_at first xs) ys) (past_end c.args.xs.now c.loop-x.x-index c.loop-x-test.false) in
     finished first l c.loop-x.sum _ c.loop-x.invariant.made (rows_done (function_at l c.loop-x.sum) (some_pair (passes c.args.test.now) (cases_at first (drop c.loop-x.x-index c.args.xs.now)) ys) _ none c.loop-x.invariant.same)
+
+pub or_row-more-requires-clause-sum_kept : goal.or_row-more-requires-clause-sum_kept
+or_row-more-requires-clause-sum_kept c = so_far_kept c.args.diagrams.now c.loop-x.diagrams c.loop-x.sum c.loop-x.invariant.made
+
+pub or_row-more-requires-clause-x_kept : goal.or_row-more-requires-clause-x_kept
+or_row-more-requires-clause-x_kept c =
+    let parts = all_next (λ z. IsRoot c.args.diagrams.now.state z.root) c.args.xs.now c.loop-x.x-index c.x-item.result c.loop-x-test.true c.x-item.is c.loop-x.invariant.kept in
+    still_root c.args.diagrams.now c.loop-x.diagrams c.loop-x.sum c.x-item.result.root c.loop-x.invariant.made parts.0
+
+pub release-requires : goal.release-requires
+release-requires c = root_after c.loop-x.diagrams c.or_row-more.new.diagrams c.or_row-more.result _ c.or_row-more.ensures c.loop-x.sum (so_far_kept c.args.diagrams.now c.loop-x.diagrams c.loop-x.sum c.loop-x.invariant.made)
+
+pub returns-in_err-next : goal.returns-in_err-next
+returns-in_err-next c =
+    let first = c.args.diagrams.now in
+    let made = turn first c.loop-x.diagrams c.or_row-more.new.diagrams c.release.new.self c.loop-x.sum c.or_row-more.result _ _ c.loop-x.invariant.made c.or_row-more.ensures refl c.release.ensures.released c.release.ensures.table in
+    refused_makes first c.release.new.self c.or_row-more.result c.from_residual-in_err-next.result c.in_err-next.field-0.0 _ _ made c.in_err-next.was (search rules)
+
+pub or_row-more-requires-clause-ys_kept : goal.or_row-more-requires-clause-ys_kept
+or_row-more-requires-clause-ys_kept c = all_still c.args.diagrams.now c.loop-x.diagrams c.loop-x.sum c.args.ys.now c.loop-x.invariant.made c.requires.ys_kept
