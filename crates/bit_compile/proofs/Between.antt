@@ -1,10 +1,13 @@
 -- Roots that were made on the way and are given back at the end.
 use Rattle.std.proofs.Common.{◌≡◌, ℕ, suc, ◌+◌, ◌==◌, ◌<◌, ◌≤◌, Bool, true, false, Result, Ok, Err, IfOk, List, [], ◌∷◌, ◌++◌, map, refl, sym, ◌∙◌, ap, subst, arith, cond}
-use Rattle.std.proofs.lemmas.List.{map-append}
+use Rattle.std.proofs.lemmas.List.{map-append, nil_from_length}
+use Rattle.std.specs.declared.alloc.Global.{Global}
+use Rattle.std.proofs.Common.{Vec, vec_len, is_ok}
 use Rattle.std.proofs.lemmas.Bool.Decides.{nat_tests}
+use Rattle.std.proofs.lemmas.Bool.{eq-eqb, false≢true}
 use Rattle.node_table.specs.Table.{diagram_at, count_of}
 use Rattle.spec_model.specs.Diagrams.{Function, value}
-use Rattle.bdd_store.specs.State.{State, IsRoot, roots_at}
+use Rattle.bdd_store.specs.State.{State, IsRoot, roots_at, AddsRoot}
 use Rattle.bdd_ops.specs.Contents.{Contents, function_at}
 use Rattle.bdd_ops.specs.Calls.{KeepsRoots}
 use Rattle.regions.specs.declared.types.Halt.{Halt}
@@ -187,3 +190,38 @@ through_cases old mid whole new xs cs r f g adds keeps makes is back table =
 pub cases_through : {V : Type 0} (items : V → List CaseRoot) (old mid whole new : Contents) (extra : ℕ → ℕ) (r : Result V Halt) (cs ds : List Case) → Between old mid extra → IfOk r (λ v. AddsCases mid whole (items v) ds) → ds ≡ cs → ((n : ℕ) → roots_at whole.state n ≡ roots_at new.state n + extra n) → new.state.table ≡ whole.state.table → IfOk r (λ v. AddsCases old new (items v) cs)
 cases_through items old mid whole new extra (Ok v) cs ds between adds is back table = adds_between old mid whole new extra between back table (items v) cs (subst (λ (es : List Case). AddsCases mid whole (items v) es) is adds)
 cases_through items old mid whole new extra (Err h) cs ds between adds is back table = tt
+
+-- ---- one root after the other is given back
+
+last_in : (rest : List CaseRoot) (x : CaseRoot) → 0 < roots_in (rest ++ x ∷ []) x.root
+last_in rest x = at (x.root == x.root) (eq-eqb x.root x.root refl) (roots_in-push rest x x.root)
+  where
+    at : (b : Bool) → b ≡ true → roots_in (rest ++ x ∷ []) x.root ≡ roots_in rest x.root + cond b 1 0 → 0 < roots_in (rest ++ x ∷ []) x.root
+    at true e push = omega (arith, push)
+    at false e push = absurd (false≢true e)
+
+module _ (first l new : State) (all cases rest : List CaseRoot) (x : CaseRoot) (left : (n : ℕ) → roots_at l n + roots_in all n ≡ roots_at first n + roots_in cases n) (popped : cases ≡ rest ++ x ∷ []) where
+  pub popped_root : HasTogether first all → IsRoot l x.root
+  popped_root has =
+      let here = left x.root in
+      let together_here = has x.root in
+      let some = last_in rest x in
+      let same = ap (λ (xs : List CaseRoot). roots_in xs x.root) popped in
+      omega (arith, here, together_here, some, same)
+
+  pub popped_left : AddsRoot new l x.root → (n : ℕ) → roots_at new n + roots_in all n ≡ roots_at first n + roots_in rest n
+  popped_left back n =
+      let here = left n in
+      let one = back n in
+      let push = roots_in-push rest x n in
+      let same = ap (λ (xs : List CaseRoot). roots_in xs n) popped in
+      omega (arith, here, one, push, same)
+
+pub all_popped : (first l : State) (all cases : List CaseRoot) → ((n : ℕ) → roots_at l n + roots_in all n ≡ roots_at first n + roots_in cases n) → cases ≡ [] → (n : ℕ) → roots_at first n ≡ roots_at l n + roots_in all n
+all_popped first l all cases left none n = let here = left n in let same = ap (λ (xs : List CaseRoot). roots_in xs n) none in omega (arith, here, same)
+
+pub none_left : {X : Type 0} (v : Vec X Global) → vec_len v ≡ 0 → v.items ≡ []
+none_left v e = nil_from_length v.items (omega arith)
+
+pub ok_leaves : {V : Type 0} (first l : Contents) (v : V) → KeepsRoots first l → Leaves first l (Ok v)
+ok_leaves first l v keeps = record { refused = tt; keeps = keeps; full = λ e. absurd (false≢true (sym (ap is_ok e))) }

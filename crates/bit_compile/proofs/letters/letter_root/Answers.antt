@@ -50,7 +50,7 @@ returns-then-left-ne0 c =
     let f : CaseRoot → Function = λ z. function_at first z.root in
     let none = ap (map f) (past_end c.args.atoms.now c.loop-atom.atom-index c.loop-atom-test.false) in
     let is = letter_none (function_at l c.loop-atom.product) (map f (drop c.loop-atom.atom-index c.args.atoms.now)) c.loop-atom.left _ none c.if-left-ne0.true c.loop-atom.invariant.same in
-    turn first l c.constant-none.new.diagrams c.release.new.self c.loop-atom.product c.constant-none.result _ _ c.loop-atom.invariant.made c.constant-none.ensures is c.release.ensures.released c.release.ensures.table
+    turn first l c.constant-none.new.diagrams c.release-then-left-ne0.new.self c.loop-atom.product c.constant-none.result _ _ c.loop-atom.invariant.made c.constant-none.ensures is c.release-then-left-ne0.ensures.released c.release-then-left-ne0.ensures.table
 
 pub returns : goal.returns
 returns c =
