@@ -70,3 +70,9 @@ values-cases g entries at (Product a b) = map-value _ _
 values-cases g entries at (Remainder a n) = map-value _ _
 values-cases g entries at (PastOf op es) = refl
 values-cases g entries at (Entry h n) = refl
+
+-- an entry that is there doesn't depend on what stands for missing ones
+pub got : {X : Type 0} (xs : List X) (i : ℕ) (d d' : X) → i < length xs → get_or xs i d ≡ get_or xs i d'
+got [] i d d' h = absurd (omega arith)
+got (x ∷ xs) zero d d' h = refl
+got (x ∷ xs) (suc i) d d' h = got xs i d d' (omega arith)

@@ -18,7 +18,7 @@ use Rattle.game_values.specs.Safety.{formulas_in}
 use Rattle.game_values.proofs.WholeTables.{table_whole}
 use Rattle.game_values.proofs.TableSteps.{table_atoms}
 use Rattle.bit_compile.specs.Compiled.{values_in}
-use Rattle.bit_compile.specs.Scenes.{IsKnown, AreKnown, IsReadable}
+use Rattle.bit_compile.specs.Known.{IsKnown, AreKnown, IsReadable}
 use Rattle.bit_compile.proofs.Intervals.{interval, countable_sum, countable_difference, countable_product, countable_remainder}
 use Rattle.bit_compile.proofs.Meanings.{truth_holds, some_truth, both_compared, both_summed, both_subtracted, both_multiplied, one_reduced}
 

@@ -4,6 +4,7 @@ pub mod CodeLaws
 pub mod Making
 pub mod Compiled
 pub mod CaseRoots
+pub mod Known
 pub mod Scenes
 pub mod CompileLaws
 pub mod Proper

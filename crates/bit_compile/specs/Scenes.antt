@@ -15,35 +15,8 @@ use Rattle.bit_compile.specs.declared.operation.Operation.{Operation}
 use Rattle.bit_compile.specs.declared.operation.Operation.TheVariants.{Add, Sub, Mul, Mod}
 use Rattle.bit_compile.specs.declared.scenes.Scene.{Scene}
 use Rattle.bit_compile.specs.Domains.{IsCountable, state_domains}
-use Rattle.bit_compile.specs.Compiled.{Case, Entries, span_of, values_in, cases_in, results, entries_of}
-
--- Its variables are there, and its numbers lie in intervals that can be counted.
-module _ (g : GameData) where
-  abbrev mutual
-    pub IsKnown : Formula → Type 0
-    IsKnown (Constant v) = Unit {0}
-    IsKnown (Variable k) = k < length g.variables
-    IsKnown (NextOf e) = IsKnown e
-    IsKnown (Negation e) = IsKnown e
-    IsKnown (Conjunction es) = AreKnown es
-    IsKnown (Disjunction es) = AreKnown es
-    IsKnown (Implication a b) = IsKnown a × IsKnown b
-    IsKnown (Equivalence a b) = IsKnown a × IsKnown b
-    IsKnown (Comparison c a b) = IsKnown a × IsKnown b
-    IsKnown (Sum a b) = IsKnown a × IsKnown b × IsCountable (span_of Add (values_in g a) (values_in g b))
-    IsKnown (Difference a b) = IsKnown a × IsKnown b × IsCountable (span_of Sub (values_in g a) (values_in g b))
-    IsKnown (Product a b) = IsKnown a × IsKnown b × IsCountable (span_of Mul (values_in g a) (values_in g b))
-    IsKnown (Remainder a n) = IsKnown a × IsCountable (span_of Mod (values_in g a) (value.Int n ∷ []))
-    IsKnown (PastOf op es) = Unit {0}
-    IsKnown (Entry h n) = Unit {0}
-
-    pub AreKnown : Formulas → Type 0
-    AreKnown Formulas.none = Unit {0}
-    AreKnown (Formulas.one_more e es) = IsKnown e × AreKnown es
-
--- the cases of an operation on two formulas
-abbrev pub operated_cases : (g : GameData) (entries : Entries) → At → Operation → Formula → Formula → List Case
-operated_cases g entries at op a b = results op (cases_in g entries at a) (cases_in g entries at b) (values_of (span_of op (values_in g a) (values_in g b)))
+use Rattle.bit_compile.specs.Compiled.{Entries, entries_of}
+use Rattle.bit_compile.specs.Known.{IsReadable}
 
 abbrev pub game_seen : Scene → GameData
 game_seen s = game_data s.game.now
@@ -53,10 +26,6 @@ codes_seen s = s.codes.now
 
 abbrev pub entries_seen : Scene → Entries
 entries_seen s = entries_of (game_seen s) (map hidden_data s.hidden.now)
-
--- nothing of the table is left out, and its atoms can be compiled
-abbrev pub IsReadable : GameData → Hidden → Type 0
-IsReadable g h = IsWhole h × AreKnown g (formulas_in h.atoms.items)
 
 -- the bits are those of the game's states, and the tables can be read
 pub record IsScene (s : Scene) : Type 0 where

@@ -13,7 +13,8 @@ ghost use Rattle.bit_compile.specs.Domains.{state_domains, level_count, IsCounta
 ghost use Rattle.bit_compile.specs.Making.{Makes};
 ghost use Rattle.bit_compile.specs.Compiled.{compiled as compiled_lem, truth_in, truths_in, cases_in, entry_of, is_not, implied, same_truth, both_truths, some_pair, results, values_in, span_of};
 ghost use Rattle.bit_compile.specs.CaseRoots.{AreKept, AddsCases, Leaves, cases_at, folded as folded_lem, passes, true_cases};
-ghost use Rattle.bit_compile.specs.Scenes.{IsScene, codes_seen, IsKnown, AreKnown, entries_seen, game_seen, operated_cases};
+ghost use Rattle.bit_compile.specs.Scenes.{IsScene, codes_seen, entries_seen, game_seen};
+ghost use Rattle.bit_compile.specs.Known.{IsKnown, AreKnown, operated_cases};
 ghost use Rattle.bit_compile.specs.CompileLaws.{IsFormulaOf};
 
 use crate::cases::{CaseRoot, Source, cases_from, cases_of_truth, release_all};

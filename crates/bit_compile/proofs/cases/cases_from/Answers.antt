@@ -1,6 +1,7 @@
-use Rattle.std.proofs.Common.{◌≡◌, ◌≤◌, ◌<◌, ◌+◌, ◌∙◌, ◌++◌, [], ◌∷◌, Ok, List, ap, refl, sym, subst, rules, arith, take, map, length}
+use Rattle.std.proofs.Common.{◌≡◌, ◌≤◌, ◌<◌, ◌+◌, ◌∙◌, ◌++◌, [], ◌∷◌, Ok, List, ap, refl, sym, subst, rules, arith, take, map, length, get_or, false}
 use Rattle.std.proofs.lemmas.List.{map-append}
 use Rattle.spec_model.specs.declared.value.Value.{Value}
+use Rattle.spec_model.specs.declared.value.Value.TheVariants as value
 use Rattle.spec_model.specs.Diagrams.{Function}
 use Rattle.bit_compile.specs.Making.{Makes}
 use Rattle.bit_compile.specs.Compiled.{Case}
@@ -9,7 +10,7 @@ use Rattle.bit_compile.specs.declared.cases.CaseRoot.{CaseRoot}
 use Rattle.bit_compile.proofs.Between.{root_before, together, together_after, no_cases, one_more, keeps_more, between_cases, makes_between, leaves_refusal, ok_leaves}
 use Rattle.bit_compile.proofs.Readiness.{ready_stays, had_stays}
 use Rattle.bit_compile.proofs.Folding.{all_next}
-use Rattle.bit_compile.proofs.CyclesLemmas.{take_next, take_all}
+use Rattle.bit_compile.proofs.CyclesLemmas.{take_next, take_all, got}
 use Rattle.bit_compile.proofs.cases.cases_from.Goals as goal
 
 pub loop-value-init : goal.loop-value-init
@@ -28,8 +29,10 @@ case_root-requires c =
     let first = c.args.diagrams.now in
     let l = c.loop-value.diagrams in
     let inv = c.loop-value.invariant in
-    let parts = all_next (IsReady first c.args.source.now) c.args.values.now c.loop-value.value-index c.value-item.result c.loop-value-test.true c.value-item.is inv.ready in
-    ready_stays first l inv.keeps (root_before first l c.loop-value.cases.items _ inv.made) c.args.source.now c.value-item.result parts.0
+    let v = get_or c.args.values.now c.loop-value.value-index (value.Bool false) in
+    let is = got c.args.values.now c.loop-value.value-index (value.Bool false) v c.loop-value-test.true in
+    let parts = all_next (IsReady first c.args.source.now) c.args.values.now c.loop-value.value-index v c.loop-value-test.true is inv.ready in
+    ready_stays first l inv.keeps (root_before first l c.loop-value.cases.items _ inv.made) c.args.source.now v parts.0
 
 pub loop-value-preserved : goal.loop-value-preserved
 loop-value-preserved c =
@@ -40,14 +43,15 @@ loop-value-preserved c =
     let src = c.args.source.now in
     let vs = c.args.values.now in
     let i = c.loop-value.value-index in
-    let v = c.value-item.result in
-    let parts = all_next (IsReady first src) vs i v c.loop-value-test.true c.value-item.is inv.ready in
+    let v = get_or vs i (value.Bool false) in
+    let is = got vs i (value.Bool false) v c.loop-value-test.true in
+    let parts = all_next (IsReady first src) vs i v c.loop-value-test.true is inv.ready in
     let x : CaseRoot = record { value = v; root = c.in-Ok-case_root.root } in
     let f = had_by first src v in
     let before = cases_by first src (take i vs) in
     let step = subst (λ (g : Function). Makes l new (Ok x.root) g) (had_stays first l inv.keeps src v parts.0) c.in-Ok-case_root.ensures in
     let more = one_more first l new c.loop-value.cases.items before x f inv.made inv.keeps step in
-    let longer = ap (cases_by first src) (take_next vs i v c.loop-value-test.true c.value-item.is) ∙ map-append (λ (w : Value). record { value = w; holds = had_by first src w }) (take i vs) (v ∷ []) in
+    let longer = ap (cases_by first src) (take_next vs i v c.loop-value-test.true is) ∙ map-append (λ (w : Value). record { value = w; holds = had_by first src w }) (take i vs) (v ∷ []) in
     record {
       made = subst (λ (xs : List CaseRoot). AddsCases first new xs (cases_by first src (take (i + 1) vs))) (sym c.push_reserved.ensures.items)
       (subst (λ (cs : List Case). AddsCases first new (c.loop-value.cases.items ++ x ∷ []) cs) (sym longer) more);

@@ -4,7 +4,8 @@ use Rattle.spec_model.specs.FormulaSizes.{nodes_in, nodes_in_each}
 use Rattle.game_values.specs.Safety.{formulas_in}
 use Rattle.bdd_ops.specs.Calls.{KeepsRoots}
 use Rattle.bit_compile.specs.CaseRoots.{AddsCases}
-use Rattle.bit_compile.specs.Scenes.{AreKnown, game_seen, entries_seen}
+use Rattle.bit_compile.specs.Known.{AreKnown}
+use Rattle.bit_compile.specs.Scenes.{game_seen, entries_seen}
 use Rattle.bit_compile.proofs.CyclesLemmas.{atoms_left, truth_case}
 use Rattle.bit_compile.proofs.compiling.+compile.Given as goal
 
