@@ -1,20 +1,16 @@
 -- Cases that say which value is had: each is had exactly where it is the value.
-use Rattle.std.proofs.Common.{◌≡◌, ℕ, zero, suc, ◌+◌, ◌<◌, ◌≤◌, ℤ, pos, ◌+ℤ◌, ◌-ℤ◌, ◌≤ℤ◌, ◌<ℤ◌, inl, inr, ◌⊎◌, Bool, true, false, not, ◌&&◌, ◌||◌, List, [], ◌∷◌, map, refl, sym, ◌∙◌, ap, subst, arith}
+use Rattle.std.proofs.Common.{◌≡◌, ℕ, inl, inr, Bool, true, false, not, ◌&&◌, List, [], ◌∷◌, map, refl, sym, ◌∙◌, ap, subst, arith}
 use Rattle.std.proofs.lemmas.Bool.{and_parts, and_from, or_cases, or_left, or_right, false≢true}
-use Rattle.std.specs.List.{list_any, list_all, AllByRecursion}
-use Rattle.std.specs.Ordering.{int_eq}
-use Rattle.std.specs.Bool.{beq}
+use Rattle.std.specs.List.{list_any, AllByRecursion}
 use Rattle.std.proofs.lemmas.Bool.Decides.{Decides-int_eq, nat_tests}
-use Rattle.std.proofs.lemmas.Int.{ints}
 use Rattle.spec_model.specs.declared.value.Value.{Value}
 use Rattle.spec_model.specs.declared.value.Value.TheVariants as value
-use Rattle.spec_model.specs.Values.{DomainData, TruthValues, same_value, truth_of, number_of, values_of, rank_of}
+use Rattle.spec_model.specs.Values.{DomainData, same_value, number_of, values_of, rank_of}
 use Rattle.spec_model.specs.Diagrams.{Bits, Function}
 use Rattle.spec_model.proofs.AllStates.{same_value-true}
 use Rattle.game_values.specs.declared.seen.At.{At}
 use Rattle.bit_compile.specs.declared.operation.Operation.{Operation}
-use Rattle.bit_compile.specs.Domains.{width_of}
-use Rattle.bit_compile.specs.Codes.{level_at, width_at, domain_in, has_number}
+use Rattle.bit_compile.specs.Codes.{level_at, width_at, domain_in}
 use Rattle.bit_compile.specs.Compiled.{Case, is_code, coded, only, both_truths, some_pair, combined, gives, results}
 use Rattle.bit_compile.proofs.NumberLemmas.{one_number, same_bools}
 use Rattle.bit_compile.proofs.LawLemmas.{code_small, one_value}

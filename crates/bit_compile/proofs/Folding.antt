@@ -1,9 +1,8 @@
 -- One part more of a conjunction or disjunction.
-use Rattle.std.proofs.Common.{◌≡◌, ◌≢◌, ℕ, zero, suc, ◌+◌, ◌<◌, ◌≤◌, inl, inr, ◌⊎◌, Bool, true, false, not, ◌&&◌, ◌||◌, ◌==◌, ◌*◌, ◌/◌, ◌%◌, if◌then◌else◌, Result, Ok, Err, List, [], ◌∷◌, ◌++◌, map, drop, length, get_or, refl, sym, ◌∙◌, ap, subst, arith}
-use Rattle.std.specs.List.{list_any, list_all, AllByRecursion}
+use Rattle.std.proofs.Common.{◌≡◌, ◌≢◌, ℕ, zero, suc, ◌+◌, ◌<◌, ◌≤◌, Bool, true, false, not, ◌&&◌, ◌||◌, ◌==◌, ◌*◌, ◌/◌, ◌%◌, if◌then◌else◌, Result, Ok, Err, List, [], ◌∷◌, ◌++◌, map, drop, length, get_or, refl, sym, ◌∙◌, ap, subst, arith}
+use Rattle.std.specs.List.{list_any, AllByRecursion}
 use Rattle.std.specs.Bool.{beq}
 use Rattle.std.proofs.lemmas.Bool.{and_parts, and_from, eqb-true, eq-eqb, ne_eqb, false≢true}
-use Rattle.std.proofs.lemmas.Bool.Decides.{nat_tests}
 use Rattle.spec_model.specs.declared.value.Value.{Value}
 use Rattle.spec_model.specs.Games.{letter_of}
 use Rattle.spec_model.specs.Diagrams.{Bits, Function}
@@ -134,22 +133,22 @@ all_still first l row xs made kept = still_kept first.state l.state xs (λ n roo
 
 odd : (rest left : ℕ) → (1 + 2 * rest == left) ≡ ((left % 2 == 1) && (rest == left / 2))
 odd rest left = same_bools _ _
-  (λ e. (let same = eqb-true (1 + 2 * rest) left e in
+    (λ e. (let same = eqb-true (1 + 2 * rest) left e in
     let one : left % 2 ≡ 1 = omega (arith, same) in
     let half : rest ≡ left / 2 = omega (arith, same) in
     and_from (left % 2 == 1) (rest == left / 2) (eq-eqb (left % 2) 1 one) (eq-eqb rest (left / 2) half)))
-  (λ e. (let parts = and_parts (left % 2 == 1) (rest == left / 2) e in
+    (λ e. (let parts = and_parts (left % 2 == 1) (rest == left / 2) e in
     let one = eqb-true (left % 2) 1 parts.0 in
     let half = eqb-true rest (left / 2) parts.1 in
     eq-eqb (1 + 2 * rest) left (omega (arith, one, half))))
 
 even : (rest left : ℕ) → (0 + 2 * rest == left) ≡ (not (left % 2 == 1) && (rest == left / 2))
 even rest left = same_bools _ _
-  (λ e. (let same = eqb-true (0 + 2 * rest) left e in
+    (λ e. (let same = eqb-true (0 + 2 * rest) left e in
     let none : left % 2 ≢ 1 = omega (arith, same) in
     let half : rest ≡ left / 2 = omega (arith, same) in
     and_from (not (left % 2 == 1)) (rest == left / 2) (ap not (ne_eqb (left % 2) 1 none)) (eq-eqb rest (left / 2) half)))
-  (λ e. (let parts = and_parts (not (left % 2 == 1)) (rest == left / 2) e in
+    (λ e. (let parts = and_parts (not (left % 2 == 1)) (rest == left / 2) e in
     let other : (left % 2 == 1) ≡ false = not_true (left % 2 == 1) parts.0 in
     let none : left % 2 ≢ 1 = λ same. false≢true (sym other ∙ eq-eqb (left % 2) 1 same) in
     let half = eqb-true rest (left / 2) parts.1 in

@@ -1,5 +1,5 @@
 -- A compiled formula is the formula's value at the bits of a state and the next one.
-use Rattle.std.proofs.Common.{◌≡◌, ℕ, zero, suc, ◌+◌, ◌<◌, pos, inl, inr, ◌⊎◌, Bool, true, false, not, ◌&&◌, List, [], ◌∷◌, ◌++◌, map, length, length-append, option_map, slice_get, get_or, refl, sym, ◌∙◌, ap, subst, arith}
+use Rattle.std.proofs.Common.{◌≡◌, ℕ, zero, suc, ◌+◌, ◌<◌, pos, inl, inr, ◌⊎◌, true, false, not, List, [], ◌∷◌, ◌++◌, map, length, length-append, option_map, slice_get, get_or, refl, sym, ◌∙◌, ap, subst, arith}
 use Rattle.std.specs.List.{list_any, list_all}
 use Rattle.std.specs.Prelude.{IsTrue}
 use Rattle.std.proofs.lemmas.Bool.{and_parts, false≢true}
@@ -8,12 +8,12 @@ use Rattle.spec_model.specs.declared.value.Value.{Value}
 use Rattle.spec_model.specs.declared.value.Value.TheVariants as value
 use Rattle.spec_model.specs.Values.{DomainData, same_value, values_of, rank_of}
 use Rattle.spec_model.specs.Syntax.{Formula}
-use Rattle.spec_model.specs.Meaning.{Reading, holds_at}
-use Rattle.spec_model.specs.Typing.{Scope, kind_of, kind_of_domain, is_truth}
+use Rattle.spec_model.specs.Meaning.{holds_at}
+use Rattle.spec_model.specs.Typing.{kind_of, kind_of_domain, is_truth}
 use Rattle.spec_model.specs.Moves.{is_env, domains_of, has_next, value_among}
 use Rattle.spec_model.specs.Games.{GameData, HiddenData, State, listed, step_reading, nothing_read, readout_of, entry_at}
 use Rattle.spec_model.specs.Steps.{is_state, is_input, is_output, are_hidden_values, is_output_variable}
-use Rattle.spec_model.specs.WellMade.{WellMade, is_domain, are_tables, is_step_formula, is_stepwise, scope_of, awaits_output}
+use Rattle.spec_model.specs.WellMade.{WellMade, is_domain, is_step_formula, is_stepwise, scope_of, awaits_output}
 use Rattle.spec_model.specs.Diagrams.{Bits}
 use Rattle.game_values.specs.declared.seen.At.{At}
 use Rattle.game_values.specs.declared.seen.At.TheVariants.{Now, Next}
@@ -23,7 +23,7 @@ use Rattle.game_values.proofs.Typed.{typed_among}
 use Rattle.bit_compile.specs.Domains.{state_domains, table_domain}
 use Rattle.bit_compile.specs.Codes.{HasValues, code_at, domain_in}
 use Rattle.bit_compile.specs.Compiled.{is_code, coded, place_of, variable_domain, entry_of, entries_of, compiled}
-use Rattle.bit_compile.specs.CompileLaws.{IsInputSlot, IsOutputSlot, IsAwaited, HasAwaited}
+use Rattle.bit_compile.specs.CompileLaws.{IsInputSlot, IsOutputSlot, HasAwaited}
 use Rattle.bit_compile.proofs.SlotLemmas.{value_among as among_domain, length-assignment}
 use Rattle.bit_compile.proofs.LawLemmas.{state_listed}
 use Rattle.bit_compile.proofs.Describing.{Describes, describes_code}

@@ -1,17 +1,15 @@
 -- The values that a formula may have are those of its kind, and its value is among them.
-use Rattle.std.proofs.Common.{◌≡◌, ℕ, zero, suc, ◌+◌, ◌-◌, ◌^◌, ◌<◌, ◌≤◌, ℤ, pos, neg_ℤ, ◌+ℤ◌, ◌-ℤ◌, ◌*ℤ◌, ◌≤ℤ◌, ◌<ℤ◌, nat_abs, inl, inr, ◌⊎◌, Bool, true, false, ◌&&◌, ◌==◌, if◌then◌else◌, List, [], ◌∷◌, map, length, Option, Some, None, is_some, option_map, slice_get, get_or, refl, sym, ◌∙◌, ap, subst, arith, cond}
+use Rattle.std.proofs.Common.{◌≡◌, ℕ, zero, suc, ◌+◌, ◌-◌, ◌^◌, ◌<◌, ℤ, pos, neg_ℤ, ◌+ℤ◌, ◌-ℤ◌, ◌≤ℤ◌, nat_abs, Bool, true, false, ◌&&◌, ◌==◌, if◌then◌else◌, List, [], ◌∷◌, map, length, Option, Some, None, is_some, option_map, slice_get, get_or, refl, sym, ◌∙◌, ap, subst, arith, cond}
 use Rattle.std.specs.Prelude.{int_le, int_lt}
-use Rattle.std.specs.Int.{int_min, int_max, int_rem_euclid}
 use Rattle.std.specs.List.{list_any, list_all}
 use Rattle.std.proofs.lemmas.Bool.{and_parts, and_from, false≢true}
 use Rattle.std.proofs.lemmas.Int.{ints, clamps}
-use Rattle.std.proofs.lemmas.Option.{slice_get-map}
 use Rattle.spec_model.specs.declared.value.Value.{Value}
 use Rattle.spec_model.specs.declared.value.Value.TheVariants as value
 use Rattle.spec_model.specs.declared.expr.Compare.{Compare}
 use Rattle.spec_model.specs.Values.{DomainData, TruthValues, WholeNumbers, Enumeration, same_value, number_of, values_of, rising_from}
-use Rattle.spec_model.specs.Syntax.{Formula, Constant, Variable, NextOf, Negation, Conjunction, Disjunction, Implication, Equivalence, Comparison, Sum, Difference, Product, Remainder, PastOf, Entry, Formulas, VariableData}
-use Rattle.spec_model.specs.Typing.{Kind, Truth, Whole, NameOf, OneName, Scope, whole, kind_of, kind_of_value, kind_of_domain, are_truths, is_truth, truth_if, compared, can_compare, summed, subtracted, multiplied, reduced, has_table, count_of, operands_of}
+use Rattle.spec_model.specs.Syntax.{Formula, Constant, Variable, NextOf, Negation, Conjunction, Disjunction, Implication, Equivalence, Comparison, Sum, Difference, Product, Remainder, PastOf, Entry}
+use Rattle.spec_model.specs.Typing.{Kind, Whole, Scope, whole, kind_of, kind_of_value, kind_of_domain, are_truths, is_truth, truth_if, compared, can_compare, summed, subtracted, multiplied, reduced, has_table, count_of, operands_of}
 use Rattle.spec_model.specs.Games.{GameData}
 use Rattle.spec_model.specs.WellMade.{is_domain}
 use Rattle.spec_model.proofs.Domains.{in_range}

@@ -1,20 +1,16 @@
 -- Well-made formulas and tables can be compiled.
-use Rattle.std.proofs.Common.{◌≡◌, ℕ, zero, suc, ◌<◌, ◌≤◌, ℤ, inl, inr, ◌⊎◌, Bool, true, false, ◌&&◌, ◌==◌, nat_lt, List, [], ◌∷◌, ◌++◌, map, length, take, Option, Some, None, is_some, option_map, slice_get, refl, sym, ◌∙◌, ap, subst, arith}
+use Rattle.std.proofs.Common.{◌≡◌, ℕ, zero, suc, ◌<◌, ◌≤◌, inl, inr, ◌⊎◌, true, false, ◌&&◌, List, [], ◌∷◌, ◌++◌, map, length, take, is_some, option_map, slice_get, refl, sym, ◌∙◌, ap, arith}
 use Rattle.std.specs.List.{list_all, AllByRecursion}
 use Rattle.std.proofs.lemmas.Bool.{and_parts, false≢true}
 use Rattle.std.proofs.lemmas.List.{length-map}
 use Rattle.std.proofs.lemmas.Option.{slice_get_past}
-use Rattle.spec_model.specs.declared.expr.Expr.{Expr}
 use Rattle.spec_model.specs.declared.game.Hidden.{Hidden}
-use Rattle.spec_model.specs.Values.{DomainData}
 use Rattle.spec_model.specs.Syntax.{Formula, Constant, Variable, NextOf, Negation, Conjunction, Disjunction, Implication, Equivalence, Comparison, Sum, Difference, Product, Remainder, PastOf, Entry, Formulas, formulas, VariableData}
 use Rattle.spec_model.specs.Views.{formula}
 use Rattle.spec_model.specs.GameViews.{hidden_data}
 use Rattle.spec_model.specs.Typing.{Scope, kind_of, kind_of_domain, are_truths, is_truth}
-use Rattle.spec_model.specs.Moves.{has_next}
-use Rattle.spec_model.specs.Games.{GameData, HiddenData}
-use Rattle.spec_model.specs.WellMade.{is_domain, is_table, are_tables, is_step_formula, is_state_formula, is_stepwise, cell_count}
-use Rattle.game_values.specs.Safety.{formulas_in}
+use Rattle.spec_model.specs.Games.{GameData}
+use Rattle.spec_model.specs.WellMade.{is_domain, is_table, are_tables, is_step_formula, is_state_formula, is_stepwise}
 use Rattle.game_values.proofs.WholeTables.{table_whole}
 use Rattle.game_values.proofs.TableSteps.{table_atoms}
 use Rattle.bit_compile.specs.Compiled.{values_in}

@@ -1,17 +1,16 @@
 -- A compiled formula is the formula's value, wherever its variables and entries are had.
-use Rattle.std.proofs.Common.{◌≡◌, ℕ, zero, suc, ◌+◌, ◌<◌, ℤ, pos, ◌+ℤ◌, ◌-ℤ◌, ◌*ℤ◌, Bool, true, false, not, ◌&&◌, ◌||◌, ◌==◌, if◌then◌else◌, List, [], ◌∷◌, map, length, Option, Some, None, is_some, option_map, slice_get, refl, sym, ◌∙◌, ap, subst}
-use Rattle.std.specs.Prelude.{int_lt}
+use Rattle.std.proofs.Common.{◌≡◌, ℕ, ℤ, pos, Bool, true, false, not, ◌&&◌, ◌||◌, if◌then◌else◌, map, Option, Some, None, is_some, option_map, slice_get, refl, sym, ◌∙◌, ap, subst}
 use Rattle.std.specs.Int.{int_rem_euclid}
-use Rattle.std.specs.List.{list_any, list_all, AllByRecursion}
+use Rattle.std.specs.List.{list_any, list_all}
 use Rattle.std.specs.Bool.{beq}
-use Rattle.std.proofs.lemmas.Bool.{and_parts, or_cases, false≢true}
+use Rattle.std.proofs.lemmas.Bool.{and_parts, false≢true}
 use Rattle.spec_model.specs.declared.value.Value.{Value}
 use Rattle.spec_model.specs.declared.value.Value.TheVariants as value
 use Rattle.spec_model.specs.declared.expr.Compare.{Compare}
-use Rattle.spec_model.specs.Values.{DomainData, TruthValues, WholeNumbers, Enumeration, same_value, truth_of, number_of, values_of}
+use Rattle.spec_model.specs.Values.{DomainData, TruthValues, WholeNumbers, Enumeration, same_value, truth_of, number_of}
 use Rattle.spec_model.specs.Syntax.{Formula, Constant, Variable, NextOf, Negation, Conjunction, Disjunction, Implication, Equivalence, Comparison, Sum, Difference, Product, Remainder, PastOf, Entry, Formulas}
 use Rattle.spec_model.specs.Meaning.{Reading, value_at, truths_at, compare_values}
-use Rattle.spec_model.specs.Typing.{Kind, Truth, Whole, NameOf, OneName, Scope, whole, kind_of, kind_of_value, kind_of_domain, are_truths, is_truth, truth_if, compared, summed, subtracted, multiplied, reduced}
+use Rattle.spec_model.specs.Typing.{Kind, Truth, Whole, NameOf, OneName, Scope, kind_of, kind_of_domain, are_truths, is_truth, truth_if, compared, summed, subtracted, multiplied, reduced}
 use Rattle.spec_model.specs.Games.{GameData}
 use Rattle.spec_model.specs.WellMade.{is_domain, is_stepwise, are_stepwise}
 use Rattle.spec_model.specs.Diagrams.{Bits, Function}
@@ -19,10 +18,9 @@ use Rattle.game_values.specs.declared.seen.At.{At}
 use Rattle.game_values.specs.declared.seen.At.TheVariants.{Now, Next}
 use Rattle.game_values.specs.Times.{time_of}
 use Rattle.game_values.proofs.Safe.{IsTyped, within}
-use Rattle.bit_compile.specs.declared.operation.Operation.{Operation}
 use Rattle.bit_compile.specs.declared.operation.Operation.TheVariants.{Add, Sub, Mul, Mod}
 use Rattle.bit_compile.specs.Domains.{state_domains}
-use Rattle.bit_compile.specs.Compiled.{Case, Entries, place_of, variable_domain, is_code, coded, only, both_truths, entry_of, truth_in, truths_in, cases_in, values_in, some_pair, results, span_of, combined, all_of, some_of}
+use Rattle.bit_compile.specs.Compiled.{Entries, place_of, variable_domain, coded, only, both_truths, entry_of, truth_in, truths_in, cases_in, values_in, some_pair, combined, all_of, some_of}
 use Rattle.bit_compile.proofs.Describing.{Describes, describes_truth, describes_only, describes_result, some_pair-is}
 use Rattle.bit_compile.proofs.Intervals.{interval, domain_there, sum_among, difference_among, product_among, remainder_among, positive}
 

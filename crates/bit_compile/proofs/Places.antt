@@ -1,15 +1,14 @@
 -- Where the variables and the hidden tables stand in a state.
-use Rattle.std.proofs.Common.{◌≡◌, ℕ, zero, suc, ◌+◌, ◌<◌, ◌≤◌, pos, inl, inr, ◌⊎◌, Bool, true, false, not, ◌&&◌, if◌then◌else◌, nat_lt, List, [], ◌∷◌, ◌++◌, map, length, length-append, take, count_by, Option, Some, None, option_map, unwrap_or, slice_get, get_or, refl, sym, ◌∙◌, ap, subst, arith}
+use Rattle.std.proofs.Common.{◌≡◌, ℕ, zero, suc, ◌+◌, ◌<◌, pos, inl, inr, ◌⊎◌, Bool, true, false, not, if◌then◌else◌, nat_lt, List, [], ◌∷◌, ◌++◌, map, length, length-append, take, count_by, Some, option_map, unwrap_or, slice_get, get_or, refl, sym, ◌∙◌, ap, arith}
 use Rattle.std.proofs.lemmas.Bool.{and_parts, false≢true}
 use Rattle.std.proofs.lemmas.List.{length-map}
 use Rattle.std.proofs.lemmas.Option.{slice_get-map}
-use Rattle.spec_model.specs.declared.value.Value.{Value}
 use Rattle.spec_model.specs.declared.value.Value.TheVariants as value
 use Rattle.spec_model.specs.declared.value.Var.{Var}
 use Rattle.spec_model.specs.Views.{variable_data}
 use Rattle.spec_model.specs.declared.value.Owner.{Owner}
 use Rattle.spec_model.specs.declared.value.Owner.TheVariants.{Env, Sys}
-use Rattle.spec_model.specs.Values.{DomainData, TruthValues, is_assignment}
+use Rattle.spec_model.specs.Values.{DomainData, TruthValues}
 use Rattle.spec_model.specs.Syntax.{VariableData}
 use Rattle.spec_model.specs.Moves.{is_env, domains_of, value_among}
 use Rattle.spec_model.specs.Games.{HiddenData, GameData, State, listed}

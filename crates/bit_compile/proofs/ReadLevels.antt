@@ -1,5 +1,5 @@
 -- A compiled formula reads no other levels than those of what the formula reads.
-use Rattle.std.proofs.Common.{◌≡◌, ℕ, zero, suc, ◌+◌, ◌^◌, ◌<◌, ◌≤◌, nat_abs, inl, inr, ◌⊎◌, Bool, true, false, not, ◌&&◌, ◌||◌, ◌==◌, if◌then◌else◌, List, [], ◌∷◌, ◌++◌, map, length, length-append, get_or, is_some, refl, sym, ◌∙◌, ap, subst, arith}
+use Rattle.std.proofs.Common.{◌≡◌, ℕ, zero, suc, ◌+◌, ◌^◌, ◌<◌, ◌≤◌, nat_abs, inl, inr, ◌⊎◌, Bool, true, false, not, ◌&&◌, ◌||◌, ◌==◌, if◌then◌else◌, List, [], ◌∷◌, ◌++◌, map, length, length-append, get_or, refl, sym, ◌∙◌, ap, arith}
 use Rattle.std.specs.List.{list_any, list_all, AllByRecursion}
 use Rattle.std.specs.Bool.{beq}
 use Rattle.std.proofs.lemmas.Bool.{and_parts, false≢true}
@@ -14,7 +14,7 @@ use Rattle.spec_model.specs.Typing.{Scope, kind_of, is_truth}
 use Rattle.spec_model.specs.Moves.{is_env, domains_of, has_next}
 use Rattle.spec_model.specs.Games.{GameData, HiddenData, letter_of}
 use Rattle.spec_model.specs.Steps.{is_output_variable}
-use Rattle.spec_model.specs.WellMade.{WellMade, is_domain, is_table, are_tables, is_state_formula, is_step_formula, is_stepwise, scope_of, awaits_output}
+use Rattle.spec_model.specs.WellMade.{WellMade, is_table, are_tables, is_state_formula, is_step_formula, is_stepwise, scope_of, awaits_output}
 use Rattle.spec_model.specs.Diagrams.{Bits, Function, with_bit}
 use Rattle.bdd_ops.specs.Functions.{Ignores}
 use Rattle.game_values.specs.declared.seen.At.{At}
@@ -29,7 +29,6 @@ use Rattle.bit_compile.specs.CompileLaws.{IsInputSlot, IsOutputSlot, IsReadLevel
 use Rattle.bit_compile.proofs.NumberLemmas.{has_number-same}
 use Rattle.bit_compile.proofs.Meanings.{Reads, ReadsEach, some_truth}
 use Rattle.bit_compile.proofs.ReadVariables.{reads, reads_now}
-use Rattle.bit_compile.proofs.Knowing.{domains_made}
 use Rattle.bit_compile.proofs.TableMeanings.{get-pushed}
 use Rattle.bit_compile.proofs.Places.{placed}
 

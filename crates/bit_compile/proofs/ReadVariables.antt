@@ -1,9 +1,8 @@
 -- Which variables a well-made formula reads.
-use Rattle.std.proofs.Common.{◌≡◌, ℕ, ◌<◌, Bool, true, false, not, ◌&&◌, ◌||◌, List, [], ◌∷◌, map, length, is_some, refl, sym, ◌∙◌, ap, subst}
-use Rattle.std.proofs.lemmas.Bool.{and_parts, or_left, or_right, not-true, false≢true}
-use Rattle.spec_model.specs.Values.{DomainData}
+use Rattle.std.proofs.Common.{◌≡◌, ℕ, ◌<◌, Bool, true, false, not, ◌&&◌, ◌||◌, map, length, is_some, refl, sym, ◌∙◌, ap}
+use Rattle.std.proofs.lemmas.Bool.{and_parts, or_left, or_right, false≢true}
 use Rattle.spec_model.specs.Syntax.{Formula, Constant, Variable, NextOf, Negation, Conjunction, Disjunction, Implication, Equivalence, Comparison, Sum, Difference, Product, Remainder, PastOf, Entry, Formulas}
-use Rattle.spec_model.specs.Typing.{Scope, kind_of, kind_of_domain, are_truths, is_truth}
+use Rattle.spec_model.specs.Typing.{Scope, kind_of, are_truths, is_truth}
 use Rattle.spec_model.specs.Moves.{has_next, some_has_next}
 use Rattle.spec_model.specs.Games.{GameData}
 use Rattle.spec_model.specs.Steps.{is_output_variable}
@@ -40,33 +39,31 @@ module _ (g : GameData) (sc : Scope) (domains : sc.domains ≡ map (λ v. v.doma
     reads (Conjunction es) at k w f = reads_each es at (truth_holds (are_truths sc es) k) w f
     reads (Disjunction es) at k w f = reads_each es at (truth_holds (are_truths sc es) k) w f
     reads (Implication a b) at k w f =
-        let ks = and_parts (is_truth (kind_of sc a)) (is_truth (kind_of sc b)) (truth_holds (is_truth (kind_of sc a) && is_truth (kind_of sc b)) k) in
-        (
+        let ks = and_parts (is_truth (kind_of sc a)) (is_truth (kind_of sc b)) (truth_holds (is_truth (kind_of sc a) && is_truth (kind_of sc b)) k) in (
           reads a at (some_truth (kind_of sc a) ks.0) (and_parts (is_stepwise (under at) a) (is_stepwise (under at) b) w).0 (left at (has_next a) (has_next b) (awaits_output g.variables (under at) a) (awaits_output g.variables (under at) b) f),
           reads b at (some_truth (kind_of sc b) ks.1) (and_parts (is_stepwise (under at) a) (is_stepwise (under at) b) w).1 (right at (has_next a) (has_next b) (awaits_output g.variables (under at) a) (awaits_output g.variables (under at) b) f),
         )
     reads (Equivalence a b) at k w f =
-        let ks = and_parts (is_truth (kind_of sc a)) (is_truth (kind_of sc b)) (truth_holds (is_truth (kind_of sc a) && is_truth (kind_of sc b)) k) in
-        (
+        let ks = and_parts (is_truth (kind_of sc a)) (is_truth (kind_of sc b)) (truth_holds (is_truth (kind_of sc a) && is_truth (kind_of sc b)) k) in (
           reads a at (some_truth (kind_of sc a) ks.0) (and_parts (is_stepwise (under at) a) (is_stepwise (under at) b) w).0 (left at (has_next a) (has_next b) (awaits_output g.variables (under at) a) (awaits_output g.variables (under at) b) f),
           reads b at (some_truth (kind_of sc b) ks.1) (and_parts (is_stepwise (under at) a) (is_stepwise (under at) b) w).1 (right at (has_next a) (has_next b) (awaits_output g.variables (under at) a) (awaits_output g.variables (under at) b) f),
         )
     reads (Comparison c a b) at k w f = let ks = both_compared c (kind_of sc a) (kind_of sc b) k in (
-          reads a at ks.0 (and_parts (is_stepwise (under at) a) (is_stepwise (under at) b) w).0 (left at (has_next a) (has_next b) (awaits_output g.variables (under at) a) (awaits_output g.variables (under at) b) f),
-          reads b at ks.1 (and_parts (is_stepwise (under at) a) (is_stepwise (under at) b) w).1 (right at (has_next a) (has_next b) (awaits_output g.variables (under at) a) (awaits_output g.variables (under at) b) f),
-        )
+      reads a at ks.0 (and_parts (is_stepwise (under at) a) (is_stepwise (under at) b) w).0 (left at (has_next a) (has_next b) (awaits_output g.variables (under at) a) (awaits_output g.variables (under at) b) f),
+      reads b at ks.1 (and_parts (is_stepwise (under at) a) (is_stepwise (under at) b) w).1 (right at (has_next a) (has_next b) (awaits_output g.variables (under at) a) (awaits_output g.variables (under at) b) f),
+    )
     reads (Sum a b) at k w f = let ks = both_summed (kind_of sc a) (kind_of sc b) k in (
-          reads a at ks.0 (and_parts (is_stepwise (under at) a) (is_stepwise (under at) b) w).0 (left at (has_next a) (has_next b) (awaits_output g.variables (under at) a) (awaits_output g.variables (under at) b) f),
-          reads b at ks.1 (and_parts (is_stepwise (under at) a) (is_stepwise (under at) b) w).1 (right at (has_next a) (has_next b) (awaits_output g.variables (under at) a) (awaits_output g.variables (under at) b) f),
-        )
+      reads a at ks.0 (and_parts (is_stepwise (under at) a) (is_stepwise (under at) b) w).0 (left at (has_next a) (has_next b) (awaits_output g.variables (under at) a) (awaits_output g.variables (under at) b) f),
+      reads b at ks.1 (and_parts (is_stepwise (under at) a) (is_stepwise (under at) b) w).1 (right at (has_next a) (has_next b) (awaits_output g.variables (under at) a) (awaits_output g.variables (under at) b) f),
+    )
     reads (Difference a b) at k w f = let ks = both_subtracted (kind_of sc a) (kind_of sc b) k in (
-          reads a at ks.0 (and_parts (is_stepwise (under at) a) (is_stepwise (under at) b) w).0 (left at (has_next a) (has_next b) (awaits_output g.variables (under at) a) (awaits_output g.variables (under at) b) f),
-          reads b at ks.1 (and_parts (is_stepwise (under at) a) (is_stepwise (under at) b) w).1 (right at (has_next a) (has_next b) (awaits_output g.variables (under at) a) (awaits_output g.variables (under at) b) f),
-        )
+      reads a at ks.0 (and_parts (is_stepwise (under at) a) (is_stepwise (under at) b) w).0 (left at (has_next a) (has_next b) (awaits_output g.variables (under at) a) (awaits_output g.variables (under at) b) f),
+      reads b at ks.1 (and_parts (is_stepwise (under at) a) (is_stepwise (under at) b) w).1 (right at (has_next a) (has_next b) (awaits_output g.variables (under at) a) (awaits_output g.variables (under at) b) f),
+    )
     reads (Product a b) at k w f = let ks = both_multiplied (kind_of sc a) (kind_of sc b) k in (
-          reads a at ks.0 (and_parts (is_stepwise (under at) a) (is_stepwise (under at) b) w).0 (left at (has_next a) (has_next b) (awaits_output g.variables (under at) a) (awaits_output g.variables (under at) b) f),
-          reads b at ks.1 (and_parts (is_stepwise (under at) a) (is_stepwise (under at) b) w).1 (right at (has_next a) (has_next b) (awaits_output g.variables (under at) a) (awaits_output g.variables (under at) b) f),
-        )
+      reads a at ks.0 (and_parts (is_stepwise (under at) a) (is_stepwise (under at) b) w).0 (left at (has_next a) (has_next b) (awaits_output g.variables (under at) a) (awaits_output g.variables (under at) b) f),
+      reads b at ks.1 (and_parts (is_stepwise (under at) a) (is_stepwise (under at) b) w).1 (right at (has_next a) (has_next b) (awaits_output g.variables (under at) a) (awaits_output g.variables (under at) b) f),
+    )
     reads (Remainder a n) at k w f = reads a at (one_reduced (kind_of sc a) n k) w f
     reads (PastOf op es) at k w f = tt
     reads (Entry h n) at k w f = tt

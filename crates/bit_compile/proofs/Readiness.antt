@@ -1,11 +1,11 @@
 -- What tells where a value is had stays while roots are made.
 use Rattle.std.specs.List.{AllByRecursion}
-use Rattle.std.proofs.Common.{◌≡◌, ℕ, ◌<◌, ◌≤◌, List, [], ◌∷◌, nat_abs, refl, sym, ◌∙◌, ap, subst}
+use Rattle.std.proofs.Common.{◌≡◌, ℕ, ◌≤◌, List, [], ◌∷◌, nat_abs, refl, sym, ◌∙◌, ap, subst}
 use Rattle.spec_model.specs.declared.value.Value.{Value}
 use Rattle.spec_model.specs.Values.{number_of}
 use Rattle.spec_model.specs.Diagrams.{Function}
 use Rattle.bdd_store.specs.State.{IsRoot}
-use Rattle.bdd_ops.specs.Contents.{Contents, function_at}
+use Rattle.bdd_ops.specs.Contents.{Contents}
 use Rattle.bdd_ops.specs.Calls.{KeepsRoots}
 use Rattle.bit_compile.specs.declared.cases.Source.{Source}
 use Rattle.bit_compile.specs.declared.cases.Source.TheVariants as source

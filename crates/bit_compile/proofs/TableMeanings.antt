@@ -1,34 +1,32 @@
 -- The entries of hidden tables, compiled, are those that the tables give at a state.
-use Rattle.std.proofs.Common.{◌≡◌, ℕ, zero, suc, ◌+◌, ◌-◌, ◌*◌, ◌^◌, ◌<◌, ◌≤◌, ℤ, pos, ◌+ℤ◌, ◌-ℤ◌, ◌≤ℤ◌, nat_abs, inl, inr, ◌⊎◌, Bool, true, false, not, ◌&&◌, ◌||◌, ◌==◌, if◌then◌else◌, List, [], ◌∷◌, ◌++◌, map, length, length-append, get_or, refl, sym, ◌∙◌, ap, subst, arith, cond}
+use Rattle.std.proofs.Common.{◌≡◌, ℕ, zero, suc, ◌+◌, ◌*◌, ◌^◌, ◌<◌, ℤ, pos, ◌+ℤ◌, ◌-ℤ◌, ◌≤ℤ◌, nat_abs, Bool, true, false, not, ◌||◌, ◌==◌, if◌then◌else◌, List, [], ◌∷◌, ◌++◌, map, length, length-append, get_or, refl, sym, ◌∙◌, ap, subst, arith, cond}
 use Rattle.std.specs.Prelude.{int_le}
 use Rattle.std.specs.List.{list_any, list_all, AllByRecursion}
 use Rattle.std.specs.Ordering.{int_eq}
-use Rattle.std.proofs.lemmas.Bool.{eqb-true, eq-eqb, and_parts, false≢true}
+use Rattle.std.proofs.lemmas.Bool.{eqb-true, eq-eqb, and_parts}
 use Rattle.std.proofs.lemmas.Bool.Decides.{Decides-int_eq, nat_tests}
 use Rattle.std.proofs.lemmas.Int.{ints}
 use Rattle.std.proofs.lemmas.List.{length-map}
 use Rattle.std.proofs.Math.Nat.{pow-suc}
 use Rattle.spec_model.specs.declared.value.Value.{Value}
 use Rattle.spec_model.specs.declared.value.Value.TheVariants as value
-use Rattle.spec_model.specs.Values.{DomainData, TruthValues, WholeNumbers, same_value, values_of, rising_from, rank_of, number_of}
+use Rattle.spec_model.specs.Values.{DomainData, same_value, values_of, rising_from, number_of}
 use Rattle.spec_model.specs.Syntax.{Formula}
 use Rattle.spec_model.specs.Rules.{Position}
 use Rattle.spec_model.specs.Meaning.{Reading, holds_at}
-use Rattle.std.proofs.Common.{Option, option_map, slice_get}
+use Rattle.std.proofs.Common.{option_map, slice_get}
 use Rattle.spec_model.specs.Moves.{has_next, value_among}
 use Rattle.game_values.proofs.Spans.{IsWithin}
 use Rattle.spec_model.specs.Typing.{Scope, kind_of, kind_of_domain, is_truth}
-use Rattle.spec_model.specs.Games.{GameData, HiddenData, Readout, letter_of, present_reading, cell_of, entries_in, read_table, read_tables, nothing_read}
+use Rattle.spec_model.specs.Games.{GameData, HiddenData, Readout, letter_of, present_reading, cell_of, entries_in, read_table, read_tables}
 use Rattle.spec_model.specs.WellMade.{is_domain, is_table, are_tables, is_state_formula, is_step_formula, is_stepwise}
 use Rattle.spec_model.specs.Diagrams.{Bits, Function}
 use Rattle.spec_model.proofs.Domains.{in_range}
-use Rattle.game_values.specs.declared.seen.At.{At}
-use Rattle.game_values.specs.declared.seen.At.TheVariants.{Now, Next}
+use Rattle.game_values.specs.declared.seen.At.TheVariants.{Now}
 use Rattle.game_values.proofs.Safe.{IsTyped}
 use Rattle.game_values.proofs.TableSteps.{table_atoms}
 use Rattle.bit_compile.specs.Domains.{state_domains, table_domain}
-use Rattle.bit_compile.specs.Codes.{domain_in}
-use Rattle.bit_compile.specs.Compiled.{Case, Entries, is_code, is_letter, in_table, lettered, numbers_below, table_truth, table_entries, entries_after, entry_of, never, truth_in, coded, place_of, variable_domain}
+use Rattle.bit_compile.specs.Compiled.{Case, Entries, is_letter, in_table, lettered, numbers_below, table_truth, table_entries, entries_after, entry_of, never, truth_in, coded, place_of, variable_domain}
 use Rattle.bit_compile.proofs.NumberLemmas.{same_bools}
 use Rattle.bit_compile.proofs.Describing.{Describes, some_pair-is, same_value-sym}
 use Rattle.bit_compile.proofs.Meanings.{IsHad, means, some_truth}
@@ -52,8 +50,8 @@ letters_described fs l s e z (suc n) low =
   where
     same_number : (z : ℤ) → pos 0 ≤ℤ z → (l == nat_abs z) ≡ int_eq z (pos l)
     same_number z low = same_bools _ _
-      (λ h. (let same = eqb-true l (nat_abs z) h in (Decides-int_eq z (pos l)).1 (omega (arith, ints, same))))
-      (λ h. (let same = (Decides-int_eq z (pos l)).0 h in eq-eqb l (nat_abs z) (omega (arith, ints, same))))
+        (λ h. (let same = eqb-true l (nat_abs z) h in (Decides-int_eq z (pos l)).1 (omega (arith, ints, same))))
+        (λ h. (let same = (Decides-int_eq z (pos l)).0 h in eq-eqb l (nat_abs z) (omega (arith, ints, same))))
 
 among_turned : (w : Value) (f : Value → Function) (vs : List Value) → list_any (same_value w) vs ≡ true → list_any (λ (c : Case). same_value c.value w) (map (λ v. record { value = v; holds = f v }) vs) ≡ true
 among_turned w f vs e = turned vs ∙ e

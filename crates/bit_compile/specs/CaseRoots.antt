@@ -1,12 +1,11 @@
 -- Roots for the values that a formula may have, and what makes them.
-use Rattle.std.specs.Prelude.{◌≡◌, ◌==◌, ◌<◌, ◌+◌, ◌*◌, ◌^◌, ◌≤◌, ℕ, Bool, true, false, not, ◌&&◌, ◌||◌, if◌then◌else◌, List, [], ◌∷◌, map, length, count_by, nat_abs, get_or, Result, Err, OnErr}
-use Rattle.std.specs.List.{list_any, list_all, AllByRecursion}
+use Rattle.std.specs.Prelude.{◌≡◌, ◌==◌, ◌<◌, ◌+◌, ◌≤◌, ℕ, Bool, true, false, if◌then◌else◌, List, map, length, count_by, nat_abs, Result, Err, OnErr}
+use Rattle.std.specs.List.{list_any, AllByRecursion}
 use Rattle.spec_model.specs.declared.value.Value.{Value}
 use Rattle.spec_model.specs.declared.value.Value.TheVariants as value
 use Rattle.spec_model.specs.Values.{truth_of, number_of, rank_of, same_value, values_of}
 use Rattle.spec_model.specs.Meaning.{compare_values}
 use Rattle.spec_model.specs.Views.{domain_data}
-use Rattle.spec_model.specs.Games.{letter_of}
 use Rattle.spec_model.specs.Diagrams.{Function}
 use Rattle.bdd_store.specs.State.{State, IsRoot, roots_at, SameRoots, IsFull}
 use Rattle.bdd_ops.specs.Contents.{Contents, function_at}

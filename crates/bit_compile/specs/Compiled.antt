@@ -1,5 +1,5 @@
 -- The function of the bits that a formula of a game stands for: what it reads is compared with the codes of the values.
-use Rattle.std.specs.Prelude.{ℕ, zero, suc, ◌+◌, ◌*◌, ◌^◌, ℤ, pos, ◌+ℤ◌, ◌-ℤ◌, ◌*ℤ◌, Bool, true, false, not, ◌&&◌, ◌||◌, List, [], ◌∷◌, ◌++◌, Option, None, Some, option_map, slice_get, get_or, map, length, take, count_by, ◌-◌, ◌==◌, nat_abs, int_lt, if◌then◌else◌}
+use Rattle.std.specs.Prelude.{ℕ, ◌+◌, ◌*◌, ◌^◌, ℤ, pos, ◌+ℤ◌, ◌-ℤ◌, ◌*ℤ◌, Bool, true, false, not, ◌&&◌, ◌||◌, List, [], ◌∷◌, ◌++◌, Option, None, Some, option_map, slice_get, get_or, map, length, take, count_by, ◌-◌, ◌==◌, nat_abs, int_lt, if◌then◌else◌}
 use Rattle.std.specs.List.{list_any, list_all}
 use Rattle.std.specs.Int.{int_rem_euclid, int_min, int_max}
 use Rattle.std.specs.Bool.{beq}
@@ -7,9 +7,8 @@ use Rattle.spec_model.specs.declared.value.Value.{Value}
 use Rattle.spec_model.specs.declared.value.Value.TheVariants as value
 use Rattle.spec_model.specs.declared.value.Owner.{Owner}
 use Rattle.spec_model.specs.declared.value.Owner.TheVariants.{Env, Sys}
-use Rattle.spec_model.specs.declared.expr.Compare.{Compare}
 use Rattle.spec_model.specs.Values.{DomainData, TruthValues, WholeNumbers, same_value, truth_of, number_of, values_of, rank_of}
-use Rattle.spec_model.specs.Syntax.{Formula, Constant, Variable, NextOf, Negation, Conjunction, Disjunction, Implication, Equivalence, Comparison, Sum, Difference, Product, Remainder, PastOf, Entry, Formulas, VariableData}
+use Rattle.spec_model.specs.Syntax.{Formula, Constant, Variable, NextOf, Negation, Conjunction, Disjunction, Implication, Equivalence, Comparison, Sum, Difference, Product, Remainder, PastOf, Entry, Formulas}
 use Rattle.spec_model.specs.Meaning.{compare_values}
 use Rattle.spec_model.specs.Moves.{is_env}
 use Rattle.spec_model.specs.Games.{HiddenData, GameData, letter_of}

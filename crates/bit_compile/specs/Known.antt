@@ -1,5 +1,5 @@
 -- Which formulas and tables can be compiled.
-use Rattle.std.specs.Prelude.{◌<◌, ℕ, [], ◌∷◌, length}
+use Rattle.std.specs.Prelude.{◌<◌, [], ◌∷◌, length}
 use Rattle.spec_model.specs.declared.game.Hidden.{Hidden}
 use Rattle.spec_model.specs.declared.value.Value.TheVariants as value
 use Rattle.spec_model.specs.Values.{values_of}

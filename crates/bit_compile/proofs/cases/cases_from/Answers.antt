@@ -1,4 +1,4 @@
-use Rattle.std.proofs.Common.{◌≡◌, ◌≤◌, ◌<◌, ◌+◌, ◌∙◌, ◌++◌, [], ◌∷◌, Ok, List, ap, refl, sym, subst, rules, arith, take, map, length, get_or, false}
+use Rattle.std.proofs.Common.{◌+◌, ◌∙◌, ◌++◌, [], ◌∷◌, Ok, List, ap, refl, sym, subst, arith, take, get_or, false}
 use Rattle.std.proofs.lemmas.List.{map-append}
 use Rattle.spec_model.specs.declared.value.Value.{Value}
 use Rattle.spec_model.specs.declared.value.Value.TheVariants as value
@@ -54,7 +54,7 @@ loop-value-preserved c =
     let longer = ap (cases_by first src) (take_next vs i v c.loop-value-test.true is) ∙ map-append (λ (w : Value). record { value = w; holds = had_by first src w }) (take i vs) (v ∷ []) in
     record {
       made = subst (λ (xs : List CaseRoot). AddsCases first new xs (cases_by first src (take (i + 1) vs))) (sym c.push_reserved.ensures.items)
-      (subst (λ (cs : List Case). AddsCases first new (c.loop-value.cases.items ++ x ∷ []) cs) (sym longer) more);
+          (subst (λ (cs : List Case). AddsCases first new (c.loop-value.cases.items ++ x ∷ []) cs) (sym longer) more);
       keeps = keeps_more first l new c.loop-value.cases.items before inv.made inv.keeps step.keeps;
       ready = parts.1;
       counted = c.push_reserved.ensures.len ∙ ap (λ n. n + 1) inv.counted;

@@ -1,4 +1,4 @@
-use Rattle.std.proofs.Common.{◌≡◌, [], ◌∷◌, ◌∙◌}
+use Rattle.std.proofs.Common.{◌∙◌}
 use Rattle.bit_compile.proofs.Between.{popped_root, popped_left, all_popped, none_left}
 use Rattle.bit_compile.proofs.cases.release_all.Goals as goal
 

@@ -1,4 +1,4 @@
-use Rattle.std.proofs.Common.{◌≡◌, ◌+◌, ◌∙◌, Ok, List, ap, refl, sym, subst, drop, map, rules}
+use Rattle.std.proofs.Common.{◌+◌, ◌∙◌, List, ap, refl, sym, subst, drop, map, rules}
 use Rattle.spec_model.specs.Diagrams.{Bits, Function}
 use Rattle.bdd_store.specs.State.{IsRoot}
 use Rattle.bdd_ops.specs.Functions.{joined, join_of}

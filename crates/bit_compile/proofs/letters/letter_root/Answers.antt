@@ -1,4 +1,4 @@
-use Rattle.std.proofs.Common.{◌≡◌, ◌+◌, ◌&&◌, ◌∙◌, ◌/◌, ◌%◌, ◌==◌, Ok, List, true, ap, refl, sym, subst, drop, map, rules}
+use Rattle.std.proofs.Common.{◌+◌, ◌&&◌, ◌∙◌, ◌%◌, ◌==◌, List, true, ap, refl, sym, subst, drop, map, rules}
 use Rattle.std.specs.Bool.{beq}
 use Rattle.spec_model.specs.Diagrams.{Bits, Function}
 use Rattle.bdd_store.specs.State.{IsRoot}

@@ -1,4 +1,4 @@
-use Rattle.std.proofs.Common.{◌≡◌, ◌+◌, ◌||◌, ◌&&◌, ◌∙◌, List, ap, sym, subst, drop, refl, rules}
+use Rattle.std.proofs.Common.{◌+◌, ◌||◌, ◌&&◌, ◌∙◌, List, ap, sym, subst, drop, refl, rules}
 use Rattle.spec_model.specs.Diagrams.{Bits, Function}
 use Rattle.bdd_store.specs.State.{IsRoot}
 use Rattle.bdd_ops.specs.Contents.{function_at}

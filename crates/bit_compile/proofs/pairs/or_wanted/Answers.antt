@@ -1,4 +1,4 @@
-use Rattle.std.proofs.Common.{subst, sym, ◌||◌, ◌&&◌, false}
+use Rattle.std.proofs.Common.{subst, sym}
 use Rattle.spec_model.specs.Diagrams.{Function}
 use Rattle.bdd_ops.specs.Contents.{function_at}
 use Rattle.bit_compile.specs.Making.{Makes}
