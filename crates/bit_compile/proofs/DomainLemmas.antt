@@ -1,9 +1,10 @@
 -- How many values a domain has, and the places of whole numbers.
-use Rattle.std.proofs.Common.{◌≡◌, ℕ, zero, suc, ◌+◌, ◌<◌, ℤ, pos, ◌+ℤ◌, ◌-ℤ◌, ◌≤ℤ◌, nat_abs, int_le, Bool, true, false, not, ◌==◌, map, drop, get_or, Some, None, is_some, neg_ℤ, Result, Ok, Err, IfOk, ◌++◌, append_assoc, int_lt, nat_lt, ◌^◌, ◌&&◌, List, [], ◌∷◌, length, refl, ◌∙◌, ap, subst, arith, cond}
+use Rattle.std.proofs.Common.{◌≡◌, ℕ, zero, suc, ◌+◌, ◌-◌, ◌<◌, ℤ, pos, ◌+ℤ◌, ◌-ℤ◌, ◌≤ℤ◌, nat_abs, int_le, Bool, true, false, not, ◌==◌, map, drop, get_or, Some, None, is_some, neg_ℤ, Result, Ok, Err, IfOk, ◌++◌, append_assoc, int_lt, nat_lt, ◌^◌, ◌&&◌, List, [], ◌∷◌, length, refl, ◌∙◌, ap, subst, arith, cond}
 use Rattle.std.proofs.lemmas.Int.{ints}
 use Rattle.std.proofs.lemmas.Bool.Decides.{Decides-int_eq}
 use Rattle.std.specs.Ordering.{int_eq}
 use Rattle.std.specs.List.{position_or_len}
+use Rattle.spec_model.specs.declared.value.Value.{Value}
 use Rattle.spec_model.specs.declared.value.Value.TheVariants as value
 use Rattle.std.proofs.lemmas.Bool.{false≢true, and_parts, and_from}
 use Rattle.std.specs.List.{list_all}
@@ -17,7 +18,7 @@ use Rattle.bit_compile.specs.Domains.{IsCountable, table_domain, state_domains}
 use Rattle.spec_model.specs.Values.{DomainData, TruthValues, Enumeration, WholeNumbers, rising_from, same_value, rank_of}
 use Rattle.spec_model.specs.Sizes.{domain_size}
 
-length-rising : (z : ℤ) (n : ℕ) → length (rising_from z n) ≡ n
+pub length-rising : (z : ℤ) (n : ℕ) → length (rising_from z n) ≡ n
 length-rising z zero = refl
 length-rising z (suc n) = ap suc (length-rising (z +ℤ pos 1) n)
 
@@ -78,3 +79,7 @@ pub joined_domains : {E : Type 0} (g : GameData) (empty tables inputs : List Dom
 joined_domains g empty tables inputs (Ok codes) none with_tables with_inputs is =
     is ∙ rw (with_inputs, with_tables, none) (append_assoc (map table_domain g.hidden) (domains_of is_env g.variables) (domains_of (λ o. not (is_env o)) g.variables))
 joined_domains g empty tables inputs (Err e) none with_tables with_inputs is = is
+
+-- one whole number more
+pub rising_step : (row w : List Value) (z : ℤ) (i n : ℕ) → i < n → row ++ rising_from z (n - i) ≡ w → (row ++ value.Int z ∷ []) ++ rising_from (z +ℤ pos 1) (n - (i + 1)) ≡ w
+rising_step row w z i n h so_far = let e : n - i ≡ suc (n - (i + 1)) = omega arith in append_assoc row (value.Int z ∷ []) (rising_from (z +ℤ pos 1) (n - (i + 1))) ∙ (rw e at so_far)

@@ -5,3 +5,17 @@ pub mod DomainLemmas
 pub mod BitLemmas
 pub mod LawLemmas
 pub mod MakingLemmas
+pub mod Between
+pub mod Folding
+pub mod Describing
+pub mod Intervals
+pub mod Meanings
+pub mod Knowing
+pub mod ReadVariables
+pub mod TableMeanings
+pub mod Places
+pub mod FormulaMeanings
+pub mod ReadLevels
+pub mod CyclesLemmas
+pub mod CompiledFormulas
+pub mod Readiness

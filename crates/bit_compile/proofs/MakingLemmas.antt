@@ -26,7 +26,7 @@ keeps_then a b c first same second =
       meaning = λ n root. second.meaning n (root_stays a.state b.state n same root) ∙ first.meaning n root;
     }
 
-not_budget : {n : ℕ} {E : Type 0} → Ok n ≡ Err halt.Budget → E
+pub not_budget : {n : ℕ} {E : Type 0} → Ok n ≡ Err halt.Budget → E
 not_budget e = absurd (false≢true (sym (ap is_ok e)))
 
 abbrev is_memory : Result ℕ Halt → Bool

@@ -1,9 +1,15 @@
 -- Bits that are a number's digits.
-use Rattle.std.proofs.Common.{◌≡◌, ℕ, zero, suc, ◌+◌, ◌-◌, ◌^◌, ◌<◌, ◌≤◌, Bool, true, false, refl, arith, nat_le}
+use Rattle.std.proofs.Common.{◌≡◌, ℕ, zero, suc, ◌+◌, ◌-◌, ◌^◌, ◌<◌, ◌≤◌, Bool, true, false, refl, sym, arith, nat_le}
 use Rattle.std.proofs.lemmas.Bool.{false≢true}
 use Rattle.std.proofs.lemmas.Bool.Decides.{nat_tests}
 use Rattle.spec_model.specs.Diagrams.{Bits}
 use Rattle.bit_compile.specs.Codes.{has_number}
+
+-- truth values are the same where each is true if the other is
+pub same_bools : (x y : Bool) → (x ≡ true → y ≡ true) → (y ≡ true → x ≡ true) → x ≡ y
+same_bools true y there back = sym (there refl)
+same_bools false true there back = back refl
+same_bools false false there back = refl
 
 -- only the number's own levels are read
 pub has_number-same : (level w n : ℕ) (s t : Bits) → ((m : ℕ) → level ≤ m → m < level + w → s m ≡ t m) → has_number level w n s ≡ has_number level w n t

@@ -2,4 +2,8 @@ pub mod Domains
 pub mod Codes
 pub mod CodeLaws
 pub mod Making
+pub mod Compiled
+pub mod CaseRoots
+pub mod Known
+pub mod CompileLaws
 pub mod Examples

@@ -1,10 +1,10 @@
 //! The values of domains: how many there are, and the place of each.
 
-ghost use Rattle.std.specs.Prelude.{◌≡◌, ◌==◌, ◌+◌, ◌<◌, ◌≤ℤ◌, ◌-ℤ◌, ◌^◌, pos, nat_abs, true, length, IfOk};
+ghost use Rattle.std.specs.Prelude.{◌≡◌, ◌==◌, ◌+◌, ◌<◌, ◌≤ℤ◌, ◌-ℤ◌, ◌^◌, pos, nat_abs, true, length, map, ◌+ℤ◌, IfOk};
 ghost use Rattle.std.specs.List.{list_any, position_or_len};
 ghost use Rattle.spec_model.specs.Views.{domain_data};
 ghost use Rattle.spec_model.specs.GameViews.{hidden_data};
-ghost use Rattle.spec_model.specs.Values.{same_value, values_of, rank_of};
+ghost use Rattle.spec_model.specs.Values.{same_value, values_of, rank_of, rising_from};
 ghost use Rattle.spec_model.specs.Sizes.{domain_size};
 ghost use Rattle.bit_compile.specs.Domains.{IsCountable, table_domain};
 
@@ -99,5 +99,46 @@ pub fn domain_of(h: &Hidden) -> Domain
     Domain::Range {
         lo: 0,
         hi: i64::from(h.values) - 1,
+    }
+}
+
+fn truths(alloc: Global) -> Result<Vec<Value>, OutOfMemory>
+    ensures { IfOk result (λ vs. vs.items ≡ values_of (domain_data Domain.Boolean)) }
+{
+    let mut values = Vec::new(alloc);
+    values.push(Value::Bool(false))?;
+    values.push(Value::Bool(true))?;
+    Ok(values)
+}
+
+fn numbers(alloc: Global, lo: i64, count: usize) -> Result<Vec<Value>, OutOfMemory>
+    requires few { (lo +ℤ pos count) ≤ℤ pos (2 ^ 62) }
+    ensures { IfOk result (λ vs. vs.items ≡ rising_from lo count) }
+{
+    let mut values = Vec::new(alloc);
+    let mut z = lo;
+    for i in 0..count {
+        let _ = i;
+        values.push(Value::Int(z))?;
+        z += 1;
+    }
+    Ok(values)
+}
+
+fn named(alloc: Global, names: &[u16]) -> Result<Vec<Value>, OutOfMemory>
+    ensures { IfOk result (λ vs. vs.items ≡ map (λ n. Value.Name n) names.now) }
+{
+    names.iter().map(|n| Value::Name(*n)).collect(alloc)
+}
+
+/// The values of a domain, in order.
+pub fn values(alloc: Global, domain: &Domain) -> Result<Vec<Value>, OutOfMemory>
+    requires { IsCountable (domain_data domain.now) }
+    ensures { IfOk result (λ vs. vs.items ≡ values_of (domain_data domain.now)) }
+{
+    match domain {
+        Domain::Boolean => truths(alloc),
+        Domain::Range { lo, hi } => numbers(alloc, *lo, span(*lo, *hi)),
+        Domain::Names(names) => named(alloc, names),
     }
 }

@@ -4,15 +4,24 @@
 //! with the values, the most significant bit first, and a code past the last value stands for nothing. The levels follow
 //! the order of a state: for each hidden table and then each variable, its present bits and then its next bits.
 //!
-//! Contract: `Codes::write` gives the bits of a state, and `Codes::has_code` the diagram of one value.
+//! A formula's function of these bits is made value by value: each value that a part may have, with where it has it.
+//!
+//! Contract: `Codes::write` gives the bits of a state, `Codes::has_code` the diagram of one value, `cases::cases_from` those
+//! of several, and `pairs::pair_root` that of the pairs that pass a test. That a formula's function is its value is the law
+//! `laws::compiled_is_the_formula`.
 //! Path: game, operations → **codes** → regions as diagrams.
 #![tactic(auto)]
 
+pub mod cases;
 mod codes;
 mod domains;
+pub mod folds;
 pub mod laws;
+mod letters;
 mod named;
 mod numbers;
+pub mod operation;
+pub mod pairs;
 mod slots;
 pub mod steps;
 

@@ -11,7 +11,7 @@ ghost use Rattle.bdd_ops.specs.Functions.{joined, join_of};
 ghost use Rattle.bdd_ops.specs.Contents.{function_at};
 ghost use Rattle.bdd_ops.specs.Steps.{IsJoinOfParts};
 ghost use Rattle.bdd_ops.specs.Calls.{negated, IsNegatedPart};
-ghost use Rattle.bit_compile.specs.Making.{halted, MakesOnce};
+ghost use Rattle.bit_compile.specs.Making.{halted, Makes, MakesOnce};
 
 use bdd_ops::{Diagrams, Root, StoreFault};
 use regions::Halt;
@@ -25,6 +25,21 @@ pub fn told(made: Result<Root, StoreFault>) -> Result<Root, Halt>
         Err(StoreFault::Full) => Err(Halt::Budget),
         Err(StoreFault::Memory) => Err(Halt::Memory),
     }
+}
+
+/// A constant. It takes no node.
+pub fn constant(diagrams: &mut Diagrams, value: bool) -> Result<Root, Halt>
+    ensures { Makes diagrams.old diagrams.new result (λ s. value) }
+{
+    told(diagrams.constant(value))
+}
+
+/// A second root of the same diagram. It takes no node.
+pub fn keep(diagrams: &mut Diagrams, a: &Root) -> Result<Root, Halt>
+    requires { IsRoot diagrams.old.state a.now }
+    ensures { Makes diagrams.old diagrams.new result (function_at diagrams.old a.now) }
+{
+    told(diagrams.keep(a))
 }
 
 /// The diagram that is true where both are.

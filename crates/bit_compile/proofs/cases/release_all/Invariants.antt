@@ -1,0 +1,15 @@
+use Rattle.std.proofs.Common.{◌≡◌, ◌+◌, ℕ}
+use Rattle.bdd_store.specs.State.{roots_at}
+use Rattle.bit_compile.specs.CaseRoots.{roots_in}
+use Rattle.bit_compile.proofs.cases.release_all.Given as goal
+
+-- what is kept besides what is left was kept at first but for what was given
+abbrev pub invariant-loop-case : goal.invariant-loop-case
+invariant-loop-case l =
+    record {
+      left : (n : ℕ) → roots_at l.diagrams.state n + roots_in l.fn.cases.items n ≡ roots_at l.fn.diagrams.state n + roots_in l.cases.items n;
+      table : l.diagrams.state.table ≡ l.fn.diagrams.state.table;
+    }
+
+abbrev pub decreases-loop-case : goal.decreases-loop-case
+decreases-loop-case l = goal.left-loop-case l

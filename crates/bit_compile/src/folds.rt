@@ -1,0 +1,60 @@
+//! Several functions joined.
+
+ghost use Rattle.std.specs.Prelude.{◌≡◌, map};
+ghost use Rattle.bdd_store.specs.State.{IsRoot};
+ghost use Rattle.bdd_ops.specs.Contents.{function_at};
+ghost use Rattle.bdd_ops.specs.Functions.{joined, join_of};
+ghost use Rattle.bit_compile.specs.Making.{Makes};
+ghost use Rattle.bit_compile.specs.CaseRoots.{AreKept, folded as folded_lem, is_all};
+
+use crate::cases::CaseRoot;
+use crate::steps::{and, constant, or};
+use bdd_ops::{Diagrams, Root};
+use regions::Halt;
+
+/// How functions are joined.
+#[derive(Clone, Copy, Debug, PartialEq, Eq)]
+pub enum Fold {
+    /// Where all are true.
+    All,
+    /// Where some are.
+    Some,
+}
+
+/// What no function at all is joined to.
+fn starts_true(fold: Fold) -> bool
+    ensures { result ≡ is_all fold }
+{
+    match fold {
+        Fold::All => true,
+        Fold::Some => false,
+    }
+}
+
+/// Where both are true, or one of them is.
+fn join_root(diagrams: &mut Diagrams, fold: Fold, a: &Root, b: &Root) -> Result<Root, Halt>
+    requires a_kept { IsRoot diagrams.old.state a.now }
+    requires b_kept { IsRoot diagrams.old.state b.now }
+    ensures { Makes diagrams.old diagrams.new result (joined (join_of (is_all fold)) (function_at diagrams.old a.now) (function_at diagrams.old b.now)) }
+{
+    match fold {
+        Fold::All => and(diagrams, a, b),
+        Fold::Some => or(diagrams, a, b),
+    }
+}
+
+/// Where all are true, or some are.
+pub fn folded(diagrams: &mut Diagrams, fold: Fold, cases: &[CaseRoot]) -> Result<Root, Halt>
+    requires { AreKept diagrams.old.state cases.now }
+    ensures { Makes diagrams.old diagrams.new result (folded_lem fold (map (λ x. function_at diagrams.old x.root) cases.now)) }
+{
+    let start = starts_true(fold);
+    let mut whole = constant(diagrams, start)?;
+    for case in cases {
+        let more = join_root(diagrams, fold, &whole, &case.root);
+        diagrams.release(whole);
+        let next = more?;
+        whole = next;
+    }
+    Ok(whole)
+}
