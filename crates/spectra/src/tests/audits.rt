@@ -76,6 +76,69 @@ fn a_long_log_is_audited_in_pieces(rt: HostRuntime) -> Result<(), Fail> {
     Ok(())
 }
 
+// A lift of four floors. `moved` is told by its lines, as a monitor would be.
+const LIFT: &str =
+    "spec Lift type Floor = Int(0..3); env boolean call1; env boolean call2; env boolean blocked;
+sys Floor floor; sys {UP, DOWN, STAY} move; sys boolean moved;
+gar ini !moved; gar alw next(moved) <-> next(floor) != floor;
+asm alw call1 & floor != 1 -> next(call1); asm alw call2 & floor != 2 -> next(call2); asm alwEv !blocked;
+gar ini floor = 0;
+gar alw move = UP -> next(floor) = floor + 1;
+gar alw move = DOWN -> next(floor) = floor - 1;
+gar alw move = STAY -> next(floor) = floor;
+gar alw blocked -> move = STAY;
+gar alwEv floor = 0; gar alwEv floor = 3; gar alwEv move = STAY;";
+
+// What it does while floors 1 and 2 call at each position.
+const ANSWERS: [&str; 20] = [
+    "floor=0 move=UP moved=false",
+    "floor=1 move=UP moved=true",
+    "floor=2 move=UP moved=true",
+    "floor=3 move=DOWN moved=true",
+    "floor=2 move=STAY moved=true",
+    "floor=2 move=DOWN moved=false",
+    "floor=1 move=UP moved=true",
+    "floor=2 move=UP moved=true",
+    "floor=3 move=DOWN moved=true",
+    "floor=2 move=DOWN moved=true",
+    "floor=1 move=DOWN moved=true",
+    "floor=0 move=UP moved=true",
+    "floor=1 move=UP moved=true",
+    "floor=2 move=UP moved=true",
+    "floor=3 move=DOWN moved=true",
+    "floor=2 move=STAY moved=true",
+    "floor=2 move=DOWN moved=false",
+    "floor=1 move=UP moved=true",
+    "floor=2 move=UP moved=true",
+    "floor=3 move=DOWN moved=true",
+];
+
+#[test]
+fn a_lift_that_skips_a_floor_breaks_its_line(rt: HostRuntime) -> Result<(), Fail> {
+    let alloc = rt.alloc();
+    // the second answer, what is written, and the status
+    for (second, written, number) in [
+        ("floor=1 move=UP moved=true", "audit ok 20\n", 0u8),
+        ("floor=2 move=UP moved=true", "audit broken #7 line 2\n", 1),
+    ] {
+        let mut log = String::new(alloc);
+        for position in 0..ANSWERS.len() {
+            let answer = if position == 1 {
+                second
+            } else {
+                ANSWERS[position]
+            };
+            log.push_str("call1=true call2=true blocked=false ")?;
+            log.push_str(answer)?;
+            log.push_str("\n")?;
+        }
+        Run::of("spectra audit t.spectra", LIFT.as_bytes(), &log).writes(
+            &rt, alloc, written, number,
+        )?;
+    }
+    Ok(())
+}
+
 #[test]
 fn numbers_are_compared_in_pieces(rt: HostRuntime) -> Result<(), Fail> {
     let alloc = rt.alloc();
