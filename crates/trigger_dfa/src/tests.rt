@@ -36,6 +36,13 @@ fn one_of(alloc: Global, count: u32) -> Result<Regex, AllocError> {
     Ok(Regex::Alt(parts))
 }
 
+// One of the brackets of so many variables, and then `[7]` so many times. Its states are its start, each set of the first
+// brackets, and one for each of the others; that of the last ends the side, and has no value.
+fn some_then(alloc: Global, count: u32, times: u16) -> Result<Regex, AllocError> {
+    let others = repeat(alloc, var(7), times, Some(times))?;
+    Ok(Regex::Cat(vec![in alloc; one_of(alloc, count)?, others]?))
+}
+
 // The number of values, or why there is none.
 fn values(alloc: Global, cause: Regex, effect: Regex) -> Result<u16, DfaFault> {
     let hidden = build(alloc, &Trigger { cause, effect })?;
@@ -103,6 +110,23 @@ fn limits_are_met_and_passed(rt: HostRuntime) -> Result<(), AllocError> {
     assert!(rt;
         values(alloc, none, var(8)) == Err(DfaFault::Wide),
         "9 atoms, 8 of them under {{0}}"
+    );
+    Ok(())
+}
+
+// Seven brackets and 31 more make 1 + 128 + 31 = 160 states; six and 31, or 32, make 1 + 64 + 31 = 96, or 97.
+#[test]
+fn states_are_met_and_passed(rt: HostRuntime) -> Result<(), AllocError> {
+    let alloc = rt.alloc();
+    let cause = some_then(alloc, 7, 31)?;
+    assert!(rt;
+        values(alloc, cause, some_then(alloc, 6, 31)?) == Ok(254),
+        "256 states"
+    );
+    let cause = some_then(alloc, 7, 31)?;
+    assert!(rt;
+        values(alloc, cause, some_then(alloc, 6, 32)?) == Err(DfaFault::Wide),
+        "257 states"
     );
     Ok(())
 }
