@@ -1,0 +1,4 @@
+pub mod SlotLaws
+pub mod ObjectLaws
+pub mod OutcomeLaws
+pub mod SetCalls

@@ -1,0 +1,80 @@
+-- What a call that makes a region leaves, whatever came of its diagram.
+use Rattle.std.proofs.Common.{◌≡◌, ℕ, List, [], ◌∷◌, ◌++◌, map, Option, Some, None, Result, Ok, Err, IfOk, IfErr, refl, sym, ◌∙◌, ap, subst}
+use Rattle.spec_model.specs.Diagrams.{Function}
+use Rattle.spec_model.specs.Games.{GameData}
+use Rattle.spec_model.specs.Sets.{StateSet}
+use Rattle.spec_model.specs.WellMade.{WellMade}
+use Rattle.game_values.specs.declared.seen.At.TheVariants.{Now}
+use Rattle.regions.specs.Kept.{Region as RegionItem, Meaning, States, Call, MakesRegion, Halts, IsSameGame}
+use Rattle.regions.specs.declared.types.Halt.{Halt}
+use Rattle.regions.specs.declared.types.Halt.TheVariants as halt
+use Rattle.bdd_ops.specs.Contents.{Contents, function_at}
+use Rattle.bit_compile.specs.Making.{Makes}
+use Rattle.state_diagrams.specs.StateBits.{Tells, TellsStates, set_at}
+use Rattle.region_bdd.specs.declared.slots.Content.TheVariants.{Region}
+use Rattle.region_bdd.specs.declared.slots.Slot.{Slot}
+use Rattle.region_bdd.specs.declared.slots.BddRegion.{BddRegion}
+use Rattle.region_bdd.specs.declared.own.Own.{Own}
+use Rattle.region_bdd.specs.declared.own.Refused.{Refused}
+use Rattle.region_bdd.specs.Slots.{shown_of}
+use Rattle.region_bdd.specs.Keeping.{Settles}
+use Rattle.region_bdd.specs.Object.{NoneSpent, IsSound, IsObject, IsOpen, call_of, argument_in, kept_of}
+use Rattle.region_bdd.proofs.SlotLaws.{open_taken}
+use Rattle.region_bdd.proofs.ObjectLaws.{sound_same, sound_taken, makes_item, halts_memory, halts_budget}
+
+-- what the call answers and leaves
+pub record Outcome (g : GameData) (own : Own) (c c' : Contents) (slots new : List Slot) (refused : Option Refused) (result : Result BddRegion Halt) (t : StateSet) (asked : Call) (arguments : List Meaning) : Type 0 where
+  pub made : IfOk result (λ r. MakesRegion (kept_of g c slots None) (kept_of g c' new refused) r t)
+  pub halted : IfErr result (Halts (kept_of g c slots None) (kept_of g c' new refused) asked arguments)
+  pub same : IsSameGame (kept_of g c slots None) (kept_of g c' new refused)
+  pub object : IsObject g c' own new refused
+
+module _ (g : GameData) (own : Own) (c c' : Contents) (slots new : List Slot) (refused : Option Refused) (object : IsObject g c own slots None) (f : Function) (t : StateSet) (tells : Tells g Now f t) (why : Refused) (arguments : List Meaning)
+    (arguments_are : argument_in g (map (shown_of c) slots) why.first ++ argument_in g (map (shown_of c) slots) why.second ≡ arguments) where
+  pub outcome : (made : Result ℕ Halt) (result : Result BddRegion Halt) → Makes c c' made f → Settles slots new refused made result why → Outcome g own c c' slots new refused result t (call_of why.asked) arguments
+  outcome (Ok root) (Ok r) makes settles =
+      let told : function_at c' root ≡ f = makes.meaning in
+      let fits : TellsStates g Now (function_at c' root) = subst (TellsStates g Now) (sym told) tells.states in
+      let is : set_at g Now (function_at c' root) ≡ t = ap (set_at g Now) told ∙ tells.set in
+      let made : MakesRegion (kept_of g c slots None) (kept_of g c' new None) r t = makes_item g own c c' slots object.sound makes.keeps new r.slot (Region root) (RegionItem r) (States t) settles.0 (λ w. ap (λ u. w (RegionItem r) (States u)) is) in
+      record {
+        made = subst (λ (o : Option Refused). MakesRegion (kept_of g c slots None) (kept_of g c' new o) r t) (sym settles.1) made;
+        halted = tt;
+        same = record { game = refl; bound = makes.keeps.budget };
+        object = record {
+          made = object.made;
+          levels = makes.keeps.levels ∙ object.levels;
+          sound = sound_taken g own c c' slots object.sound makes.keeps new r.slot root (Region root) (λ n. refl) makes.added settles.0 fits;
+          unspent = subst (λ (o : Option Refused). IsOpen o new) (sym settles.1) (open_taken slots new r.slot (Region root) settles.0 object.unspent);
+        };
+      }
+  outcome (Err halt.Memory) (Err halt.Memory) makes settles = at_rest new refused settles.0 settles.1
+    where
+      at_rest : (new : List Slot) (refused : Option Refused) → new ≡ slots → refused ≡ None → Outcome g own c c' slots new refused (Err halt.Memory) t (call_of why.asked) arguments
+      at_rest new refused same unspent =
+          subst (λ (ss : List Slot). Outcome g own c c' slots ss refused (Err halt.Memory) t (call_of why.asked) arguments) (sym same)
+          (subst (λ (o : Option Refused). Outcome g own c c' slots slots o (Err halt.Memory) t (call_of why.asked) arguments) (sym unspent)
+          (record {
+            made = tt;
+            halted = halts_memory g own c c' slots object.sound makes.keeps (call_of why.asked) arguments;
+            same = record { game = refl; bound = makes.keeps.budget };
+            object = record { made = object.made; levels = makes.keeps.levels ∙ object.levels; sound = sound_same g own c c' slots object.sound makes.keeps makes.refused; unspent = object.unspent };
+          }))
+  outcome (Err halt.Budget) (Err halt.Budget) makes settles = at_rest new refused settles.0 settles.1
+    where
+      at_rest : (new : List Slot) (refused : Option Refused) → new ≡ slots → refused ≡ Some why → Outcome g own c c' slots new refused (Err halt.Budget) t (call_of why.asked) arguments
+      at_rest new refused same told =
+          subst (λ (ss : List Slot). Outcome g own c c' slots ss refused (Err halt.Budget) t (call_of why.asked) arguments) (sym same)
+          (subst (λ (o : Option Refused). Outcome g own c c' slots slots o (Err halt.Budget) t (call_of why.asked) arguments) (sym told)
+          (record {
+            made = tt;
+            halted = halts_budget g own c c' slots object.sound makes.keeps why (call_of why.asked) arguments object.unspent refl arguments_are;
+            same = record { game = refl; bound = makes.keeps.budget };
+            object = record { made = object.made; levels = makes.keeps.levels ∙ object.levels; sound = sound_same g own c c' slots object.sound makes.keeps makes.refused; unspent = tt };
+          }))
+  outcome (Ok root) (Err halt.Memory) makes settles = absurd settles
+  outcome (Ok root) (Err halt.Budget) makes settles = absurd settles
+  outcome (Err halt.Memory) (Ok r) makes settles = absurd settles
+  outcome (Err halt.Budget) (Ok r) makes settles = absurd settles
+  outcome (Err halt.Memory) (Err halt.Budget) makes settles = absurd settles
+  outcome (Err halt.Budget) (Err halt.Memory) makes settles = absurd settles

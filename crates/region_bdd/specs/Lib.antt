@@ -1,0 +1,6 @@
+pub mod Slots
+pub mod Held
+pub mod Object
+pub mod Keeping
+pub mod TraitLaws
+pub mod Seen

@@ -1,0 +1,48 @@
+//! The diagrams that an object keeps for itself, and why its budget ran out.
+
+use bdd_ops::Root;
+use regions::When;
+use state_diagrams::moves::Members;
+
+/// What the object keeps from its making on: sets of the game's own formulas.
+#[derive(Debug)]
+pub struct Own {
+    /// No state.
+    pub nothing: Root,
+    /// All states, at the present bits.
+    pub proper: Root,
+    /// Where each recurring assumption holds.
+    pub assume: Vec<Root>,
+    /// Where each recurring guarantee holds.
+    pub goals: Vec<Root>,
+    /// The lines of the first moves, at the next bits.
+    pub first: Members,
+    /// The lines of later moves, at the present and the next bits.
+    pub later: Members,
+}
+
+/// A call that may be refused for want of budget.
+#[derive(Clone, Copy, Debug, PartialEq, Eq)]
+pub enum Asked {
+    All,
+    NoStates,
+    Copy,
+    And,
+    Or,
+    Not,
+    Holding,
+    PreSys,
+    PreEnv,
+    OutMoves(When),
+    InMoves(When),
+    StartSys,
+    StartEnv,
+}
+
+/// The call that was refused, and the slots of its arguments.
+#[derive(Clone, Copy, Debug, PartialEq, Eq)]
+pub struct Refused {
+    pub asked: Asked,
+    pub first: Option<usize>,
+    pub second: Option<usize>,
+}

@@ -1,0 +1,3 @@
+pub mod StateBits
+pub mod MoveBits
+pub mod Members
