@@ -1,16 +1,21 @@
 -- Whether an input is legal doesn't depend on the output that comes with it.
-use Rattle.std.proofs.Common.{◌≡◌, ℕ, Bool, true, false, not, ◌&&◌, ◌||◌, is_some, List, [], ◌∷◌, refl, sym, ◌∙◌, ap, subst}
+use Rattle.std.proofs.Common.{◌≡◌, ◌<◌, Bool, true, false, not, ◌&&◌, ◌||◌, is_some, List, [], ◌∷◌, length, refl, sym, ◌∙◌, ap, arith}
 use Rattle.std.proofs.lemmas.Bool.{and_parts, false≢true}
 use Rattle.std.specs.List.{list_all, list_any}
 use Rattle.spec_model.specs.Syntax.{Formula}
 use Rattle.spec_model.specs.Values.{Assignment}
-use Rattle.spec_model.specs.Moves.{has_next}
+use Rattle.spec_model.specs.Moves.{has_next, is_env}
 use Rattle.spec_model.specs.Games.{GameData, State, outputs_of}
 use Rattle.spec_model.specs.Steps.{Before, is_state, is_input, is_output, are_hidden_values, reached, line_holds, waits_for_output, assumptions_hold, legal_input}
 use Rattle.spec_model.specs.WellMade.{WellMade, scope_of, is_step_formula, is_state_formula, is_initial_assumption, is_safety_assumption, awaits_output}
+use Rattle.spec_model.proofs.AllStates.{Every}
+use Rattle.spec_model.proofs.Closed.{closed}
+use Rattle.spec_model.proofs.Listed.{outputs_fit}
+use Rattle.hidden_game.proofs.Choices.{some_choice}
 use Rattle.hidden_game.proofs.Agreeing.{not_false}
 use Rattle.hidden_game.proofs.AnyOutput.{same_here, same_late}
-use Rattle.state_diagrams.proofs.ForceLemmas.{AssumeNothingOfReplies, output_suffices, output_fits}
+use Rattle.state_diagrams.specs.Forcing.{AssumeNothingOfReplies, HasMoves}
+use Rattle.state_diagrams.proofs.ForceLemmas.{output_suffices, output_fits}
 
 lines_same : {X : Type 0} (ok p q : X → Bool) → ((x : X) → ok x ≡ true → p x ≡ q x) → (xs : List X) → list_all ok xs ≡ true → list_all p xs ≡ list_all q xs
 lines_same ok p q same [] all = refl
@@ -59,3 +64,16 @@ module _ (g : GameData) (made : WellMade g) where
       let hidden = (and_parts (are_hidden_values g.hidden (reached g b x y).hidden) _ here).0 in
       let some : list_any (λ (z : Assignment). true) (outputs_of g) ≡ true = output_suffices g (λ z. true) y (output_fits g (reached g b x y) here) refl in
       all_alike (λ y'. assumptions_hold g b (reached g b x y')) (assumptions_hold g b (reached g b x y)) (λ y'. sym (assumptions_same b x y y' hidden)) (outputs_of g) some
+
+some_first : {X : Type 0} (Q : X → Type 0) (xs : List X) → 0 < length xs → Every Q xs → (x : X) × Q x
+some_first Q [] long all = absurd (omega arith)
+some_first Q (x ∷ xs) long all = (x, all.0)
+
+-- a well-made game has moves
+pub has_moves : (g : GameData) → WellMade g → HasMoves g
+has_moves g made =
+    record {
+      closed = closed g made;
+      alike = assume_nothing_of_replies g made;
+      some_output = some_first (λ y. is_output g y ≡ true) (outputs_of g) (some_choice (λ o. not (is_env o)) g.variables made.domains) (outputs_fit g);
+    }

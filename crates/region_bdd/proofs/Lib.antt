@@ -2,3 +2,4 @@ pub mod SlotLaws
 pub mod ObjectLaws
 pub mod OutcomeLaws
 pub mod SetCalls
+pub mod AlikeLaws

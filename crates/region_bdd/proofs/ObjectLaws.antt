@@ -47,12 +47,12 @@ module _ (c c' : Contents) where
 
   pub own_same : (own : Own) → ((n : ℕ) → 0 < roots_of_own n own → function_at c' n ≡ function_at c n) → own_functions c' own ≡ own_functions c own
   own_same own same =
-      let nothing = same own.nothing (let one = one_itself own.nothing in omega (arith, one)) in
-      let proper = same own.proper (let one = one_itself own.proper in omega (arith, one)) in
+      let nothing = same own.step.nothing (let one = one_itself own.step.nothing in omega (arith, one)) in
+      let proper = same own.step.proper (let one = one_itself own.step.proper in omega (arith, one)) in
       let assume = list_same own.assume.items (λ n some. same n (omega (arith, some))) in
       let goals = list_same own.goals.items (λ n some. same n (omega (arith, some))) in
       let first = members_same own.first (λ n some. same n (omega (arith, some))) in
-      let later = members_same own.later (λ n some. same n (omega (arith, some))) in
+      let later = members_same own.step.later (λ n some. same n (omega (arith, some))) in
       λ i. record { nothing = nothing i; proper = proper i; assume = assume i; goals = goals i; first = first i; later = later i }
 
 -- what is held has the meanings that the slots show
@@ -167,6 +167,11 @@ module _ (g : GameData) (own : Own) where
           held = λ w. (let same = same_weight (jam_in g (map (shown_once c') slots) refused) refused w in omega (arith, same));
           jam = ap (λ s. jam_in g s refused) (once_stays c c' slots sound keeps);
         }
+
+-- no budget ran out where no jam is told
+pub none_refused : (g : GameData) (c : Contents) (slots : List Slot) (refused : Option Refused) → (kept_of g c slots refused).jam ≡ None → refused ≡ None
+none_refused g c slots None e = refl
+none_refused g c slots (Some r) e = absurd (cc (e))
 
 -- ---- held regions
 

@@ -1,5 +1,5 @@
 -- What a call that makes a region leaves, whatever came of its diagram.
-use Rattle.std.proofs.Common.{◌≡◌, ℕ, List, [], ◌∷◌, ◌++◌, map, Option, Some, None, Result, Ok, Err, IfOk, IfErr, refl, sym, ◌∙◌, ap, subst}
+use Rattle.std.proofs.Common.{◌≡◌, ℕ, List, [], ◌∷◌, ◌++◌, map, Option, Some, None, Result, Ok, Err, IfOk, IfErr, refl, sym, ◌∙◌, ap, subst, arith}
 use Rattle.spec_model.specs.Diagrams.{Function}
 use Rattle.spec_model.specs.Games.{GameData}
 use Rattle.spec_model.specs.Sets.{StateSet}
@@ -20,7 +20,7 @@ use Rattle.region_bdd.specs.Slots.{shown_of}
 use Rattle.region_bdd.specs.Keeping.{Settles}
 use Rattle.region_bdd.specs.Object.{NoneSpent, IsSound, IsObject, IsOpen, call_of, argument_in, kept_of}
 use Rattle.region_bdd.proofs.SlotLaws.{open_taken}
-use Rattle.region_bdd.proofs.ObjectLaws.{sound_same, sound_taken, makes_item, halts_memory, halts_budget}
+use Rattle.region_bdd.proofs.ObjectLaws.{none_refused, sound_same, sound_taken, makes_item, halts_memory, halts_budget}
 
 -- what the call answers and leaves
 pub record Outcome (g : GameData) (own : Own) (c c' : Contents) (slots new : List Slot) (refused : Option Refused) (result : Result BddRegion Halt) (t : StateSet) (asked : Call) (arguments : List Meaning) : Type 0 where
@@ -78,3 +78,38 @@ module _ (g : GameData) (own : Own) (c c' : Contents) (slots new : List Slot) (r
   outcome (Err halt.Budget) (Ok r) makes settles = absurd settles
   outcome (Err halt.Memory) (Err halt.Budget) makes settles = absurd settles
   outcome (Err halt.Budget) (Err halt.Memory) makes settles = absurd settles
+
+-- the same, as the calls have it: with room made for the diagram first
+pub record Answered (g : GameData) (own : Own) (c c' : Contents) (slots new : List Slot) (was refused : Option Refused) (result : Result BddRegion Halt) (t : StateSet) (asked : Call) (arguments : List Meaning) : Type 0 where
+  pub made : IfOk result (λ r. MakesRegion (kept_of g c slots was) (kept_of g c' new refused) r t)
+  pub halted : IfErr result (Halts (kept_of g c slots was) (kept_of g c' new refused) asked arguments)
+  pub same : IsSameGame (kept_of g c slots was) (kept_of g c' new refused)
+  pub object : IsObject g c' own new refused
+
+module _ (g : GameData) (own : Own) (c : Contents) (slots : List Slot) where
+  answered_free : (c' : Contents) (new : List Slot) (refused : Option Refused) (result : Result BddRegion Halt) (t : StateSet) (asked : Call) (arguments : List Meaning) (was : Option Refused) → was ≡ None →
+      Outcome g own c c' slots new refused result t asked arguments → Answered g own c c' slots new was refused result t asked arguments
+  answered_free c' new refused result t asked arguments was free outcome =
+      subst (λ (o : Option Refused). Answered g own c c' slots new o refused result t asked arguments) (sym free)
+      (record { made = outcome.made; halted = outcome.halted; same = outcome.same; object = outcome.object })
+
+  pub answered : (c' : Contents) (mid new : List Slot) (was refused : Option Refused) (object : IsObject g c own slots was) → (kept_of g c slots was).jam ≡ None → mid ≡ slots → (f : Function) (t : StateSet) → Tells g Now f t → (why : Refused) (arguments : List Meaning) →
+      argument_in g (map (shown_of c) slots) why.first ++ argument_in g (map (shown_of c) slots) why.second ≡ arguments → (made : Result ℕ Halt) (result : Result BddRegion Halt) → Makes c c' made f → Settles mid new refused made result why →
+      Answered g own c c' slots new was refused result t (call_of why.asked) arguments
+  answered c' mid new was refused object free room f t tells why arguments are made result makes settles =
+      let none = none_refused g c slots was free in
+      let object' : IsObject g c own slots None = subst (λ (o : Option Refused). IsObject g c own slots o) none object in
+      let settles' : Settles slots new refused made result why = subst (λ (ss : List Slot). Settles ss new refused made result why) room settles in
+      answered_free c' new refused result t (call_of why.asked) arguments was none (outcome g own c c' slots new refused object' f t tells why arguments are made result makes settles')
+
+  -- where there was no room for it
+  pub no_room : (mid : List Slot) (was : Option Refused) (object : IsObject g c own slots was) → (kept_of g c slots was).jam ≡ None → mid ≡ slots → (t : StateSet) (asked : Call) (arguments : List Meaning) → Answered g own c c slots mid was was (Err halt.Memory) t asked arguments
+  no_room mid was object free room t asked arguments =
+      let none = none_refused g c slots was free in
+      subst (λ (ss : List Slot). Answered g own c c slots ss was was (Err halt.Memory) t asked arguments) (sym room)
+      (record {
+        made = tt;
+        halted = subst (λ (o : Option Refused). Halts (kept_of g c slots o) (kept_of g c slots o) asked arguments halt.Memory) (sym none) (record { held = λ w. omega arith; jam = refl });
+        same = record { game = refl; bound = refl };
+        object = object;
+      })

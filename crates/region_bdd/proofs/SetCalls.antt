@@ -20,17 +20,12 @@ use Rattle.region_bdd.specs.Object.{IsObject, kept_of, argument_in, jam_in}
 use Rattle.region_bdd.proofs.SlotLaws.{one_itself, fit_here}
 use Rattle.region_bdd.proofs.ObjectLaws.{own_root, within_root, region_shows, region_set}
 
--- no budget ran out where no jam is told
-pub none_refused : (g : GameData) (c : Contents) (slots : List Slot) (refused : Option Refused) → (kept_of g c slots refused).jam ≡ None → refused ≡ None
-none_refused g c slots None e = refl
-none_refused g c slots (Some r) e = absurd (cc (e))
-
 module _ (g : GameData) (own : Own) (c : Contents) (slots : List Slot) (refused : Option Refused) (object : IsObject g c own slots refused) where
-  pub nothing_root : IsRoot c.state own.nothing
-  nothing_root = own_root g own c slots object.sound own.nothing (let one = one_itself own.nothing in omega (arith, one))
+  pub nothing_root : IsRoot c.state own.step.nothing
+  nothing_root = own_root g own c slots object.sound own.step.nothing (let one = one_itself own.step.nothing in omega (arith, one))
 
-  pub proper_root : IsRoot c.state own.proper
-  proper_root = own_root g own c slots object.sound own.proper (let one = one_itself own.proper in omega (arith, one))
+  pub proper_root : IsRoot c.state own.step.proper
+  proper_root = own_root g own c slots object.sound own.step.proper (let one = one_itself own.step.proper in omega (arith, one))
 
   pub held_root : (r : BddRegion) (root : ℕ) → HasContent slots r.slot (Region root) → IsRoot c.state root
   held_root r root here = within_root g own c slots object.sound r.slot (Region root) here root (let one = one_itself root in omega (arith, one))
@@ -51,13 +46,13 @@ module _ (g : GameData) (own : Own) (c : Contents) (slots : List Slot) (refused 
       ∙ (ap (λ t. States t ∷ shown_meaning g (shown_at (map (shown_of c) slots) b.slot) ∷ []) (sym (region_set g c slots refused a x here))
       ∙ ap (λ m. States ((kept_of g c slots refused).set a) ∷ m ∷ []) (ap (shown_meaning g) (region_shows g c slots refused b y there) ∙ ap States (sym (region_set g c slots refused b y there))))
 
-  pub tells_all : Tells g Now (function_at c own.proper) (all_states g)
+  pub tells_all : Tells g Now (function_at c own.step.proper) (all_states g)
   tells_all = object.sound.own_fits.proper
 
-  pub tells_nothing : Tells g Now (function_at c own.nothing) no_states
+  pub tells_nothing : Tells g Now (function_at c own.step.nothing) no_states
   tells_nothing = subst (λ (f : Function). Tells g Now f no_states) (sym object.sound.own_fits.nothing) (tells_none g Now)
 
-  pub tells_not : (r : BddRegion) (root : ℕ) → HasContent slots r.slot (Region root) → Tells g Now (ite (function_at c root) (function_at c own.nothing) (function_at c own.proper)) (rest g ((kept_of g c slots refused).set r))
+  pub tells_not : (r : BddRegion) (root : ℕ) → HasContent slots r.slot (Region root) → Tells g Now (ite (function_at c root) (function_at c own.step.nothing) (function_at c own.step.proper)) (rest g ((kept_of g c slots refused).set r))
   tells_not r root here =
-      subst (λ (f : Function). Tells g Now (ite (function_at c root) f (function_at c own.proper)) (rest g ((kept_of g c slots refused).set r))) (sym object.sound.own_fits.nothing)
-      (tells_rest g Now (function_at c root) (function_at c own.proper) ((kept_of g c slots refused).set r) (region_tells r root here) tells_all)
+      subst (λ (f : Function). Tells g Now (ite (function_at c root) f (function_at c own.step.proper)) (rest g ((kept_of g c slots refused).set r))) (sym object.sound.own_fits.nothing)
+      (tells_rest g Now (function_at c root) (function_at c own.step.proper) ((kept_of g c slots refused).set r) (region_tells r root here) tells_all)

@@ -1,10 +1,10 @@
 -- What an object of regions as diagrams keeps true, and what it is seen as.
-use Rattle.std.specs.Prelude.{◌≡◌, ℕ, ◌+◌, ◌<◌, false, true, not, ◌&&◌, List, [], ◌∷◌, ◌++◌, length, map, Option, Some, None}
+use Rattle.std.specs.Prelude.{◌≡◌, ℕ, ◌+◌, ◌<◌, false, true, not, List, [], ◌∷◌, ◌++◌, length, map, Option, Some, None}
 use Rattle.spec_model.specs.Diagrams.{Function, Bits}
 use Rattle.spec_model.specs.Syntax.{Formula}
 use Rattle.spec_model.specs.Meaning.{holds_at}
 use Rattle.spec_model.specs.Games.{GameData, GoalData, State, step_reading}
-use Rattle.spec_model.specs.Steps.{is_state, assumptions_hold, guarantees_hold}
+use Rattle.spec_model.specs.Steps.{is_state}
 use Rattle.spec_model.specs.Sets.{StateSet, all_states}
 use Rattle.spec_model.specs.WellMade.{WellMade}
 use Rattle.game_values.specs.declared.seen.At.TheVariants.{Now, Next}
@@ -17,7 +17,9 @@ use Rattle.bdd_ops.specs.Contents.{Contents, function_at}
 use Rattle.bit_compile.specs.Domains.{state_domains, level_count}
 use Rattle.state_diagrams.specs.declared.moves.Members.{Members}
 use Rattle.state_diagrams.specs.StateBits.{HasState, TellsStates, Tells, set_at}
-use Rattle.state_diagrams.specs.MoveBits.{TellsMoves, IsOfNext, follows, some_leads}
+use Rattle.state_diagrams.specs.MoveBits.{TellsMoves, some_leads}
+use Rattle.state_diagrams.specs.Forcing.{FitMoves, AreLevelsOf}
+use Rattle.state_diagrams.specs.declared.moves.NextLevels.{NextLevels}
 use Rattle.state_diagrams.specs.Members.{MoveFunctions, move_functions, functions_at}
 use Rattle.region_bdd.specs.declared.slots.Content.{Content}
 use Rattle.region_bdd.specs.declared.slots.Slot.{Slot}
@@ -42,14 +44,6 @@ TellGoals g [] [] = Unit {0}
 TellGoals g (goal ∷ goals) (f ∷ fs) = TellsFormula g goal.holds f × TellGoals g goals fs
 TellGoals g _ _ = ⊥
 
--- the functions are those of the game's lines at this time, and say besides that the next bits are a state's
-pub record FitMoves (g : GameData) (when : When) (m : MoveFunctions) : Type 0 where
-  pub inputs : TellsMoves g when m.inputs (λ b s. assumptions_hold g b s && follows g b s)
-  pub inputs_next : IsOfNext g m.inputs
-  pub outputs : TellsMoves g when m.outputs (guarantees_hold g)
-  pub outputs_next : IsOfNext g m.outputs
-  pub update : TellsMoves g when m.update (follows g)
-
 pub record OwnFunctions : Type 0 where
   pub nothing : Function
   pub proper : Function
@@ -61,12 +55,12 @@ pub record OwnFunctions : Type 0 where
 abbrev pub own_functions : Contents → Own → OwnFunctions
 own_functions c own =
     record {
-      nothing = function_at c own.nothing;
-      proper = function_at c own.proper;
+      nothing = function_at c own.step.nothing;
+      proper = function_at c own.step.proper;
       assume = functions_at c own.assume.items;
       goals = functions_at c own.goals.items;
       first = move_functions c own.first;
-      later = move_functions c own.later;
+      later = move_functions c own.step.later;
     }
 
 pub record OwnFits (g : GameData) (own : OwnFunctions) : Type 0 where
@@ -82,7 +76,7 @@ roots_of_members n m = times_in n m.inputs.items + (times_in n m.outputs.items +
 
 -- how often the object keeps the root for itself
 abbrev pub roots_of_own : ℕ → Own → ℕ
-roots_of_own n own = one_at n own.nothing + (one_at n own.proper + (times_in n own.assume.items + (times_in n own.goals.items + (roots_of_members n own.first + roots_of_members n own.later))))
+roots_of_own n own = one_at n own.step.nothing + (one_at n own.step.proper + (times_in n own.assume.items + (times_in n own.goals.items + (roots_of_members n own.first + roots_of_members n own.step.later))))
 
 -- ---- what slots hold
 

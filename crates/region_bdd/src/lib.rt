@@ -7,6 +7,7 @@
 //! Path: game → sets as diagrams → **regions as diagrams** → layers.
 #![tactic(auto)]
 
+mod forcing;
 mod keeping;
 mod object;
 mod own;

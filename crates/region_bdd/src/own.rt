@@ -2,23 +2,20 @@
 
 use bdd_ops::Root;
 use regions::When;
+use state_diagrams::forcing::StepRoots;
 use state_diagrams::moves::Members;
 
 /// What the object keeps from its making on: sets of the game's own formulas.
 #[derive(Debug)]
 pub struct Own {
-    /// No state.
-    pub nothing: Root,
-    /// All states, at the present bits.
-    pub proper: Root,
+    /// No state and all states, at the present bits, and the lines of later moves.
+    pub step: StepRoots,
     /// Where each recurring assumption holds.
     pub assume: Vec<Root>,
     /// Where each recurring guarantee holds.
     pub goals: Vec<Root>,
     /// The lines of the first moves, at the next bits.
     pub first: Members,
-    /// The lines of later moves, at the present and the next bits.
-    pub later: Members,
 }
 
 /// A call that may be refused for want of budget.

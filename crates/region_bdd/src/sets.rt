@@ -24,7 +24,7 @@ impl RegionBdd {
         let Ok(()) = self.slots.room() else {
             return Err(Halt::Memory);
         };
-        let made = told(self.diagrams.keep(&self.own.proper));
+        let made = told(self.diagrams.keep(&self.own.step.proper));
         let why = Refused {
             asked: Asked::All,
             first: None,
@@ -43,7 +43,7 @@ impl RegionBdd {
         let Ok(()) = self.slots.room() else {
             return Err(Halt::Memory);
         };
-        let made = told(self.diagrams.keep(&self.own.nothing));
+        let made = told(self.diagrams.keep(&self.own.step.nothing));
         let why = Refused {
             asked: Asked::NoStates,
             first: None,
@@ -142,8 +142,8 @@ impl RegionBdd {
         let made = ite(
             &mut self.diagrams,
             self.slots.region(a),
-            &self.own.nothing,
-            &self.own.proper,
+            &self.own.step.nothing,
+            &self.own.step.proper,
         );
         let why = Refused {
             asked: Asked::Not,

@@ -18,6 +18,8 @@ use Rattle.bdd_ops.specs.Functions.{joined, join_of}
 use Rattle.bdd_ops.specs.Calls.{negated}
 use Rattle.state_diagrams.specs.StateBits.{bits_for, HasState, Tells}
 use Rattle.state_diagrams.specs.MoveBits.{HasBefore, TellsMoves, TellsBefore, IsOfNext, follows, AreNextOf, is_any_slot, is_reply_slot, some_leads, some_keeps_out}
+use Rattle.state_diagrams.specs.Members.{MoveFunctions, reply_of, avoiding}
+use Rattle.state_diagrams.specs.Forcing.{FitMoves, AssumeNothingOfReplies, HasMoves}
 use Rattle.state_diagrams.proofs.BitLemmas.{has_bits}
 use Rattle.state_diagrams.proofs.SetLemmas.{told_at, tells_by}
 use Rattle.state_diagrams.proofs.QuantLemmas.{some_there, there_some}
@@ -69,7 +71,7 @@ module _ (g : GameData) where
 
     leads_there : (b : Before) (s : State) (bits : Bits) → is_time g when b ≡ true → is_state g s ≡ true → HasBefore g b bits → HasState g Next s bits → reply bits ≡ true → some_leads g n b s.position.input ≡ true
     leads_there b s bits time here before has e =
-        let found = some_there levels _ bits e in
+        let found = some_there levels (λ s. joined (join_of true) target legal s && update s) bits e in
         let bits' = found.0 in
         let parts = and_parts (target bits' && legal bits') (update bits') found.2 in
         let both = and_parts (target bits') (legal bits') parts.0 in
@@ -98,7 +100,7 @@ module _ (g : GameData) where
         let in_target : target bits' ≡ true = told s' bits' here' has' ∙ parts.1 in
         let is_legal : legal bits' ≡ true = outputs.at_moves b s' bits' time here' before' has' ∙ parts.0 in
         let follows_it : update bits' ≡ true = updates.at_moves b s' bits' time here' before' has' ∙ follows-reached g b s.position.input y in
-        there_some levels _ bits bits' off (and_from _ _ (and_from _ _ in_target is_legal) follows_it)
+        there_some levels (λ s. joined (join_of true) target legal s && update s) bits bits' off (and_from _ _ (and_from _ _ in_target is_legal) follows_it)
 
     -- some legal output leads into the target
     pub tells_leads : TellsMoves g when reply (λ b s. some_leads g n b s.position.input)
@@ -106,11 +108,7 @@ module _ (g : GameData) where
 
   -- ---- inputs
 
-  -- what holds of one output after an input holds of each: assumptions read no output that comes with them
-  abbrev pub AssumeNothingOfReplies : Type 0
-  AssumeNothingOfReplies = (b : Before) (x y : Assignment) → is_state g (reached g b x y) ≡ true → assumptions_hold g b (reached g b x y) ≡ legal_input g b x
-
-  module _ (when : When) (closed : IsClosed g) (alike : AssumeNothingOfReplies) (reply : (y : Assignment) × (is_output g y ≡ true)) (levels : List ℕ) (next : AreNextOf g is_any_slot levels)
+  module _ (when : When) (closed : IsClosed g) (alike : AssumeNothingOfReplies g) (reply : (y : Assignment) × (is_output g y ≡ true)) (levels : List ℕ) (next : AreNextOf g is_any_slot levels)
       (q : Before → Assignment → Bool) (leads legal : Function) (told : TellsMoves g when leads (λ b s. q b s.position.input))
       (inputs : TellsMoves g when legal (λ b s. assumptions_hold g b s && follows g b s)) (of_next : IsOfNext g legal) where
     abbrev some_input : Function
@@ -118,7 +116,7 @@ module _ (g : GameData) where
 
     avoids_there : (b : Before) (bits : Bits) → is_time g when b ≡ true → HasBefore g b bits → some_input bits ≡ true → list_any (λ x. legal_input g b x && q b x) (inputs_of g) ≡ true
     avoids_there b bits time before e =
-        let found = some_there levels _ bits e in
+        let found = some_there levels (λ s. leads s && legal s) bits e in
         let bits' = found.0 in
         let both = and_parts (leads bits') (legal bits') found.2 in
         let state = of_next bits' both.1 in
@@ -143,7 +141,7 @@ module _ (g : GameData) where
         let before' = before_kept g levels is_any_slot bits bits' next off b before in
         let q_holds : leads bits' ≡ true = told.at_moves b s' bits' time here' before' has' ∙ parts.1 in
         let is_legal : legal bits' ≡ true = inputs.at_moves b s' bits' time here' before' has' ∙ and_from _ _ (alike b x reply.0 here' ∙ parts.0) (follows-reached g b x reply.0) in
-        there_some levels _ bits bits' off (and_from _ _ q_holds is_legal)
+        there_some levels (λ s. leads s && legal s) bits bits' off (and_from _ _ q_holds is_legal)
 
     -- some legal input has the property
     pub tells_some_input : TellsBefore g when some_input (λ b. list_any (λ x. legal_input g b x && q b x) (inputs_of g))
@@ -167,6 +165,14 @@ not_any l q (x ∷ xs) = at (l x) (q x) (list_any (λ x. l x && not (q x)) xs) �
 any_same : {X : Type 0} (p q : X → Bool) (xs : List X) → ((x : X) → p x ≡ q x) → list_any p xs ≡ list_any q xs
 any_same p q [] same = refl
 any_same p q (x ∷ xs) same = ap (λ c. c || list_any p xs) (same x) ∙ ap (λ c. q x || c) (any_same p q xs same)
+
+-- some legal input keeps the system out of the target
+pub tells_avoiding : (g : GameData) (when : When) (m : MoveFunctions) (reply next : List ℕ) → HasMoves g → FitMoves g when m → AreNextOf g (is_reply_slot g) reply → AreNextOf g is_any_slot next → (n : StateSet) (target : Function) → ((s : State) (bits : Bits) → is_state g s ≡ true → HasState g Next s bits → target bits ≡ n s) →
+    TellsBefore g when (avoiding m reply next target) (some_keeps_out g n)
+tells_avoiding g when m reply next moves fit reply_is next_is n target told =
+    let leads = tells_leads g when moves.closed reply reply_is n target m.outputs m.update told fit.outputs fit.outputs_next fit.update in
+    let avoids = tells_negated g when (reply_of m reply target) (λ b s. some_leads g n b s.position.input) leads in
+    tells_some_input g when moves.closed moves.alike moves.some_output next next_is (λ b x. not (some_leads g n b x)) (negated (reply_of m reply target)) m.inputs avoids fit.inputs fit.inputs_next
 
 -- where no legal input keeps the system out of a set, it forces it
 pub forced-not : (g : GameData) (t : StateSet) (b : Before) → not (some_keeps_out g t b) ≡ system_forces g t b

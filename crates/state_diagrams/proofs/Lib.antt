@@ -6,3 +6,4 @@ pub mod MoveLemmas
 pub mod ForceLemmas
 pub mod SpentLemmas
 pub mod ShiftLemmas
+pub mod StateLemmas

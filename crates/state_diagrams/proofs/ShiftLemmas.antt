@@ -1,5 +1,5 @@
 -- A function that tells states at the present bits tells them at the next ones when its levels are moved there.
-use Rattle.std.proofs.Common.{◌≡◌, ℕ, zero, suc, ◌+◌, ◌-◌, ◌*◌, ◌^◌, ◌<◌, ◌≤◌, Bool, true, false, List, length, take, refl, sym, ◌∙◌, ap, arith, ◌⊎◌, inl, inr, slice_index_or}
+use Rattle.std.proofs.Common.{◌≡◌, ℕ, zero, suc, ◌+◌, ◌-◌, ◌*◌, ◌^◌, ◌<◌, ◌≤◌, Bool, true, false, List, length, take, refl, sym, ◌∙◌, ap, subst, arith, ◌⊎◌, inl, inr, slice_index_or}
 use Rattle.spec_model.specs.Diagrams.{Bits, Function, with_bit, shifted}
 use Rattle.spec_model.specs.Games.{GameData, State, listed}
 use Rattle.spec_model.specs.Steps.{is_state}
@@ -26,6 +26,14 @@ has_number-moved level d (suc w) n s t same =
     let low : has_number (suc level) w n s ≡ has_number (suc (level + d)) w n t = has_number-moved (suc level) d w n s t (λ m low below. same m (omega arith) (omega arith)) ∙ ap (λ l. has_number l w n t) e in
     cc
 
+inside_or : (l w m : ℕ) → ((l ≤ m) × (m < l + w)) ⊎ ((l ≤ m) × (m < l + w) → ⊥)
+inside_or l w m = from (grind arith) (grind arith)
+  where
+    from : (m < l) ⊎ (l ≤ m) → (m < l + w) ⊎ (l + w ≤ m) → ((l ≤ m) × (m < l + w)) ⊎ ((l ≤ m) × (m < l + w) → ⊥)
+    from (inl before) high = inr (λ both. (let low = both.0 in absurd (omega (arith, low, before))))
+    from (inr low) (inl high) = inl (low, high)
+    from (inr low) (inr after) = inr (λ both. (let high = both.1 in absurd (omega (arith, high, after))))
+
 module _ (g : GameData) where
   abbrev pub IsPresent : ℕ → Type 0
   IsPresent m = (k : ℕ) × (k < length (state_domains g)) × IsLevelOf g Now k m
@@ -36,18 +44,7 @@ module _ (g : GameData) where
   present_below m (suc n) small = from (present_below m n (omega arith)) here
     where
       here : IsLevelOf g Now n m ⊎ (IsLevelOf g Now n m → ⊥)
-      here = at (level_at (state_domains g) Now n) (width_at (state_domains g) n)
-        where
-          at : (l w : ℕ) → ((l ≤ m) × (m < l + w)) ⊎ ((l ≤ m) × (m < l + w) → ⊥)
-          at l w = by_order order
-            where
-              order : (m < l) ⊎ ((l ≤ m) × (m < l + w) ⊎ (l + w ≤ m))
-              order = grind arith
-
-              by_order : (m < l) ⊎ ((l ≤ m) × (m < l + w) ⊎ (l + w ≤ m)) → ((l ≤ m) × (m < l + w)) ⊎ ((l ≤ m) × (m < l + w) → ⊥)
-              by_order (inl before) = inr (λ both. (let low = both.0 in absurd (omega (arith, low, before))))
-              by_order (inr (inl inside)) = inl inside
-              by_order (inr (inr after)) = inr (λ both. (let high = both.1 in absurd (omega (arith, high, after))))
+      here = inside_or (level_at (state_domains g) Now n) (width_at (state_domains g) n) m
 
       from : IsPresent m ⊎ ((k : ℕ) → k < n → IsLevelOf g Now k m → ⊥) → IsLevelOf g Now n m ⊎ (IsLevelOf g Now n m → ⊥) → IsPresent m ⊎ ((k : ℕ) → k < suc n → IsLevelOf g Now k m → ⊥)
       from (inl found) also = inl found
@@ -56,18 +53,18 @@ module _ (g : GameData) where
         where
           last_or : (k : ℕ) → k < suc n → IsLevelOf g Now k m → (k < n) ⊎ (k ≡ n) → ⊥
           last_or k below level (inl less) = none k less level
-          last_or k below level (inr same) = outside (rw same at level)
+          last_or k below level (inr same) = outside (subst (λ (j : ℕ). IsLevelOf g Now j m) same level)
 
   -- the bits of a state without a level that is none of its own
   other_bit : (s : State) (b : Bits) (m : ℕ) (v : Bool) → ((k : ℕ) → k < length (state_domains g) → IsLevelOf g Now k m → ⊥) → HasState g Now s (with_bit b m v) → HasState g Now s b
   other_bit s b m v outside has k known =
       has_number-same (level_at (state_domains g) Now k) (width_at (state_domains g) k) (code_at (state_domains g) (listed s) k) b (with_bit b m v)
-      (λ x low high. sym (with_bit-other b m x v (λ same. outside k known (rw same at (low, high))))) ∙ has k known
+      (λ x low high. sym (with_bit-other b m x v (λ same. outside k known (subst (λ (y : ℕ). IsLevelOf g Now k y) same (low, high))))) ∙ has k known
 
   back_bit : (s : State) (b : Bits) (m : ℕ) (v : Bool) → ((k : ℕ) → k < length (state_domains g) → IsLevelOf g Now k m → ⊥) → HasState g Now s b → HasState g Now s (with_bit b m v)
   back_bit s b m v outside has k known =
       has_number-same (level_at (state_domains g) Now k) (width_at (state_domains g) k) (code_at (state_domains g) (listed s) k) (with_bit b m v) b
-      (λ x low high. with_bit-other b m x v (λ same. outside k known (rw same at (low, high)))) ∙ has k known
+      (λ x low high. with_bit-other b m x v (λ same. outside k known (subst (λ (y : ℕ). IsLevelOf g Now k y) same (low, high)))) ∙ has k known
 
   module _ (f : Function) (states : TellsStates g Now f) where
     -- no level is read but present ones

@@ -6,6 +6,8 @@
 //! Path: codes, operations → **sets as diagrams** → regions as diagrams.
 #![tactic(auto)]
 
+pub mod forcing;
+pub mod laws;
 pub mod moves;
 pub mod spent;
 pub mod steps;

@@ -22,13 +22,15 @@ pub struct Members {
     pub update: Vec<Root>,
 }
 
-/// The levels of next bits, strictly rising.
+/// The levels of next bits, rising strictly in the first two lists.
 #[derive(Debug, Drop)]
 pub struct NextLevels {
     /// All of them.
     pub all: Vec<u32>,
     /// Those of the hidden tables and of the outputs.
     pub reply: Vec<u32>,
+    /// For each level, the next one of the same bit.
+    pub to: Vec<u32>,
 }
 
 /// Where some legal output leads into the target, which is given back.

@@ -17,7 +17,7 @@ loop-member-init c =
 pub returns-in_err-whole-2 : goal.returns-in_err-whole-2
 returns-in_err-whole-2 c =
     let so_far = all_true (functions_at c.args.diagrams.now (take c.loop-member.member-index c.args.members.now)) in
-    refused_by c.args.diagrams.now c.and_spent.new.diagrams c.from_residual-in_err-whole-2.result c.in_err-whole-2.field-0.0 (joined (join_of true) so_far (function_at c.loop-member.diagrams c.member-item.result.now)) (all_true (functions_at c.args.diagrams.now c.args.members.now)) c.from_residual-in_err-whole-2.ensures.1 (c.in_err-whole-2.ensures c.args.diagrams.now so_far c.loop-member.invariant)
+    refused_by c.args.diagrams.now c.and_spent.new.diagrams c.from_residual-in_err-whole-2.result c.in_err-whole-2.field-0.0 (joined (join_of true) so_far (function_at c.loop-member.diagrams c.member-item.result)) (all_true (functions_at c.args.diagrams.now c.args.members.now)) c.from_residual-in_err-whole-2.ensures.1 (c.in_err-whole-2.ensures c.args.diagrams.now so_far c.loop-member.invariant)
 
 pub loop-member-preserved : goal.loop-member-preserved
 loop-member-preserved c =
@@ -25,7 +25,7 @@ loop-member-preserved c =
     let ms = c.args.members.now in
     let i = c.loop-member.member-index in
     let so_far = all_true (functions_at old (take i ms)) in
-    let m = c.member-item.result.now in
+    let m = c.member-item.result in
     let root : IsRoot old.state m = subst (λ (n : ℕ). IsRoot old.state n) (item_is ms i m c.loop-member-test.true c.member-item.is) (c.requires i c.loop-member-test.true) in
     let same = function_kept old c.loop-member.diagrams c.loop-member.invariant.keeps m root in
     let made = c.in_ok-whole-2.ensures old so_far c.loop-member.invariant in
