@@ -22,9 +22,9 @@ not_equal m level e is = absurd (false≢true (sym e ∙ eq-eqb level m (sym is)
 pub some_there : (levels : List ℕ) (f : Function) (b : Bits) → exists_over levels f b ≡ true → (b' : Bits) × AgreesOff levels b b' × (f b' ≡ true)
 some_there [] f b e = (b, record { same = λ m out. refl }, e)
 some_there (level ∷ levels) f b e = elim (or_cases (exists_over levels f (with_bit b level false)) (exists_over levels f (with_bit b level true)) e) [
-    | inl low ↦ at false (some_there levels f (with_bit b level false) low)
-    | inr high ↦ at true (some_there levels f (with_bit b level true) high)
-  ]
+  | inl low ↦ at false (some_there levels f (with_bit b level false) low)
+  | inr high ↦ at true (some_there levels f (with_bit b level true) high)
+]
   where
     at : (v : Bool) → (b' : Bits) × AgreesOff levels (with_bit b level v) b' × (f b' ≡ true) → (b' : Bits) × AgreesOff (level ∷ levels) b b' × (f b' ≡ true)
     at v found = (found.0, record { same = λ m out. same m out }, found.2)

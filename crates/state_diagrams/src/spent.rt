@@ -42,12 +42,7 @@ pub fn join_spent(diagrams: &mut Diagrams, a: Root, b: Root) -> Result<Root, Hal
 }
 
 /// The diagram that is true where some values at `levels` make both true. Both are given back.
-pub fn exists_spent(
-    diagrams: &mut Diagrams,
-    a: Root,
-    b: Root,
-    levels: &[u32],
-) -> Result<Root, Halt>
+pub fn exists_spent(diagrams: &mut Diagrams, a: Root, b: Root, levels: &[u32]) -> Result<Root, Halt>
     requires a_kept { IsRoot diagrams.old.state a }
     requires b_kept { IsRoot diagrams.old.state b }
     requires apart { a ≡ b → 1 < roots_at diagrams.old.state a }
@@ -94,11 +89,7 @@ pub fn all_of(diagrams: &mut Diagrams, members: &[Root]) -> Result<Root, Halt>
 }
 
 /// A diagram that is held, and the conjunction of several others. Where that isn't made, the first is given back.
-pub fn beside(
-    diagrams: &mut Diagrams,
-    held: Root,
-    members: &[Root],
-) -> Result<(Root, Root), Halt>
+pub fn beside(diagrams: &mut Diagrams, held: Root, members: &[Root]) -> Result<(Root, Root), Halt>
     requires kept { IsRoot diagrams.old.state held }
     requires members { AreRoots diagrams.old members.now }
     ensures same { IfOk result (λ p. p.0 ≡ held) }

@@ -31,12 +31,7 @@ pub fn ite(diagrams: &mut Diagrams, a: &Root, b: &Root, c: &Root) -> Result<Root
 }
 
 /// The diagram that is true where some values at `levels` make both true.
-pub fn and_exists(
-    diagrams: &mut Diagrams,
-    a: &Root,
-    b: &Root,
-    levels: &[u32],
-) -> Result<Root, Halt>
+pub fn and_exists(diagrams: &mut Diagrams, a: &Root, b: &Root, levels: &[u32]) -> Result<Root, Halt>
     requires a_kept { IsRoot diagrams.old.state a.now }
     requires b_kept { IsRoot diagrams.old.state b.now }
     ensures { MakesOnce diagrams.old diagrams.new result (and_exists_over levels.now (function_at diagrams.old a.now) (function_at diagrams.old b.now)) (IsUnfinished (join_of false) (IsRelatedPart levels.now (diagram_of diagrams.old.state a.now) (diagram_of diagrams.old.state b.now))) }
