@@ -15,7 +15,7 @@ use Rattle.hidden_game.proofs.Choices.{some_choice}
 use Rattle.hidden_game.proofs.Agreeing.{not_false}
 use Rattle.hidden_game.proofs.AnyOutput.{same_here, same_late}
 use Rattle.state_diagrams.specs.Forcing.{AssumeNothingOfReplies, HasMoves}
-use Rattle.state_diagrams.proofs.ForceLemmas.{output_suffices, output_fits}
+use Rattle.state_diagrams.proofs.ForceLemmas.{output_suffices}
 
 lines_same : {X : Type 0} (ok p q : X → Bool) → ((x : X) → ok x ≡ true → p x ≡ q x) → (xs : List X) → list_all ok xs ≡ true → list_all p xs ≡ list_all q xs
 lines_same ok p q same [] all = refl
@@ -62,7 +62,7 @@ module _ (g : GameData) (made : WellMade g) where
   pub assume_nothing_of_replies : AssumeNothingOfReplies g
   assume_nothing_of_replies b x y here =
       let hidden = (and_parts (are_hidden_values g.hidden (reached g b x y).hidden) _ here).0 in
-      let some : list_any (λ (z : Assignment). true) (outputs_of g) ≡ true = output_suffices g (λ z. true) y (output_fits g (reached g b x y) here) refl in
+      let some : list_any (λ (z : Assignment). true) (outputs_of g) ≡ true = output_suffices g (λ z. true) y (and_parts (is_input g x) (is_output g y) (and_parts (are_hidden_values g.hidden (reached g b x y).hidden) _ here).1).1 refl in
       all_alike (λ y'. assumptions_hold g b (reached g b x y')) (assumptions_hold g b (reached g b x y)) (λ y'. sym (assumptions_same b x y y' hidden)) (outputs_of g) some
 
 some_first : {X : Type 0} (Q : X → Type 0) (xs : List X) → 0 < length xs → Every Q xs → (x : X) × Q x

@@ -1,5 +1,6 @@
 pub mod SlotLaws
 pub mod ObjectLaws
 pub mod OutcomeLaws
-pub mod SetCalls
 pub mod AlikeLaws
+pub mod SetCalls
+pub mod GoalLaws

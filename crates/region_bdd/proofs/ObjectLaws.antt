@@ -1,5 +1,6 @@
 -- What the object is seen as after each kind of change, and that it stays sound.
-use Rattle.std.proofs.Common.{◌≡◌, ℕ, zero, suc, ◌+◌, ◌<◌, ◌≤◌, ◌==◌, true, false, cond, List, [], ◌∷◌, ◌++◌, length, map, Option, Some, None, slice_get, refl, sym, ◌∙◌, ap, subst, arith, zero-add}
+use Rattle.std.proofs.Common.{◌≡◌, ℕ, zero, suc, ◌+◌, ◌<◌, ◌≤◌, ◌==◌, true, false, cond, List, [], ◌∷◌, ◌++◌, length, map, Option, Some, None, is_some, slice_get, refl, sym, ◌∙◌, ap, subst, arith, zero-add}
+use Rattle.std.proofs.lemmas.Bool.{false≢true}
 use Rattle.spec_model.specs.Diagrams.{Function, value}
 use Rattle.spec_model.specs.Games.{GameData}
 use Rattle.spec_model.specs.Sets.{StateSet}
@@ -255,3 +256,11 @@ module _ (g : GameData) (own : Own) (c c' : Contents) (slots new : List Slot) (a
       slots_fit = fit_marked g c slots new a.slot marked sound.slots_fit;
     },
   )
+
+pub some_refused : (o : Option Refused) → is_some o ≡ true → (r : Refused) × (o ≡ Some r)
+some_refused None e = absurd (false≢true e)
+some_refused (Some r) e = (r, refl)
+
+pub not_refused : (o : Option Refused) → is_some o ≡ false → o ≡ None
+not_refused None e = refl
+not_refused (Some r) e = absurd (false≢true (sym e))

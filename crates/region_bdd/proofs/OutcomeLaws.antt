@@ -10,6 +10,7 @@ use Rattle.regions.specs.declared.types.Halt.{Halt}
 use Rattle.regions.specs.declared.types.Halt.TheVariants as halt
 use Rattle.bdd_ops.specs.Contents.{Contents, function_at}
 use Rattle.bit_compile.specs.Making.{Makes}
+use Rattle.state_diagrams.specs.declared.moves.NextLevels.{NextLevels}
 use Rattle.state_diagrams.specs.StateBits.{Tells, TellsStates, set_at}
 use Rattle.region_bdd.specs.declared.slots.Content.TheVariants.{Region}
 use Rattle.region_bdd.specs.declared.slots.Slot.{Slot}
@@ -23,15 +24,15 @@ use Rattle.region_bdd.proofs.SlotLaws.{open_taken}
 use Rattle.region_bdd.proofs.ObjectLaws.{none_refused, sound_same, sound_taken, makes_item, halts_memory, halts_budget}
 
 -- what the call answers and leaves
-pub record Outcome (g : GameData) (own : Own) (c c' : Contents) (slots new : List Slot) (refused : Option Refused) (result : Result BddRegion Halt) (t : StateSet) (asked : Call) (arguments : List Meaning) : Type 0 where
+pub record Outcome (g : GameData) (own : Own) (lists : NextLevels) (c c' : Contents) (slots new : List Slot) (refused : Option Refused) (result : Result BddRegion Halt) (t : StateSet) (asked : Call) (arguments : List Meaning) : Type 0 where
   pub made : IfOk result (λ r. MakesRegion (kept_of g c slots None) (kept_of g c' new refused) r t)
   pub halted : IfErr result (Halts (kept_of g c slots None) (kept_of g c' new refused) asked arguments)
   pub same : IsSameGame (kept_of g c slots None) (kept_of g c' new refused)
-  pub object : IsObject g c' own new refused
+  pub object : IsObject g c' own lists new refused
 
-module _ (g : GameData) (own : Own) (c c' : Contents) (slots new : List Slot) (refused : Option Refused) (object : IsObject g c own slots None) (f : Function) (t : StateSet) (tells : Tells g Now f t) (why : Refused) (arguments : List Meaning)
+module _ (g : GameData) (own : Own) (lists : NextLevels) (c c' : Contents) (slots new : List Slot) (refused : Option Refused) (object : IsObject g c own lists slots None) (f : Function) (t : StateSet) (tells : Tells g Now f t) (why : Refused) (arguments : List Meaning)
     (arguments_are : argument_in g (map (shown_of c) slots) why.first ++ argument_in g (map (shown_of c) slots) why.second ≡ arguments) where
-  pub outcome : (made : Result ℕ Halt) (result : Result BddRegion Halt) → Makes c c' made f → Settles slots new refused made result why → Outcome g own c c' slots new refused result t (call_of why.asked) arguments
+  pub outcome : (made : Result ℕ Halt) (result : Result BddRegion Halt) → Makes c c' made f → Settles slots new refused made result why → Outcome g own lists c c' slots new refused result t (call_of why.asked) arguments
   outcome (Ok root) (Ok r) makes settles =
       let told : function_at c' root ≡ f = makes.meaning in
       let fits : TellsStates g Now (function_at c' root) = subst (TellsStates g Now) (sym told) tells.states in
@@ -44,33 +45,34 @@ module _ (g : GameData) (own : Own) (c c' : Contents) (slots new : List Slot) (r
         object = record {
           made = object.made;
           levels = makes.keeps.levels ∙ object.levels;
+          lists_are = object.lists_are;
           sound = sound_taken g own c c' slots object.sound makes.keeps new r.slot root (Region root) (λ n. refl) makes.added settles.0 fits;
           unspent = subst (λ (o : Option Refused). IsOpen o new) (sym settles.1) (open_taken slots new r.slot (Region root) settles.0 object.unspent);
         };
       }
   outcome (Err halt.Memory) (Err halt.Memory) makes settles = at_rest new refused settles.0 settles.1
     where
-      at_rest : (new : List Slot) (refused : Option Refused) → new ≡ slots → refused ≡ None → Outcome g own c c' slots new refused (Err halt.Memory) t (call_of why.asked) arguments
+      at_rest : (new : List Slot) (refused : Option Refused) → new ≡ slots → refused ≡ None → Outcome g own lists c c' slots new refused (Err halt.Memory) t (call_of why.asked) arguments
       at_rest new refused same unspent =
-          subst (λ (ss : List Slot). Outcome g own c c' slots ss refused (Err halt.Memory) t (call_of why.asked) arguments) (sym same)
-          (subst (λ (o : Option Refused). Outcome g own c c' slots slots o (Err halt.Memory) t (call_of why.asked) arguments) (sym unspent)
+          subst (λ (ss : List Slot). Outcome g own lists c c' slots ss refused (Err halt.Memory) t (call_of why.asked) arguments) (sym same)
+          (subst (λ (o : Option Refused). Outcome g own lists c c' slots slots o (Err halt.Memory) t (call_of why.asked) arguments) (sym unspent)
           (record {
             made = tt;
             halted = halts_memory g own c c' slots object.sound makes.keeps (call_of why.asked) arguments;
             same = record { game = refl; bound = makes.keeps.budget };
-            object = record { made = object.made; levels = makes.keeps.levels ∙ object.levels; sound = sound_same g own c c' slots object.sound makes.keeps makes.refused; unspent = object.unspent };
+            object = record { made = object.made; levels = makes.keeps.levels ∙ object.levels; lists_are = object.lists_are; sound = sound_same g own c c' slots object.sound makes.keeps makes.refused; unspent = object.unspent };
           }))
   outcome (Err halt.Budget) (Err halt.Budget) makes settles = at_rest new refused settles.0 settles.1
     where
-      at_rest : (new : List Slot) (refused : Option Refused) → new ≡ slots → refused ≡ Some why → Outcome g own c c' slots new refused (Err halt.Budget) t (call_of why.asked) arguments
+      at_rest : (new : List Slot) (refused : Option Refused) → new ≡ slots → refused ≡ Some why → Outcome g own lists c c' slots new refused (Err halt.Budget) t (call_of why.asked) arguments
       at_rest new refused same told =
-          subst (λ (ss : List Slot). Outcome g own c c' slots ss refused (Err halt.Budget) t (call_of why.asked) arguments) (sym same)
-          (subst (λ (o : Option Refused). Outcome g own c c' slots slots o (Err halt.Budget) t (call_of why.asked) arguments) (sym told)
+          subst (λ (ss : List Slot). Outcome g own lists c c' slots ss refused (Err halt.Budget) t (call_of why.asked) arguments) (sym same)
+          (subst (λ (o : Option Refused). Outcome g own lists c c' slots slots o (Err halt.Budget) t (call_of why.asked) arguments) (sym told)
           (record {
             made = tt;
             halted = halts_budget g own c c' slots object.sound makes.keeps why (call_of why.asked) arguments object.unspent refl arguments_are;
             same = record { game = refl; bound = makes.keeps.budget };
-            object = record { made = object.made; levels = makes.keeps.levels ∙ object.levels; sound = sound_same g own c c' slots object.sound makes.keeps makes.refused; unspent = tt };
+            object = record { made = object.made; levels = makes.keeps.levels ∙ object.levels; lists_are = object.lists_are; sound = sound_same g own c c' slots object.sound makes.keeps makes.refused; unspent = tt };
           }))
   outcome (Ok root) (Err halt.Memory) makes settles = absurd settles
   outcome (Ok root) (Err halt.Budget) makes settles = absurd settles
@@ -80,33 +82,33 @@ module _ (g : GameData) (own : Own) (c c' : Contents) (slots new : List Slot) (r
   outcome (Err halt.Budget) (Err halt.Memory) makes settles = absurd settles
 
 -- the same, as the calls have it: with room made for the diagram first
-pub record Answered (g : GameData) (own : Own) (c c' : Contents) (slots new : List Slot) (was refused : Option Refused) (result : Result BddRegion Halt) (t : StateSet) (asked : Call) (arguments : List Meaning) : Type 0 where
+pub record Answered (g : GameData) (own : Own) (lists : NextLevels) (c c' : Contents) (slots new : List Slot) (was refused : Option Refused) (result : Result BddRegion Halt) (t : StateSet) (asked : Call) (arguments : List Meaning) : Type 0 where
   pub made : IfOk result (λ r. MakesRegion (kept_of g c slots was) (kept_of g c' new refused) r t)
   pub halted : IfErr result (Halts (kept_of g c slots was) (kept_of g c' new refused) asked arguments)
   pub same : IsSameGame (kept_of g c slots was) (kept_of g c' new refused)
-  pub object : IsObject g c' own new refused
+  pub object : IsObject g c' own lists new refused
 
-module _ (g : GameData) (own : Own) (c : Contents) (slots : List Slot) where
+module _ (g : GameData) (own : Own) (lists : NextLevels) (c : Contents) (slots : List Slot) where
   answered_free : (c' : Contents) (new : List Slot) (refused : Option Refused) (result : Result BddRegion Halt) (t : StateSet) (asked : Call) (arguments : List Meaning) (was : Option Refused) → was ≡ None →
-      Outcome g own c c' slots new refused result t asked arguments → Answered g own c c' slots new was refused result t asked arguments
+      Outcome g own lists c c' slots new refused result t asked arguments → Answered g own lists c c' slots new was refused result t asked arguments
   answered_free c' new refused result t asked arguments was free outcome =
-      subst (λ (o : Option Refused). Answered g own c c' slots new o refused result t asked arguments) (sym free)
+      subst (λ (o : Option Refused). Answered g own lists c c' slots new o refused result t asked arguments) (sym free)
       (record { made = outcome.made; halted = outcome.halted; same = outcome.same; object = outcome.object })
 
-  pub answered : (c' : Contents) (mid new : List Slot) (was refused : Option Refused) (object : IsObject g c own slots was) → (kept_of g c slots was).jam ≡ None → mid ≡ slots → (f : Function) (t : StateSet) → Tells g Now f t → (why : Refused) (arguments : List Meaning) →
+  pub answered : (c' : Contents) (mid new : List Slot) (was refused : Option Refused) (object : IsObject g c own lists slots was) → (kept_of g c slots was).jam ≡ None → mid ≡ slots → (f : Function) (t : StateSet) → Tells g Now f t → (why : Refused) (arguments : List Meaning) →
       argument_in g (map (shown_of c) slots) why.first ++ argument_in g (map (shown_of c) slots) why.second ≡ arguments → (made : Result ℕ Halt) (result : Result BddRegion Halt) → Makes c c' made f → Settles mid new refused made result why →
-      Answered g own c c' slots new was refused result t (call_of why.asked) arguments
+      Answered g own lists c c' slots new was refused result t (call_of why.asked) arguments
   answered c' mid new was refused object free room f t tells why arguments are made result makes settles =
       let none = none_refused g c slots was free in
-      let object' : IsObject g c own slots None = subst (λ (o : Option Refused). IsObject g c own slots o) none object in
+      let object' : IsObject g c own lists slots None = subst (λ (o : Option Refused). IsObject g c own lists slots o) none object in
       let settles' : Settles slots new refused made result why = subst (λ (ss : List Slot). Settles ss new refused made result why) room settles in
-      answered_free c' new refused result t (call_of why.asked) arguments was none (outcome g own c c' slots new refused object' f t tells why arguments are made result makes settles')
+      answered_free c' new refused result t (call_of why.asked) arguments was none (outcome g own lists c c' slots new refused object' f t tells why arguments are made result makes settles')
 
   -- where there was no room for it
-  pub no_room : (mid : List Slot) (was : Option Refused) (object : IsObject g c own slots was) → (kept_of g c slots was).jam ≡ None → mid ≡ slots → (t : StateSet) (asked : Call) (arguments : List Meaning) → Answered g own c c slots mid was was (Err halt.Memory) t asked arguments
+  pub no_room : (mid : List Slot) (was : Option Refused) (object : IsObject g c own lists slots was) → (kept_of g c slots was).jam ≡ None → mid ≡ slots → (t : StateSet) (asked : Call) (arguments : List Meaning) → Answered g own lists c c slots mid was was (Err halt.Memory) t asked arguments
   no_room mid was object free room t asked arguments =
       let none = none_refused g c slots was free in
-      subst (λ (ss : List Slot). Answered g own c c slots ss was was (Err halt.Memory) t asked arguments) (sym room)
+      subst (λ (ss : List Slot). Answered g own lists c c slots ss was was (Err halt.Memory) t asked arguments) (sym room)
       (record {
         made = tt;
         halted = subst (λ (o : Option Refused). Halts (kept_of g c slots o) (kept_of g c slots o) asked arguments halt.Memory) (sym none) (record { held = λ w. omega arith; jam = refl });

@@ -152,7 +152,6 @@ module _ (g : GameData) (bound : ℕ) (jam : Option Jam) where
       let e : 0 + k ≡ k = zero-add k in
       weight_is slots w ∙ (slots-one g 0 k slots w (λ j s other. elsewhere j s (λ is. other (is ∙ sym e))) ∙ ap (λ j. slot_weighs g j (shown_at slots k) w) e)
 
-
 abbrev pub IsMoves : Shown → Type 0
 IsMoves (OutputsInto when p) = Unit {0}
 IsMoves (InputsInto when p leads) = Unit {0}
@@ -285,7 +284,7 @@ module _ (g : GameData) (bound : ℕ) (jam : Option Jam) where
       counted = let h = held (λ i. moves_alone g m.slot (λ n. 1) i (States no_states)) in let one = itself g m.slot 1 in omega (arith, h, one, one_slot g bound jam slots m.slot (λ i n. moves_alone g m.slot (λ n. 1) i (States no_states)) elsewhere)
 
       at : (s : Shown) → shown_at slots m.slot ≡ s → (content : Shown) × (shown_at slots m.slot ≡ content) × IsMoves content
-      at (OutputsInto when p) e = (OutputsInto when f, e, tt)
-      at (InputsInto when p leads) e = (InputsInto when f leads, e, tt)
+      at (OutputsInto when p) e = (OutputsInto when p, e, tt)
+      at (InputsInto when p leads) e = (InputsInto when p leads, e, tt)
       at Nothing e = absurd (no_less (subst (λ c. 1 ≤ slot_weighs g m.slot c (λ i n. moves_alone g m.slot (λ n. 1) i (States no_states))) e counted))
       at (Set p) e = absurd (no_less (subst (λ c. 1 ≤ slot_weighs g m.slot c (λ i n. moves_alone g m.slot (λ n. 1) i (States no_states))) e counted))

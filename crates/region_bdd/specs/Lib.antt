@@ -4,3 +4,4 @@ pub mod Object
 pub mod Keeping
 pub mod TraitLaws
 pub mod Seen
+pub mod Goals

@@ -137,9 +137,10 @@ jam_in g shown (Some r) = Some (record { call = call_of r.asked; arguments = arg
 
 -- ---- the object
 
-pub record IsObject (g : GameData) (c : Contents) (own : Own) (slots : List Slot) (refused : Option Refused) : Type 0 where
+pub record IsObject (g : GameData) (c : Contents) (own : Own) (lists : NextLevels) (slots : List Slot) (refused : Option Refused) : Type 0 where
   pub made : WellMade g
   pub levels : c.state.table.levels ≡ level_count (state_domains g)
+  pub lists_are : AreLevelsOf g lists
   pub sound : IsSound g c own slots
   pub unspent : IsOpen refused slots
 

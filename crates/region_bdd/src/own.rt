@@ -1,7 +1,11 @@
 //! The diagrams that an object keeps for itself, and why its budget ran out.
 
+ghost use Rattle.std.specs.Prelude.{◌≡◌, ◌<◌, length, slice_index};
+ghost use Rattle.regions.specs.Rules.{number_of};
+ghost use Rattle.region_bdd.specs.Goals.{goal_roots};
+
 use bdd_ops::Root;
-use regions::When;
+use regions::{Recur, When};
 use state_diagrams::forcing::StepRoots;
 use state_diagrams::moves::Members;
 
@@ -42,4 +46,17 @@ pub struct Refused {
     pub asked: Asked,
     pub first: Option<usize>,
     pub second: Option<usize>,
+}
+
+impl Own {
+    /// The diagram of a recurring goal.
+    pub fn goal(&self, what: Recur) -> &Root
+        requires { number_of what < length (goal_roots self.now what) }
+        ensures { slice_index (goal_roots self.now what) (number_of what) ≡ result.now }
+    {
+        match what {
+            Recur::Assumption(k) => &self.assume[k],
+            Recur::Guarantee(k) => &self.goals[k],
+        }
+    }
 }

@@ -1,25 +1,28 @@
 //! The algebra of regions.
 
-ghost use Rattle.std.specs.Prelude.{◌≡◌, ◌↔◌, [], ◌∷◌, None, IfOk, IfErr, IsTrue};
+ghost use Rattle.std.specs.Prelude.{◌≡◌, ◌↔◌, ◌<◌, length, [], ◌∷◌, None, IfOk, IfErr, IsTrue};
 ghost use Rattle.spec_model.specs.Sets.{no_states, all_states, both, either, rest};
-ghost use Rattle.regions.specs.Kept.{States, All, NoStates, Copy as CopyCall, And, Or, Not, HasRegion, MakesRegion, Halts, IsSameGame};
-ghost use Rattle.region_bdd.specs.Seen.{seen};
+ghost use Rattle.regions.specs.Kept.{States, All, NoStates, Copy as CopyCall, And, Or, Not, Holding, HasRegion, MakesRegion, Halts, IsSameGame};
+ghost use Rattle.regions.specs.Rules.{goals_like, number_of, states_holding};
+ghost use Rattle.region_bdd.specs.Seen.{seen, IsWhole};
 
 use crate::keeping::settle;
 use crate::object::RegionBdd;
 use crate::own::{Asked, Refused};
 use crate::slots::BddRegion;
 use bit_compile::steps::{and, or, told};
-use regions::Halt;
+use regions::{Halt, Recur};
 use state_diagrams::steps::ite;
 
 impl RegionBdd {
     /// Every assignment of the domains, legal or not.
     pub fn all(&mut self) -> Result<BddRegion, Halt>
-        requires { (seen self.old).jam ≡ None }
+        requires whole { IsWhole self.old }
+        requires free { (seen self.old).jam ≡ None }
         ensures made { IfOk result (λ r. MakesRegion (seen self.old) (seen self.new) r (all_states (seen self.old).game)) }
         ensures halted { IfErr result (Halts (seen self.old) (seen self.new) All []) }
         ensures same { IsSameGame (seen self.old) (seen self.new) }
+        ensures whole { IsWhole self.new }
     {
         let Ok(()) = self.slots.room() else {
             return Err(Halt::Memory);
@@ -35,10 +38,12 @@ impl RegionBdd {
 
     /// No state.
     pub fn none(&mut self) -> Result<BddRegion, Halt>
-        requires { (seen self.old).jam ≡ None }
+        requires whole { IsWhole self.old }
+        requires free { (seen self.old).jam ≡ None }
         ensures made { IfOk result (λ r. MakesRegion (seen self.old) (seen self.new) r no_states) }
         ensures halted { IfErr result (Halts (seen self.old) (seen self.new) NoStates []) }
         ensures same { IsSameGame (seen self.old) (seen self.new) }
+        ensures whole { IsWhole self.new }
     {
         let Ok(()) = self.slots.room() else {
             return Err(Halt::Memory);
@@ -54,11 +59,13 @@ impl RegionBdd {
 
     /// A second region of the same states.
     pub fn copy(&mut self, a: &BddRegion) -> Result<BddRegion, Halt>
+        requires whole { IsWhole self.old }
         requires free { (seen self.old).jam ≡ None }
         requires a { HasRegion (seen self.old) a.now }
         ensures made { IfOk result (λ r. MakesRegion (seen self.old) (seen self.new) r ((seen self.old).set a.now)) }
         ensures halted { IfErr result (Halts (seen self.old) (seen self.new) CopyCall (States ((seen self.old).set a.now) ∷ [])) }
         ensures same { IsSameGame (seen self.old) (seen self.new) }
+        ensures whole { IsWhole self.new }
     {
         let Ok(()) = self.slots.room() else {
             return Err(Halt::Memory);
@@ -74,6 +81,7 @@ impl RegionBdd {
 
     /// The states of both.
     pub fn and(&mut self, a: &BddRegion, b: &BddRegion) -> Result<BddRegion, Halt>
+        requires whole { IsWhole self.old }
         requires free { (seen self.old).jam ≡ None }
         requires a { HasRegion (seen self.old) a.now }
         requires b { HasRegion (seen self.old) b.now }
@@ -82,6 +90,7 @@ impl RegionBdd {
         ensures halted { let set = (seen self.old).set in
             IfErr result (Halts (seen self.old) (seen self.new) And (States (set a.now) ∷ States (set b.now) ∷ [])) }
         ensures same { IsSameGame (seen self.old) (seen self.new) }
+        ensures whole { IsWhole self.new }
     {
         let Ok(()) = self.slots.room() else {
             return Err(Halt::Memory);
@@ -101,6 +110,7 @@ impl RegionBdd {
 
     /// The states of either.
     pub fn or(&mut self, a: &BddRegion, b: &BddRegion) -> Result<BddRegion, Halt>
+        requires whole { IsWhole self.old }
         requires free { (seen self.old).jam ≡ None }
         requires a { HasRegion (seen self.old) a.now }
         requires b { HasRegion (seen self.old) b.now }
@@ -109,6 +119,7 @@ impl RegionBdd {
         ensures halted { let set = (seen self.old).set in
             IfErr result (Halts (seen self.old) (seen self.new) Or (States (set a.now) ∷ States (set b.now) ∷ [])) }
         ensures same { IsSameGame (seen self.old) (seen self.new) }
+        ensures whole { IsWhole self.new }
     {
         let Ok(()) = self.slots.room() else {
             return Err(Halt::Memory);
@@ -128,6 +139,7 @@ impl RegionBdd {
 
     /// The states of the game that are not in it.
     pub fn not(&mut self, a: &BddRegion) -> Result<BddRegion, Halt>
+        requires whole { IsWhole self.old }
         requires free { (seen self.old).jam ≡ None }
         requires a { HasRegion (seen self.old) a.now }
         ensures made { let k = seen self.old in
@@ -135,6 +147,7 @@ impl RegionBdd {
         ensures halted { let k = seen self.old in
             IfErr result (Halts k (seen self.new) Not (States (k.set a.now) ∷ [])) }
         ensures same { IsSameGame (seen self.old) (seen self.new) }
+        ensures whole { IsWhole self.new }
     {
         let Ok(()) = self.slots.room() else {
             return Err(Halt::Memory);
@@ -153,8 +166,36 @@ impl RegionBdd {
         settle(&mut self.slots, &mut self.refused, made, why)
     }
 
+    /// The states at which a recurring goal holds.
+    pub fn holding(&mut self, what: Recur) -> Result<BddRegion, Halt>
+        requires whole { IsWhole self.old }
+        requires free { (seen self.old).jam ≡ None }
+        requires there { number_of what < length (goals_like (seen self.old).game what) }
+        ensures made { let k = seen self.old in
+            IfOk result (λ r. MakesRegion k (seen self.new) r (states_holding k.game what)) }
+        ensures halted { IfErr result (Halts (seen self.old) (seen self.new) Holding []) }
+        ensures same { IsSameGame (seen self.old) (seen self.new) }
+        ensures whole { IsWhole self.new }
+    {
+        let Ok(()) = self.slots.room() else {
+            return Err(Halt::Memory);
+        };
+        let made = and(
+            &mut self.diagrams,
+            self.own.goal(what),
+            &self.own.step.proper,
+        );
+        let why = Refused {
+            asked: Asked::Holding,
+            first: None,
+            second: None,
+        };
+        settle(&mut self.slots, &mut self.refused, made, why)
+    }
+
     /// Whether two regions have the same states.
     pub fn same(&self, a: &BddRegion, b: &BddRegion) -> bool
+        requires whole { IsWhole self.now }
         requires a { HasRegion (seen self.now) a.now }
         requires b { HasRegion (seen self.now) b.now }
         ensures { IsTrue result ↔ (seen self.now).set a.now ≡ (seen self.now).set b.now }

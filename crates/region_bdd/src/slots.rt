@@ -67,9 +67,7 @@ impl Slots {
             if let Slot::Free(next) = &self.slots[slot] {
                 self.free = *next;
                 let old = mem::replace(&mut self.slots[slot], Slot::Taken(content));
-                let Slot::Free(_) = old else {
-                    unreachable!()
-                };
+                let Slot::Free(_) = old else { unreachable!() };
                 return slot;
             }
         }
@@ -91,6 +89,19 @@ impl Slots {
         };
         self.free = slot;
         content
+    }
+
+    /// Frees a region's slot, and gives its diagram.
+    pub fn free_region(&mut self, slot: usize) -> Root
+        requires { HasRegionRoot self.old.slots.items slot }
+        ensures root { HasContent self.old.slots.items slot (Content.Region result) }
+        ensures frees { FreesSlot self.old.slots.items self.new.slots.items slot }
+    {
+        let content = self.free(slot);
+        let Content::Region(root) = content else {
+            unreachable!()
+        };
+        root
     }
 
     /// Marks a slot as spent; it keeps what it held.

@@ -1,27 +1,26 @@
 //! Giving regions back.
 
 ghost use Rattle.regions.specs.Kept.{Region, HasRegion, Spends, IsSameGame};
-ghost use Rattle.region_bdd.specs.Seen.{seen};
+ghost use Rattle.region_bdd.specs.Seen.{seen, IsWhole};
 
 use crate::object::RegionBdd;
-use crate::slots::{BddRegion, Content};
+use crate::slots::BddRegion;
 
 impl RegionBdd {
     /// Takes a region out of what is held. After the budget ran out its diagram stays, since the object tells of it.
     pub fn spend(&mut self, a: BddRegion)
-        requires { HasRegion (seen self.old) a }
+        requires whole { IsWhole self.old }
+        requires a { HasRegion (seen self.old) a }
         ensures spends { Spends (seen self.old) (seen self.new) (Region a) }
         ensures same { IsSameGame (seen self.old) (seen self.new) }
+        ensures whole { IsWhole self.new }
     {
         let BddRegion { slot } = a;
         if self.refused.is_some() {
             self.slots.spend(slot);
             return;
         }
-        let content = self.slots.free(slot);
-        let Content::Region(root) = content else {
-            unreachable!()
-        };
+        let root = self.slots.free_region(slot);
         self.diagrams.release(root);
     }
 }

@@ -1,0 +1,80 @@
+use Rattle.std.proofs.Common.{◌≡◌, ℕ, true, false, List, [], ◌∷◌, map, Option, Some, None, IfOk, refl, sym, ◌∙◌, ap, subst}
+use Rattle.spec_model.specs.Diagrams.{Diagram, Function, ite as choice, shifted}
+use Rattle.spec_model.specs.GameViews.{game_data}
+use Rattle.spec_model.specs.Sets.{StateSet, no_states, all_states, both, either, rest, pre_sys as system_forces_set, pre_env as environment_forces_set}
+use Rattle.game_values.specs.declared.seen.At.TheVariants.{Now}
+use Rattle.regions.specs.Kept.{States, Meaning}
+use Rattle.bdd_store.specs.State.{IsRoot}
+use Rattle.bdd_ops.specs.Contents.{function_at}
+use Rattle.bdd_ops.specs.Functions.{joined, join_of}
+use Rattle.bdd_ops.specs.Calls.{negated}
+use Rattle.bit_compile.specs.Making.{Makes, halted}
+use Rattle.bit_compile.proofs.MakingLemmas.{told_makes}
+use Rattle.state_diagrams.specs.Members.{move_functions, avoiding}
+use Rattle.state_diagrams.proofs.SetLemmas.{tells_both, tells_either}
+use Rattle.state_diagrams.proofs.StateLemmas.{system_told, environment_told}
+use Rattle.state_diagrams.proofs.ShiftLemmas.{rises_to_next}
+use Rattle.region_bdd.specs.declared.slots.Content.TheVariants.{Region}
+use Rattle.region_bdd.specs.declared.slots.Slot.{Slot}
+use Rattle.region_bdd.specs.declared.own.Refused.{Refused}
+use Rattle.region_bdd.specs.declared.own.Asked.TheVariants as asked
+use Rattle.region_bdd.specs.Slots.{HasContent, HasRegionRoot}
+use Rattle.region_bdd.specs.Object.{call_of, kept_of}
+use Rattle.region_bdd.proofs.AlikeLaws.{has_moves}
+use Rattle.region_bdd.proofs.ObjectLaws.{none_refused, region_root}
+use Rattle.region_bdd.proofs.OutcomeLaws.{answered, no_room}
+use Rattle.region_bdd.proofs.SetCalls.{nothing_root, proper_root, later_roots, held_root, region_tells, one_argument, two_arguments, tells_all, tells_nothing, tells_not, tells_forced, tells_kept_in}
+use Rattle.region_bdd.proofs.object.RegionBdd.not.Goals as goal
+
+pub region-requires : goal.region-requires
+region-requires c =
+    let o = c.args.self.now in
+    let g = game_data o.game in
+    let slots = o.slots.slots.items in
+    let d = o.diagrams in
+    subst (λ (ss : List Slot). HasRegionRoot ss c.args.a.now.slot) (sym c.room.ensures.same) (region_root g d slots o.refused c.args.a.now c.requires.a)
+
+pub ite-made-requires-clause-a_kept : goal.ite-made-requires-clause-a_kept
+ite-made-requires-clause-a_kept c =
+    let o = c.args.self.now in
+    let g = game_data o.game in
+    let slots = o.slots.slots.items in
+    let d = o.diagrams in
+    let here_a = subst (λ (ss : List Slot). HasContent ss c.args.a.now.slot (Region c.region.result.now)) c.room.ensures.same c.region.ensures in
+    held_root g o.own o.levels d slots o.refused c.requires.whole c.args.a.now c.region.result.now here_a
+
+pub returns-clause-made : goal.returns-clause-made
+returns-clause-made c =
+    let o = c.args.self.now in
+    let g = game_data o.game in
+    let slots = o.slots.slots.items in
+    let d = o.diagrams in
+    let here_a = subst (λ (ss : List Slot). HasContent ss c.args.a.now.slot (Region c.region.result.now)) c.room.ensures.same c.region.ensures in
+    let now = kept_of g d slots o.refused in
+    let why : Refused = record { asked = asked.Not; first = Some c.args.a.now.slot; second = None } in
+    let done = answered g o.own o.levels d slots c.ite-made.new.diagrams c.room.new.self.slots.items c.settle.new.slots.slots.items o.refused c.settle.new.refused c.requires.whole c.requires.free c.room.ensures.same (choice (function_at d c.region.result.now) (function_at d o.own.step.nothing) (function_at d o.own.step.proper)) (rest g (now.set c.args.a.now)) (tells_not g o.own o.levels d slots o.refused c.requires.whole c.args.a.now c.region.result.now here_a) why (States (now.set c.args.a.now) ∷ []) (one_argument g o.own o.levels d slots o.refused c.requires.whole c.args.a.now c.region.result.now here_a) c.ite-made.result c.settle.result (c.ite-made.ensures.makes) c.settle.ensures in
+    done.made
+
+pub returns-clause-halted : goal.returns-clause-halted
+returns-clause-halted c =
+    let o = c.args.self.now in
+    let g = game_data o.game in
+    let slots = o.slots.slots.items in
+    let d = o.diagrams in
+    let here_a = subst (λ (ss : List Slot). HasContent ss c.args.a.now.slot (Region c.region.result.now)) c.room.ensures.same c.region.ensures in
+    let now = kept_of g d slots o.refused in
+    let why : Refused = record { asked = asked.Not; first = Some c.args.a.now.slot; second = None } in
+    let done = answered g o.own o.levels d slots c.ite-made.new.diagrams c.room.new.self.slots.items c.settle.new.slots.slots.items o.refused c.settle.new.refused c.requires.whole c.requires.free c.room.ensures.same (choice (function_at d c.region.result.now) (function_at d o.own.step.nothing) (function_at d o.own.step.proper)) (rest g (now.set c.args.a.now)) (tells_not g o.own o.levels d slots o.refused c.requires.whole c.args.a.now c.region.result.now here_a) why (States (now.set c.args.a.now) ∷ []) (one_argument g o.own o.levels d slots o.refused c.requires.whole c.args.a.now c.region.result.now here_a) c.ite-made.result c.settle.result (c.ite-made.ensures.makes) c.settle.ensures in
+    done.halted
+
+pub returns-clause-whole : goal.returns-clause-whole
+returns-clause-whole c =
+    let o = c.args.self.now in
+    let g = game_data o.game in
+    let slots = o.slots.slots.items in
+    let d = o.diagrams in
+    let here_a = subst (λ (ss : List Slot). HasContent ss c.args.a.now.slot (Region c.region.result.now)) c.room.ensures.same c.region.ensures in
+    let now = kept_of g d slots o.refused in
+    let why : Refused = record { asked = asked.Not; first = Some c.args.a.now.slot; second = None } in
+    let done = answered g o.own o.levels d slots c.ite-made.new.diagrams c.room.new.self.slots.items c.settle.new.slots.slots.items o.refused c.settle.new.refused c.requires.whole c.requires.free c.room.ensures.same (choice (function_at d c.region.result.now) (function_at d o.own.step.nothing) (function_at d o.own.step.proper)) (rest g (now.set c.args.a.now)) (tells_not g o.own o.levels d slots o.refused c.requires.whole c.args.a.now c.region.result.now here_a) why (States (now.set c.args.a.now) ∷ []) (one_argument g o.own o.levels d slots o.refused c.requires.whole c.args.a.now c.region.result.now here_a) c.ite-made.result c.settle.result (c.ite-made.ensures.makes) c.settle.ensures in
+    done.object

@@ -1,0 +1,98 @@
+use Rattle.std.proofs.Common.{◌≡◌, ℕ, true, false, List, [], ◌∷◌, map, Option, Some, None, IfOk, refl, sym, ◌∙◌, ap, subst}
+use Rattle.spec_model.specs.Diagrams.{Diagram, Function, ite as choice, shifted}
+use Rattle.spec_model.specs.GameViews.{game_data}
+use Rattle.spec_model.specs.Sets.{StateSet, no_states, all_states, both, either, rest, pre_sys as system_forces_set, pre_env as environment_forces_set}
+use Rattle.game_values.specs.declared.seen.At.TheVariants.{Now}
+use Rattle.regions.specs.Kept.{States, Meaning}
+use Rattle.bdd_store.specs.State.{IsRoot}
+use Rattle.bdd_ops.specs.Contents.{function_at}
+use Rattle.bdd_ops.specs.Functions.{joined, join_of}
+use Rattle.bdd_ops.specs.Calls.{negated}
+use Rattle.bit_compile.specs.Making.{Makes, halted}
+use Rattle.bit_compile.proofs.MakingLemmas.{told_makes}
+use Rattle.state_diagrams.specs.Members.{move_functions, avoiding}
+use Rattle.state_diagrams.proofs.SetLemmas.{tells_both, tells_either}
+use Rattle.state_diagrams.proofs.StateLemmas.{system_told, environment_told}
+use Rattle.state_diagrams.proofs.ShiftLemmas.{rises_to_next}
+use Rattle.region_bdd.specs.declared.slots.Content.TheVariants.{Region}
+use Rattle.region_bdd.specs.declared.slots.Slot.{Slot}
+use Rattle.region_bdd.specs.declared.own.Refused.{Refused}
+use Rattle.region_bdd.specs.declared.own.Asked.TheVariants as asked
+use Rattle.region_bdd.specs.Slots.{HasContent, HasRegionRoot}
+use Rattle.region_bdd.specs.Object.{call_of, kept_of}
+use Rattle.region_bdd.proofs.AlikeLaws.{has_moves}
+use Rattle.region_bdd.proofs.ObjectLaws.{none_refused, region_root}
+use Rattle.region_bdd.proofs.OutcomeLaws.{answered, no_room}
+use Rattle.region_bdd.proofs.SetCalls.{nothing_root, proper_root, later_roots, held_root, region_tells, one_argument, two_arguments, tells_all, tells_nothing, tells_not, tells_forced, tells_kept_in}
+use Rattle.region_bdd.proofs.object.RegionBdd.pre_env.Goals as goal
+
+pub region-requires : goal.region-requires
+region-requires c =
+    let o = c.args.self.now in
+    let g = game_data o.game in
+    let slots = o.slots.slots.items in
+    let d = o.diagrams in
+    subst (λ (ss : List Slot). HasRegionRoot ss c.args.t.now.slot) (sym c.room.ensures.same) (region_root g d slots o.refused c.args.t.now c.requires.t)
+
+pub environment_states-made-requires-clause-t : goal.environment_states-made-requires-clause-t
+environment_states-made-requires-clause-t c =
+    let o = c.args.self.now in
+    let g = game_data o.game in
+    let slots = o.slots.slots.items in
+    let d = o.diagrams in
+    let here_t = subst (λ (ss : List Slot). HasContent ss c.args.t.now.slot (Region c.region.result.now)) c.room.ensures.same c.region.ensures in
+    held_root g o.own o.levels d slots o.refused c.requires.whole c.args.t.now c.region.result.now here_t
+
+pub environment_states-made-requires-clause-later : goal.environment_states-made-requires-clause-later
+environment_states-made-requires-clause-later c =
+    let o = c.args.self.now in
+    let g = game_data o.game in
+    let slots = o.slots.slots.items in
+    let d = o.diagrams in
+    let here_t = subst (λ (ss : List Slot). HasContent ss c.args.t.now.slot (Region c.region.result.now)) c.room.ensures.same c.region.ensures in
+    later_roots g o.own o.levels d slots o.refused c.requires.whole
+
+pub environment_states-made-requires-clause-rising : goal.environment_states-made-requires-clause-rising
+environment_states-made-requires-clause-rising c =
+    let o = c.args.self.now in
+    let g = game_data o.game in
+    let slots = o.slots.slots.items in
+    let d = o.diagrams in
+    let here_t = subst (λ (ss : List Slot). HasContent ss c.args.t.now.slot (Region c.region.result.now)) c.room.ensures.same c.region.ensures in
+    rises_to_next g (function_at d c.region.result.now) (region_tells g o.own o.levels d slots o.refused c.requires.whole c.args.t.now c.region.result.now here_t).states d.state.table.levels o.levels.to.items c.requires.whole.levels c.requires.whole.lists_are.to
+
+pub returns-clause-made : goal.returns-clause-made
+returns-clause-made c =
+    let o = c.args.self.now in
+    let g = game_data o.game in
+    let slots = o.slots.slots.items in
+    let d = o.diagrams in
+    let here_t = subst (λ (ss : List Slot). HasContent ss c.args.t.now.slot (Region c.region.result.now)) c.room.ensures.same c.region.ensures in
+    let now = kept_of g d slots o.refused in
+    let why : Refused = record { asked = asked.PreEnv; first = Some c.args.t.now.slot; second = None } in
+    let done = answered g o.own o.levels d slots c.environment_states-made.new.diagrams c.room.new.self.slots.items c.settle.new.slots.slots.items o.refused c.settle.new.refused c.requires.whole c.requires.free c.room.ensures.same (joined (join_of true) (avoiding (move_functions d o.own.step.later) o.levels.reply.items o.levels.all.items (negated (shifted o.levels.to.items (function_at d c.region.result.now)))) (function_at d o.own.step.proper)) (environment_forces_set g (now.set c.args.t.now)) (tells_kept_in g o.own o.levels d slots o.refused c.requires.whole c.args.t.now c.region.result.now here_t) why (States (now.set c.args.t.now) ∷ []) (one_argument g o.own o.levels d slots o.refused c.requires.whole c.args.t.now c.region.result.now here_t) c.environment_states-made.result c.settle.result (c.environment_states-made.ensures.made) c.settle.ensures in
+    done.made
+
+pub returns-clause-halted : goal.returns-clause-halted
+returns-clause-halted c =
+    let o = c.args.self.now in
+    let g = game_data o.game in
+    let slots = o.slots.slots.items in
+    let d = o.diagrams in
+    let here_t = subst (λ (ss : List Slot). HasContent ss c.args.t.now.slot (Region c.region.result.now)) c.room.ensures.same c.region.ensures in
+    let now = kept_of g d slots o.refused in
+    let why : Refused = record { asked = asked.PreEnv; first = Some c.args.t.now.slot; second = None } in
+    let done = answered g o.own o.levels d slots c.environment_states-made.new.diagrams c.room.new.self.slots.items c.settle.new.slots.slots.items o.refused c.settle.new.refused c.requires.whole c.requires.free c.room.ensures.same (joined (join_of true) (avoiding (move_functions d o.own.step.later) o.levels.reply.items o.levels.all.items (negated (shifted o.levels.to.items (function_at d c.region.result.now)))) (function_at d o.own.step.proper)) (environment_forces_set g (now.set c.args.t.now)) (tells_kept_in g o.own o.levels d slots o.refused c.requires.whole c.args.t.now c.region.result.now here_t) why (States (now.set c.args.t.now) ∷ []) (one_argument g o.own o.levels d slots o.refused c.requires.whole c.args.t.now c.region.result.now here_t) c.environment_states-made.result c.settle.result (c.environment_states-made.ensures.made) c.settle.ensures in
+    done.halted
+
+pub returns-clause-whole : goal.returns-clause-whole
+returns-clause-whole c =
+    let o = c.args.self.now in
+    let g = game_data o.game in
+    let slots = o.slots.slots.items in
+    let d = o.diagrams in
+    let here_t = subst (λ (ss : List Slot). HasContent ss c.args.t.now.slot (Region c.region.result.now)) c.room.ensures.same c.region.ensures in
+    let now = kept_of g d slots o.refused in
+    let why : Refused = record { asked = asked.PreEnv; first = Some c.args.t.now.slot; second = None } in
+    let done = answered g o.own o.levels d slots c.environment_states-made.new.diagrams c.room.new.self.slots.items c.settle.new.slots.slots.items o.refused c.settle.new.refused c.requires.whole c.requires.free c.room.ensures.same (joined (join_of true) (avoiding (move_functions d o.own.step.later) o.levels.reply.items o.levels.all.items (negated (shifted o.levels.to.items (function_at d c.region.result.now)))) (function_at d o.own.step.proper)) (environment_forces_set g (now.set c.args.t.now)) (tells_kept_in g o.own o.levels d slots o.refused c.requires.whole c.args.t.now c.region.result.now here_t) why (States (now.set c.args.t.now) ∷ []) (one_argument g o.own o.levels d slots o.refused c.requires.whole c.args.t.now c.region.result.now here_t) c.environment_states-made.result c.settle.result (c.environment_states-made.ensures.made) c.settle.ensures in
+    done.object
