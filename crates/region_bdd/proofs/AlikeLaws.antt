@@ -5,8 +5,8 @@ use Rattle.std.specs.List.{list_all, list_any}
 use Rattle.spec_model.specs.Syntax.{Formula}
 use Rattle.spec_model.specs.Values.{Assignment}
 use Rattle.spec_model.specs.Moves.{has_next, is_env}
-use Rattle.spec_model.specs.Games.{GameData, State, outputs_of}
-use Rattle.spec_model.specs.Steps.{Before, is_state, is_input, is_output, are_hidden_values, reached, line_holds, waits_for_output, assumptions_hold, legal_input}
+use Rattle.spec_model.specs.Games.{GameData, outputs_of}
+use Rattle.spec_model.specs.Steps.{Before, is_input, is_output, are_hidden_values, reached, line_holds, waits_for_output, assumptions_hold}
 use Rattle.spec_model.specs.WellMade.{WellMade, scope_of, is_step_formula, is_state_formula, is_initial_assumption, is_safety_assumption, awaits_output}
 use Rattle.spec_model.proofs.AllStates.{Every}
 use Rattle.spec_model.proofs.Closed.{closed}

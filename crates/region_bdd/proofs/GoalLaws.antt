@@ -1,10 +1,10 @@
 -- The states at which a goal holds, by its diagram.
-use Rattle.std.proofs.Common.{◌≡◌, ℕ, zero, suc, ◌+◌, ◌<◌, ◌≤◌, true, ◌&&◌, List, [], ◌∷◌, length, Some, slice_get, slice_index, Option, refl, sym, ◌∙◌, ap, subst, arith, Bool, false}
+use Rattle.std.proofs.Common.{◌≡◌, ℕ, zero, suc, ◌<◌, true, ◌&&◌, List, [], ◌∷◌, length, Some, slice_get, slice_index, Option, refl, ◌∙◌, ap, subst, arith, Bool, false}
 use Rattle.std.proofs.lemmas.Bool.{and_parts}
 use Rattle.spec_model.specs.Diagrams.{Function}
 use Rattle.spec_model.specs.Syntax.{Formula}
 use Rattle.spec_model.specs.Meaning.{holds_at}
-use Rattle.spec_model.specs.Games.{GameData, GoalData, State, step_reading}
+use Rattle.spec_model.specs.Games.{GameData, GoalData, step_reading}
 use Rattle.spec_model.specs.Steps.{is_state}
 use Rattle.spec_model.specs.Sets.{StateSet, all_states, holding}
 use Rattle.game_values.specs.declared.seen.At.TheVariants.{Now}
@@ -21,7 +21,6 @@ use Rattle.state_diagrams.proofs.SetLemmas.{told_at, tells_by}
 use Rattle.region_bdd.specs.declared.slots.Slot.{Slot}
 use Rattle.region_bdd.specs.declared.own.Own.{Own}
 use Rattle.region_bdd.specs.declared.own.Refused.{Refused}
-use Rattle.region_bdd.specs.Slots.{times_in}
 use Rattle.region_bdd.specs.Goals.{goal_roots}
 use Rattle.region_bdd.specs.Object.{TellsFormula, TellGoals, IsObject}
 use Rattle.region_bdd.proofs.ObjectLaws.{own_root}

@@ -1,20 +1,17 @@
 -- What the object is seen as after each kind of change, and that it stays sound.
-use Rattle.std.proofs.Common.{◌≡◌, ℕ, zero, suc, ◌+◌, ◌<◌, ◌≤◌, ◌==◌, true, false, cond, List, [], ◌∷◌, ◌++◌, length, map, Option, Some, None, is_some, slice_get, refl, sym, ◌∙◌, ap, subst, arith, zero-add}
+use Rattle.std.proofs.Common.{◌≡◌, ℕ, zero, suc, ◌+◌, ◌<◌, true, false, List, [], ◌∷◌, ◌++◌, length, map, Option, Some, None, is_some, refl, sym, ◌∙◌, ap, subst, arith}
 use Rattle.std.proofs.lemmas.Bool.{false≢true}
 use Rattle.spec_model.specs.Diagrams.{Function, value}
 use Rattle.spec_model.specs.Games.{GameData}
-use Rattle.spec_model.specs.Sets.{StateSet}
-use Rattle.game_values.specs.declared.seen.At.TheVariants.{Now, Next}
-use Rattle.regions.specs.Kept.{Kept, Item, Region as RegionItem, Move, Meaning, States, Outputs as OutputMoves, Inputs as InputMoves, weight, meaning_of, meanings, IsHeld, HasRegion, HasMove, Makes, Stays, Spends, Halts, IsSameGame, jam_after, Jam, Call}
-use Rattle.regions.specs.declared.types.Halt.{Halt}
+use Rattle.game_values.specs.declared.seen.At.TheVariants.{Now}
+use Rattle.regions.specs.Kept.{Item, Region as RegionItem, Meaning, States, weight, meaning_of, meanings, HasRegion, Makes, Stays, Spends, Halts, jam_after, Jam, Call}
 use Rattle.regions.specs.declared.types.Halt.TheVariants as halt
-use Rattle.regions.specs.declared.types.When.{When}
 use Rattle.node_table.specs.Table.{Table, diagram_at}
-use Rattle.bdd_store.specs.State.{State, IsRoot, roots_at, AddsRoot, SameRoots, diagram_of}
+use Rattle.bdd_store.specs.State.{IsRoot, AddsRoot, SameRoots}
 use Rattle.bdd_ops.specs.Contents.{Contents, function_at}
 use Rattle.bdd_ops.specs.Calls.{KeepsRoots}
 use Rattle.state_diagrams.specs.declared.moves.Members.{Members}
-use Rattle.state_diagrams.specs.StateBits.{TellsStates, set_at}
+use Rattle.state_diagrams.specs.StateBits.{set_at}
 use Rattle.state_diagrams.specs.Members.{functions_at, move_functions, all_true}
 use Rattle.region_bdd.specs.declared.slots.Content.{Content}
 use Rattle.region_bdd.specs.declared.slots.Content.TheVariants.{Region, Outputs, Inputs}
@@ -24,10 +21,10 @@ use Rattle.region_bdd.specs.declared.slots.BddRegion.{BddRegion}
 use Rattle.region_bdd.specs.declared.slots.BddMove.{BddMove}
 use Rattle.region_bdd.specs.declared.own.Own.{Own}
 use Rattle.region_bdd.specs.declared.own.Refused.{Refused}
-use Rattle.region_bdd.specs.Slots.{Shown, Nothing, Set, OutputsInto, InputsInto, shown_in, shown_of, shown_once, shown_meaning, set_of, shown_at, items_from, meanings_in, kept_in, HasContent, HasRegionRoot, TakesSlot, FreesSlot, MarksSpent, ClearsPlace, one_at, roots_within, roots_of_slot, roots_of_slots, times_in}
-use Rattle.region_bdd.specs.Held.{Weights, weight_is, takes, clears, slot_weighs, slots_weigh, region_content, move_content, exact_slots, IsMoves}
-use Rattle.region_bdd.specs.Object.{OwnFunctions, own_functions, OwnFits, roots_of_own, roots_of_members, ShownFits, AllFit, NoneSpent, IsSound, IsOpen, call_of, argument_in, jam_in, kept_of}
-use Rattle.region_bdd.proofs.SlotLaws.{one_itself, map-get, place_of, get_here, takes_place, clears_place, marks_place, once_marked, once_open, roots_taken, roots_freed, roots_marked, roots_among, shown_same, once_same, fit_same, fit_taken, fit_freed, fit_marked, fit_here, open_taken, open_freed}
+use Rattle.region_bdd.specs.Slots.{Shown, Nothing, Set, OutputsInto, InputsInto, shown_in, shown_of, shown_once, shown_meaning, set_of, shown_at, items_from, meanings_in, kept_in, HasContent, HasRegionRoot, TakesSlot, FreesSlot, MarksSpent, one_at, roots_within, roots_of_slots, times_in}
+use Rattle.region_bdd.specs.Held.{Weights, weight_is, takes, clears, slot_weighs, region_content}
+use Rattle.region_bdd.specs.Object.{own_functions, OwnFits, roots_of_own, roots_of_members, ShownFits, AllFit, NoneSpent, IsSound, call_of, argument_in, jam_in, kept_of}
+use Rattle.region_bdd.proofs.SlotLaws.{one_itself, map-get, place_of, get_here, takes_place, clears_place, marks_place, once_marked, once_open, roots_taken, roots_freed, roots_marked, roots_among, shown_same, once_same, fit_same, fit_taken, fit_freed, fit_marked, open_freed}
 
 -- ---- the same functions
 

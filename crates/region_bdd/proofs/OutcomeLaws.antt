@@ -1,9 +1,8 @@
 -- What a call that makes a region leaves, whatever came of its diagram.
-use Rattle.std.proofs.Common.{◌≡◌, ℕ, List, [], ◌∷◌, ◌++◌, map, Option, Some, None, Result, Ok, Err, IfOk, IfErr, refl, sym, ◌∙◌, ap, subst, arith}
+use Rattle.std.proofs.Common.{◌≡◌, ℕ, List, ◌++◌, map, Option, Some, None, Result, Ok, Err, IfOk, IfErr, refl, sym, ◌∙◌, ap, subst, arith}
 use Rattle.spec_model.specs.Diagrams.{Function}
 use Rattle.spec_model.specs.Games.{GameData}
 use Rattle.spec_model.specs.Sets.{StateSet}
-use Rattle.spec_model.specs.WellMade.{WellMade}
 use Rattle.game_values.specs.declared.seen.At.TheVariants.{Now}
 use Rattle.regions.specs.Kept.{Region as RegionItem, Meaning, States, Call, MakesRegion, Halts, IsSameGame}
 use Rattle.regions.specs.declared.types.Halt.{Halt}
@@ -19,7 +18,7 @@ use Rattle.region_bdd.specs.declared.own.Own.{Own}
 use Rattle.region_bdd.specs.declared.own.Refused.{Refused}
 use Rattle.region_bdd.specs.Slots.{shown_of}
 use Rattle.region_bdd.specs.Keeping.{Settles}
-use Rattle.region_bdd.specs.Object.{NoneSpent, IsSound, IsObject, IsOpen, call_of, argument_in, kept_of}
+use Rattle.region_bdd.specs.Object.{IsObject, IsOpen, call_of, argument_in, kept_of}
 use Rattle.region_bdd.proofs.SlotLaws.{open_taken}
 use Rattle.region_bdd.proofs.ObjectLaws.{none_refused, sound_same, sound_taken, makes_item, halts_memory, halts_budget}
 

@@ -1,10 +1,10 @@
 -- What the calls on sets need of the object, and what they make.
-use Rattle.std.proofs.Common.{◌≡◌, ℕ, zero, suc, ◌+◌, ◌<◌, Bool, true, false, List, [], ◌∷◌, ◌++◌, length, map, slice_index, Option, Some, None, refl, sym, ◌∙◌, ap, subst, arith}
+use Rattle.std.proofs.Common.{◌≡◌, ℕ, zero, suc, ◌<◌, true, List, [], ◌∷◌, ◌++◌, length, map, slice_index, Option, Some, None, sym, ◌∙◌, ap, subst, arith}
 use Rattle.spec_model.specs.Diagrams.{Function, ite, shifted}
 use Rattle.spec_model.specs.Games.{GameData}
-use Rattle.spec_model.specs.Sets.{StateSet, all_states, no_states, both, either, rest, pre_sys, pre_env}
+use Rattle.spec_model.specs.Sets.{all_states, no_states, rest, pre_sys, pre_env}
 use Rattle.game_values.specs.declared.seen.At.TheVariants.{Now}
-use Rattle.regions.specs.Kept.{HasRegion, Meaning, States}
+use Rattle.regions.specs.Kept.{States}
 use Rattle.bdd_store.specs.State.{IsRoot}
 use Rattle.bdd_ops.specs.Contents.{Contents, function_at}
 use Rattle.bdd_ops.specs.Functions.{joined, join_of}
@@ -12,15 +12,15 @@ use Rattle.bdd_ops.specs.Calls.{negated}
 use Rattle.state_diagrams.specs.Members.{AreMembers, move_functions, avoiding}
 use Rattle.state_diagrams.proofs.StateLemmas.{system_told, environment_told}
 use Rattle.state_diagrams.specs.declared.moves.NextLevels.{NextLevels}
-use Rattle.state_diagrams.specs.StateBits.{Tells, TellsStates, set_at}
-use Rattle.state_diagrams.proofs.SetLemmas.{tells_itself, tells_none, tells_both, tells_either, tells_rest}
+use Rattle.state_diagrams.specs.StateBits.{Tells, TellsStates}
+use Rattle.state_diagrams.proofs.SetLemmas.{tells_none, tells_rest}
 use Rattle.region_bdd.specs.declared.slots.Content.TheVariants.{Region}
 use Rattle.region_bdd.specs.declared.slots.Slot.{Slot}
 use Rattle.region_bdd.specs.declared.slots.BddRegion.{BddRegion}
 use Rattle.region_bdd.specs.declared.own.Own.{Own}
 use Rattle.region_bdd.specs.declared.own.Refused.{Refused}
 use Rattle.region_bdd.specs.Slots.{times_in, HasContent, shown_of, shown_meaning, shown_at}
-use Rattle.region_bdd.specs.Object.{IsObject, kept_of, argument_in, jam_in}
+use Rattle.region_bdd.specs.Object.{IsObject, kept_of, argument_in}
 use Rattle.region_bdd.proofs.SlotLaws.{one_itself, fit_here}
 use Rattle.region_bdd.proofs.AlikeLaws.{has_moves}
 use Rattle.region_bdd.proofs.ObjectLaws.{own_root, within_root, region_shows, region_set}

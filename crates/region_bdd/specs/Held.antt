@@ -4,7 +4,7 @@ use borrow.Author.Tests.{eqb-true, eq-eqb}
 use Rattle.spec_model.specs.Diagrams.{Function}
 use Rattle.spec_model.specs.Games.{GameData}
 use Rattle.spec_model.specs.Sets.{StateSet, no_states}
-use Rattle.game_values.specs.declared.seen.At.TheVariants.{Now, Next}
+use Rattle.game_values.specs.declared.seen.At.TheVariants.{Now}
 use Rattle.regions.specs.Kept.{Item, Region as RegionItem, Move, Meaning, States, Outputs as OutputMoves, Inputs as InputMoves, weigh, weight, meaning_of, IsHeld, IsExact, Jam}
 use Rattle.regions.specs.declared.types.When.TheVariants.{First, Later}
 use Rattle.state_diagrams.specs.StateBits.{set_at}

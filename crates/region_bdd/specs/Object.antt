@@ -1,16 +1,15 @@
 -- What an object of regions as diagrams keeps true, and what it is seen as.
-use Rattle.std.specs.Prelude.{◌≡◌, ℕ, ◌+◌, ◌<◌, false, true, not, List, [], ◌∷◌, ◌++◌, length, map, Option, Some, None}
+use Rattle.std.specs.Prelude.{◌≡◌, ℕ, ◌+◌, false, true, not, List, [], ◌∷◌, ◌++◌, map, Option, Some, None}
 use Rattle.spec_model.specs.Diagrams.{Function, Bits}
 use Rattle.spec_model.specs.Syntax.{Formula}
 use Rattle.spec_model.specs.Meaning.{holds_at}
 use Rattle.spec_model.specs.Games.{GameData, GoalData, State, step_reading}
 use Rattle.spec_model.specs.Steps.{is_state}
-use Rattle.spec_model.specs.Sets.{StateSet, all_states}
+use Rattle.spec_model.specs.Sets.{all_states}
 use Rattle.spec_model.specs.WellMade.{WellMade}
 use Rattle.game_values.specs.declared.seen.At.TheVariants.{Now, Next}
 use Rattle.regions.specs.Kept.{Kept, Meaning, Call, Jam}
 use Rattle.regions.specs.Kept as kept
-use Rattle.regions.specs.declared.types.When.{When}
 use Rattle.regions.specs.declared.types.When.TheVariants.{First, Later}
 use Rattle.bdd_store.specs.State.{roots_at}
 use Rattle.bdd_ops.specs.Contents.{Contents, function_at}
@@ -21,7 +20,6 @@ use Rattle.state_diagrams.specs.MoveBits.{TellsMoves, some_leads}
 use Rattle.state_diagrams.specs.Forcing.{FitMoves, AreLevelsOf}
 use Rattle.state_diagrams.specs.declared.moves.NextLevels.{NextLevels}
 use Rattle.state_diagrams.specs.Members.{MoveFunctions, move_functions, functions_at}
-use Rattle.region_bdd.specs.declared.slots.Content.{Content}
 use Rattle.region_bdd.specs.declared.slots.Slot.{Slot}
 use Rattle.region_bdd.specs.declared.slots.Slot.TheVariants.{Free, Taken, Spent}
 use Rattle.region_bdd.specs.declared.slots.BddRegion.{BddRegion}
@@ -30,7 +28,7 @@ use Rattle.region_bdd.specs.declared.own.Own.{Own}
 use Rattle.region_bdd.specs.declared.own.Asked.{Asked}
 use Rattle.region_bdd.specs.declared.own.Asked.TheVariants as asked
 use Rattle.region_bdd.specs.declared.own.Refused.{Refused}
-use Rattle.region_bdd.specs.Slots.{Shown, Nothing, Set, OutputsInto, InputsInto, shown_in, shown_of, shown_once, shown_meaning, shown_at, meanings_in, kept_in, one_at, roots_of_slots, times_in}
+use Rattle.region_bdd.specs.Slots.{Shown, Nothing, Set, OutputsInto, InputsInto, shown_of, shown_once, shown_meaning, shown_at, meanings_in, kept_in, one_at, roots_of_slots, times_in}
 
 -- ---- what the object keeps for itself
 

@@ -1,5 +1,5 @@
 -- What is held in slots, by the functions of its diagrams.
-use Rattle.std.specs.Prelude.{◌≡◌, ℕ, suc, ◌+◌, ◌==◌, ◌++◌, ◌⊎◌, if◌then◌else◌, List, [], ◌∷◌, length, map, Option, Some, slice_get, slice_set, get_or}
+use Rattle.std.specs.Prelude.{◌≡◌, ℕ, suc, ◌+◌, ◌==◌, ◌++◌, ◌⊎◌, if◌then◌else◌, List, [], ◌∷◌, length, Option, Some, slice_get, slice_set, get_or}
 use Rattle.spec_model.specs.Diagrams.{Function}
 use Rattle.spec_model.specs.Games.{GameData}
 use Rattle.spec_model.specs.Sets.{StateSet, no_states}

@@ -1,5 +1,5 @@
 -- The laws of the trait, for regions as diagrams.
-use Rattle.std.proofs.Common.{◌≡◌, ℕ, List, Option, map, true}
+use Rattle.std.proofs.Common.{◌≡◌, ℕ, List, Option, true}
 use Rattle.std.proofs.lemmas.Bool.{and_parts, false≢true}
 use Rattle.spec_model.specs.Games.{GameData}
 use Rattle.spec_model.specs.Steps.{is_state}

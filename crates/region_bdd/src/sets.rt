@@ -180,11 +180,8 @@ impl RegionBdd {
         let Ok(()) = self.slots.room() else {
             return Err(Halt::Memory);
         };
-        let made = and(
-            &mut self.diagrams,
-            self.own.goal(what),
-            &self.own.step.proper,
-        );
+        let own = &self.own;
+        let made = and(&mut self.diagrams, own.goal(what), &own.step.proper);
         let why = Refused {
             asked: Asked::Holding,
             first: None,

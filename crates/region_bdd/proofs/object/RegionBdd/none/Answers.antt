@@ -1,29 +1,15 @@
-use Rattle.std.proofs.Common.{◌≡◌, ℕ, true, false, List, [], ◌∷◌, map, Option, Some, None, IfOk, refl, sym, ◌∙◌, ap, subst}
-use Rattle.spec_model.specs.Diagrams.{Diagram, Function, ite as choice, shifted}
+use Rattle.std.proofs.Common.{[], None, refl, sym, subst}
+use Rattle.spec_model.specs.Diagrams.{Diagram}
 use Rattle.spec_model.specs.GameViews.{game_data}
-use Rattle.spec_model.specs.Sets.{StateSet, no_states, all_states, both, either, rest, pre_sys as system_forces_set, pre_env as environment_forces_set}
-use Rattle.game_values.specs.declared.seen.At.TheVariants.{Now}
-use Rattle.regions.specs.Kept.{States, Meaning}
-use Rattle.bdd_store.specs.State.{IsRoot}
+use Rattle.spec_model.specs.Sets.{no_states}
 use Rattle.bdd_ops.specs.Contents.{function_at}
-use Rattle.bdd_ops.specs.Functions.{joined, join_of}
-use Rattle.bdd_ops.specs.Calls.{negated}
-use Rattle.bit_compile.specs.Making.{Makes, halted}
+use Rattle.bit_compile.specs.Making.{Makes}
 use Rattle.bit_compile.proofs.MakingLemmas.{told_makes}
-use Rattle.state_diagrams.specs.Members.{move_functions, avoiding}
-use Rattle.state_diagrams.proofs.SetLemmas.{tells_both, tells_either}
-use Rattle.state_diagrams.proofs.StateLemmas.{system_told, environment_told}
-use Rattle.state_diagrams.proofs.ShiftLemmas.{rises_to_next}
-use Rattle.region_bdd.specs.declared.slots.Content.TheVariants.{Region}
-use Rattle.region_bdd.specs.declared.slots.Slot.{Slot}
 use Rattle.region_bdd.specs.declared.own.Refused.{Refused}
 use Rattle.region_bdd.specs.declared.own.Asked.TheVariants as asked
-use Rattle.region_bdd.specs.Slots.{HasContent, HasRegionRoot}
-use Rattle.region_bdd.specs.Object.{call_of, kept_of}
-use Rattle.region_bdd.proofs.AlikeLaws.{has_moves}
-use Rattle.region_bdd.proofs.ObjectLaws.{none_refused, region_root}
-use Rattle.region_bdd.proofs.OutcomeLaws.{answered, no_room}
-use Rattle.region_bdd.proofs.SetCalls.{nothing_root, proper_root, later_roots, held_root, region_tells, one_argument, two_arguments, tells_all, tells_nothing, tells_not, tells_forced, tells_kept_in}
+use Rattle.region_bdd.specs.Object.{kept_of}
+use Rattle.region_bdd.proofs.OutcomeLaws.{answered}
+use Rattle.region_bdd.proofs.SetCalls.{tells_nothing}
 use Rattle.region_bdd.proofs.object.RegionBdd.none.Goals as goal
 
 pub returns-clause-made : goal.returns-clause-made

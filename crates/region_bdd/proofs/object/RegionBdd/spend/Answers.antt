@@ -1,4 +1,4 @@
-use Rattle.std.proofs.Common.{Option, Some, None, sym, ◌∙◌, ap, subst}
+use Rattle.std.proofs.Common.{Option, sym, ◌∙◌, ap, subst}
 use Rattle.spec_model.specs.GameViews.{game_data}
 use Rattle.regions.specs.Kept.{Region as RegionItem, Spends}
 use Rattle.region_bdd.specs.declared.slots.Content.TheVariants.{Region}
