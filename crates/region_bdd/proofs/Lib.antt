@@ -4,3 +4,5 @@ pub mod OutcomeLaws
 pub mod AlikeLaws
 pub mod SetCalls
 pub mod GoalLaws
+pub mod MoveOutcomes
+pub mod MoveLaws

@@ -117,7 +117,7 @@ module _ (g : GameData) (own : Own) where
 
   -- ---- what the object is seen as
 
-  weight_any : (b b' : ℕ) (j j' : Option Jam) (shown : List Shown) (w : Weights) → weight (kept_in g b j shown) w ≡ weight (kept_in g b' j' shown) w
+  pub weight_any : (b b' : ℕ) (j j' : Option Jam) (shown : List Shown) (w : Weights) → weight (kept_in g b j shown) w ≡ weight (kept_in g b' j' shown) w
   weight_any b b' j j' shown w = weight_is g b j shown w ∙ sym (weight_is g b' j' shown w)
 
   module _ (c c' : Contents) (slots : List Slot) (sound : IsSound g c own slots) (keeps : KeepsRoots c c') where

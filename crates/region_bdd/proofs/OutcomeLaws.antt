@@ -1,5 +1,8 @@
 -- What a call that makes a region leaves, whatever came of its diagram.
-use Rattle.std.proofs.Common.{◌≡◌, ℕ, List, ◌++◌, map, Option, Some, None, Result, Ok, Err, IfOk, IfErr, refl, sym, ◌∙◌, ap, subst, arith}
+use Rattle.std.proofs.Common.{◌≡◌, ℕ, List, ◌++◌, map, Option, Some, None, Result, Ok, Err, IfOk, IfErr, refl, sym, ◌∙◌, ap, subst, arith, Bool, true, false, is_ok}
+use Rattle.std.proofs.lemmas.Bool.{false≢true}
+use Rattle.bdd_store.specs.declared.fault.StoreFault.{StoreFault}
+use Rattle.bdd_store.specs.declared.fault.StoreFault.TheVariants as fault
 use Rattle.spec_model.specs.Diagrams.{Function}
 use Rattle.spec_model.specs.Games.{GameData}
 use Rattle.spec_model.specs.Sets.{StateSet}
@@ -8,7 +11,7 @@ use Rattle.regions.specs.Kept.{Region as RegionItem, Meaning, States, Call, Make
 use Rattle.regions.specs.declared.types.Halt.{Halt}
 use Rattle.regions.specs.declared.types.Halt.TheVariants as halt
 use Rattle.bdd_ops.specs.Contents.{Contents, function_at}
-use Rattle.bit_compile.specs.Making.{Makes}
+use Rattle.bit_compile.specs.Making.{Makes, halted}
 use Rattle.state_diagrams.specs.declared.moves.NextLevels.{NextLevels}
 use Rattle.state_diagrams.specs.StateBits.{Tells, TellsStates, set_at}
 use Rattle.region_bdd.specs.declared.slots.Content.TheVariants.{Region}
@@ -21,6 +24,12 @@ use Rattle.region_bdd.specs.Keeping.{Settles}
 use Rattle.region_bdd.specs.Object.{IsObject, IsOpen, call_of, argument_in, kept_of}
 use Rattle.region_bdd.proofs.SlotLaws.{open_taken}
 use Rattle.region_bdd.proofs.ObjectLaws.{none_refused, sound_same, sound_taken, makes_item, halts_memory, halts_budget}
+
+-- whether a result is a refusal for want of memory
+abbrev pub is_memory : {T : Type 0} → Result T Halt → Bool
+is_memory (Ok x) = false
+is_memory (Err halt.Memory) = true
+is_memory (Err halt.Budget) = false
 
 -- what the call answers and leaves
 pub record Outcome (g : GameData) (own : Own) (lists : NextLevels) (c c' : Contents) (slots new : List Slot) (refused : Option Refused) (result : Result BddRegion Halt) (t : StateSet) (asked : Call) (arguments : List Meaning) : Type 0 where
@@ -114,3 +123,22 @@ module _ (g : GameData) (own : Own) (lists : NextLevels) (c : Contents) (slots :
         same = record { game = refl; bound = refl };
         object = object;
       })
+
+-- ---- why the budget ran out
+
+pub budget_cause : (old new : List Slot) (refused : Option Refused) (made : Result ℕ Halt) (result : Result BddRegion Halt) (why : Refused) (P : Type 0) → Settles old new refused made result why → (made ≡ Err halt.Budget → P) → result ≡ Err halt.Budget → P
+budget_cause old new refused (Ok root) (Ok r) why P settles full e = absurd (false≢true (sym (ap is_ok e)))
+budget_cause old new refused (Err halt.Memory) (Err halt.Memory) why P settles full e = absurd (false≢true (sym (ap is_memory e)))
+budget_cause old new refused (Err halt.Budget) (Err halt.Budget) why P settles full e = full refl
+budget_cause old new refused (Ok root) (Err halt.Memory) why P settles full e = absurd settles
+budget_cause old new refused (Ok root) (Err halt.Budget) why P settles full e = absurd settles
+budget_cause old new refused (Err halt.Memory) (Ok r) why P settles full e = absurd settles
+budget_cause old new refused (Err halt.Budget) (Ok r) why P settles full e = absurd settles
+budget_cause old new refused (Err halt.Memory) (Err halt.Budget) why P settles full e = absurd settles
+budget_cause old new refused (Err halt.Budget) (Err halt.Memory) why P settles full e = absurd settles
+
+-- keeping a root never fills the store
+pub never_full : (kept : Result ℕ StoreFault) → (kept ≡ Err fault.Full → ⊥) → halted kept ≡ Err halt.Budget → ⊥
+never_full (Ok r) never e = false≢true (sym (ap is_ok e))
+never_full (Err fault.Full) never e = never refl
+never_full (Err fault.Memory) never e = false≢true (sym (ap is_memory e))

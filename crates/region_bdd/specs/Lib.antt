@@ -5,3 +5,4 @@ pub mod Keeping
 pub mod TraitLaws
 pub mod Seen
 pub mod Goals
+pub mod One

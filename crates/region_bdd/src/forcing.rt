@@ -1,9 +1,10 @@
 //! What players force, as regions.
 
-ghost use Rattle.std.specs.Prelude.{◌≡◌, [], ◌∷◌, None, IfOk, IfErr};
+ghost use Rattle.std.specs.Prelude.{◌≡◌, [], ◌∷◌, None, Err, IfOk, IfErr};
 ghost use Rattle.spec_model.specs.Sets.{pre_sys as pre_sys_lem, pre_env as pre_env_lem};
 ghost use Rattle.regions.specs.Kept.{States, PreSys, PreEnv, HasRegion, MakesRegion, Halts, IsSameGame};
-ghost use Rattle.region_bdd.specs.Seen.{seen, IsWhole};
+ghost use Rattle.bdd_store.specs.State.{IsFull};
+ghost use Rattle.region_bdd.specs.Seen.{seen};
 
 use crate::keeping::settle;
 use crate::object::RegionBdd;
@@ -15,7 +16,6 @@ use state_diagrams::forcing::{environment_states, system_states};
 impl RegionBdd {
     /// The states from which every legal next input has a legal output that leads into `t`.
     pub fn pre_sys(&mut self, t: &BddRegion) -> Result<BddRegion, Halt>
-        requires whole { IsWhole self.old }
         requires free { (seen self.old).jam ≡ None }
         requires t { HasRegion (seen self.old) t.now }
         ensures made { let k = seen self.old in
@@ -23,7 +23,7 @@ impl RegionBdd {
         ensures halted { let k = seen self.old in
             IfErr result (Halts k (seen self.new) PreSys (States (k.set t.now) ∷ [])) }
         ensures same { IsSameGame (seen self.old) (seen self.new) }
-        ensures whole { IsWhole self.new }
+        ensures cause { result ≡ Err Halt.Budget → IsFull self.new.diagrams.state }
     {
         let Ok(()) = self.slots.room() else {
             return Err(Halt::Memory);
@@ -44,7 +44,6 @@ impl RegionBdd {
 
     /// The states from which some legal next input leads into `t` under every legal output.
     pub fn pre_env(&mut self, t: &BddRegion) -> Result<BddRegion, Halt>
-        requires whole { IsWhole self.old }
         requires free { (seen self.old).jam ≡ None }
         requires t { HasRegion (seen self.old) t.now }
         ensures made { let k = seen self.old in
@@ -52,7 +51,7 @@ impl RegionBdd {
         ensures halted { let k = seen self.old in
             IfErr result (Halts k (seen self.new) PreEnv (States (k.set t.now) ∷ [])) }
         ensures same { IsSameGame (seen self.old) (seen self.new) }
-        ensures whole { IsWhole self.new }
+        ensures cause { result ≡ Err Halt.Budget → IsFull self.new.diagrams.state }
     {
         let Ok(()) = self.slots.room() else {
             return Err(Halt::Memory);

@@ -8,7 +8,9 @@
 #![tactic(auto)]
 
 mod forcing;
+mod giving_back;
 mod keeping;
+mod moves;
 mod object;
 mod own;
 mod sets;

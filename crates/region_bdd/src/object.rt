@@ -1,5 +1,9 @@
 //! The object: a game, its diagrams, and what is held.
 
+ghost use Rattle.spec_model.specs.GameViews.{game_data};
+ghost use Rattle.region_bdd.specs.Object.{IsObject};
+ghost use Rattle.region_bdd.specs.One.{object_is_one};
+
 use crate::own::{Own, Refused};
 use crate::slots::Slots;
 use bdd_ops::Diagrams;
@@ -14,4 +18,5 @@ pub struct RegionBdd {
     pub levels: NextLevels,
     pub slots: Slots,
     pub refused: Option<Refused>,
+    pub ghost whole: { IsObject (game_data game) diagrams own levels slots.slots.items refused } by { object_is_one (game_data game) diagrams own levels slots.slots.items refused },
 }

@@ -1,10 +1,11 @@
 //! The algebra of regions.
 
-ghost use Rattle.std.specs.Prelude.{◌≡◌, ◌↔◌, ◌<◌, length, [], ◌∷◌, None, IfOk, IfErr, IsTrue};
+ghost use Rattle.std.specs.Prelude.{◌≡◌, ◌↔◌, ◌<◌, length, [], ◌∷◌, None, Err, IfOk, IfErr, IsTrue};
 ghost use Rattle.spec_model.specs.Sets.{no_states, all_states, both, either, rest};
 ghost use Rattle.regions.specs.Kept.{States, All, NoStates, Copy as CopyCall, And, Or, Not, Holding, HasRegion, MakesRegion, Halts, IsSameGame};
 ghost use Rattle.regions.specs.Rules.{goals_like, number_of, states_holding};
-ghost use Rattle.region_bdd.specs.Seen.{seen, IsWhole};
+ghost use Rattle.bdd_store.specs.State.{IsFull};
+ghost use Rattle.region_bdd.specs.Seen.{seen};
 
 use crate::keeping::settle;
 use crate::object::RegionBdd;
@@ -17,12 +18,11 @@ use state_diagrams::steps::ite;
 impl RegionBdd {
     /// Every assignment of the domains, legal or not.
     pub fn all(&mut self) -> Result<BddRegion, Halt>
-        requires whole { IsWhole self.old }
-        requires free { (seen self.old).jam ≡ None }
+        requires { (seen self.old).jam ≡ None }
         ensures made { IfOk result (λ r. MakesRegion (seen self.old) (seen self.new) r (all_states (seen self.old).game)) }
         ensures halted { IfErr result (Halts (seen self.old) (seen self.new) All []) }
         ensures same { IsSameGame (seen self.old) (seen self.new) }
-        ensures whole { IsWhole self.new }
+        ensures never { result ≡ Err Halt.Budget → ⊥ }
     {
         let Ok(()) = self.slots.room() else {
             return Err(Halt::Memory);
@@ -38,12 +38,11 @@ impl RegionBdd {
 
     /// No state.
     pub fn none(&mut self) -> Result<BddRegion, Halt>
-        requires whole { IsWhole self.old }
-        requires free { (seen self.old).jam ≡ None }
+        requires { (seen self.old).jam ≡ None }
         ensures made { IfOk result (λ r. MakesRegion (seen self.old) (seen self.new) r no_states) }
         ensures halted { IfErr result (Halts (seen self.old) (seen self.new) NoStates []) }
         ensures same { IsSameGame (seen self.old) (seen self.new) }
-        ensures whole { IsWhole self.new }
+        ensures never { result ≡ Err Halt.Budget → ⊥ }
     {
         let Ok(()) = self.slots.room() else {
             return Err(Halt::Memory);
@@ -59,13 +58,12 @@ impl RegionBdd {
 
     /// A second region of the same states.
     pub fn copy(&mut self, a: &BddRegion) -> Result<BddRegion, Halt>
-        requires whole { IsWhole self.old }
         requires free { (seen self.old).jam ≡ None }
         requires a { HasRegion (seen self.old) a.now }
         ensures made { IfOk result (λ r. MakesRegion (seen self.old) (seen self.new) r ((seen self.old).set a.now)) }
         ensures halted { IfErr result (Halts (seen self.old) (seen self.new) CopyCall (States ((seen self.old).set a.now) ∷ [])) }
         ensures same { IsSameGame (seen self.old) (seen self.new) }
-        ensures whole { IsWhole self.new }
+        ensures never { result ≡ Err Halt.Budget → ⊥ }
     {
         let Ok(()) = self.slots.room() else {
             return Err(Halt::Memory);
@@ -81,7 +79,6 @@ impl RegionBdd {
 
     /// The states of both.
     pub fn and(&mut self, a: &BddRegion, b: &BddRegion) -> Result<BddRegion, Halt>
-        requires whole { IsWhole self.old }
         requires free { (seen self.old).jam ≡ None }
         requires a { HasRegion (seen self.old) a.now }
         requires b { HasRegion (seen self.old) b.now }
@@ -90,7 +87,7 @@ impl RegionBdd {
         ensures halted { let set = (seen self.old).set in
             IfErr result (Halts (seen self.old) (seen self.new) And (States (set a.now) ∷ States (set b.now) ∷ [])) }
         ensures same { IsSameGame (seen self.old) (seen self.new) }
-        ensures whole { IsWhole self.new }
+        ensures cause { result ≡ Err Halt.Budget → IsFull self.new.diagrams.state }
     {
         let Ok(()) = self.slots.room() else {
             return Err(Halt::Memory);
@@ -110,7 +107,6 @@ impl RegionBdd {
 
     /// The states of either.
     pub fn or(&mut self, a: &BddRegion, b: &BddRegion) -> Result<BddRegion, Halt>
-        requires whole { IsWhole self.old }
         requires free { (seen self.old).jam ≡ None }
         requires a { HasRegion (seen self.old) a.now }
         requires b { HasRegion (seen self.old) b.now }
@@ -119,7 +115,7 @@ impl RegionBdd {
         ensures halted { let set = (seen self.old).set in
             IfErr result (Halts (seen self.old) (seen self.new) Or (States (set a.now) ∷ States (set b.now) ∷ [])) }
         ensures same { IsSameGame (seen self.old) (seen self.new) }
-        ensures whole { IsWhole self.new }
+        ensures cause { result ≡ Err Halt.Budget → IsFull self.new.diagrams.state }
     {
         let Ok(()) = self.slots.room() else {
             return Err(Halt::Memory);
@@ -139,7 +135,6 @@ impl RegionBdd {
 
     /// The states of the game that are not in it.
     pub fn not(&mut self, a: &BddRegion) -> Result<BddRegion, Halt>
-        requires whole { IsWhole self.old }
         requires free { (seen self.old).jam ≡ None }
         requires a { HasRegion (seen self.old) a.now }
         ensures made { let k = seen self.old in
@@ -147,7 +142,7 @@ impl RegionBdd {
         ensures halted { let k = seen self.old in
             IfErr result (Halts k (seen self.new) Not (States (k.set a.now) ∷ [])) }
         ensures same { IsSameGame (seen self.old) (seen self.new) }
-        ensures whole { IsWhole self.new }
+        ensures cause { result ≡ Err Halt.Budget → IsFull self.new.diagrams.state }
     {
         let Ok(()) = self.slots.room() else {
             return Err(Halt::Memory);
@@ -168,14 +163,13 @@ impl RegionBdd {
 
     /// The states at which a recurring goal holds.
     pub fn holding(&mut self, what: Recur) -> Result<BddRegion, Halt>
-        requires whole { IsWhole self.old }
         requires free { (seen self.old).jam ≡ None }
         requires there { number_of what < length (goals_like (seen self.old).game what) }
         ensures made { let k = seen self.old in
             IfOk result (λ r. MakesRegion k (seen self.new) r (states_holding k.game what)) }
         ensures halted { IfErr result (Halts (seen self.old) (seen self.new) Holding []) }
         ensures same { IsSameGame (seen self.old) (seen self.new) }
-        ensures whole { IsWhole self.new }
+        ensures cause { result ≡ Err Halt.Budget → IsFull self.new.diagrams.state }
     {
         let Ok(()) = self.slots.room() else {
             return Err(Halt::Memory);
@@ -192,7 +186,6 @@ impl RegionBdd {
 
     /// Whether two regions have the same states.
     pub fn same(&self, a: &BddRegion, b: &BddRegion) -> bool
-        requires whole { IsWhole self.now }
         requires a { HasRegion (seen self.now) a.now }
         requires b { HasRegion (seen self.now) b.now }
         ensures { IsTrue result ↔ (seen self.now).set a.now ≡ (seen self.now).set b.now }

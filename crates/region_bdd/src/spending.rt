@@ -1,7 +1,7 @@
 //! Giving regions back.
 
 ghost use Rattle.regions.specs.Kept.{Region, HasRegion, Spends, IsSameGame};
-ghost use Rattle.region_bdd.specs.Seen.{seen, IsWhole};
+ghost use Rattle.region_bdd.specs.Seen.{seen};
 
 use crate::object::RegionBdd;
 use crate::slots::BddRegion;
@@ -9,11 +9,9 @@ use crate::slots::BddRegion;
 impl RegionBdd {
     /// Takes a region out of what is held. After the budget ran out its diagram stays, since the object tells of it.
     pub fn spend(&mut self, a: BddRegion)
-        requires whole { IsWhole self.old }
-        requires a { HasRegion (seen self.old) a }
+        requires { HasRegion (seen self.old) a }
         ensures spends { Spends (seen self.old) (seen self.new) (Region a) }
         ensures same { IsSameGame (seen self.old) (seen self.new) }
-        ensures whole { IsWhole self.new }
     {
         let BddRegion { slot } = a;
         if self.refused.is_some() {

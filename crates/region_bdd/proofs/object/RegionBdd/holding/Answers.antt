@@ -10,7 +10,7 @@ use Rattle.region_bdd.proofs.GoalLaws.{goal_there, goal_root, tells_goal}
 use Rattle.region_bdd.specs.declared.own.Refused.{Refused}
 use Rattle.region_bdd.specs.declared.own.Asked.TheVariants as asked
 use Rattle.region_bdd.specs.Object.{kept_of}
-use Rattle.region_bdd.proofs.OutcomeLaws.{answered}
+use Rattle.region_bdd.proofs.OutcomeLaws.{answered, budget_cause}
 use Rattle.region_bdd.proofs.object.RegionBdd.holding.Goals as goal
 
 pub goal-requires : goal.goal-requires
@@ -19,7 +19,7 @@ goal-requires c =
     let g = game_data o.game in
     let slots = o.slots.slots.items in
     let d = o.diagrams in
-    (goal_there g o.own o.levels d slots o.refused c.requires.whole c.args.what c.requires.there).rooted
+    (goal_there g o.own o.levels d slots o.refused c.args.self.now.whole c.args.what c.requires.there).rooted
 
 pub and-made-requires-clause-a_kept : goal.and-made-requires-clause-a_kept
 and-made-requires-clause-a_kept c =
@@ -27,7 +27,7 @@ and-made-requires-clause-a_kept c =
     let g = game_data o.game in
     let slots = o.slots.slots.items in
     let d = o.diagrams in
-    subst (λ (n : ℕ). IsRoot d.state n) c.goal.ensures (goal_root g o.own o.levels d slots o.refused c.requires.whole c.args.what c.requires.there)
+    subst (λ (n : ℕ). IsRoot d.state n) c.goal.ensures (goal_root g o.own o.levels d slots o.refused c.args.self.now.whole c.args.what c.requires.there)
 
 pub returns-clause-made : goal.returns-clause-made
 returns-clause-made c =
@@ -37,7 +37,7 @@ returns-clause-made c =
     let d = o.diagrams in
     let now = kept_of g d slots o.refused in
     let why : Refused = record { asked = asked.Holding; first = None; second = None } in
-    let done = answered g o.own o.levels d slots c.and-made.new.diagrams c.room.new.self.slots.items c.settle.new.slots.slots.items o.refused c.settle.new.refused c.requires.whole c.requires.free c.room.ensures.same (joined (join_of true) (function_at d c.goal.result.now) (function_at d o.own.step.proper)) (states_holding g c.args.what) (subst (λ (n : ℕ). Tells g Now (joined (join_of true) (function_at d n) (function_at d o.own.step.proper)) (states_holding g c.args.what)) c.goal.ensures (tells_goal g o.own o.levels d slots o.refused c.requires.whole c.args.what c.requires.there)) why ([]) (refl) c.and-made.result c.settle.result (c.and-made.ensures.makes) c.settle.ensures in
+    let done = answered g o.own o.levels d slots c.and-made.new.diagrams c.room.new.self.slots.items c.settle.new.slots.slots.items o.refused c.settle.new.refused c.args.self.now.whole c.requires.free c.room.ensures.same (joined (join_of true) (function_at d c.goal.result.now) (function_at d o.own.step.proper)) (states_holding g c.args.what) (subst (λ (n : ℕ). Tells g Now (joined (join_of true) (function_at d n) (function_at d o.own.step.proper)) (states_holding g c.args.what)) c.goal.ensures (tells_goal g o.own o.levels d slots o.refused c.args.self.now.whole c.args.what c.requires.there)) why ([]) (refl) c.and-made.result c.settle.result (c.and-made.ensures.makes) c.settle.ensures in
     done.made
 
 pub returns-clause-halted : goal.returns-clause-halted
@@ -48,16 +48,21 @@ returns-clause-halted c =
     let d = o.diagrams in
     let now = kept_of g d slots o.refused in
     let why : Refused = record { asked = asked.Holding; first = None; second = None } in
-    let done = answered g o.own o.levels d slots c.and-made.new.diagrams c.room.new.self.slots.items c.settle.new.slots.slots.items o.refused c.settle.new.refused c.requires.whole c.requires.free c.room.ensures.same (joined (join_of true) (function_at d c.goal.result.now) (function_at d o.own.step.proper)) (states_holding g c.args.what) (subst (λ (n : ℕ). Tells g Now (joined (join_of true) (function_at d n) (function_at d o.own.step.proper)) (states_holding g c.args.what)) c.goal.ensures (tells_goal g o.own o.levels d slots o.refused c.requires.whole c.args.what c.requires.there)) why ([]) (refl) c.and-made.result c.settle.result (c.and-made.ensures.makes) c.settle.ensures in
+    let done = answered g o.own o.levels d slots c.and-made.new.diagrams c.room.new.self.slots.items c.settle.new.slots.slots.items o.refused c.settle.new.refused c.args.self.now.whole c.requires.free c.room.ensures.same (joined (join_of true) (function_at d c.goal.result.now) (function_at d o.own.step.proper)) (states_holding g c.args.what) (subst (λ (n : ℕ). Tells g Now (joined (join_of true) (function_at d n) (function_at d o.own.step.proper)) (states_holding g c.args.what)) c.goal.ensures (tells_goal g o.own o.levels d slots o.refused c.args.self.now.whole c.args.what c.requires.there)) why ([]) (refl) c.and-made.result c.settle.result (c.and-made.ensures.makes) c.settle.ensures in
     done.halted
 
-pub returns-clause-whole : goal.returns-clause-whole
-returns-clause-whole c =
+pub invariant_of-self-2 : goal.invariant_of-self-2
+invariant_of-self-2 c =
     let o = c.args.self.now in
     let g = game_data o.game in
     let slots = o.slots.slots.items in
     let d = o.diagrams in
     let now = kept_of g d slots o.refused in
     let why : Refused = record { asked = asked.Holding; first = None; second = None } in
-    let done = answered g o.own o.levels d slots c.and-made.new.diagrams c.room.new.self.slots.items c.settle.new.slots.slots.items o.refused c.settle.new.refused c.requires.whole c.requires.free c.room.ensures.same (joined (join_of true) (function_at d c.goal.result.now) (function_at d o.own.step.proper)) (states_holding g c.args.what) (subst (λ (n : ℕ). Tells g Now (joined (join_of true) (function_at d n) (function_at d o.own.step.proper)) (states_holding g c.args.what)) c.goal.ensures (tells_goal g o.own o.levels d slots o.refused c.requires.whole c.args.what c.requires.there)) why ([]) (refl) c.and-made.result c.settle.result (c.and-made.ensures.makes) c.settle.ensures in
-    done.object
+    let done = answered g o.own o.levels d slots c.and-made.new.diagrams c.room.new.self.slots.items c.settle.new.slots.slots.items o.refused c.settle.new.refused c.args.self.now.whole c.requires.free c.room.ensures.same (joined (join_of true) (function_at d c.goal.result.now) (function_at d o.own.step.proper)) (states_holding g c.args.what) (subst (λ (n : ℕ). Tells g Now (joined (join_of true) (function_at d n) (function_at d o.own.step.proper)) (states_holding g c.args.what)) c.goal.ensures (tells_goal g o.own o.levels d slots o.refused c.args.self.now.whole c.args.what c.requires.there)) why ([]) (refl) c.and-made.result c.settle.result (c.and-made.ensures.makes) c.settle.ensures in
+    record { whole = done.object }
+
+pub returns-clause-cause : goal.returns-clause-cause
+returns-clause-cause c =
+    let why : Refused = record { asked = asked.Holding; first = None; second = None } in
+    budget_cause c.room.new.self.slots.items c.settle.new.slots.slots.items c.settle.new.refused c.and-made.result c.settle.result why _ c.settle.ensures c.and-made.ensures.makes.full

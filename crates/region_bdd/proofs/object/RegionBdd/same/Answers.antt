@@ -22,12 +22,12 @@ region-requires-2 c =
 pub equal-requires-clause-a_kept : goal.equal-requires-clause-a_kept
 equal-requires-clause-a_kept c =
     let o = c.args.self.now in
-    held_root (game_data o.game) o.own o.levels o.diagrams o.slots.slots.items o.refused c.requires.whole c.args.a.now c.region.result.now c.region.ensures
+    held_root (game_data o.game) o.own o.levels o.diagrams o.slots.slots.items o.refused c.args.self.now.whole c.args.a.now c.region.result.now c.region.ensures
 
 pub equal-requires-clause-b_kept : goal.equal-requires-clause-b_kept
 equal-requires-clause-b_kept c =
     let o = c.args.self.now in
-    held_root (game_data o.game) o.own o.levels o.diagrams o.slots.slots.items o.refused c.requires.whole c.args.b.now c.region-2.result.now c.region-2.ensures
+    held_root (game_data o.game) o.own o.levels o.diagrams o.slots.slots.items o.refused c.args.self.now.whole c.args.b.now c.region-2.result.now c.region-2.ensures
 
 pub returns : goal.returns
 returns c =
@@ -35,8 +35,8 @@ returns c =
     let g = game_data o.game in
     let f = function_at o.diagrams c.region.result.now in
     let h = function_at o.diagrams c.region-2.result.now in
-    let first = region_tells g o.own o.levels o.diagrams o.slots.slots.items o.refused c.requires.whole c.args.a.now c.region.result.now c.region.ensures in
-    let second = region_tells g o.own o.levels o.diagrams o.slots.slots.items o.refused c.requires.whole c.args.b.now c.region-2.result.now c.region-2.ensures in (
+    let first = region_tells g o.own o.levels o.diagrams o.slots.slots.items o.refused c.args.self.now.whole c.args.a.now c.region.result.now c.region.ensures in
+    let second = region_tells g o.own o.levels o.diagrams o.slots.slots.items o.refused c.args.self.now.whole c.args.b.now c.region-2.result.now c.region-2.ensures in (
       λ yes'. same_set g Now f h _ _ first second (c.equal.ensures.0 yes'),
       λ same. c.equal.ensures.1 (one_function g Now f h _ first (subst (λ (t : StateSet). Tells g Now h t) (sym same) second)),
     )

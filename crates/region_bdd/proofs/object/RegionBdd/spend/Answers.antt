@@ -11,7 +11,7 @@ use Rattle.region_bdd.proofs.object.RegionBdd.spend.Goals as goal
 pub spend-requires : goal.spend-requires
 spend-requires c =
     let o = c.args.self.now in
-    let root = region_root (game_data o.game) o.diagrams o.slots.slots.items o.refused c.args.a c.requires.a in
+    let root = region_root (game_data o.game) o.diagrams o.slots.slots.items o.refused c.args.a c.requires in
     (Region root.0, root.1)
 
 pub returns-then-is_some-clause-spends : goal.returns-then-is_some-clause-spends
@@ -20,37 +20,40 @@ returns-then-is_some-clause-spends c =
     let g = game_data o.game in
     let slots = o.slots.slots.items in
     let new = c.spend.new.self.slots.items in
-    let root = region_root g o.diagrams slots o.refused c.args.a c.requires.a in
+    let root = region_root g o.diagrams slots o.refused c.args.a c.requires in
     let some = some_refused o.refused (sym c.is_some.ensures ∙ c.if-is_some.true) in
-    let spent = spends_marked g o.own o.diagrams o.diagrams slots new c.args.a root.0 c.requires.whole.sound root.1 some.0 c.spend.ensures in
+    let spent = spends_marked g o.own o.diagrams o.diagrams slots new c.args.a root.0 c.args.self.now.whole.sound root.1 some.0 c.spend.ensures in
     subst (λ (r : Option Refused). Spends (kept_of g o.diagrams slots r) (kept_of g o.diagrams new r) (RegionItem c.args.a)) (sym some.1) spent.0
 
-pub returns-then-is_some-clause-whole : goal.returns-then-is_some-clause-whole
-returns-then-is_some-clause-whole c =
+pub invariant_of-self : goal.invariant_of-self
+invariant_of-self c =
     let o = c.args.self.now in
     let g = game_data o.game in
     let slots = o.slots.slots.items in
     let new = c.spend.new.self.slots.items in
-    let root = region_root g o.diagrams slots o.refused c.args.a c.requires.a in
+    let root = region_root g o.diagrams slots o.refused c.args.a c.requires in
     let some = some_refused o.refused (sym c.is_some.ensures ∙ c.if-is_some.true) in
-    let spent = spends_marked g o.own o.diagrams o.diagrams slots new c.args.a root.0 c.requires.whole.sound root.1 some.0 c.spend.ensures in
+    let spent = spends_marked g o.own o.diagrams o.diagrams slots new c.args.a root.0 c.args.self.now.whole.sound root.1 some.0 c.spend.ensures in
     record {
-      made = c.requires.whole.made;
-      levels = c.requires.whole.levels;
-      lists_are = c.requires.whole.lists_are;
-      sound = spent.1;
-      unspent = subst (λ (r : Option Refused). IsOpen r new) (sym some.1) tt;
+      whole =
+          record {
+            made = c.args.self.now.whole.made;
+            levels = c.args.self.now.whole.levels;
+            lists_are = c.args.self.now.whole.lists_are;
+            sound = spent.1;
+            unspent = subst (λ (r : Option Refused). IsOpen r new) (sym some.1) tt;
+          };
     }
 
 pub free_region-root-requires : goal.free_region-root-requires
 free_region-root-requires c =
     let o = c.args.self.now in
-    region_root (game_data o.game) o.diagrams o.slots.slots.items o.refused c.args.a c.requires.a
+    region_root (game_data o.game) o.diagrams o.slots.slots.items o.refused c.args.a c.requires
 
 pub release-requires : goal.release-requires
 release-requires c =
     let o = c.args.self.now in
-    held_root (game_data o.game) o.own o.levels o.diagrams o.slots.slots.items o.refused c.requires.whole c.args.a c.free_region-root.result c.free_region-root.ensures.root
+    held_root (game_data o.game) o.own o.levels o.diagrams o.slots.slots.items o.refused c.args.self.now.whole c.args.a c.free_region-root.result c.free_region-root.ensures.root
 
 pub returns-clause-spends : goal.returns-clause-spends
 returns-clause-spends c =
@@ -59,23 +62,26 @@ returns-clause-spends c =
     let slots = o.slots.slots.items in
     let new = c.free_region-root.new.self.slots.items in
     let none = not_refused o.refused (sym c.is_some.ensures ∙ c.if-is_some.false) in
-    let clear = subst (λ (r : Option Refused). IsOpen r slots) none c.requires.whole.unspent in
-    let spent = spends_freed g o.own o.diagrams c.release.new.self slots new c.args.a c.free_region-root.result c.requires.whole.sound c.free_region-root.ensures.root c.free_region-root.ensures.frees c.release.ensures.released c.release.ensures.table clear in
+    let clear = subst (λ (r : Option Refused). IsOpen r slots) none c.args.self.now.whole.unspent in
+    let spent = spends_freed g o.own o.diagrams c.release.new.self slots new c.args.a c.free_region-root.result c.args.self.now.whole.sound c.free_region-root.ensures.root c.free_region-root.ensures.frees c.release.ensures.released c.release.ensures.table clear in
     subst (λ (r : Option Refused). Spends (kept_of g o.diagrams slots r) (kept_of g c.release.new.self new r) (RegionItem c.args.a)) (sym none) spent.0
 
-pub returns-clause-whole : goal.returns-clause-whole
-returns-clause-whole c =
+pub invariant_of-self-2 : goal.invariant_of-self-2
+invariant_of-self-2 c =
     let o = c.args.self.now in
     let g = game_data o.game in
     let slots = o.slots.slots.items in
     let new = c.free_region-root.new.self.slots.items in
     let none = not_refused o.refused (sym c.is_some.ensures ∙ c.if-is_some.false) in
-    let clear = subst (λ (r : Option Refused). IsOpen r slots) none c.requires.whole.unspent in
-    let spent = spends_freed g o.own o.diagrams c.release.new.self slots new c.args.a c.free_region-root.result c.requires.whole.sound c.free_region-root.ensures.root c.free_region-root.ensures.frees c.release.ensures.released c.release.ensures.table clear in
+    let clear = subst (λ (r : Option Refused). IsOpen r slots) none c.args.self.now.whole.unspent in
+    let spent = spends_freed g o.own o.diagrams c.release.new.self slots new c.args.a c.free_region-root.result c.args.self.now.whole.sound c.free_region-root.ensures.root c.free_region-root.ensures.frees c.release.ensures.released c.release.ensures.table clear in
     record {
-      made = c.requires.whole.made;
-      levels = ap (λ t. t.levels) c.release.ensures.table ∙ c.requires.whole.levels;
-      lists_are = c.requires.whole.lists_are;
-      sound = spent.1;
-      unspent = subst (λ (r : Option Refused). IsOpen r new) (sym none) spent.2;
+      whole =
+          record {
+            made = c.args.self.now.whole.made;
+            levels = ap (λ t. t.levels) c.release.ensures.table ∙ c.args.self.now.whole.levels;
+            lists_are = c.args.self.now.whole.lists_are;
+            sound = spent.1;
+            unspent = subst (λ (r : Option Refused). IsOpen r new) (sym none) spent.2;
+          };
     }
