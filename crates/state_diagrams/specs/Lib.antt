@@ -1,0 +1,5 @@
+pub mod Laws
+pub mod StateBits
+pub mod MoveBits
+pub mod Members
+pub mod Forcing

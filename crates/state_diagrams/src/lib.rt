@@ -1,0 +1,13 @@
+//! Sets of states as diagrams: which function of bits tells which set, and what the operations make of them.
+//!
+//! A diagram stands for a set at the present or at the next bits where it is true of the bits of its states and of no
+//! other bits. So two diagrams stand for one set exactly where they are one function.
+//!
+//! Path: codes, operations → **sets as diagrams** → regions as diagrams.
+#![tactic(auto)]
+
+pub mod forcing;
+pub mod laws;
+pub mod moves;
+pub mod spent;
+pub mod steps;
