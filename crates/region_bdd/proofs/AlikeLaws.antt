@@ -11,9 +11,9 @@ use Rattle.spec_model.specs.WellMade.{WellMade, scope_of, is_step_formula, is_st
 use Rattle.spec_model.proofs.AllStates.{Every}
 use Rattle.spec_model.proofs.Closed.{closed}
 use Rattle.spec_model.proofs.Listed.{outputs_fit}
-use Rattle.hidden_game.proofs.Choices.{some_choice}
-use Rattle.hidden_game.proofs.Agreeing.{not_false}
-use Rattle.hidden_game.proofs.AnyOutput.{same_here, same_late}
+use Rattle.game_play.proofs.Choices.{some_choice}
+use Rattle.game_play.proofs.Agreeing.{not_false}
+use Rattle.game_play.proofs.AnyOutput.{same_here, same_late}
 use Rattle.state_diagrams.specs.Forcing.{AssumeNothingOfReplies, HasMoves}
 use Rattle.state_diagrams.proofs.ForceLemmas.{output_suffices}
 
