@@ -12,7 +12,7 @@ use Rattle.spec_model.proofs.AllStates.{Every}
 use Rattle.spec_model.proofs.Closed.{closed}
 use Rattle.spec_model.proofs.Listed.{outputs_fit}
 use Rattle.game_play.proofs.Choices.{some_choice}
-use Rattle.game_play.proofs.Agreeing.{not_false}
+use Rattle.game_play.proofs.OutputReads.{not_false}
 use Rattle.game_play.proofs.AnyOutput.{same_here, same_late}
 use Rattle.state_diagrams.specs.Forcing.{AssumeNothingOfReplies, HasMoves}
 use Rattle.state_diagrams.proofs.ForceLemmas.{output_suffices}
