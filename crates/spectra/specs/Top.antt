@@ -33,13 +33,16 @@ IsSaidOfSyntax written faults name tokens fault old new status = OverOutput writ
 
 -- ---- what is done for a command, with so many nodes
 
--- The commands that decide who wins are for specifications with few states, and `audit` is for all.
+-- The commands that decide who wins are for specifications with few states, `separate` for those that have few with the
+-- guarantee that can never be met, and `audit` is for all.
 abbrev pub IsSmall : Command → Specification → Type 0
 IsSmall Audit s = Unit {0}
+IsSmall Separate s = HasFewStates (forced s)
 IsSmall _ s = HasFewStates s
 
 abbrev pub IsLarge : Command → Specification → Type 0
 IsLarge Audit s = ⊥
+IsLarge Separate s = HasManyStates (forced s)
 IsLarge _ s = HasManyStates s
 
 -- the text gets no decision
