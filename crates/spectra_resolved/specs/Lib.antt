@@ -1,0 +1,4 @@
+pub mod Resolved
+pub mod Views
+pub mod Texts
+pub mod TextViews
