@@ -1,6 +1,5 @@
 -- The plain data that the program's resolved texts stand for.
 use Rattle.std.specs.Prelude.{map, option_map}
-use Rattle.spectra_resolved.specs.declared.spot.Mention.{Mention}
 use Rattle.spectra_resolved.specs.declared.text.TypeUse.{TypeUse}
 use Rattle.spectra_resolved.specs.declared.text.TypeUse.TheVariants as types
 use Rattle.spectra_resolved.specs.declared.text.Variable.{Variable}
@@ -14,10 +13,8 @@ use Rattle.spectra_resolved.specs.declared.text.Body.TheVariants as bodies
 use Rattle.spectra_resolved.specs.declared.text.Line.{Line}
 use Rattle.spectra_resolved.specs.declared.text.Text.{Text}
 use Rattle.spectra_resolved.specs.Views.{resolved_data, regex_data}
-use Rattle.spectra_resolved.specs.Texts.{MentionData, ResolvedType, ResolvedVariable, ResolvedAlias, ResolvedDefinition, ResolvedPatternLine, ResolvedPattern, ResolvedBody, ResolvedLine, ResolvedText}
-
-abbrev pub mention_data : Mention → MentionData
-mention_data m = record { text = m.text.now; at = m.at }
+use Rattle.spectra_resolved.specs.Spots.{mention_data}
+use Rattle.spectra_resolved.specs.Texts.{ResolvedType, ResolvedVariable, ResolvedAlias, ResolvedDefinition, ResolvedPatternLine, ResolvedPattern, ResolvedBody, ResolvedLine, ResolvedText}
 
 abbrev pub type_data : TypeUse → ResolvedType
 type_data types.Boolean = ResolvedType.Booleans

@@ -5,12 +5,8 @@ use Rattle.spec_model.specs.declared.value.Owner.{Owner}
 use Rattle.spectra_resolved.specs.declared.spot.Spot.{Spot}
 use Rattle.spectra_resolved.specs.declared.text.DefinitionWord.{DefinitionWord}
 use Rattle.spectra_resolved.specs.declared.text.PatternUse.{PatternUse}
+use Rattle.spectra_resolved.specs.Spots.{MentionData}
 use Rattle.spectra_resolved.specs.Resolved.{ResolvedTree, ResolvedRegex}
-
--- a name as it is written, and where
-pub record MentionData : Type 0 where
-  pub text : List ℕ
-  pub at : Spot
 
 -- a type; `NoType` is one without meaning
 pub data ResolvedType : Type 0 where

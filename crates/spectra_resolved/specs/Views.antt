@@ -1,6 +1,7 @@
 -- The plain data that the program's resolved trees stand for.
 use Rattle.spectra_resolved.specs.declared.tree.Resolved.{Resolved, fold-Resolved}
 use Rattle.spectra_resolved.specs.declared.tree.Resolved.TheOpen.{Resolved-F, Shape-F, Link-F}
+use Rattle.spectra_resolved.specs.declared.tree.Link.{Link}
 use Rattle.spectra_resolved.specs.declared.tree.Regex.{Regex, fold-Regex}
 use Rattle.spectra_resolved.specs.declared.tree.Regex.TheOpen.{Regex-F}
 use Rattle.spectra_resolved.specs.Resolved.{ResolvedTree, tree, Form, LinkData, trees, chained, ResolvedRegex, regexes, repeated}
@@ -34,3 +35,6 @@ regex_step (Regex-F.Repeat r times) = repeated r.value times.items
 
 abbrev pub regex_data : Regex → ResolvedRegex
 regex_data = fold-Regex ResolvedRegex regex_step
+
+abbrev pub link_data : Link → LinkData
+link_data l = record { first = l.first; at = l.at; word = l.word; second = resolved_data l.second }

@@ -3,7 +3,16 @@
 //! Path: text → tokens → trees → **resolved trees** → specification → game → regions → layers → strategy → verdict → lines.
 #![tactic(auto)]
 
+pub mod declaring;
+pub mod enum_names;
+pub mod findings;
+pub mod items;
+pub mod look;
+mod mentions;
+pub mod numbers;
+pub mod resolving;
 pub mod spot;
 pub mod stand;
+pub mod table;
 pub mod text;
 pub mod tree;
