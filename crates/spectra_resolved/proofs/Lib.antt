@@ -4,3 +4,5 @@ pub mod Digits
 pub mod First
 pub mod Trees
 pub mod Told
+pub mod Declared
+pub mod Steps

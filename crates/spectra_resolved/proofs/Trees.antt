@@ -2,13 +2,18 @@
 use Rattle.std.proofs.Common.{Box, Vec, Global, rules, ◌≡◌, ℕ, ◌==◌, Bool, true, false, if◌then◌else◌, suc, List, [], ◌∷◌, ◌++◌, length, map, Option, Some, None, refl, ap, sym, ◌∙◌}
 use Rattle.spectra_resolved.specs.declared.spot.Spot.{Spot}
 use Rattle.spectra_resolved.specs.declared.tree.Link.{Link}
-use Rattle.spectra_resolved.specs.declared.tree.Resolved as code
-use Rattle.spectra_resolved.specs.declared.tree.Resolved.{Resolved, the_lemmas}
+use Rattle.spectra_resolved.specs.declared.tree.Resolved.{Resolved, Resolved-F, fold-roll-Resolved}
+use Rattle.spectra_resolved.specs.declared.tree.Resolved.TheFolds.{fold-Link, fold_out-Link}
+use Rattle.spectra_resolved.specs.declared.tree.Resolved.TheVariants as variants
+use Rattle.spectra_resolved.specs.declared.tree.Resolved.TheVariants.{rolls-Chain}
+use Rattle.spectra_resolved.specs.declared.tree.Times.{Times}
+use Rattle.spectra_resolved.specs.declared.tree.Regex as regex
+use Rattle.spectra_resolved.specs.declared.tree.Regex.{Regex, the_lemmas as regex_lemmas}
 use Rattle.spectra_resolved.specs.declared.tree.Misuse.TheVariants as misuse
 use Rattle.spectra_resolved.specs.declared.table.Named.{Named}
 use Rattle.spectra_resolved.specs.declared.table.Named.TheVariants as names
-use Rattle.spectra_resolved.specs.Resolved.{ResolvedTree, ResolvedTrees, Form, trees, listed, chained}
-use Rattle.spectra_resolved.specs.Views.{resolved_data, link_data}
+use Rattle.spectra_resolved.specs.Resolved.{ResolvedTree, ResolvedTrees, Form, LinkData, trees, listed, chained, repeated}
+use Rattle.spectra_resolved.specs.Views.{resolved_data, link_data, resolved_step, shape_step, link_step, regex_data}
 use Rattle.spectra_resolved.specs.Resolving.{call_form, read_form, own_misuse, form_misuses, misuses_of_each}
 
 pub count_of_trees : (vs : List Resolved) → length (listed (trees (map resolved_data vs))) ≡ length vs
@@ -41,6 +46,16 @@ call-misuses at (Some (names.Type k)) ts = refl
 call-misuses at (Some names.Plain) ts = refl
 call-misuses at None ts = refl
 
+link-folded : (l : Link) → fold-Link ResolvedTree Form LinkData resolved_step shape_step link_step l ≡ link_data l
+link-folded l = fold_out-Link ResolvedTree Form LinkData resolved_step shape_step link_step l
+
 -- a tree with operators behind it
-pub chain_data : (head : Box Resolved Global) (links : Vec Link Global) → resolved_data (code.Chain head links) ≡ chained (resolved_data head.value) (map link_data links.items)
-chain_data head links = search (rules, the_lemmas)
+pub chain_data : (head : Box Resolved Global) (links : Vec Link Global) → resolved_data (variants.Chain head links) ≡ chained (resolved_data head.value) (map link_data links.items)
+chain_data head links =
+    ap resolved_data (sym (rolls-Chain head links))
+    ∙ fold-roll-Resolved ResolvedTree Form LinkData resolved_step shape_step link_step (Resolved-F.Chain head links)
+    ∙ (λ i. chained (resolved_data head.value) (map (λ l. link-folded l i) links.items))
+
+-- a part with repeats behind it
+pub repeat_data : (part : Box Regex Global) (times : Vec Times Global) → regex_data (regex.Repeat part times) ≡ repeated (regex_data part.value) times.items
+repeat_data part times = search (rules, regex_lemmas)

@@ -2,6 +2,7 @@
 use Rattle.std.specs.Prelude.{ℕ, suc, zero, ◌+◌, ◌-◌, ◌==◌, nat_lt, Bool, true, false, if◌then◌else◌, List, [], ◌∷◌, ◌++◌, Option, Some, None, length, map, flat_map, position, unwrap_or, slice_get, option_to_list, bytes_eq}
 use Rattle.spectra_trees.specs.declared.tree.Place.{Place}
 use Rattle.spectra_trees.specs.Data.{NameData, Expression, TypeData, PartData, PartShape, ItemData, TreeData}
+use Rattle.spectra_resolved.specs.declared.spot.Spot.{Spot}
 use Rattle.spectra_resolved.specs.declared.tree.Leaf.TheVariants as leaves
 use Rattle.spectra_resolved.specs.declared.table.Named.{Named}
 use Rattle.spectra_resolved.specs.declared.table.Named.TheVariants as names
@@ -88,6 +89,7 @@ names_of items =
       values = declared (entries spaces.Values (enums_in items) items);
       types = declared (entries spaces.Types (enums_in items) items);
       patterns = declared (entries spaces.Patterns (enums_in items) items);
+      lines = declared (entries spaces.Lines (enums_in items) items);
     }
 
 -- the second declarations of names
@@ -107,7 +109,7 @@ place_of_item (ItemData.Pattern x) = x.at
 place_of_item (ItemData.Monitor x) = x.at
 place_of_item (ItemData.Statement x) = x.at
 
-abbrev pub spot_of_item : FiledItem → _
+abbrev pub spot_of_item : FiledItem → Spot
 spot_of_item i = spot_at i.0 (place_of_item i.1)
 
 -- the variables that an item declares, and the lines that it has
@@ -133,9 +135,6 @@ names_past most before (i ∷ items) =
     if nat_lt most (length (with_names before (enum_names_of i.1))) then fault 18 (spot_of_item i) ∷ []
     else names_past most (with_names before (enum_names_of i.1)) items
 
-abbrev pub limit_faults : List FiledItem → List Finding
-limit_faults items = past variables_of 1024 items ++ (past lines_of 4096 items ++ names_past 65_535 [] items)
-
 -- ---- what may not stand in an imported file
 
 -- variables, monitors and lines are the main file's alone
@@ -154,10 +153,27 @@ import_past file (Some n) = fault 18 (spot_of file n) ∷ []
 import_past file None = []
 
 -- an imported file imports nothing, and the main one at most 64 files
-abbrev pub import_faults : (file : ℕ) → (is_last : Bool) → List NameData → List Finding
-import_faults file is_last imports = if is_last then import_past file (slice_get imports 64) else map (λ n. fault 17 (spot_of file n)) imports
+abbrev pub import_faults : (file : ℕ) → (imported : Bool) → List NameData → List Finding
+import_faults file imported imports = if imported then map (λ n. fault 17 (spot_of file n)) imports else import_past file (slice_get imports 64)
 
 -- the faults of imports in files, where so many stand before these
-abbrev pub imports_faults : (before : ℕ) → List TreeData → List Finding
-imports_faults n [] = []
-imports_faults n (t ∷ ts) = import_faults n (length ts == 0) t.imports ++ imports_faults (suc n) ts
+abbrev pub imports_faults : (last before : ℕ) → List TreeData → List Finding
+imports_faults last n [] = []
+imports_faults last n (t ∷ ts) = import_faults n (nat_lt n last) t.imports ++ imports_faults last (suc n) ts
+
+-- ---- all faults of declarations
+
+abbrev pub limit_faults : List FiledItem → List Finding
+limit_faults items = past variables_of 1024 items ++ past lines_of 4096 items
+
+abbrev pub import_and_item_faults : (last : ℕ) → List TreeData → List Finding
+import_and_item_faults last ts = flat_map (imported_faults last) (items_from 0 ts) ++ imports_faults last 0 ts
+
+-- the faults of what stands in a scope
+abbrev pub scope_faults : List FiledItem → List Finding
+scope_faults items = names_past 65_535 [] items ++ name_faults items
+
+-- every fault of the declarations of several files, the main one last
+abbrev pub declaration_faults : List TreeData → List Finding
+declaration_faults ts =
+    scope_faults (items_from 0 ts) ++ (limit_faults (items_from 0 ts) ++ import_and_item_faults (length ts - 1) ts)

@@ -14,5 +14,10 @@ pub mod Looks
 pub mod LookViews
 pub mod Items
 pub mod Declarations
+pub mod LimitViews
 pub mod Resolving
+pub mod Regexes
 pub mod ResolverViews
+pub mod Types
+pub mod Meanings
+pub mod PredicateViews

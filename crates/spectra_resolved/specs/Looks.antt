@@ -11,12 +11,13 @@ use Rattle.spectra_resolved.specs.declared.look.Sight.TheVariants as sights
 abbrev pub Looking : Type 0
 Looking = List ℕ → Option Named
 
--- what the names of several files stand for: each name of the three name spaces by its first declaration
+-- what the names of several files stand for: each name of the four name spaces by its first declaration
 pub record Names : Type 0 where
   pub enums : List (List ℕ)
   pub values : Looking
   pub types : Looking
   pub patterns : Looking
+  pub lines : Looking
 
 -- all values are seen outside of patterns, and enum names alone inside of one
 abbrev pub outside : Sight → Names → Looking

@@ -1,5 +1,6 @@
 -- The names that a list of the program's has.
-use Rattle.std.specs.Prelude.{List, map, Bor}
+use Rattle.std.specs.Prelude.{List, map}
+use Rattle.std.specs.Borrow.{Bor}
 use Rattle.spectra_trees.specs.declared.tree.Name.{Name}
 use Rattle.spectra_trees.specs.Data.{NameData}
 use Rattle.spectra_trees.specs.Views.{name_data}

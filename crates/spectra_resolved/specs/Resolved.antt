@@ -73,3 +73,7 @@ regexes (r ∷ rs) = ResolvedRegexes.one_more r (regexes rs)
 abbrev pub repeated : ResolvedRegex → List Times → ResolvedRegex
 repeated r [] = r
 repeated r (t ∷ ts) = repeated (ResolvedRegex.Repetition r t) ts
+
+abbrev pub regex_list : ResolvedRegexes → List ResolvedRegex
+regex_list ResolvedRegexes.none = []
+regex_list (ResolvedRegexes.one_more r rs) = r ∷ regex_list rs

@@ -61,7 +61,7 @@ impl Counts {
 
     // The counts behind an item.
     fn counted(self, item: &Item) -> Result<Counts, AllocError>
-        ensures { IfOk result (λ counts. counts ≡ counted_lem self.entry (item_data item.now)) }
+        ensures { IfOk result (λ counts. counts ≡ counted_lem self (item_data item.now)) }
     {
         let mut counts = self;
         match item {
@@ -196,7 +196,7 @@ fn declare_mentions<'t>(
     enums: &EnumNames<'t>,
     filed: Filed<'t>,
 ) -> Result<(), AllocError>
-    ensures { OnOk result (told table.new findings.new ≡ with_entries (told table.old findings.old) (enum_entries space (names_in enums.now) filed.file (item_data filed.item.now))) }
+    ensures { OnOk result (told table.new findings.new ≡ with_entries (told table.old findings.old) (enum_entries space (names_in enums.now) filed.entry.file (item_data filed.entry.item.now))) }
 {
     match space {
         Space::Values => {
@@ -218,7 +218,7 @@ fn declare_item<'t>(
     counts: Counts,
     filed: Filed<'t>,
 ) -> Result<(), AllocError>
-    ensures { OnOk result (told table.new findings.new ≡ with_entries (told table.old findings.old) (entries_of space (names_in enums.now) counts (filed_data filed))) }
+    ensures { OnOk result (told table.new findings.new ≡ with_entries (told table.old findings.old) (entries_of space (names_in enums.now) counts (filed_data filed.entry))) }
 {
     match filed.item {
         Item::Predicate(_) => {

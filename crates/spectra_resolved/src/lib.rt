@@ -3,10 +3,13 @@
 //! Path: text → tokens → trees → **resolved trees** → specification → game → regions → layers → strategy → verdict → lines.
 #![tactic(auto)]
 
+pub mod declared;
 pub mod declaring;
+pub mod definitions;
 pub mod enum_names;
 pub mod findings;
 pub mod items;
+mod limits;
 pub mod look;
 mod mentions;
 pub mod numbers;
@@ -16,3 +19,5 @@ pub mod stand;
 pub mod table;
 pub mod text;
 pub mod tree;
+pub mod types;
+pub mod variables;

@@ -2,20 +2,20 @@
 
 ghost use Rattle.std.specs.Prelude.{◌≡◌};
 ghost use Rattle.spectra_resolved.specs.Looks.{outside};
-ghost use Rattle.spectra_resolved.specs.LookViews.{look_data, scope_data};
+ghost use Rattle.spectra_resolved.specs.LookViews.{around_data, look_data, scope_data};
 
 use crate::enum_names::EnumNames;
 use crate::table::{Named, Table};
 use crate::tree::Leaf;
 
-/// What the names of several files stand for: every enum name, by its first mention, and three name spaces. The names of
-/// lines stand for nothing.
+/// What the names of several files stand for: every enum name, by its first mention, and the four name spaces.
 #[derive(Drop)]
 pub struct Scope<'t> {
     pub names: EnumNames<'t>,
     pub values: Table<'t>,
     pub types: Table<'t>,
     pub patterns: Table<'t>,
+    pub lines: Table<'t>,
 }
 
 /// What is seen from where a name stands, beside what is declared around it: all values, or in a pattern enum names alone.
@@ -29,7 +29,7 @@ pub enum Sight {
 #[derive(Clone, Copy)]
 pub struct Look<'s, 't> {
     pub scope: &'s Scope<'t>,
-    pub around: &'s Table<'t>,
+    pub around: Option<&'s Table<'t>>,
     pub sight: Sight,
 }
 
@@ -38,9 +38,19 @@ impl<'s, 't> Look<'s, 't> {
     pub fn named(&self, text: &str) -> Option<Named>
         ensures { result ≡ look_data self.now text.now }
     {
-        match self.around.get(text) {
+        match self.inside(text) {
             Some(named) => Some(named),
             None => self.outside(text),
+        }
+    }
+
+    // What a name stands for by what is declared around it.
+    fn inside(&self, text: &str) -> Option<Named>
+        ensures { result ≡ around_data self.now.around text.now }
+    {
+        match self.around {
+            Some(table) => table.get(text),
+            None => None,
         }
     }
 
