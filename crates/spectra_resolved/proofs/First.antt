@@ -79,3 +79,6 @@ with_faults_append found (f ∷ fs) gs = with_faults_append (with_fault found f)
 -- what is found later may stand earlier in a list
 pub found_later : (found : Option Finding) (fs gs : List Finding) → with_faults found (fs ++ gs) ≡ with_faults (with_faults found gs) fs
 found_later found fs gs = with_faults_append found fs gs ∙ with_faults-turned found fs gs
+
+pub three_lists : (found : Option Finding) (fs gs hs : List Finding) → with_faults found (fs ++ (gs ++ hs)) ≡ with_faults (with_faults (with_faults found fs) gs) hs
+three_lists found fs gs hs = with_faults_append found fs (gs ++ hs) ∙ with_faults_append (with_faults found fs) gs hs

@@ -4,5 +4,6 @@ pub mod Digits
 pub mod First
 pub mod Trees
 pub mod Told
-pub mod Declared
+pub mod Scopes
 pub mod Steps
+pub mod Loops

@@ -1,10 +1,7 @@
 -- Names by their bytes, and look-ups with one more name.
-use Rattle.std.proofs.Common.{if◌then◌else◌, [], ◌∷◌, ◌++◌, ◌≡◌, ℕ, Bool, true, false, cond, List, Option, Some, None, refl, sym, ap, ◌∙◌}
+use Rattle.std.proofs.Common.{◌≡◌, ℕ, Bool, true, false, cond, List, Option, Some, None, refl, sym, ap, ◌∙◌}
 use Rattle.std.specs.Bool.{Decides}
 use Rattle.std.specs.Option.{option_or}
-use Rattle.std.specs.List.{list_any}
-use Rattle.spectra_trees.specs.Data.{NameData}
-use Rattle.spectra_resolved.specs.Enums.{with_names}
 use Rattle.std.specs.Str.{bytes_eq}
 use Rattle.std.proofs.lemmas.Slice.Eq.{bytes_eq-Decides}
 use Rattle.std.proofs.lemmas.Bool.Decides.{same_from_decides}
@@ -33,8 +30,3 @@ module _ (look : List ℕ → Option Named) (name : List ℕ) (x : Named) where
           let turned = eq-comm name text ∙ is in
           rw (turned, is, nothing) refl
       by false is = let turned = eq-comm name text ∙ is in rw (turned, is) (sym (or-none (look text)))
-
--- names behind others, part by part
-pub with_names_append : (names : List (List ℕ)) (ms ns : List NameData) → with_names names (ms ++ ns) ≡ with_names (with_names names ms) ns
-with_names_append names [] ns = refl
-with_names_append names (m ∷ ms) ns = with_names_append (if list_any (bytes_eq m.text) names then names else names ++ m.text ∷ []) ms ns

@@ -77,9 +77,14 @@ entries_from space enums c (i ∷ items) = entries_of space enums c i ++ entries
 abbrev pub entries : Space → (enums : List (List ℕ)) → List FiledItem → List Entry
 entries space enums items = entries_from space enums no_counts items
 
+-- the enum names before some items, with each new one of those behind them
+abbrev pub enums_with : List (List ℕ) → List FiledItem → List (List ℕ)
+enums_with enums [] = enums
+enums_with enums (i ∷ items) = enums_with (with_names enums (enum_names_of i.1)) items
+
 -- every enum name, by its first mention
 abbrev pub enums_in : List FiledItem → List (List ℕ)
-enums_in items = with_names [] (flat_map (λ i. enum_names_of i.1) items)
+enums_in items = enums_with [] items
 
 -- what the names of several files stand for
 abbrev pub names_of : List FiledItem → Names

@@ -20,4 +20,3 @@ pub mod Regexes
 pub mod ResolverViews
 pub mod Types
 pub mod Meanings
-pub mod PredicateViews

@@ -1,5 +1,5 @@
 -- What several files declare and say with each name resolved, item by item, and the names that mean nothing in it.
-use Rattle.std.specs.Prelude.{ℕ, suc, ◌==◌, Bool, true, false, ◌||◌, if◌then◌else◌, is_some, List, [], ◌∷◌, ◌++◌, Option, Some, None, length, map, flat_map, option_map}
+use Rattle.std.specs.Prelude.{ℕ, suc, ◌+◌, ◌==◌, Bool, true, false, if◌then◌else◌, List, [], ◌∷◌, ◌++◌, Option, Some, None, length, map, flat_map, option_map}
 use Rattle.spec_model.specs.declared.value.Owner.{Owner}
 use Rattle.spec_model.specs.declared.value.Owner.TheVariants as owners
 use Rattle.spec_model.specs.declared.spec.Role.{Role}
@@ -19,7 +19,7 @@ use Rattle.spectra_resolved.specs.declared.findings.Finding.{Finding}
 use Rattle.spectra_resolved.specs.Findings.{fault}
 use Rattle.spectra_resolved.specs.Spots.{mentioned, spot_at, spot_of}
 use Rattle.spectra_resolved.specs.Looks.{Looking, Names, looked_up}
-use Rattle.spectra_resolved.specs.Spaces.{Entry, declared, and_name, no_names, clashes}
+use Rattle.spectra_resolved.specs.Spaces.{Entry, declared, no_names, clashes, is_doubled}
 use Rattle.spectra_resolved.specs.Items.{FiledItem, items_from}
 use Rattle.spectra_resolved.specs.Declarations.{names_of, declaration_faults}
 use Rattle.spectra_resolved.specs.Resolved.{ResolvedTree, ResolvedTrees}
@@ -68,14 +68,6 @@ abbrev pub parameter_entries : (file before : ℕ) → List (TypeData × NameDat
 parameter_entries file k [] = []
 parameter_entries file k (a ∷ params) = (mentioned file a.1, names.Leaf (leaves.Parameter k)) ∷ parameter_entries file (suc k) params
 
--- whether a name stands behind the same one
-abbrev pub is_doubled_behind : (before : Looking) → List Entry → Bool
-is_doubled_behind before [] = false
-is_doubled_behind before (d ∷ ds) = is_some (before d.0.text) || is_doubled_behind (and_name before d.0.text d.1) ds
-
-abbrev pub is_doubled : List Entry → Bool
-is_doubled ds = is_doubled_behind no_names ds
-
 -- in a predicate's body its parameters hide what is outside
 abbrev pub in_predicate : Names → (file : ℕ) → PredicateData → Looking
 in_predicate s file p = looked_up sights.Values s (declared (parameter_entries file 0 p.params))
@@ -119,14 +111,15 @@ abbrev pub pattern_parameters : (file before : ℕ) → List NameData → List E
 pattern_parameters file k [] = []
 pattern_parameters file k (n ∷ ns) = (mentioned file n, names.Leaf (leaves.Parameter k)) ∷ pattern_parameters file (suc k) ns
 
+-- an own variable, behind so many others
+abbrev pub own_entry : (file before : ℕ) → PartShape → List Entry
+own_entry file k (PartShape.Own t n) = (mentioned file n, names.Leaf (leaves.Own k)) ∷ []
+own_entry file k _ = []
+
 -- its own variables
 abbrev pub own_entries_from : (file before : ℕ) → List PartData → List Entry
 own_entries_from file k [] = []
-own_entries_from file k (p ∷ ps) = part p.form
-  where
-    part : PartShape → List Entry
-    part (PartShape.Own t n) = (mentioned file n, names.Leaf (leaves.Own k)) ∷ own_entries_from file (suc k) ps
-    part _ = own_entries_from file k ps
+own_entries_from file k (p ∷ ps) = own_entry file k p.form ++ own_entries_from file (k + length (own_entry file k p.form)) ps
 
 -- parameters and own variables are one list of names
 abbrev pub pattern_entries : (file : ℕ) → PatternData → List Entry

@@ -1,11 +1,11 @@
 -- Name spaces: lists of declarations in text order. A name stands for its first declaration, and each later one is a fault.
-use Rattle.std.specs.Prelude.{ℕ, Bool, true, false, List, [], ◌∷◌, ◌++◌, Option, Some, None, find, option_map, bytes_eq, if◌then◌else◌}
+use Rattle.std.specs.Prelude.{ℕ, Bool, true, false, List, [], ◌∷◌, ◌++◌, Option, Some, None, find, is_some, option_map, bytes_eq, if◌then◌else◌}
 use Rattle.std.specs.Option.{option_or}
 use Rattle.spectra_resolved.specs.declared.table.Named.{Named}
 use Rattle.spectra_resolved.specs.declared.table.Named.TheVariants as names
 use Rattle.spectra_resolved.specs.declared.tree.Leaf.TheVariants as leaves
 use Rattle.spectra_resolved.specs.declared.findings.Finding.{Finding}
-use Rattle.spectra_resolved.specs.Findings.{fault, with_faults}
+use Rattle.spectra_resolved.specs.Findings.{fault, with_faults, first_of_faults}
 use Rattle.spectra_resolved.specs.Spots.{MentionData}
 
 -- a declaration: a name, and what it stands for
@@ -40,6 +40,10 @@ no_names text = None
 -- each declaration whose name has an earlier one
 abbrev pub clashes : List Entry → List Finding
 clashes space = clashes_after no_names space
+
+-- whether some name is declared again
+abbrev pub is_doubled : List Entry → Bool
+is_doubled space = is_some (first_of_faults (clashes space))
 
 -- ---- what is known of the declarations so far
 

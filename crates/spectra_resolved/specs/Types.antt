@@ -1,5 +1,6 @@
 -- What types stand for, and their faults: unknown names, and names twice in one enum.
-use Rattle.std.specs.Prelude.{ℕ, Bool, true, false, ◌&&◌, if◌then◌else◌, is_none, List, [], ◌∷◌, ◌++◌, Option, Some, None, map, position, unwrap_or, bytes_eq}
+use Rattle.std.specs.Prelude.{ℕ, Bool, true, false, not, ◌&&◌, if◌then◌else◌, List, [], ◌∷◌, ◌++◌, Option, Some, None, map, position, unwrap_or, bytes_eq}
+use Rattle.std.specs.List.{list_all}
 use Rattle.spectra_trees.specs.Data.{NameData, TypeData, TypeShape}
 use Rattle.spectra_resolved.specs.declared.tree.Leaf.TheVariants as leaves
 use Rattle.spectra_resolved.specs.declared.table.Named.{Named}
@@ -9,7 +10,7 @@ use Rattle.spectra_resolved.specs.declared.findings.Finding.{Finding}
 use Rattle.spectra_resolved.specs.Findings.{fault}
 use Rattle.spectra_resolved.specs.Spots.{mentioned, spot_at, spot_of}
 use Rattle.spectra_resolved.specs.Looks.{Looking, Names}
-use Rattle.spectra_resolved.specs.Spaces.{Entry, and_name, no_names, clashes}
+use Rattle.spectra_resolved.specs.Spaces.{Entry, clashes, is_doubled}
 use Rattle.spectra_resolved.specs.Resolving.{resolved, misuses}
 use Rattle.spectra_resolved.specs.Texts.{ResolvedType, Booleans, RangeOf, EnumOf, TypeNumber, NoType}
 
@@ -21,19 +22,15 @@ abbrev pub is_enum : Option Named → Bool
 is_enum (Some (names.Leaf (leaves.EnumName k))) = true
 is_enum _ = false
 
--- each name is first declared by an enum, and none stands before it
-abbrev pub is_sound_behind : (before : Looking) → Names → List NameData → Bool
-is_sound_behind before s [] = true
-is_sound_behind before s (n ∷ ns) = (is_none (before n.text) && is_enum (s.values n.text)) && is_sound_behind (and_name before n.text names.Plain) s ns
-
-abbrev pub is_sound_enum : Names → List NameData → Bool
-is_sound_enum s ns = is_sound_behind no_names s ns
+-- the names differ, and each is first declared by an enum
+abbrev pub is_sound_enum : Names → (file : ℕ) → List NameData → Bool
+is_sound_enum s file ns = not (is_doubled (plain_entries file ns)) && list_all (λ n. is_enum (s.values n.text)) ns
 
 abbrev pub enum_number : Names → NameData → ℕ
 enum_number s n = unwrap_or (position (bytes_eq n.text) s.enums) 0
 
-abbrev pub enum_type : Names → List NameData → ResolvedType
-enum_type s ns = if is_sound_enum s ns then EnumOf (map (enum_number s) ns) else NoType
+abbrev pub enum_type : Names → (file : ℕ) → List NameData → ResolvedType
+enum_type s file ns = if is_sound_enum s file ns then EnumOf (map (enum_number s) ns) else NoType
 
 -- a name for a type
 abbrev pub named_type : Option Named → ResolvedType
@@ -51,7 +48,7 @@ type_of s look file t = shape_of t.form
     shape_of : TypeShape → ResolvedType
     shape_of TypeShape.Boolean = Booleans
     shape_of (TypeShape.Range low high) = RangeOf (spot_at file t.at) (resolved look file low) (resolved look file high)
-    shape_of (TypeShape.Names ns) = enum_type s ns
+    shape_of (TypeShape.Names ns) = enum_type s file ns
     shape_of (TypeShape.Named n) = named_type (s.types n.text)
 
 abbrev pub type_faults : Names → Looking → (file : ℕ) → TypeData → List Finding

@@ -7,7 +7,7 @@ ghost use Rattle.spectra_resolved.specs.Enums.{with_names};
 ghost use Rattle.spectra_resolved.specs.EnumViews.{names_in};
 ghost use Rattle.spectra_resolved.specs.MentionViews.{names_data};
 ghost use Rattle.spectra_resolved.specs.LookViews.{scope_data};
-ghost use Rattle.spectra_resolved.specs.Items.{filed_data, items_from};
+ghost use Rattle.spectra_resolved.specs.Items.{filed_data, items_from, enum_names_of as enum_names_of_lem};
 ghost use Rattle.spectra_resolved.specs.Declarations.{enums_in, names_past, names_of, scope_faults, limit_faults, import_and_item_faults, declaration_faults};
 
 use crate::declaring::{Space, space_of};
@@ -33,7 +33,18 @@ fn add_names<'t>(enums: &mut EnumNames<'t>, names: &[&'t Name]) -> Result<(), Al
     Ok(())
 }
 
-#[tactic(auto, using(crate::proofs::Naming::with_names_append))]
+// Puts the enum names of an item behind others, where they aren't there.
+fn add_item<'t>(
+    alloc: Global,
+    enums: &mut EnumNames<'t>,
+    filed: Filed<'t>,
+) -> Result<(), AllocError>
+    ensures { OnOk result (names_in enums.new ≡ with_names (names_in enums.old) (enum_names_of_lem (filed_data filed.entry).1)) }
+{
+    let names = enum_names_of(alloc, filed.item)?;
+    add_names(enums, &names)
+}
+
 // Every enum name of several items, by its first mention. The first item with which there are too many is reported.
 fn enums_of<'t>(
     alloc: Global,
@@ -46,8 +57,7 @@ fn enums_of<'t>(
     let mut enums = EnumNames::new(alloc);
     let mut passed = false;
     for filed in items {
-        let names = enum_names_of(alloc, filed.item)?;
-        add_names(&mut enums, &names)?;
+        add_item(alloc, &mut enums, *filed)?;
         if !passed && enums.len() > MOST_NAMES {
             passed = true;
             findings.report(18, spot_of_item(*filed));

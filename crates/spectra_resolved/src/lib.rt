@@ -5,7 +5,6 @@
 
 pub mod declared;
 pub mod declaring;
-pub mod definitions;
 pub mod enum_names;
 pub mod findings;
 pub mod items;

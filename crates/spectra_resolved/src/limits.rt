@@ -1,6 +1,6 @@
 //! How many things there may be, and what an imported file may have.
 
-ghost use Rattle.std.specs.Prelude.{◌≡◌, true, map, flat_map};
+ghost use Rattle.std.specs.Prelude.{◌≡◌, true, map, flat_map, nat_lt};
 ghost use Rattle.spectra_trees.specs.Views.{name_data, item_data, tree_data};
 ghost use Rattle.spectra_resolved.specs.Findings.{found_in, with_faults};
 ghost use Rattle.spectra_resolved.specs.Items.{filed_data};
@@ -93,10 +93,10 @@ pub fn report_imported(findings: &mut Findings, last: usize, items: &[Filed<'_>]
 }
 
 // Reports each import of an imported file, and the one past the limit in the main file.
-fn report_file_imports(findings: &mut Findings, file: usize, imported: bool, imports: &[Name])
-    ensures { found_in findings.new ≡ with_faults (found_in findings.old) (import_faults file imported (map name_data imports.now)) }
+fn report_file_imports(findings: &mut Findings, file: usize, last: usize, imports: &[Name])
+    ensures { found_in findings.new ≡ with_faults (found_in findings.old) (import_faults file (nat_lt file last) (map name_data imports.now)) }
 {
-    if imported {
+    if file < last {
         report_each_import(findings, file, imports);
         return;
     }
@@ -121,6 +121,6 @@ pub fn report_imports(findings: &mut Findings, last: usize, trees: &[Tree])
     ensures { found_in findings.new ≡ with_faults (found_in findings.old) (imports_faults last 0 (map tree_data trees.now)) }
 {
     for (file, tree) in trees.iter().enumerate() {
-        report_file_imports(findings, file, file < last, &tree.imports);
+        report_file_imports(findings, file, last, &tree.imports);
     }
 }

@@ -1,12 +1,15 @@
 //! What types stand for.
 
 ghost use Rattle.std.specs.Prelude.{◌≡◌, map, IfOk, OnOk};
+ghost use Rattle.std.specs.List.{list_all};
+ghost use Rattle.spectra_trees.specs.Data.{NameData};
+ghost use Rattle.spectra_resolved.specs.Tables.{told};
 ghost use Rattle.spectra_trees.specs.Views.{name_data, type_data as type_data_lem};
 ghost use Rattle.spectra_resolved.specs.Findings.{found_in, with_faults};
 ghost use Rattle.spectra_resolved.specs.Spots.{spot_of as spot_of_lem};
-ghost use Rattle.spectra_resolved.specs.Spaces.{clashes};
+ghost use Rattle.spectra_resolved.specs.Spaces.{clashes, no_names, with_entries, is_doubled as is_doubled_lem};
 ghost use Rattle.spectra_resolved.specs.LookViews.{scope_data, look_data};
-ghost use Rattle.spectra_resolved.specs.Types.{plain_entries, is_enum as is_enum_lem, is_sound_enum, enum_number, enum_type, named_type, named_faults, type_of, type_faults};
+ghost use Rattle.spectra_resolved.specs.Types.{plain_entries, is_enum as is_enum_lem, enum_number, enum_type, named_type, named_faults, type_of, type_faults};
 ghost use Rattle.spectra_resolved.specs.TextViews.{type_data};
 
 use crate::findings::Findings;
@@ -29,25 +32,55 @@ fn is_enum(named: Option<Named>) -> bool
     }
 }
 
-#[tactic(auto, using(crate::proofs::Told::first_found))]
-// Whether the names of an enum differ and each is first declared by an enum. Each second one is reported.
-fn is_sound(
-    resolver: &Resolver<'_, '_>,
+// The names of an enum, of which each may stand once. Each second one is reported.
+fn plain(
+    alloc: Global,
     findings: &mut Findings,
+    file: usize,
     names: &[Name],
-) -> Result<bool, AllocError>
-    ensures sound { IfOk result (λ sound. sound ≡ is_sound_enum (scope_data resolver.now.look.scope.now) (map name_data names.now)) }
-    ensures found { OnOk result (found_in findings.new ≡ with_faults (found_in findings.old) (clashes (plain_entries resolver.now.file (map name_data names.now)))) }
+) -> Result<(), AllocError>
+    ensures found { OnOk result (found_in findings.new ≡ with_faults (found_in findings.old) (clashes (plain_entries file (map name_data names.now)))) }
 {
-    let mut seen = Table::new(resolver.alloc);
-    let mut sound = true;
+    plain_table(alloc, findings, file, names)?;
+    Ok(())
+}
+
+// The names of an enum. Each second one is reported.
+fn plain_table<'t>(
+    alloc: Global,
+    findings: &mut Findings,
+    file: usize,
+    names: &'t [Name],
+) -> Result<Table<'t>, AllocError>
+    ensures { IfOk result (λ table. told table findings.new
+        ≡ with_entries (record { look = no_names; found = found_in findings.old }) (plain_entries file (map name_data names.now))) }
+{
+    let mut table = Table::new(alloc);
     for name in names {
-        let text = name.text.as_str();
-        let first = seen.get(text).is_none();
-        sound = sound && first && is_enum(resolver.look.scope.values.get(text));
-        seen.declare(findings, mentioned(resolver.file, name), Named::Plain)?;
+        table.declare(findings, mentioned(file, name), Named::Plain)?;
     }
-    Ok(sound)
+    Ok(table)
+}
+
+// Whether a name stands twice in an enum.
+fn is_doubled(alloc: Global, file: usize, names: &[Name]) -> Result<bool, AllocError>
+    ensures { IfOk result (λ doubled. doubled ≡ is_doubled_lem (plain_entries file (map name_data names.now))) }
+{
+    let mut own = Findings::new();
+    plain(alloc, &mut own, file, names)?;
+    Ok(own.first().is_some())
+}
+
+// Whether each of several names is first declared by an enum.
+fn are_enums(scope: &Scope<'_>, names: &[Name]) -> bool
+    ensures { result ≡ list_all (λ (n : NameData). is_enum_lem ((scope_data scope.now).values n.text)) (map name_data names.now) }
+{
+    for name in names {
+        if !is_enum(scope.values.get(name.text.as_str())) {
+            return false;
+        }
+    }
+    true
 }
 
 // The numbers of an enum's names.
@@ -67,10 +100,12 @@ fn enum_use(
     findings: &mut Findings,
     names: &[Name],
 ) -> Result<TypeUse, AllocError>
-    ensures domain { IfOk result (λ t. type_data t ≡ enum_type (scope_data resolver.now.look.scope.now) (map name_data names.now)) }
+    ensures domain { IfOk result (λ t. type_data t ≡ enum_type (scope_data resolver.now.look.scope.now) resolver.now.file (map name_data names.now)) }
     ensures found { OnOk result (found_in findings.new ≡ with_faults (found_in findings.old) (clashes (plain_entries resolver.now.file (map name_data names.now)))) }
 {
-    if is_sound(resolver, findings, names)? {
+    plain(resolver.alloc, findings, resolver.file, names)?;
+    let doubled = is_doubled(resolver.alloc, resolver.file, names)?;
+    if !doubled && are_enums(resolver.look.scope, names) {
         let numbers = numbers(resolver.alloc, resolver.look.scope, names)?;
         Ok(TypeUse::Names(numbers))
     } else {

@@ -4,7 +4,7 @@ use Rattle.spectra_resolved.specs.Items.{filed_data}
 use Rattle.spectra_resolved.specs.Spaces.{clashes}
 use Rattle.spectra_resolved.specs.Declarations.{enums_in, entries}
 use Rattle.spectra_resolved.specs.declared.declaring.Space.TheVariants as spaces
-use Rattle.spectra_resolved.proofs.Declared.{space_look, space_found, four_spaces}
+use Rattle.spectra_resolved.proofs.Scopes.{space_look, space_found, four_spaces}
 use Rattle.spectra_resolved.proofs.declared.scope_of.Goals as goal
 
 pub returns-clause-scope : goal.returns-clause-scope
