@@ -1,5 +1,8 @@
 //! Trees in which each name is what it stands for, and all that several files declare.
 //!
+//! Contract: `declared::declared` gives what every name of several files stands for, and the first fault of the declarations;
+//! `resolving::tree` gives the resolved tree of an expression, and its first misused name.
+//!
 //! Path: text → tokens → trees → **resolved trees** → specification → game → regions → layers → strategy → verdict → lines.
 #![tactic(auto)]
 

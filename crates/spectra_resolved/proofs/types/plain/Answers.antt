@@ -6,5 +6,5 @@ use Rattle.spectra_resolved.specs.Types.{plain_entries}
 use Rattle.spectra_resolved.proofs.Told.{first_found}
 use Rattle.spectra_resolved.proofs.types.plain.Goals as goal
 
-pub returns-in_ok-plain_table : goal.returns-in_ok-plain_table
-returns-in_ok-plain_table c = ap (λ (t : Told). t.found) c.in_ok-plain_table.ensures ∙ first_found (found_in c.args.findings.now) (plain_entries c.args.file (map name_data c.args.names.now))
+pub returns : goal.returns
+returns c = record { found = ap (λ (t : Told). t.found) c.in_ok-plain_table.ensures ∙ first_found (found_in c.args.findings.now) (plain_entries c.args.file (map name_data c.args.names.now)) }
