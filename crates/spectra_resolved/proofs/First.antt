@@ -6,7 +6,7 @@ use Rattle.spectra_resolved.specs.declared.findings.Finding.{Finding}
 use Rattle.spectra_resolved.specs.Findings.{precedes, with_fault, with_faults}
 
 -- one number decides, and where it is the same, a test
-abbrev lex : ℕ → ℕ → Bool → Bool
+abbrev pub lex : ℕ → ℕ → Bool → Bool
 lex x y inner = if x == y then inner else nat_lt x y
 
 lex-trans : (x y z : ℕ) (p q r : Bool) → (p ≡ true → q ≡ true → r ≡ true) → lex x y p ≡ true → lex y z q ≡ true → lex x z r ≡ true
@@ -15,7 +15,7 @@ lex-trans x y z p q r inner a b = grind (arith, nat_tests)
 lex-same : (x y : ℕ) (p q : Bool) → lex x y p ≡ lex y x q → (x ≡ y) × (p ≡ q)
 lex-same x y p q same = grind (arith, nat_tests)
 
-precedes-trans : (f g h : Finding) → precedes f g ≡ true → precedes g h ≡ true → precedes f h ≡ true
+pub precedes-trans : (f g h : Finding) → precedes f g ≡ true → precedes g h ≡ true → precedes f h ≡ true
 precedes-trans f g h =
     lex-trans f.at.file g.at.file h.at.file _ _ _
     (lex-trans f.at.line g.at.line h.at.line _ _ _

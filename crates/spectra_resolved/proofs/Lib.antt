@@ -3,7 +3,4 @@ pub mod Mapped
 pub mod Digits
 pub mod First
 pub mod Trees
-pub mod Told
-pub mod Scopes
 pub mod Steps
-pub mod Loops

@@ -9,14 +9,8 @@ pub mod Spaces
 pub mod Tables
 pub mod Enums
 pub mod EnumViews
-pub mod MentionViews
 pub mod Looks
 pub mod LookViews
-pub mod Items
-pub mod Declarations
-pub mod LimitViews
 pub mod Resolving
 pub mod Regexes
 pub mod ResolverViews
-pub mod Types
-pub mod Meanings

@@ -1,19 +1,15 @@
-//! Trees in which each name is what it stands for, and all that several files declare.
+//! Trees in which each name is what it stands for, and the texts that they make up.
 //!
-//! Contract: `declared::declared` gives what every name of several files stands for, and the first fault of the declarations;
-//! `resolving::tree` gives the resolved tree of an expression, and its first misused name.
+//! Contract: `resolving::tree` gives the resolved tree of an expression, and its first misused name; `look::Look::named` gives
+//! what a name stands for where it stands; `table::Table::declare` gives what a name was first declared as, and the fault of
+//! a second declaration.
 //!
 //! Path: text → tokens → trees → **resolved trees** → specification → game → regions → layers → strategy → verdict → lines.
 #![tactic(auto)]
 
-pub mod declared;
-pub mod declaring;
 pub mod enum_names;
 pub mod findings;
-pub mod items;
-mod limits;
 pub mod look;
-mod mentions;
 pub mod numbers;
 pub mod resolving;
 pub mod spot;
@@ -21,5 +17,3 @@ pub mod stand;
 pub mod table;
 pub mod text;
 pub mod tree;
-pub mod types;
-pub mod variables;
