@@ -1,0 +1,30 @@
+-- Operators in text order, each of which has all before it as its first operand.
+use Rattle.std.specs.Prelude.{List, [], ◌∷◌, ◌++◌, Option}
+use Rattle.spectra_resolved.specs.declared.spot.Spot.{Spot}
+use Rattle.spectra_resolved.specs.declared.tree.Link.{Link, fold-Link}
+use Rattle.spectra_resolved.specs.declared.tree.Shape.{Shape, fold-Shape}
+use Rattle.spectra_resolved.specs.Resolved.{ResolvedTree, Form, LinkData}
+use Rattle.spectra_resolved.specs.Views.{resolved_step, shape_step, link_step}
+use Rattle.spectra_judge.specs.declared.findings.Finding.{Finding}
+use Rattle.spectra_judge.specs.Kinds.{Kind}
+use Rattle.spectra_judge.specs.Operators.{is_past}
+use Rattle.spectra_judge.specs.Around.{Around, within}
+use Rattle.spectra_judge.specs.Known.{Setting}
+use Rattle.spectra_judge.specs.Judged.{kind_of, binary_faults, operator_faults, faults}
+
+-- what the parts of the program's trees stand for
+abbrev pub form_data : Shape → Form
+form_data = fold-Shape ResolvedTree Form LinkData resolved_step shape_step link_step
+
+abbrev pub link_data : Link → LinkData
+link_data = fold-Link ResolvedTree Form LinkData resolved_step shape_step link_step
+
+-- what is open in the operands of the first of these operators
+abbrev pub opened : Around → List LinkData → Around
+opened around [] = around
+opened around (l ∷ ls) = within (is_past l.word) l.at (opened around ls)
+
+-- An operator and its second operand, where the first one has a kind. So much is open in its operands; and around it, so a `next`.
+abbrev pub link_faults : Setting → (inner : Around) → (next : Option Spot) → Kind → LinkData → List Finding
+link_faults s inner next k l =
+    operator_faults s (is_past l.word) next l.at ++ (faults s inner l.second ++ binary_faults l.word k (kind_of s.known l.second) l.at)
