@@ -1,23 +1,22 @@
 -- Operators in text order: their kinds and faults, and what is open in their operands.
-use Rattle.std.proofs.Common.{◌≡◌, ℕ, zero, suc, ◌≤◌, Bool, true, false, List, [], ◌∷◌, ◌++◌, drop, Option, refl, sym, ap, ◌∙◌, arith}
+use Rattle.std.proofs.Common.{◌≡◌, ℕ, zero, suc, ◌+◌, ◌-◌, ◌<◌, ◌≤◌, nat_lt, Bool, true, false, if◌then◌else◌, List, [], ◌∷◌, length, map, drop, get_or, Option, inl, inr, refl, sym, ap, subst, ◌∙◌, arith}
+use Rattle.std.proofs.lemmas.Bool.{cases_lt}
+use Rattle.std.proofs.lemmas.Bool.Decides.{nat_tests}
 use Rattle.spectra_resolved.specs.declared.spot.Spot.{Spot}
+use Rattle.spectra_resolved.specs.declared.tree.Link.{Link}
 use Rattle.spectra_resolved.specs.Resolved.{ResolvedTree, LinkData, joined, chained}
 use Rattle.spectra_judge.specs.declared.findings.Finding.{Finding}
 use Rattle.spectra_judge.specs.Findings.{with_faults}
-use Rattle.spectra_judge.specs.Kinds.{Kind}
-use Rattle.spectra_judge.specs.Operators.{gives, is_past}
+use Rattle.spectra_judge.specs.Operators.{is_past}
 use Rattle.spectra_judge.specs.Around.{Around, within}
 use Rattle.spectra_judge.specs.Known.{Known, Setting}
-use Rattle.spectra_judge.specs.Judged.{kind_of, binary_faults, operator_faults, faults}
-use Rattle.spectra_judge.specs.Chains.{opened, link_faults}
+use Rattle.spectra_judge.specs.Judged.{kind_of, faults}
+use Rattle.spectra_judge.specs.Chains.{link_data, opened, link_faults, chain_kind, chain_faults}
 use Rattle.spectra_judge.proofs.First.{with_faults_append}
+use Rattle.spectra_judge.proofs.Folded.{link_folded}
+use Rattle.spectra_judge.proofs.Lists.{mapped_left}
 
 -- ---- kinds
-
--- what operators behind a first operand of this kind give
-abbrev pub chain_kind : Known → Kind → List LinkData → Kind
-chain_kind known k [] = k
-chain_kind known k (l ∷ ls) = chain_kind known (gives l.word k (kind_of known l.second)) ls
 
 pub chain_kind_is : (known : Known) (t : ResolvedTree) (ls : List LinkData) → chain_kind known (kind_of known t) ls ≡ kind_of known (chained t ls)
 chain_kind_is known t [] = refl
@@ -30,11 +29,6 @@ next_stays o [] = refl
 next_stays o (l ∷ ls) = next_stays o ls
 
 -- ---- faults
-
--- those of operators behind a first operand of this kind
-abbrev pub chain_faults : Setting → Around → Kind → List LinkData → List Finding
-chain_faults s o k [] = []
-chain_faults s o k (l ∷ ls) = link_faults s (opened o (l ∷ ls)) o.next k l ++ chain_faults s o (gives l.word k (kind_of s.known l.second)) ls
 
 pub chain_faults_is : (s : Setting) (o : Around) (found : Option Finding) (t : ResolvedTree) (ls : List LinkData)
     → with_faults (with_faults found (faults s (opened o ls) t)) (chain_faults s o (kind_of s.known t) ls) ≡ with_faults found (faults s o (chained t ls))
@@ -59,12 +53,35 @@ module _ (o : Around) (at : Spot) where
   kept true before = refl
   kept false before = refl
 
-  pub stays : (ls : List LinkData) (k m : ℕ) → k ≤ m → opened o (drop m ls) ≡ inner → opened o (drop k ls) ≡ inner
+  stays : (ls : List Link) (k m : ℕ) → k ≤ m → opened o (map link_data (drop m ls)) ≡ inner → opened o (map link_data (drop k ls)) ≡ inner
   stays [] zero zero below e = e
   stays [] zero (suc m) below e = e
   stays [] (suc k) zero below e = e
   stays [] (suc k) (suc m) below e = e
   stays (l ∷ ls) zero zero below e = e
-  stays (l ∷ ls) zero (suc m) below e = ap (within (is_past l.word) l.at) (stays ls zero m (omega arith) e) ∙ kept (is_past l.word) l.at
+  stays (l ∷ ls) zero (suc m) below e = ap (within (is_past (link_data l).word) (link_data l).at) (stays ls zero m (omega arith) e) ∙ kept (is_past (link_data l).word) (link_data l).at
   stays (l ∷ ls) (suc k) zero below e = absurd (omega arith)
   stays (l ∷ ls) (suc k) (suc m) below e = stays ls k m (omega arith) e
+
+-- A list of operators, of which none from one place on is a past operator, and the one before that place.
+module _ (o : Around) (ls : List Link) (last : ℕ) (some : 0 < last) (within_list : last ≤ length ls) (l : Link) (is : l ≡ get_or ls (last - 1) l)
+    (nothing : (place : ℕ) → last ≤ place → opened o (map link_data (drop place ls)) ≡ o) where
+  at_last : (past : Bool) → is_past l.word ≡ past → opened o (map link_data (drop (last - 1) ls)) ≡ within past l.at o
+  at_last past word =
+      let behind : last ≤ last - 1 + 1 = omega arith in
+      ap (opened o) (mapped_left link_data ls (last - 1) l (omega arith) is)
+      ∙ (λ i. within (is_past (link_folded l i).word) (link_folded l i).at (nothing (last - 1 + 1) behind i))
+      ∙ ap (λ b. within b l.at o) word
+
+  pub past_found : (inner : Around) → is_past l.word ≡ true → inner ≡ within true l.at o → (place : ℕ) → opened o (map link_data (drop place ls)) ≡ (if nat_lt place last then inner else o)
+  past_found inner word same place = by (nat_lt place last) refl
+    where
+      by : (b : Bool) → nat_lt place last ≡ b → opened o (map link_data (drop place ls)) ≡ (if b then inner else o)
+      by true e = let less : place < last = grind (arith, nat_tests) in stays o l.at ls place (last - 1) (omega arith) (at_last true word) ∙ sym same
+      by false e = let more : last ≤ place = grind (arith, nat_tests) in nothing place more
+
+  pub not_past : is_past l.word ≡ false → (place : ℕ) → last - 1 ≤ place → opened o (map link_data (drop place ls)) ≡ o
+  not_past word place later = elim (cases_lt place last) [
+    | inl here ↦ let e : last - 1 ≡ place = omega arith in subst (λ k. opened o (map link_data (drop k ls)) ≡ o) e (at_last false word)
+    | inr more ↦ nothing place more
+  ]

@@ -66,13 +66,15 @@ least g (f ∷ fs) = by (precedes f g) refl (least (if precedes f g then f else 
     by b is found =
         let h = found.0 in
         let all = found.1 in
-        let ends = both b is h (subst (λ c. precedes (if c then f else g) h ≡ false) is all.first) in
-        (h, record {
-          is = all.is;
-          among = spread g f h fs (precedes f g) all.among;
-          first = ends.0;
-          least = All-cons (λ e. precedes e h ≡ false) f fs ends.1 all.least;
-        })
+        let ends = both b is h (subst (λ c. precedes (if c then f else g) h ≡ false) is all.first) in (
+          h,
+          record {
+            is = all.is;
+            among = spread g f h fs (precedes f g) all.among;
+            first = ends.0;
+            least = All-cons (λ e. precedes e h ≡ false) f fs ends.1 all.least;
+          },
+        )
       where
         both : (b : Bool) → precedes f g ≡ b → (h : Finding) → precedes (if b then f else g) h ≡ false → (precedes g h ≡ false) × (precedes f h ≡ false)
         both true is h first = (not-second is h first (precedes g h) refl, first)

@@ -10,12 +10,11 @@ use Rattle.spectra_judge.specs.Findings.{with_faults}
 use Rattle.spectra_judge.specs.Kinds.{Kind, Anything, is_truth, can_equal}
 use Rattle.spectra_judge.specs.Operators.{gives}
 use Rattle.spectra_judge.specs.Around.{Around}
-use Rattle.spectra_judge.specs.Known.{Known, Setting}
+use Rattle.spectra_judge.specs.Known.{Setting}
 use Rattle.spectra_judge.specs.Judged.{kind_of, wrong, first_of, faults, operand_faults, argument_faults}
-use Rattle.spectra_judge.specs.Chains.{link_data, opened, link_faults}
+use Rattle.spectra_judge.specs.Chains.{link_data, opened, link_faults, chain_kind, chain_faults}
 use Rattle.spectra_judge.proofs.First.{with_faults_append, three_parts}
 use Rattle.spectra_judge.proofs.Lists.{first_left, drop_one, mapped_left}
-use Rattle.spectra_judge.proofs.Chained.{chain_kind, chain_faults}
 
 -- the trees from one place on
 abbrev pub from_place : List Resolved → ℕ → ResolvedTrees

@@ -102,4 +102,3 @@ module _ (a b c d : ℤ) where
 
   pub product_span : is_wide (multiplied (Whole a b) (Whole c d)) ≡ false → model.multiplied (Some (model.Whole a b)) (Some (model.Whole c d)) ≡ Some (model.Whole low_end high_end)
   product_span e = let ends = product_ends e in same_whole _ _ low_end high_end (sym ends.0) (sym ends.1) (narrow low_end high_end e)
-

@@ -7,9 +7,9 @@ use Rattle.spectra_resolved.specs.Resolved.{ResolvedTree, Form, LinkData}
 use Rattle.spectra_resolved.specs.Views.{resolved_step, shape_step, link_step}
 use Rattle.spectra_judge.specs.declared.findings.Finding.{Finding}
 use Rattle.spectra_judge.specs.Kinds.{Kind}
-use Rattle.spectra_judge.specs.Operators.{is_past}
+use Rattle.spectra_judge.specs.Operators.{gives, is_past}
 use Rattle.spectra_judge.specs.Around.{Around, within}
-use Rattle.spectra_judge.specs.Known.{Setting}
+use Rattle.spectra_judge.specs.Known.{Known, Setting}
 use Rattle.spectra_judge.specs.Judged.{kind_of, binary_faults, operator_faults, faults}
 
 -- what the parts of the program's trees stand for
@@ -28,3 +28,13 @@ opened around (l ∷ ls) = within (is_past l.word) l.at (opened around ls)
 abbrev pub link_faults : Setting → (inner : Around) → (next : Option Spot) → Kind → LinkData → List Finding
 link_faults s inner next k l =
     operator_faults s (is_past l.word) next l.at ++ (faults s inner l.second ++ binary_faults l.word k (kind_of s.known l.second) l.at)
+
+-- what operators behind a first operand of this kind give, and their faults
+abbrev pub chain_kind : Known → Kind → List LinkData → Kind
+chain_kind known k [] = k
+chain_kind known k (l ∷ ls) = chain_kind known (gives l.word k (kind_of known l.second)) ls
+
+abbrev pub chain_faults : Setting → Around → Kind → List LinkData → List Finding
+chain_faults s around k [] = []
+chain_faults s around k (l ∷ ls) =
+    link_faults s (opened around (l ∷ ls)) around.next k l ++ chain_faults s around (gives l.word k (kind_of s.known l.second)) ls

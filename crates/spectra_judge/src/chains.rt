@@ -23,7 +23,11 @@ impl Opened {
     pub fn at(&self, around: Around, place: usize) -> Around
         ensures { result ≡ (if nat_lt place self.now.last then self.now.inner else around) }
     {
-        if place < self.last { self.inner } else { around }
+        if place < self.last {
+            self.inner
+        } else {
+            around
+        }
     }
 }
 

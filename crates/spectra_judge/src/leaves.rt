@@ -70,13 +70,7 @@ fn report_wide(findings: &mut Findings, kind: Kind<'_>, at: Spot)
 
 #[tactic(auto, using(crate::proofs::First::with_faults_append))]
 /// Reports what is wrong with the operands of an operator, and with what it gives.
-pub fn report_binary(
-    findings: &mut Findings,
-    word: BinaryWord,
-    a: Kind<'_>,
-    b: Kind<'_>,
-    at: Spot,
-)
+pub fn report_binary(findings: &mut Findings, word: BinaryWord, a: Kind<'_>, b: Kind<'_>, at: Spot)
     ensures { found_in findings.new ≡ with_faults (found_in findings.old) (binary_faults word (kind_data a.entry) (kind_data b.entry) at) }
 {
     report_wrong(findings, takes(word, a, b), at);

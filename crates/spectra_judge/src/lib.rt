@@ -20,5 +20,6 @@ mod leaves;
 mod misplaced;
 mod operators;
 pub mod standing;
-
+#[cfg(test)]
+mod tests;
 mod walking;

@@ -6,10 +6,10 @@ ghost use Rattle.spectra_judge.specs.Known.{setting_data};
 ghost use Rattle.spectra_judge.specs.Around.{nested, next_faults, past_faults, shifted, variable_faults, parameter_faults};
 ghost use Rattle.spectra_judge.specs.Judged.{operator_faults};
 
+use crate::around::Around;
 use crate::brought::meeting;
 use crate::findings::{Findings, report_if};
 use crate::known::Setting;
-use crate::around::Around;
 use spectra_resolved::spot::Spot;
 
 // Reports a part in another that is around, where it may not be.
@@ -108,5 +108,12 @@ pub fn report_parameter(
 {
     let bans = setting.bans;
     report_if(findings, bans.parameter, 9, at);
-    report_shifted(findings, setting.known.brought, bans.shifted_parameter, 10, next, at);
+    report_shifted(
+        findings,
+        setting.known.brought,
+        bans.shifted_parameter,
+        10,
+        next,
+        at,
+    );
 }

@@ -1,22 +1,25 @@
 //! One walk over an expression, which gives its kind and reports its faults.
 
-ghost use Rattle.std.specs.Prelude.{◌≡◌, ◌∷◌, ◌++◌, map};
-ghost use Rattle.spectra_resolved.specs.Resolved.{Form, trees, chained};
+ghost use Rattle.std.specs.Prelude.{◌≡◌, ℕ, ◌∷◌, ◌++◌, map, drop, nat_lt, if◌then◌else◌};
+ghost use Rattle.spectra_resolved.specs.Resolved.{Form, trees};
 ghost use Rattle.spectra_resolved.specs.Views.{resolved_data};
 ghost use Rattle.spectra_judge.specs.Findings.{found_in, with_faults};
-ghost use Rattle.spectra_judge.specs.Kinds.{Truth, is_truth as is_truth_lem, can_equal as can_equal_lem};
+ghost use Rattle.spectra_judge.specs.Kinds.{Truth, is_truth as is_truth_lem, can_equal as can_equal_lem, reduced as reduced_lem};
 ghost use Rattle.spectra_judge.specs.KindViews.{kind_data};
 ghost use Rattle.spectra_judge.specs.Operators.{gives as gives_lem};
 ghost use Rattle.spectra_judge.specs.Known.{setting_data, wanted};
 ghost use Rattle.spectra_judge.specs.Judged.{kind_of, form_kind, wrong, first_of as first_of_lem, faults, form_faults, operand_faults, argument_faults};
-ghost use Rattle.spectra_judge.specs.Chains.{link_data, form_data, link_faults};
+ghost use Rattle.spectra_judge.specs.Chains.{link_data, form_data, opened as opened_lem, link_faults, chain_kind, chain_faults};
 
 use crate::around::{Around, under_next, within};
-use crate::chains::{first_of, opened_in, operator_at};
+use crate::chains::{Opened, first_of, opened_in, operator_at};
 use crate::findings::Findings;
 use crate::kind::{Kind, can_equal, is_truth, reduced};
 use crate::known::Setting;
-use crate::leaves::{leaf_kind, misuse_kind, report_binary, report_leaf, report_misuse, report_remainder, report_wrong};
+use crate::leaves::{
+    leaf_kind, misuse_kind, report_binary, report_leaf, report_misuse, report_remainder,
+    report_wrong,
+};
 use crate::misplaced::{report_next, report_operator};
 use crate::operators::{gives, is_past, is_past_prefix};
 use spectra_resolved::spot::Spot;
@@ -35,7 +38,11 @@ pub fn walk<'a>(
     ensures found { found_in findings.new ≡ with_faults (found_in findings.old) (faults (setting_data setting.now) around (resolved_data tree.now)) }
 {
     match tree {
-        Resolved::Chain(head, links) => walk_chain(findings, setting, around, head, links),
+        Resolved::Chain(head, links) => {
+            let opened = opened_in(around, links);
+            let kind = walk(findings, setting, opened.at(around, 0), head);
+            walk_links(findings, setting, around, opened, kind, links)
+        }
         Resolved::Node(_, at, shape) => walk_shape(findings, setting, around, *at, shape),
     }
 }
@@ -72,9 +79,7 @@ fn walk_shape<'a>(
         }
         Shape::Prefix(word, t) => walk_prefix(findings, setting, around, at, *word, t),
         Shape::Mod(t, number_at, n) => {
-            let kind = walk(findings, setting, around, t);
-            report_remainder(findings, kind, at, *number_at, *n);
-            reduced(*n)
+            walk_remainder(findings, setting, around, at, t, *number_at, *n)
         }
         Shape::And(ts, operators) => walk_operands(findings, setting, around, at, ts, operators),
         Shape::Or(ts, operators) => walk_operands(findings, setting, around, at, ts, operators),
@@ -102,20 +107,42 @@ fn walk_prefix<'a>(
     Kind::Truth
 }
 
-// The kind of what operators in text order give, each of which has all before it as its first operand.
+#[tactic(auto, using(crate::proofs::First::with_faults_append))]
+// The kind of a remainder.
 #[cycle(walking)]
-fn walk_chain<'a>(
+fn walk_remainder<'a>(
     findings: &mut Findings,
     setting: &Setting<'_, 'a>,
     around: Around,
-    head: &Resolved,
+    at: Spot,
+    t: &Resolved,
+    number_at: Spot,
+    n: i64,
+) -> Kind<'a>
+    ensures kind { kind_data result ≡ reduced_lem n }
+    ensures found { found_in findings.new ≡ with_faults (found_in findings.old) (form_faults (setting_data setting.now) around at (Form.Mod (resolved_data t.now) number_at n)) }
+{
+    let kind = walk(findings, setting, around, t);
+    report_remainder(findings, kind, at, number_at, n);
+    reduced(n)
+}
+
+// The kind of what operators in text order give, behind a first operand of a kind. `opened` says what is open in the operands
+// of each.
+#[cycle(walking)]
+fn walk_links<'a>(
+    findings: &mut Findings,
+    setting: &Setting<'_, 'a>,
+    around: Around,
+    opened: Opened,
+    first: Kind<'a>,
     links: &[Link],
 ) -> Kind<'a>
-    ensures kind { kind_data result ≡ kind_of (setting_data setting.now).known (chained (resolved_data head.now) (map link_data links.now)) }
-    ensures found { found_in findings.new ≡ with_faults (found_in findings.old) (faults (setting_data setting.now) around (chained (resolved_data head.now) (map link_data links.now))) }
+    requires opened { (place : ℕ) → opened_lem around (map link_data (drop place links.now)) ≡ (if nat_lt place opened.last then opened.inner else around) }
+    ensures kind { kind_data result ≡ chain_kind (setting_data setting.now).known (kind_data first.entry) (map link_data links.now) }
+    ensures found { found_in findings.new ≡ with_faults (found_in findings.old) (chain_faults (setting_data setting.now) around (kind_data first.entry) (map link_data links.now)) }
 {
-    let opened = opened_in(around, links);
-    let mut kind = walk(findings, setting, opened.at(around, 0), head);
+    let mut kind = first;
     let mut place = 0;
     for link in links {
         let inner = opened.at(around, place);

@@ -1,26 +1,24 @@
 use Rattle.std.proofs.Common.{◌≡◌, ◌∷◌, drop, map}
-use Rattle.spectra_resolved.specs.Resolved.{trees, chained}
+use Rattle.spectra_resolved.specs.Resolved.{trees}
 use Rattle.spectra_resolved.specs.Views.{resolved_data}
 use Rattle.spectra_judge.specs.Findings.{found_in, with_faults}
 use Rattle.spectra_judge.specs.KindViews.{kind_data}
 use Rattle.spectra_judge.specs.Known.{setting_data, wanted}
-use Rattle.spectra_judge.specs.Judged.{kind_of, faults, operand_faults, argument_faults}
-use Rattle.spectra_judge.specs.Chains.{link_data}
-use Rattle.spectra_judge.proofs.Chained.{chain_kind, chain_faults}
+use Rattle.spectra_judge.specs.Judged.{operand_faults, argument_faults}
+use Rattle.spectra_judge.specs.Chains.{link_data, chain_kind, chain_faults}
 use Rattle.spectra_judge.proofs.walking.+walking.Given as goal
 
--- what is made of the operators that are left is the answer
-abbrev pub invariant-walk_chain-loop-link : goal.invariant-walk_chain-loop-link
-invariant-walk_chain-loop-link l =
+-- what is left is the answer
+abbrev pub invariant-walk_links-loop-link : goal.invariant-walk_links-loop-link
+invariant-walk_links-loop-link l =
     record {
       place : l.place ≡ l.link-index;
       kind : chain_kind (setting_data l.setting).known (kind_data l.kind) (map link_data (drop l.link-index l.links))
-          ≡ kind_of (setting_data l.setting).known (chained (resolved_data l.head) (map link_data l.links));
+          ≡ chain_kind (setting_data l.setting).known (kind_data l.first) (map link_data l.links);
       found : with_faults (found_in l.findings) (chain_faults (setting_data l.setting) l.around (kind_data l.kind) (map link_data (drop l.link-index l.links)))
-          ≡ with_faults (found_in l.fn.findings) (faults (setting_data l.setting) l.around (chained (resolved_data l.head) (map link_data l.links)));
+          ≡ with_faults (found_in l.fn.findings) (chain_faults (setting_data l.setting) l.around (kind_data l.first) (map link_data l.links));
     }
 
--- what is left is the answer
 abbrev pub invariant-walk_operands-loop-t : goal.invariant-walk_operands-loop-t
 invariant-walk_operands-loop-t l =
     record {
