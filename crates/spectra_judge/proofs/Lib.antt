@@ -10,5 +10,6 @@ pub mod Spans
 pub mod KindsFit
 pub mod Nesting
 pub mod Typed
+pub mod Searching
 pub mod Least
 pub mod Lines

@@ -25,3 +25,9 @@ mapped_left f xs k x below is =
     ap (map f) (drop-cons xs k x below)
     ∙ ap (λ y. f y ∷ map f (drop (suc k) xs)) (sym is)
     ∙ rw add-one refl
+
+-- one that is there, whatever stands past the end
+pub get_or_any : {X : Type 0} (xs : List X) (k : ℕ) (d e : X) → k < length xs → get_or xs k d ≡ get_or xs k e
+get_or_any [] k d e below = absurd (omega arith)
+get_or_any (x ∷ xs) zero d e below = refl
+get_or_any (x ∷ xs) (suc k) d e below = get_or_any xs k d e (omega arith)

@@ -50,16 +50,16 @@ module _ (s : Setting) (sc : model.Scope) (names params : ℕ) (good : Leaf → 
         let parts = empty_parts (next_faults s.known.brought s.bans o at) (faults s (under_next at o) t) none in
         let open' = next_free s.known.brought s.bans o at parts.0 in
         let is = sound t (under_next at o) put parts.1 in
-        let inner : is_nested_well names true (is_some o.past) (erased params t) ≡ true = is.1 in
+        let inner : is_nested_well names true o.past (erased params t) ≡ true = is.1 in
         record {
           fits = is.0;
-          stands = and_from _ _ (not_from_false (is_some o.next) open'.0) (and_from _ _ (not_from_false (is_some o.past) open'.1) inner);
+          stands = and_from _ _ (not_from_false (is_some o.next) open'.0) (and_from _ _ (not_from_false o.past open'.1) inner);
         }
     form_sound (Form.Prefix word t) o at put none =
         let past = is_past_prefix word in
-        let parts = empty_parts (operator_faults s past o.next at) (faults s (within past at o) t ++ wrong (is_truth (kind t)) at) none in
-        let more = empty_parts (faults s (within past at o) t) (wrong (is_truth (kind t)) at) parts.1 in
-        let is = sound t (within past at o) put more.0 in
+        let parts = empty_parts (operator_faults s past o.next at) (faults s (within s.known.brought past at o) t ++ wrong (is_truth (kind t)) at) none in
+        let more = empty_parts (faults s (within s.known.brought past at o) t) (wrong (is_truth (kind t)) at) parts.1 in
+        let is = sound t (within s.known.brought past at o) put more.0 in
         record {
           fits = prefix_fits sc word (erased params t) (truth_fits (kind t) (model.kind_of sc (erased params t)) (right (is_truth (kind t)) at more.1) is.0);
           stands = prefix_stands s names o at word (erased params t) parts.0 is.1;
@@ -67,12 +67,12 @@ module _ (s : Setting) (sc : model.Scope) (names params : ℕ) (good : Leaf → 
     form_sound (Form.Binary word a b) o at put none =
         let past = is_past word in
         let own = binary_faults word (kind a) (kind b) at in
-        let parts = empty_parts (faults s (within past at o) a) (operator_faults s past o.next at ++ (faults s (within past at o) b ++ own)) none in
-        let more = empty_parts (operator_faults s past o.next at) (faults s (within past at o) b ++ own) parts.1 in
-        let last = empty_parts (faults s (within past at o) b) own more.1 in
+        let parts = empty_parts (faults s (within s.known.brought past at o) a) (operator_faults s past o.next at ++ (faults s (within s.known.brought past at o) b ++ own)) none in
+        let more = empty_parts (operator_faults s past o.next at) (faults s (within s.known.brought past at o) b ++ own) parts.1 in
+        let last = empty_parts (faults s (within s.known.brought past at o) b) own more.1 in
         let puts = and_parts (is_put_in good a) (is_put_in good b) put in
-        let first = sound a (within past at o) puts.0 parts.0 in
-        let second = sound b (within past at o) puts.1 last.0 in
+        let first = sound a (within s.known.brought past at o) puts.0 parts.0 in
+        let second = sound b (within s.known.brought past at o) puts.1 last.0 in
         record {
           fits = binary_fits sc word at (kind a) (kind b) (erased params a) (erased params b) last.1 first.0 second.0;
           stands = binary_stands s names o at word (erased params a) (erased params b) more.0 first.1 second.1;
@@ -90,7 +90,7 @@ module _ (s : Setting) (sc : model.Scope) (names params : ℕ) (good : Leaf → 
     form_sound (Form.Or ts operators) o at put none = let are = each_sound ts o at (at ∷ operators) put none in record { fits = ap truth_if are.0; stands = are.1 }
 
     each_sound : (ts : ResolvedTrees) (o : Around) (at : Spot) (operators : List Spot) → each_put_in good ts ≡ true → operand_faults s o at operators ts ≡ []
-        → (model.are_truths sc (each_erased params ts) ≡ true) × (are_nested_well names (is_some o.next) (is_some o.past) (each_erased params ts) ≡ true)
+        → (model.are_truths sc (each_erased params ts) ≡ true) × (are_nested_well names (is_some o.next) o.past (each_erased params ts) ≡ true)
     each_sound ResolvedTrees.none o at operators put none = (refl, refl)
     each_sound (ResolvedTrees.one_more t ts) o at operators put none =
         let own = wrong (is_truth (kind t)) (get_or operators 0 at) in

@@ -102,10 +102,10 @@ abbrev mutual
   form_faults s o at (Form.MisuseOf m ts) = misuse_faults s o.next at m ++ argument_faults s o (wanted s.known None) ts
   form_faults s o at (Form.Next t) = next_faults s.known.brought s.bans o at ++ faults s (under_next at o) t
   form_faults s o at (Form.Prefix word t) =
-      operator_faults s (is_past_prefix word) o.next at ++ (faults s (within (is_past_prefix word) at o) t ++ wrong (is_truth (kind_of s.known t)) at)
+      operator_faults s (is_past_prefix word) o.next at ++ (faults s (within s.known.brought (is_past_prefix word) at o) t ++ wrong (is_truth (kind_of s.known t)) at)
   form_faults s o at (Form.Binary word a b) =
-      faults s (within (is_past word) at o) a
-      ++ (operator_faults s (is_past word) o.next at ++ (faults s (within (is_past word) at o) b ++ binary_faults word (kind_of s.known a) (kind_of s.known b) at))
+      faults s (within s.known.brought (is_past word) at o) a
+      ++ (operator_faults s (is_past word) o.next at ++ (faults s (within s.known.brought (is_past word) at o) b ++ binary_faults word (kind_of s.known a) (kind_of s.known b) at))
   form_faults s o at (Form.Mod t number_at n) = faults s o t ++ remainder_faults (kind_of s.known t) at number_at n
   form_faults s o at (Form.And ts operators) = operand_faults s o at (at ∷ operators) ts
   form_faults s o at (Form.Or ts operators) = operand_faults s o at (at ∷ operators) ts

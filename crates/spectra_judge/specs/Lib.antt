@@ -7,5 +7,6 @@ pub mod Around
 pub mod Known
 pub mod Judged
 pub mod Chains
+pub mod OpenedViews
 pub mod Erased
 pub mod Laws

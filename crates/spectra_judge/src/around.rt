@@ -1,15 +1,18 @@
 //! What is open around a part of an expression.
 
 ghost use Rattle.std.specs.Prelude.{◌≡◌};
-ghost use Rattle.spectra_judge.specs.Around.{nothing_open as nothing_open_lem, outer_of as outer_of_lem, under_next as under_next_lem, within as within_lem};
+ghost use Rattle.spectra_judge.specs.Around.{AreRising, nothing_open as nothing_open_lem, outer_of as outer_of_lem, under_next as under_next_lem, is_brought as is_brought_lem, first_brought as first_brought_lem, within as within_lem};
 
+use crate::brought::is_brought;
 use spectra_resolved::spot::Spot;
 
-/// The outermost `next` and the outermost past operator around a part, each by its place.
+/// What is open around a part: the outermost `next` by its place, whether there is a past operator, and the outermost one of
+/// those that bodies bring.
 #[derive(Clone, Copy, Debug)]
 pub struct Around {
     pub next: Option<Spot>,
-    pub past: Option<Spot>,
+    pub past: bool,
+    pub brought: Option<Spot>,
 }
 
 /// Nothing is open.
@@ -18,7 +21,8 @@ pub fn nothing_open() -> Around
 {
     Around {
         next: None,
-        past: None,
+        past: false,
+        brought: None,
     }
 }
 
@@ -39,17 +43,37 @@ pub fn under_next(at: Spot, around: Around) -> Around
     Around {
         next: Some(outer_of(around.next, at)),
         past: around.past,
+        brought: around.brought,
+    }
+}
+
+/// The outermost past operator that a body brings, with one more at a place inside.
+pub fn first_brought(names: &[Spot], outer: Option<Spot>, at: Spot) -> Option<Spot>
+    requires rising { AreRising names.now }
+    ensures { result ≡ first_brought_lem outer (is_brought_lem names.now at) at }
+{
+    match outer {
+        Some(outer) => Some(outer),
+        None => {
+            if is_brought(names, at) {
+                Some(at)
+            } else {
+                None
+            }
+        }
     }
 }
 
 /// What is open in the operands of an operator, which speaks of the past or not.
-pub fn within(past: bool, at: Spot, around: Around) -> Around
-    ensures { result ≡ within_lem past at around }
+pub fn within(names: &[Spot], past: bool, at: Spot, around: Around) -> Around
+    requires rising { AreRising names.now }
+    ensures { result ≡ within_lem names.now past at around }
 {
     if past {
         Around {
             next: around.next,
-            past: Some(outer_of(around.past, at)),
+            past: true,
+            brought: first_brought(names, around.brought, at),
         }
     } else {
         around

@@ -4,6 +4,7 @@ ghost use Rattle.std.specs.Prelude.{◌≡◌};
 ghost use Rattle.spectra_resolved.specs.Views.{resolved_data};
 ghost use Rattle.spectra_judge.specs.Findings.{first_of_faults};
 ghost use Rattle.spectra_judge.specs.KindViews.{kind_data};
+ghost use Rattle.spectra_judge.specs.Around.{AreRising};
 ghost use Rattle.spectra_judge.specs.Known.{known_data};
 ghost use Rattle.spectra_judge.specs.Judged.{kind_of, faults_of};
 
@@ -29,6 +30,7 @@ pub struct Judged<'a> {
 /// The kind of an expression that stands somewhere, and the first of its faults from 9 to 14: the one at the least place, and
 /// of several there the one with the smallest number. It takes no memory.
 pub fn judge<'a>(known: &Known<'_, 'a>, stand: Stand, tree: &Resolved) -> Judged<'a>
+    requires rising { AreRising (known_data known.now).brought }
     ensures kind { kind_data result.kind ≡ kind_of (known_data known.now) (resolved_data tree.now) }
     ensures fault { result.fault ≡ first_of_faults (faults_of (known_data known.now) stand (resolved_data tree.now)) }
 {

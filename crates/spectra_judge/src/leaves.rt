@@ -4,6 +4,7 @@ ghost use Rattle.std.specs.Prelude.{◌≡◌};
 ghost use Rattle.spectra_judge.specs.Findings.{found_in, with_faults};
 ghost use Rattle.spectra_judge.specs.Kinds.{is_whole as is_whole_lem};
 ghost use Rattle.spectra_judge.specs.KindViews.{kind_data};
+ghost use Rattle.spectra_judge.specs.Around.{AreRising};
 ghost use Rattle.spectra_judge.specs.Known.{known_data, setting_data};
 ghost use Rattle.spectra_judge.specs.Judged.{hole_kind as hole_kind_lem, leaf_kind as leaf_kind_lem, misuse_kind as misuse_kind_lem, wrong, wide, binary_faults, remainder_faults, leaf_faults, misuse_faults};
 
@@ -101,6 +102,7 @@ pub fn report_leaf(
     at: Spot,
     leaf: Leaf,
 )
+    requires rising { AreRising (setting_data setting.now).known.brought }
     ensures { found_in findings.new ≡ with_faults (found_in findings.old) (leaf_faults (setting_data setting.now) next at leaf) }
 {
     match leaf {
@@ -126,6 +128,7 @@ pub fn report_misuse(
     at: Spot,
     misuse: Misuse,
 )
+    requires rising { AreRising (setting_data setting.now).known.brought }
     ensures { found_in findings.new ≡ with_faults (found_in findings.old) (misuse_faults (setting_data setting.now) next at misuse) }
 {
     match misuse {

@@ -3,7 +3,7 @@
 ghost use Rattle.std.specs.Prelude.{◌≡◌};
 ghost use Rattle.spectra_judge.specs.Findings.{found_in, with_faults};
 ghost use Rattle.spectra_judge.specs.Known.{setting_data};
-ghost use Rattle.spectra_judge.specs.Around.{nested, next_faults, past_faults, shifted, variable_faults, parameter_faults};
+ghost use Rattle.spectra_judge.specs.Around.{AreRising, in_next, in_past, next_faults, past_faults, shifted, variable_faults, parameter_faults};
 ghost use Rattle.spectra_judge.specs.Judged.{operator_faults};
 
 use crate::around::Around;
@@ -12,34 +12,43 @@ use crate::findings::{Findings, report_if};
 use crate::known::Setting;
 use spectra_resolved::spot::Spot;
 
-// Reports a part in another that is around, where it may not be.
-fn report_nested(findings: &mut Findings, names: &[Spot], outer: Option<Spot>, at: Spot)
-    ensures { found_in findings.new ≡ with_faults (found_in findings.old) (nested names.now outer at) }
+// Reports a part in a `next`, where it may not be.
+fn report_in_next(findings: &mut Findings, names: &[Spot], next: Option<Spot>, at: Spot)
+    requires rising { AreRising names.now }
+    ensures { found_in findings.new ≡ with_faults (found_in findings.old) (in_next names.now next at) }
 {
-    match outer {
-        Some(outer) => findings.report(11, meeting(names, outer, at, at)),
+    match next {
+        Some(next) => findings.report(11, meeting(names, next, at, at)),
         None => {}
     }
+}
+
+// Reports a `next` in past operators.
+fn report_in_past(findings: &mut Findings, around: Around, at: Spot)
+    ensures { found_in findings.new ≡ with_faults (found_in findings.old) (in_past around at) }
+{
+    report_if(findings, around.past, 11, around.brought.unwrap_or(at));
 }
 
 #[tactic(auto, using(crate::proofs::First::with_faults_append))]
 /// Reports what is wrong with a `next`, its operand apart.
 pub fn report_next(findings: &mut Findings, setting: &Setting<'_, '_>, around: Around, at: Spot)
+    requires rising { AreRising (setting_data setting.now).known.brought }
     ensures { found_in findings.new ≡ with_faults (found_in findings.old) (next_faults (setting_data setting.now).known.brought setting.now.bans around at) }
 {
-    let names = setting.known.brought;
     report_if(findings, setting.bans.next, 10, at);
-    report_nested(findings, names, around.next, at);
-    report_nested(findings, names, around.past, at);
+    report_in_next(findings, setting.known.brought, around.next, at);
+    report_in_past(findings, around, at);
 }
 
 #[tactic(auto, using(crate::proofs::First::with_faults_append))]
 // Reports what is wrong with a past operator, its operands apart.
 fn report_past(findings: &mut Findings, setting: &Setting<'_, '_>, next: Option<Spot>, at: Spot)
+    requires rising { AreRising (setting_data setting.now).known.brought }
     ensures { found_in findings.new ≡ with_faults (found_in findings.old) (past_faults (setting_data setting.now).known.brought setting.now.bans next at) }
 {
     report_if(findings, setting.bans.past, 9, at);
-    report_nested(findings, setting.known.brought, next, at);
+    report_in_next(findings, setting.known.brought, next, at);
 }
 
 /// Reports what is wrong with an operator where it stands, which speaks of the past or not.
@@ -50,6 +59,7 @@ pub fn report_operator(
     next: Option<Spot>,
     at: Spot,
 )
+    requires rising { AreRising (setting_data setting.now).known.brought }
     ensures { found_in findings.new ≡ with_faults (found_in findings.old) (operator_faults (setting_data setting.now) past next at) }
 {
     if past {
@@ -66,6 +76,7 @@ fn report_shifted(
     next: Option<Spot>,
     at: Spot,
 )
+    requires rising { AreRising names.now }
     ensures { found_in findings.new ≡ with_faults (found_in findings.old) (shifted names.now banned number next at) }
 {
     match next {
@@ -87,6 +98,7 @@ pub fn report_variable(
     at: Spot,
     system: bool,
 )
+    requires rising { AreRising (setting_data setting.now).known.brought }
     ensures { found_in findings.new ≡ with_faults (found_in findings.old) (variable_faults (setting_data setting.now).known.brought setting.now.bans next at system) }
 {
     let bans = setting.bans;
@@ -104,6 +116,7 @@ pub fn report_parameter(
     next: Option<Spot>,
     at: Spot,
 )
+    requires rising { AreRising (setting_data setting.now).known.brought }
     ensures { found_in findings.new ≡ with_faults (found_in findings.old) (parameter_faults (setting_data setting.now).known.brought setting.now.bans next at) }
 {
     let bans = setting.bans;

@@ -1,14 +1,16 @@
 //! One walk over an expression, which gives its kind and reports its faults.
 
-ghost use Rattle.std.specs.Prelude.{◌≡◌, ℕ, ◌∷◌, ◌++◌, map, drop, nat_lt, if◌then◌else◌};
+ghost use Rattle.std.specs.Prelude.{◌≡◌, ℕ, ◌∷◌, ◌++◌, map, drop};
 ghost use Rattle.spectra_resolved.specs.Resolved.{Form, trees};
 ghost use Rattle.spectra_resolved.specs.Views.{resolved_data};
 ghost use Rattle.spectra_judge.specs.Findings.{found_in, with_faults};
 ghost use Rattle.spectra_judge.specs.Kinds.{Truth, is_truth as is_truth_lem, can_equal as can_equal_lem, reduced as reduced_lem};
 ghost use Rattle.spectra_judge.specs.KindViews.{kind_data};
 ghost use Rattle.spectra_judge.specs.Operators.{gives as gives_lem};
+ghost use Rattle.spectra_judge.specs.Around.{AreRising};
 ghost use Rattle.spectra_judge.specs.Known.{setting_data, wanted};
 ghost use Rattle.spectra_judge.specs.Judged.{kind_of, form_kind, wrong, first_of as first_of_lem, faults, form_faults, operand_faults, argument_faults};
+ghost use Rattle.spectra_judge.specs.OpenedViews.{opened_at};
 ghost use Rattle.spectra_judge.specs.Chains.{link_data, form_data, opened as opened_lem, link_faults, chain_kind, chain_faults};
 
 use crate::around::{Around, under_next, within};
@@ -34,12 +36,13 @@ pub fn walk<'a>(
     around: Around,
     tree: &Resolved,
 ) -> Kind<'a>
+    requires rising { AreRising (setting_data setting.now).known.brought }
     ensures kind { kind_data result ≡ kind_of (setting_data setting.now).known (resolved_data tree.now) }
     ensures found { found_in findings.new ≡ with_faults (found_in findings.old) (faults (setting_data setting.now) around (resolved_data tree.now)) }
 {
     match tree {
         Resolved::Chain(head, links) => {
-            let opened = opened_in(around, links);
+            let opened = opened_in(setting.known.brought, links);
             let kind = walk(findings, setting, opened.at(around, 0), head);
             walk_links(findings, setting, around, opened, kind, links)
         }
@@ -56,6 +59,7 @@ fn walk_shape<'a>(
     at: Spot,
     shape: &Shape,
 ) -> Kind<'a>
+    requires rising { AreRising (setting_data setting.now).known.brought }
     ensures kind { kind_data result ≡ form_kind (setting_data setting.now).known (form_data shape.now) }
     ensures found { found_in findings.new ≡ with_faults (found_in findings.old) (form_faults (setting_data setting.now) around at (form_data shape.now)) }
 {
@@ -97,12 +101,14 @@ fn walk_prefix<'a>(
     word: PrefixWord,
     t: &Resolved,
 ) -> Kind<'a>
+    requires rising { AreRising (setting_data setting.now).known.brought }
     ensures kind { kind_data result ≡ Truth }
     ensures found { found_in findings.new ≡ with_faults (found_in findings.old) (form_faults (setting_data setting.now) around at (Form.Prefix word (resolved_data t.now))) }
 {
     let past = is_past_prefix(word);
     report_operator(findings, setting, past, around.next, at);
-    let kind = walk(findings, setting, within(past, at, around), t);
+    let inner = within(setting.known.brought, past, at, around);
+    let kind = walk(findings, setting, inner, t);
     report_wrong(findings, is_truth(kind), at);
     Kind::Truth
 }
@@ -119,6 +125,7 @@ fn walk_remainder<'a>(
     number_at: Spot,
     n: i64,
 ) -> Kind<'a>
+    requires rising { AreRising (setting_data setting.now).known.brought }
     ensures kind { kind_data result ≡ reduced_lem n }
     ensures found { found_in findings.new ≡ with_faults (found_in findings.old) (form_faults (setting_data setting.now) around at (Form.Mod (resolved_data t.now) number_at n)) }
 {
@@ -138,7 +145,8 @@ fn walk_links<'a>(
     first: Kind<'a>,
     links: &[Link],
 ) -> Kind<'a>
-    requires opened { (place : ℕ) → opened_lem around (map link_data (drop place links.now)) ≡ (if nat_lt place opened.last then opened.inner else around) }
+    requires rising { AreRising (setting_data setting.now).known.brought }
+    requires opened { (place : ℕ) → opened_lem (setting_data setting.now).known.brought around (map link_data (drop place links.now)) ≡ opened_at opened around place }
     ensures kind { kind_data result ≡ chain_kind (setting_data setting.now).known (kind_data first.entry) (map link_data links.now) }
     ensures found { found_in findings.new ≡ with_faults (found_in findings.old) (chain_faults (setting_data setting.now) around (kind_data first.entry) (map link_data links.now)) }
 {
@@ -163,6 +171,7 @@ fn walk_link<'a>(
     kind: Kind<'a>,
     link: &Link,
 ) -> Kind<'a>
+    requires rising { AreRising (setting_data setting.now).known.brought }
     ensures kind { kind_data result ≡ gives_lem (link_data link.now).word (kind_data kind.entry) (kind_of (setting_data setting.now).known (link_data link.now).second) }
     ensures found { found_in findings.new ≡ with_faults (found_in findings.old) (link_faults (setting_data setting.now) inner next (kind_data kind.entry) (link_data link.now)) }
 {
@@ -182,6 +191,7 @@ fn walk_operands<'a>(
     ts: &[Resolved],
     operators: &[Spot],
 ) -> Kind<'a>
+    requires rising { AreRising (setting_data setting.now).known.brought }
     ensures kind { kind_data result ≡ Truth }
     ensures found { found_in findings.new ≡ with_faults (found_in findings.old) (operand_faults (setting_data setting.now) around at (at ∷ operators.now) (trees (map resolved_data ts.now))) }
 {
@@ -204,6 +214,7 @@ fn walk_operand(
     operator: Spot,
     t: &Resolved,
 )
+    requires rising { AreRising (setting_data setting.now).known.brought }
     ensures { found_in findings.new ≡ with_faults (found_in findings.old) (faults (setting_data setting.now) around (resolved_data t.now)
         ++ wrong (is_truth_lem (kind_of (setting_data setting.now).known (resolved_data t.now))) operator) }
 {
@@ -220,6 +231,7 @@ fn walk_arguments(
     predicate: Option<usize>,
     ts: &[Resolved],
 )
+    requires rising { AreRising (setting_data setting.now).known.brought }
     ensures { found_in findings.new ≡ with_faults (found_in findings.old) (argument_faults (setting_data setting.now) around (wanted (setting_data setting.now).known predicate) (trees (map resolved_data ts.now))) }
 {
     let mut place = 0;
@@ -240,6 +252,7 @@ fn walk_argument(
     parameter: Kind<'_>,
     t: &Resolved,
 )
+    requires rising { AreRising (setting_data setting.now).known.brought }
     ensures { found_in findings.new ≡ with_faults (found_in findings.old) (faults (setting_data setting.now) around (resolved_data t.now)
         ++ wrong (can_equal_lem (kind_data parameter.entry) (kind_of (setting_data setting.now).known (resolved_data t.now))) (first_of_lem (resolved_data t.now))) }
 {

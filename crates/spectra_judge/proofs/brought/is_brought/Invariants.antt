@@ -1,7 +1,10 @@
-use Rattle.std.proofs.Common.{◌≡◌, drop}
-use Rattle.spectra_judge.specs.Around.{is_brought}
+use Rattle.std.proofs.Common.{◌-◌}
+use Rattle.spectra_judge.proofs.Searching.{IsNarrowed}
 use Rattle.spectra_judge.proofs.brought.is_brought.Given as goal
 
--- what is left is the answer
-abbrev pub invariant-loop-name : goal.invariant-loop-name
-invariant-loop-name l = is_brought (drop l.name-index l.names) l.at ≡ is_brought l.names l.at
+-- what may be the place is between the two
+abbrev pub invariant-loop-low : goal.invariant-loop-low
+invariant-loop-low l = IsNarrowed l.names l.at l.low l.high
+
+abbrev pub decreases-loop-low : goal.decreases-loop-low
+decreases-loop-low l = l.high - l.low

@@ -62,7 +62,7 @@ walk_links-loop-link-preserved t c =
     let k = c.loop-link.link-index in
     let l = c.link-item.result in
     let kind = kind_data c.loop-link.kind in
-    let inner = c.at-inner.ensures ∙ sym (c.requires.opened c.loop-link.place) ∙ ap (λ p. opened o (map link_data (drop p ls))) c.loop-link.invariant.place in
+    let inner = c.at-inner.ensures ∙ sym (c.requires.opened c.loop-link.place) ∙ ap (λ p. opened s.known.brought o (map link_data (drop p ls))) c.loop-link.invariant.place in
     record {
       place = omega arith;
       kind =
@@ -124,7 +124,7 @@ walk-returns-in-Chain-clause-found t c =
     let head = c.in-Chain.head in
     let links = c.in-Chain.links in
     let first = c.walk-kind.ensures.kind ∙ ap (λ h. kind_of s.known (resolved_data h)) c.deref-in-Chain.ensures in
-    let inner = c.at.ensures ∙ sym (c.opened_in-opened.ensures 0) ∙ ap (λ xs. opened o (map link_data xs)) c.deref.ensures.value in
+    let inner = c.at.ensures ∙ sym (c.opened_in-opened.ensures o 0) ∙ ap (λ xs. opened s.known.brought o (map link_data xs)) c.deref.ensures.value in
     let found = c.walk-kind.ensures.found ∙ (λ i. with_faults old (faults s (inner i) (resolved_data (c.deref-in-Chain.ensures i)))) in
     c.walk_links.ensures.found
     ∙ (λ i. with_faults (found i) (chain_faults s o (first i) (map link_data (c.deref-in-Chain-2.ensures.value i))))
