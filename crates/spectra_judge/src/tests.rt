@@ -112,6 +112,40 @@ fn misuse(alloc: Global, misuse: Misuse, a: Resolved) -> Result<Resolved, AllocE
 // The first fault of an expression. The variables are a Boolean of the environment, one of the system, `Int(-1..1)` of the
 // system, `{A, B}` and `{B, C}` of the environment. Two defines are an `Int(0..7)` and a hole, and predicate 3 takes an
 // `Int(-3..3)` and one of `{A, B}`. A pattern has a Boolean parameter and an own variable `Int(-1..1)`.
+fn fault_among<'a>(
+    alloc: Global,
+    first: &'a [usize],
+    second: &'a [usize],
+    brought: &[Spot],
+    stand: Stand,
+    t: Resolved,
+) -> Result<Option<(u8, u32)>, AllocError>
+    requires { AreRising brought.now }
+{
+    let small: Kind<'a> = Kind::Whole(-1, 1);
+    let (ab, bc) = (Kind::NameOf(first), Kind::NameOf(second));
+    let variables = vec![in alloc; Kind::Truth, Kind::Truth, small, ab, bc]?;
+    let wanted = vec![in alloc; Kind::Whole(-3, 3), ab]?;
+    let predicates = vec![in alloc; Vec::new(alloc), Vec::new(alloc), Vec::new(alloc), wanted]?;
+    let defines = vec![in alloc; Kind::Whole(0, 7), Kind::Anything]?;
+    let parameters = vec![in alloc; Kind::Truth]?;
+    let own = vec![in alloc; small]?;
+    let known = Known {
+        variables: variables.as_slice(),
+        system: &[false, true, true, false, false],
+        defines: defines.as_slice(),
+        predicates: predicates.as_slice(),
+        parameters: parameters.as_slice(),
+        own: own.as_slice(),
+        brought,
+    };
+    match judge(&known, stand, &t).fault {
+        Some(Finding { number, at }) => Ok(Some((number, at.column))),
+        None => Ok(None),
+    }
+}
+
+// The first fault where the bodies of these names are put in.
 fn fault_with(
     alloc: Global,
     brought: &[Spot],
@@ -120,34 +154,7 @@ fn fault_with(
 ) -> Result<Option<(u8, u32)>, AllocError>
     requires { AreRising brought.now }
 {
-    let first: [usize; 2] = [0, 1];
-    let second: [usize; 2] = [1, 2];
-    let variables = [
-        Kind::Truth,
-        Kind::Truth,
-        Kind::Whole(-1, 1),
-        Kind::NameOf(&first),
-        Kind::NameOf(&second),
-    ];
-    let wanted = vec![in alloc; Kind::Whole(-3, 3), Kind::NameOf(&first)]?;
-    let predicates = vec![in alloc; Vec::new(alloc), Vec::new(alloc), Vec::new(alloc), wanted]?;
-    let system = [false, true, true, false, false];
-    let defines = [Kind::Whole(0, 7), Kind::Anything];
-    let parameters = [Kind::Truth];
-    let own = [Kind::Whole(-1, 1)];
-    let known = Known {
-        variables: &variables,
-        system: &system,
-        defines: &defines,
-        predicates: &predicates,
-        parameters: &parameters,
-        own: &own,
-        brought,
-    };
-    match judge(&known, stand, &t).fault {
-        Some(Finding { number, at }) => Ok(Some((number, at.column))),
-        None => Ok(None),
-    }
+    fault_among(alloc, &[0, 1], &[1, 2], brought, stand, t)
 }
 
 // The first fault where the bodies of the names at one column or two are put in.
