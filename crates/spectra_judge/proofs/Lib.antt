@@ -13,3 +13,5 @@ pub mod Typed
 pub mod Searching
 pub mod Least
 pub mod Lines
+pub mod Banned
+pub mod Bans

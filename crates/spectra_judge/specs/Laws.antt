@@ -1,14 +1,16 @@
 -- Laws over the definitions alone, each of which the function of its name in src/laws.rt proves.
-use Rattle.std.specs.Prelude.{◌≡◌, ℕ, true, false, List, [], ◌++◌, Option, Some, None, length, map, replicate, All, Contains}
+use Rattle.std.specs.Prelude.{◌≡◌, ℕ, nat_lt, true, false, List, [], ◌++◌, Option, Some, None, length, map, replicate, All, Contains}
 use Rattle.spec_model.specs.Values.{DomainData, TruthValues}
-use Rattle.spec_model.specs.WellTyped.{is_typed}
+use Rattle.spec_model.specs.Moves.{has_next}
+use Rattle.spec_model.specs.Syntax.{Formula}
+use Rattle.spec_model.specs.WellTyped.{reads_some, shifts_some, is_typed}
 use Rattle.spectra_resolved.specs.declared.stand.Stand.{Stand}
 use Rattle.spectra_resolved.specs.Resolved.{ResolvedTree}
 use Rattle.spectra_judge.specs.declared.findings.Finding.{Finding}
 use Rattle.spectra_judge.specs.Findings.{precedes, first_of_faults}
 use Rattle.spectra_judge.specs.Kinds.{Truth}
-use Rattle.spectra_judge.specs.Standings.{wants_truth}
-use Rattle.spectra_judge.specs.Known.{Known}
+use Rattle.spectra_judge.specs.Standings.{Bans, bans_of, wants_truth}
+use Rattle.spectra_judge.specs.Known.{Known, is_system}
 use Rattle.spectra_judge.specs.Judged.{faults_of}
 use Rattle.spectra_judge.specs.Erased.{erased, is_put_in, in_line, in_pattern, domain_kind}
 
@@ -33,3 +35,24 @@ PatternIsTyped = (known : Known) (names params : ℕ) (own : List DomainData) (s
     known.parameters ≡ replicate params Truth → known.own ≡ map domain_kind own →
     wants_truth stand ≡ true → is_put_in (in_pattern names params (length own)) t ≡ true → faults_of known stand t ≡ [] →
     is_typed (record { domains = replicate params TruthValues ++ own; tables = [] }) names (erased params t) ≡ true
+
+-- What is banned where a line's expression stands isn't in its formula: a `next`, and variables of the system, anywhere or
+-- under a `next`.
+pub record KeepsLineBans (known : Known) (bans : Bans) (f : Formula) : Type 0 where
+  pub next : bans.next ≡ true → has_next f ≡ false
+  pub system : bans.system ≡ true → reads_some (is_system known) f ≡ false
+  pub shifted : bans.shifted_system ≡ true → shifts_some (is_system known) f ≡ false
+
+abbrev pub LineKeepsBans : Type 0
+LineKeepsBans = (known : Known) (names variables : ℕ) (stand : Stand) (t : ResolvedTree) →
+    is_put_in (in_line names variables) t ≡ true → faults_of known stand t ≡ [] → KeepsLineBans known (bans_of stand) (erased 0 t)
+
+-- So it is in a pattern's line, with the parameters.
+pub record KeepsPatternBans (params : ℕ) (bans : Bans) (f : Formula) : Type 0 where
+  pub next : bans.next ≡ true → has_next f ≡ false
+  pub parameter : bans.parameter ≡ true → reads_some (λ k. nat_lt k params) f ≡ false
+  pub shifted : bans.shifted_parameter ≡ true → shifts_some (λ k. nat_lt k params) f ≡ false
+
+abbrev pub PatternKeepsBans : Type 0
+PatternKeepsBans = (known : Known) (names params own : ℕ) (stand : Stand) (t : ResolvedTree) →
+    is_put_in (in_pattern names params own) t ≡ true → faults_of known stand t ≡ [] → KeepsPatternBans params (bans_of stand) (erased params t)

@@ -1,6 +1,6 @@
 //! Laws over the definitions alone. These functions do nothing: their contracts are the laws.
 
-ghost use Rattle.spectra_judge.specs.Laws.{FirstIsLeast, LineIsTyped, PatternIsTyped};
+ghost use Rattle.spectra_judge.specs.Laws.{FirstIsLeast, LineIsTyped, PatternIsTyped, LineKeepsBans, PatternKeepsBans};
 
 /// The first of several faults is one of them that no other one comes before, and there is none exactly where there are none.
 pub fn first_is_least()
@@ -15,4 +15,14 @@ pub fn line_is_typed()
 /// So has an expression of a pattern's line.
 pub fn pattern_is_typed()
     ensures { PatternIsTyped }
+{}
+
+/// Nothing that is banned where a line's expression stands is in its formula.
+pub fn line_keeps_bans()
+    ensures { LineKeepsBans }
+{}
+
+/// So it is with an expression of a pattern's line.
+pub fn pattern_keeps_bans()
+    ensures { PatternKeepsBans }
 {}
