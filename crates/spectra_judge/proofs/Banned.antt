@@ -1,5 +1,5 @@
 -- What is banned where an expression stands isn't in its formula.
-use Rattle.std.proofs.Common.{◌≡◌, ◌⊎◌, inl, inr, ℕ, ℤ, Bool, true, false, ◌&&◌, ◌||◌, List, [], ◌∷◌, ◌++◌, drop, get_or, Option, Some, None, is_some, refl, sym, ap, subst, ◌∙◌}
+use Rattle.std.proofs.Common.{◌≡◌, ◌⊎◌, inl, inr, ℕ, ℤ, Bool, true, false, ◌||◌, List, [], ◌∷◌, ◌++◌, drop, get_or, Option, Some, sym, ◌∙◌}
 use Rattle.std.proofs.lemmas.Bool.{false≢true, and_parts}
 use Rattle.spec_model.specs.declared.expr.Compare.{Compare}
 use Rattle.spec_model.specs.declared.expr.Compare.TheVariants as compares
@@ -14,7 +14,7 @@ use Rattle.spectra_resolved.specs.declared.spot.Spot.{Spot}
 use Rattle.spectra_resolved.specs.declared.tree.Leaf.{Leaf}
 use Rattle.spectra_resolved.specs.Resolved.{ResolvedTree, tree, Form, ResolvedTrees}
 use Rattle.spectra_judge.specs.Operators.{is_past, is_past_prefix}
-use Rattle.spectra_judge.specs.Around.{Around, Brought, outer_of, under_next, within, next_faults}
+use Rattle.spectra_judge.specs.Around.{Around, outer_of, under_next, within, next_faults}
 use Rattle.spectra_judge.specs.Kinds.{is_truth}
 use Rattle.spectra_judge.specs.Known.{Setting}
 use Rattle.spectra_judge.specs.Judged.{kind_of, wrong, binary_faults, remainder_faults, operator_faults, leaf_faults, faults, form_faults, operand_faults}

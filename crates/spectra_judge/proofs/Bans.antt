@@ -5,17 +5,16 @@ use Rattle.std.proofs.lemmas.Bool.Decides.{nat_tests}
 use Rattle.spec_model.specs.Moves.{has_next, some_has_next}
 use Rattle.spec_model.specs.WellTyped.{reads_some, some_reads, shifts_some, some_shifts}
 use Rattle.spectra_resolved.specs.declared.spot.Spot.{Spot}
-use Rattle.spectra_resolved.specs.declared.stand.Stand.{Stand}
 use Rattle.spectra_resolved.specs.declared.tree.Leaf.{Leaf}
 use Rattle.spectra_resolved.specs.declared.tree.Leaf.TheVariants as leaf
 use Rattle.spectra_resolved.specs.Resolved.{ResolvedTree}
 use Rattle.spectra_judge.specs.Findings.{fault_if}
 use Rattle.spectra_judge.specs.Standings.{Bans, bans_of, is_wanted}
-use Rattle.spectra_judge.specs.Around.{Around, nothing_open, under_next, in_next, in_past, next_faults, shifted, variable_faults, parameter_faults, meeting}
+use Rattle.spectra_judge.specs.Around.{Around, nothing_open, under_next, in_next, in_past, next_faults, shifted, meeting}
 use Rattle.spectra_judge.specs.Known.{Known, Setting, is_system}
-use Rattle.spectra_judge.specs.Judged.{kind_of, wrong, first_of, leaf_faults, faults, faults_of}
+use Rattle.spectra_judge.specs.Judged.{kind_of, wrong, first_of, leaf_faults, faults}
 use Rattle.spectra_judge.specs.Erased.{leaf_formula, erased, is_put_in, in_line, in_pattern}
-use Rattle.spectra_judge.specs.Laws.{KeepsLineBans, KeepsPatternBans, LineKeepsBans, PatternKeepsBans}
+use Rattle.spectra_judge.specs.Laws.{LineKeepsBans, PatternKeepsBans}
 use Rattle.spectra_judge.proofs.Empty.{empty_parts, no_fault}
 use Rattle.spectra_judge.proofs.Banned.{IsSome, none_in}
 

@@ -5,18 +5,17 @@ use Rattle.std.proofs.lemmas.Bool.Decides.{nat_tests}
 use Rattle.spectra_resolved.specs.declared.spot.Spot.{Spot}
 use Rattle.spectra_resolved.specs.declared.tree.Link.{Link}
 use Rattle.spectra_resolved.specs.Resolved.{ResolvedTree, LinkData, joined, chained}
-use Rattle.spectra_resolved.specs.Views.{resolved_data}
-use Rattle.spectra_judge.specs.declared.findings.Finding.{Finding}
+use Rattle.spectra_resolved.specs.Views.{resolved_data, link_data}
+use Rattle.spectra_resolved.specs.declared.findings.Finding.{Finding}
 use Rattle.spectra_judge.specs.declared.chains.Opened.{Opened}
-use Rattle.spectra_judge.specs.Findings.{with_faults}
+use Rattle.spectra_resolved.specs.Findings.{with_faults}
 use Rattle.spectra_judge.specs.Operators.{is_past}
 use Rattle.spectra_judge.specs.Around.{Around, Brought, is_brought, first_brought, within}
 use Rattle.spectra_judge.specs.Known.{Known, Setting}
 use Rattle.spectra_judge.specs.Judged.{kind_of, faults}
-use Rattle.spectra_judge.specs.Chains.{link_data, opened, has_past, brought_in, link_faults, chain_kind, chain_faults}
+use Rattle.spectra_judge.specs.Chains.{opened, has_past, brought_in, link_faults, chain_kind, chain_faults}
 use Rattle.spectra_judge.specs.OpenedViews.{outer_or, opened_at}
-use Rattle.spectra_judge.proofs.First.{with_faults_append}
-use Rattle.spectra_judge.proofs.Folded.{link_folded}
+use Rattle.spectra_resolved.proofs.First.{with_faults_append}
 use Rattle.spectra_judge.proofs.Lists.{mapped_left}
 
 -- ---- kinds
@@ -110,7 +109,7 @@ module _ (ls : List Link) (last : ℕ) (some : 0 < last) (within_list : last ≤
   here : map link_data (drop (last - 1) ls) ≡ record { first = l.first; at = l.at; word = l.word; second = resolved_data l.second } ∷ map link_data (drop last ls)
   here =
       mapped_left link_data ls (last - 1) l (omega arith) is
-      ∙ (λ i. link_folded l i ∷ map link_data (drop (behind i) ls))
+      ∙ (λ i. link_data l ∷ map link_data (drop (behind i) ls))
 
   -- none of those from the place on is a past operator
   module _ (nothing : (place : ℕ) → last ≤ place → has_past (map link_data (drop place ls)) ≡ false) where

@@ -1,11 +1,8 @@
 -- The fault that comes first, in whatever order faults are found.
-use Rattle.std.proofs.Common.{◌≡◌, List, [], ◌∷◌, ◌++◌, Option, refl, sym, ap, ◌∙◌}
-use Rattle.spectra_judge.specs.declared.findings.Finding.{Finding}
-use Rattle.spectra_judge.specs.Findings.{with_fault, with_faults}
-
-pub with_faults_append : (found : Option Finding) (fs gs : List Finding) → with_faults found (fs ++ gs) ≡ with_faults (with_faults found fs) gs
-with_faults_append found [] gs = refl
-with_faults_append found (f ∷ fs) gs = with_faults_append (with_fault found f) fs gs
+use Rattle.std.proofs.Common.{◌≡◌, List, ◌++◌, Option, sym, ap, ◌∙◌}
+use Rattle.spectra_resolved.specs.declared.findings.Finding.{Finding}
+use Rattle.spectra_resolved.specs.Findings.{with_faults}
+use Rattle.spectra_resolved.proofs.First.{with_faults_append}
 
 -- three lists of faults, of which the first two are found together
 pub three_parts : (found : Option Finding) (fs gs hs : List Finding) → with_faults found (fs ++ (gs ++ hs)) ≡ with_faults (with_faults found (fs ++ gs)) hs

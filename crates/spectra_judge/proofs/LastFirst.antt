@@ -4,8 +4,7 @@ use Rattle.spectra_resolved.specs.declared.spot.Spot.{Spot}
 use Rattle.spectra_resolved.specs.declared.tree.Link.{Link}
 use Rattle.spectra_resolved.specs.Resolved.{ResolvedTree, LinkData, joined, chained}
 use Rattle.spectra_judge.specs.Judged.{first_of}
-use Rattle.spectra_judge.specs.Chains.{link_data}
-use Rattle.spectra_judge.proofs.Folded.{link_folded}
+use Rattle.spectra_resolved.specs.Views.{link_data}
 
 abbrev last_first : Spot → List LinkData → Spot
 last_first first [] = first
@@ -30,7 +29,7 @@ last_is d (x ∷ y ∷ ls) l is =
 
 -- the last operator's
 pub from_last : (t : ResolvedTree) (ls : List Link) (l : Link) → Some l ≡ slice_get ls (length ls - 1) → l.first ≡ first_of (chained t (map link_data ls))
-from_last t ls l is = ap (λ (d : LinkData). d.first) (sym (link_folded l)) ∙ sym (last_is (first_of t) ls l is) ∙ sym (first_of_chain t (map link_data ls))
+from_last t ls l is = sym (last_is (first_of t) ls l is) ∙ sym (first_of_chain t (map link_data ls))
 
 -- the head's
 pub from_head : (t : ResolvedTree) (ls : List Link) → None ≡ slice_get ls (length ls - 1) → first_of t ≡ first_of (chained t (map link_data ls))

@@ -1,31 +1,19 @@
 -- The fault that comes first is the least of all.
-use Rattle.std.proofs.Common.{◌≡◌, ℕ, zero, suc, ◌<◌, ◌==◌, nat_lt, Bool, true, false, if◌then◌else◌, List, [], ◌∷◌, length, get_or, Option, Some, None, refl, sym, ap, subst, ◌∙◌, arith}
+use Rattle.std.proofs.Common.{◌≡◌, ℕ, zero, suc, ◌<◌, Bool, true, false, if◌then◌else◌, List, [], ◌∷◌, length, get_or, Some, refl, sym, subst, ◌∙◌, arith}
 use Rattle.std.proofs.lemmas.Bool.{false≢true}
 use Rattle.std.proofs.lemmas.Bool.Decides.{nat_tests}
 use Rattle.std.specs.List.{All, Contains}
 use Rattle.std.proofs.lemmas.List.Elements.{All-nil, All-cons}
-use Rattle.spectra_judge.specs.declared.findings.Finding.{Finding}
-use Rattle.spectra_judge.specs.Findings.{precedes, with_faults}
+use Rattle.spectra_resolved.specs.declared.findings.Finding.{Finding}
+use Rattle.spectra_resolved.specs.Findings.{precedes, with_faults}
+use Rattle.spectra_resolved.proofs.First.{lex, precedes-trans}
 use Rattle.spectra_judge.specs.Laws.{IsFirst, FirstIsLeast}
-
--- one number decides, and where it is the same, a test
-abbrev lex : ℕ → ℕ → Bool → Bool
-lex x y inner = if x == y then inner else nat_lt x y
-
-lex-trans : (x y z : ℕ) (p q r : Bool) → (p ≡ true → q ≡ true → r ≡ true) → lex x y p ≡ true → lex y z q ≡ true → lex x z r ≡ true
-lex-trans x y z p q r inner a b = grind (arith, nat_tests)
 
 lex-not : (x y z : ℕ) (p q r : Bool) → (p ≡ false → q ≡ false → r ≡ false) → lex x y p ≡ false → lex y z q ≡ false → lex x z r ≡ false
 lex-not x y z p q r inner a b = grind (arith, nat_tests)
 
 lex-self : (x : ℕ) (p : Bool) → p ≡ false → lex x x p ≡ false
 lex-self x p is = grind (arith, nat_tests)
-
-precedes-trans : (f g h : Finding) → precedes f g ≡ true → precedes g h ≡ true → precedes f h ≡ true
-precedes-trans f g h =
-    lex-trans f.at.file g.at.file h.at.file _ _ _
-    (lex-trans f.at.line g.at.line h.at.line _ _ _
-    (lex-trans f.at.column g.at.column h.at.column _ _ _ (λ a b. grind (arith, nat_tests))))
 
 not-precedes : (f g h : Finding) → precedes f g ≡ false → precedes g h ≡ false → precedes f h ≡ false
 not-precedes f g h =

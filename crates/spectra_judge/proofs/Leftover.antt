@@ -4,16 +4,17 @@ use Rattle.spectra_resolved.specs.declared.spot.Spot.{Spot}
 use Rattle.spectra_resolved.specs.declared.tree.Resolved.{Resolved}
 use Rattle.spectra_resolved.specs.declared.tree.Link.{Link}
 use Rattle.spectra_resolved.specs.Resolved.{ResolvedTree, ResolvedTrees, trees}
-use Rattle.spectra_resolved.specs.Views.{resolved_data}
-use Rattle.spectra_judge.specs.declared.findings.Finding.{Finding}
-use Rattle.spectra_judge.specs.Findings.{with_faults}
+use Rattle.spectra_resolved.specs.Views.{resolved_data, link_data}
+use Rattle.spectra_resolved.specs.declared.findings.Finding.{Finding}
+use Rattle.spectra_resolved.specs.Findings.{with_faults}
 use Rattle.spectra_judge.specs.Kinds.{Kind, Anything, is_truth, can_equal}
 use Rattle.spectra_judge.specs.Operators.{gives}
 use Rattle.spectra_judge.specs.Around.{Around}
 use Rattle.spectra_judge.specs.Known.{Setting}
 use Rattle.spectra_judge.specs.Judged.{kind_of, wrong, first_of, faults, operand_faults, argument_faults}
-use Rattle.spectra_judge.specs.Chains.{link_data, opened, link_faults, chain_kind, chain_faults}
-use Rattle.spectra_judge.proofs.First.{with_faults_append, three_parts}
+use Rattle.spectra_judge.specs.Chains.{opened, link_faults, chain_kind, chain_faults}
+use Rattle.spectra_resolved.proofs.First.{with_faults_append}
+use Rattle.spectra_judge.proofs.First.{three_parts}
 use Rattle.spectra_judge.proofs.Lists.{first_left, drop_one, mapped_left}
 
 -- the trees from one place on

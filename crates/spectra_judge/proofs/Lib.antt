@@ -1,7 +1,6 @@
 pub mod SameNames
 pub mod First
 pub mod Lists
-pub mod Folded
 pub mod LastFirst
 pub mod Chained
 pub mod Leftover

@@ -1,5 +1,5 @@
 -- What stands in a formula where it may: `next` and past operators not in one another.
-use Rattle.std.proofs.Common.{◌≡◌, ℕ, Bool, true, false, not, ◌&&◌, [], ◌++◌, Option, Some, None, is_some, unwrap_or, refl}
+use Rattle.std.proofs.Common.{◌≡◌, ℕ, true, false, not, ◌&&◌, [], ◌++◌, Option, Some, None, is_some, unwrap_or, refl}
 use Rattle.std.proofs.lemmas.Bool.{and_from, not_from_false}
 use Rattle.spec_model.specs.Syntax.{Formula}
 use Rattle.spec_model.specs.WellTyped.{is_nested_well}

@@ -1,23 +1,21 @@
 -- An expression without faults, in which everything is put in, has a formula that is typed.
-use Rattle.std.proofs.Common.{◌≡◌, ℕ, zero, suc, ◌+◌, ◌<◌, ℤ, pos, Bool, true, false, not, ◌&&◌, List, [], ◌∷◌, ◌++◌, length, map, drop, get_or, slice_get, option_map, Option, Some, None, is_some, nat_lt, replicate, refl, sym, ap, subst, ◌∙◌, arith}
+use Rattle.std.proofs.Common.{◌≡◌, ℕ, ◌+◌, pos, Bool, true, false, List, [], ◌∷◌, ◌++◌, drop, get_or, is_some, refl, ap}
 use Rattle.std.specs.Prelude.{int_le}
 use Rattle.std.proofs.lemmas.Bool.{false≢true, and_parts, and_from, not_from_false}
 use Rattle.spec_model.specs.Typing as model
 use Rattle.spec_model.specs.Typing.{truth_if}
-use Rattle.spec_model.specs.Values.{DomainData}
-use Rattle.spec_model.specs.WellTyped.{is_nested_well, are_nested_well, is_typed}
+use Rattle.spec_model.specs.WellTyped.{is_nested_well, are_nested_well}
 use Rattle.spectra_resolved.specs.declared.spot.Spot.{Spot}
 use Rattle.spectra_resolved.specs.declared.tree.Leaf.{Leaf}
-use Rattle.spectra_resolved.specs.declared.tree.Leaf.TheVariants as leaf
 use Rattle.spectra_resolved.specs.Resolved.{ResolvedTree, tree, Form, ResolvedTrees}
 use Rattle.spectra_judge.specs.Findings.{fault_if}
-use Rattle.spectra_judge.specs.Kinds.{Kind, Whole, Anything, is_truth, is_whole, is_wide, reduced}
+use Rattle.spectra_judge.specs.Kinds.{Kind, is_truth, is_whole, reduced}
 use Rattle.spectra_judge.specs.Operators.{is_past, is_past_prefix}
 use Rattle.spectra_judge.specs.Around.{Around, under_next, within, next_faults}
 use Rattle.spectra_judge.specs.Known.{Known, Setting}
-use Rattle.spectra_judge.specs.Judged.{kind_of, form_kind, leaf_kind, wrong, wide, binary_faults, remainder_faults, operator_faults, leaf_faults, faults, form_faults, operand_faults}
-use Rattle.spectra_judge.specs.Erased.{leaf_formula, erased, form_erased, each_erased, is_put_in, form_put_in, each_put_in}
-use Rattle.spectra_judge.proofs.Empty.{empty_parts, no_fault, right}
+use Rattle.spectra_judge.specs.Judged.{kind_of, form_kind, wrong, wide, binary_faults, remainder_faults, operator_faults, leaf_faults, faults, form_faults, operand_faults}
+use Rattle.spectra_judge.specs.Erased.{erased, form_erased, each_erased, is_put_in, form_put_in, each_put_in}
+use Rattle.spectra_judge.proofs.Empty.{empty_parts, right}
 use Rattle.spectra_judge.proofs.KindsFit.{Fits, truth_fits, whole_fits, prefix_fits, remainder_fits, binary_fits}
 use Rattle.spectra_judge.proofs.Nesting.{StandsWell, next_free, prefix_stands, binary_stands}
 

@@ -2,8 +2,9 @@
 use Rattle.std.specs.Prelude.{◌≡◌, ℕ, Bool, true, false, ◌==◌, nat_lt, ◌&&◌, if◌then◌else◌, List, [], ◌∷◌, ◌++◌, Option, Some, None, unwrap_or, All}
 use Rattle.std.specs.List.{list_any}
 use Rattle.spectra_resolved.specs.declared.spot.Spot.{Spot}
-use Rattle.spectra_judge.specs.declared.findings.Finding.{Finding}
-use Rattle.spectra_judge.specs.Findings.{fault, fault_if}
+use Rattle.spectra_resolved.specs.declared.findings.Finding.{Finding}
+use Rattle.spectra_resolved.specs.Findings.{fault}
+use Rattle.spectra_judge.specs.Findings.{fault_if}
 use Rattle.spectra_judge.specs.Standings.{Bans}
 pub use Rattle.spectra_judge.specs.declared.around.Around.{Around}
 

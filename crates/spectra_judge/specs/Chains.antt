@@ -2,23 +2,19 @@
 use Rattle.std.specs.Prelude.{Bool, ◌&&◌, List, [], ◌∷◌, ◌++◌, Option, None}
 use Rattle.std.specs.List.{list_any}
 use Rattle.spectra_resolved.specs.declared.spot.Spot.{Spot}
-use Rattle.spectra_resolved.specs.declared.tree.Link.{Link, fold-Link}
 use Rattle.spectra_resolved.specs.declared.tree.Shape.{Shape, fold-Shape}
 use Rattle.spectra_resolved.specs.Resolved.{ResolvedTree, Form, LinkData}
 use Rattle.spectra_resolved.specs.Views.{resolved_step, shape_step, link_step}
-use Rattle.spectra_judge.specs.declared.findings.Finding.{Finding}
+use Rattle.spectra_resolved.specs.declared.findings.Finding.{Finding}
 use Rattle.spectra_judge.specs.Kinds.{Kind}
 use Rattle.spectra_judge.specs.Operators.{gives, is_past}
 use Rattle.spectra_judge.specs.Around.{Around, Brought, is_brought, first_brought, within}
 use Rattle.spectra_judge.specs.Known.{Known, Setting}
 use Rattle.spectra_judge.specs.Judged.{kind_of, binary_faults, operator_faults, faults}
 
--- what the parts of the program's trees stand for
+-- what the shapes of the program's trees stand for
 abbrev pub form_data : Shape → Form
 form_data = fold-Shape ResolvedTree Form LinkData resolved_step shape_step link_step
-
-abbrev pub link_data : Link → LinkData
-link_data = fold-Link ResolvedTree Form LinkData resolved_step shape_step link_step
 
 -- what is open in the operands of the first of these operators
 abbrev pub opened : Brought → Around → List LinkData → Around

@@ -1,6 +1,5 @@
 -- The kind of an expression, and its faults.
 use Rattle.std.specs.Prelude.{ℤ, pos, int_le, Bool, not, if◌then◌else◌, List, [], ◌∷◌, ◌++◌, Option, Some, None, get_or, drop}
-use Rattle.spectra_trees.specs.declared.tree.PrefixWord.{PrefixWord}
 use Rattle.spectra_trees.specs.declared.tree.BinaryWord.{BinaryWord}
 use Rattle.spectra_resolved.specs.declared.spot.Spot.{Spot}
 use Rattle.spectra_resolved.specs.declared.stand.Stand.{Stand}
@@ -11,7 +10,7 @@ use Rattle.spectra_resolved.specs.declared.tree.Hole.TheVariants as hole
 use Rattle.spectra_resolved.specs.declared.tree.Misuse.{Misuse}
 use Rattle.spectra_resolved.specs.declared.tree.Misuse.TheVariants as misuse
 use Rattle.spectra_resolved.specs.Resolved.{ResolvedTree, tree, Form, ResolvedTrees}
-use Rattle.spectra_judge.specs.declared.findings.Finding.{Finding}
+use Rattle.spectra_resolved.specs.declared.findings.Finding.{Finding}
 use Rattle.spectra_judge.specs.Findings.{fault_if}
 use Rattle.spectra_judge.specs.Kinds.{Kind, Truth, Whole, OneName, Anything, is_truth, is_whole, is_wide, can_equal, reduced}
 use Rattle.spectra_judge.specs.Operators.{takes, gives, is_past, is_past_prefix}

@@ -6,8 +6,8 @@ use Rattle.spec_model.specs.Syntax.{Formula}
 use Rattle.spec_model.specs.WellTyped.{reads_some, shifts_some, is_typed}
 use Rattle.spectra_resolved.specs.declared.stand.Stand.{Stand}
 use Rattle.spectra_resolved.specs.Resolved.{ResolvedTree}
-use Rattle.spectra_judge.specs.declared.findings.Finding.{Finding}
-use Rattle.spectra_judge.specs.Findings.{precedes, first_of_faults}
+use Rattle.spectra_resolved.specs.declared.findings.Finding.{Finding}
+use Rattle.spectra_resolved.specs.Findings.{precedes, first_of_faults}
 use Rattle.spectra_judge.specs.Kinds.{Truth}
 use Rattle.spectra_judge.specs.Standings.{Bans, bans_of, wants_truth}
 use Rattle.spectra_judge.specs.Known.{Known, is_system}

@@ -1,11 +1,11 @@
 //! Operators in text order, each of which has all before it as its first operand.
 
 ghost use Rattle.std.specs.Prelude.{◌≡◌, ℕ, ◌∷◌, ◌&&◌, get_or, map, drop, nat_lt, if◌then◌else◌, None};
-ghost use Rattle.spectra_resolved.specs.Views.{resolved_data};
+ghost use Rattle.spectra_resolved.specs.Views.{resolved_data, link_data};
 ghost use Rattle.spectra_judge.specs.Operators.{is_past as is_past_lem};
 ghost use Rattle.spectra_judge.specs.Around.{Around, AreRising, is_brought as is_brought_lem};
 ghost use Rattle.spectra_judge.specs.Judged.{first_of as first_of_lem};
-ghost use Rattle.spectra_judge.specs.Chains.{link_data, opened, has_past, brought_in};
+ghost use Rattle.spectra_judge.specs.Chains.{opened, has_past, brought_in};
 ghost use Rattle.spectra_judge.specs.OpenedViews.{outer_or, opened_at};
 
 use crate::around::Around;

@@ -2,7 +2,7 @@
 
 ghost use Rattle.std.specs.Prelude.{◌≡◌};
 ghost use Rattle.spectra_resolved.specs.Views.{resolved_data};
-ghost use Rattle.spectra_judge.specs.Findings.{first_of_faults};
+ghost use Rattle.spectra_resolved.specs.Findings.{first_of_faults};
 ghost use Rattle.spectra_judge.specs.KindViews.{kind_data};
 ghost use Rattle.spectra_judge.specs.Around.{AreRising};
 ghost use Rattle.spectra_judge.specs.Known.{known_data};
@@ -10,12 +10,12 @@ ghost use Rattle.spectra_judge.specs.Judged.{kind_of, faults_of};
 
 use crate::around::nothing_open;
 use crate::chains::first_of;
-use crate::findings::{Finding, Findings};
 use crate::kind::Kind;
 use crate::known::{Known, Setting};
 use crate::leaves::report_wrong;
 use crate::standing::{bans_of, is_wanted};
 use crate::walking::walk;
+use spectra_resolved::findings::{Finding, Findings};
 use spectra_resolved::stand::Stand;
 use spectra_resolved::tree::Resolved;
 
@@ -26,7 +26,7 @@ pub struct Judged<'a> {
     pub fault: Option<Finding>,
 }
 
-#[tactic(auto, using(crate::proofs::First::with_faults_append))]
+#[tactic(auto, using(spectra_resolved::proofs::First::with_faults_append))]
 /// The kind of an expression that stands somewhere, and the first of its faults from 9 to 14: the one at the least place, and
 /// of several there the one with the smallest number. It takes no memory.
 pub fn judge<'a>(known: &Known<'_, 'a>, stand: Stand, tree: &Resolved) -> Judged<'a>

@@ -1,6 +1,6 @@
 //! What an expression gives: its kind, and the span of a whole-number expression.
 
-ghost use Rattle.std.specs.Prelude.{◌≡◌, ◌<◌, ◌^◌, ◌==◌};
+ghost use Rattle.std.specs.Prelude.{◌≡◌, ◌<◌, ◌==◌};
 ghost use Rattle.std.specs.List.{list_any};
 ghost use Rattle.spec_model.specs.Typing.{same_names as same_names_lem};
 ghost use Rattle.spectra_judge.specs.Kinds.{Whole, is_truth as is_truth_lem, is_whole as is_whole_lem, can_equal as can_equal_lem, is_far as is_far_lem, is_wide as is_wide_lem, added, subtracted, least_of, greatest_of, multiplied, reduced as reduced_lem};

@@ -1,18 +1,18 @@
 //! The kinds and faults of single parts of an expression.
 
 ghost use Rattle.std.specs.Prelude.{◌≡◌};
-ghost use Rattle.spectra_judge.specs.Findings.{found_in, with_faults};
-ghost use Rattle.spectra_judge.specs.Kinds.{is_whole as is_whole_lem};
+ghost use Rattle.spectra_resolved.specs.Findings.{found_in, with_faults};
 ghost use Rattle.spectra_judge.specs.KindViews.{kind_data};
 ghost use Rattle.spectra_judge.specs.Around.{AreRising};
 ghost use Rattle.spectra_judge.specs.Known.{known_data, setting_data};
 ghost use Rattle.spectra_judge.specs.Judged.{hole_kind as hole_kind_lem, leaf_kind as leaf_kind_lem, misuse_kind as misuse_kind_lem, wrong, wide, binary_faults, remainder_faults, leaf_faults, misuse_faults};
 
-use crate::findings::{Findings, report_if};
+use crate::findings::report_if;
 use crate::kind::{Kind, is_whole, is_wide, reduced};
 use crate::known::{Known, Setting, kind_at};
 use crate::misplaced::{report_parameter, report_variable};
 use crate::operators::{gives, takes};
+use spectra_resolved::findings::Findings;
 use spectra_resolved::spot::Spot;
 use spectra_resolved::tree::{Hole, Leaf, Misuse};
 use spectra_trees::tree::BinaryWord;
@@ -69,7 +69,7 @@ fn report_wide(findings: &mut Findings, kind: Kind<'_>, at: Spot)
     report_if(findings, is_wide(kind), 14, at);
 }
 
-#[tactic(auto, using(crate::proofs::First::with_faults_append))]
+#[tactic(auto, using(spectra_resolved::proofs::First::with_faults_append))]
 /// Reports what is wrong with the operands of an operator, and with what it gives.
 pub fn report_binary(findings: &mut Findings, word: BinaryWord, a: Kind<'_>, b: Kind<'_>, at: Spot)
     ensures { found_in findings.new ≡ with_faults (found_in findings.old) (binary_faults word (kind_data a.entry) (kind_data b.entry) at) }
@@ -78,7 +78,7 @@ pub fn report_binary(findings: &mut Findings, word: BinaryWord, a: Kind<'_>, b: 
     report_wide(findings, gives(word, a, b), at);
 }
 
-#[tactic(auto, using(crate::proofs::First::with_faults_append))]
+#[tactic(auto, using(spectra_resolved::proofs::First::with_faults_append))]
 /// Reports what is wrong with a remainder by `n`, of an operand of a kind.
 pub fn report_remainder(
     findings: &mut Findings,

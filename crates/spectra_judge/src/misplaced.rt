@@ -1,15 +1,16 @@
 //! The faults of what stands where it may not: `next`, past operators, variables and parameters.
 
 ghost use Rattle.std.specs.Prelude.{◌≡◌};
-ghost use Rattle.spectra_judge.specs.Findings.{found_in, with_faults};
+ghost use Rattle.spectra_resolved.specs.Findings.{found_in, with_faults};
 ghost use Rattle.spectra_judge.specs.Known.{setting_data};
 ghost use Rattle.spectra_judge.specs.Around.{AreRising, in_next, in_past, next_faults, past_faults, shifted, variable_faults, parameter_faults};
 ghost use Rattle.spectra_judge.specs.Judged.{operator_faults};
 
 use crate::around::Around;
 use crate::brought::meeting;
-use crate::findings::{Findings, report_if};
+use crate::findings::report_if;
 use crate::known::Setting;
+use spectra_resolved::findings::Findings;
 use spectra_resolved::spot::Spot;
 
 // Reports a part in a `next`, where it may not be.
@@ -30,7 +31,7 @@ fn report_in_past(findings: &mut Findings, around: Around, at: Spot)
     report_if(findings, around.past, 11, around.brought.unwrap_or(at));
 }
 
-#[tactic(auto, using(crate::proofs::First::with_faults_append))]
+#[tactic(auto, using(spectra_resolved::proofs::First::with_faults_append))]
 /// Reports what is wrong with a `next`, its operand apart.
 pub fn report_next(findings: &mut Findings, setting: &Setting<'_, '_>, around: Around, at: Spot)
     requires rising { AreRising (setting_data setting.now).known.brought }
@@ -41,7 +42,7 @@ pub fn report_next(findings: &mut Findings, setting: &Setting<'_, '_>, around: A
     report_in_past(findings, around, at);
 }
 
-#[tactic(auto, using(crate::proofs::First::with_faults_append))]
+#[tactic(auto, using(spectra_resolved::proofs::First::with_faults_append))]
 // Reports what is wrong with a past operator, its operands apart.
 fn report_past(findings: &mut Findings, setting: &Setting<'_, '_>, next: Option<Spot>, at: Spot)
     requires rising { AreRising (setting_data setting.now).known.brought }
@@ -89,7 +90,7 @@ fn report_shifted(
     }
 }
 
-#[tactic(auto, using(crate::proofs::First::with_faults_append))]
+#[tactic(auto, using(spectra_resolved::proofs::First::with_faults_append))]
 /// Reports a variable that may not be read, of the system or not.
 pub fn report_variable(
     findings: &mut Findings,
@@ -108,7 +109,7 @@ pub fn report_variable(
     report_shifted(findings, names, bans.shifted_system && system, 12, next, at);
 }
 
-#[tactic(auto, using(crate::proofs::First::with_faults_append))]
+#[tactic(auto, using(spectra_resolved::proofs::First::with_faults_append))]
 /// Reports a pattern's parameter that may not be read.
 pub fn report_parameter(
     findings: &mut Findings,

@@ -3,10 +3,10 @@
 ghost use Rattle.std.specs.Prelude.{◌≡◌, ◌<◌};
 ghost use Rattle.spectra_judge.specs.Around.{AreRising};
 
-use crate::findings::Finding;
 use crate::judging::judge;
 use crate::kind::Kind;
 use crate::known::Known;
+use spectra_resolved::findings::Finding;
 use spectra_resolved::spot::Spot;
 use spectra_resolved::stand::Stand;
 use spectra_resolved::tree::{Hole, Leaf, Link, Misuse, Resolved, Shape};

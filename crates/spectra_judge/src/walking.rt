@@ -2,8 +2,8 @@
 
 ghost use Rattle.std.specs.Prelude.{◌≡◌, ℕ, ◌∷◌, ◌++◌, map, drop};
 ghost use Rattle.spectra_resolved.specs.Resolved.{Form, trees};
-ghost use Rattle.spectra_resolved.specs.Views.{resolved_data};
-ghost use Rattle.spectra_judge.specs.Findings.{found_in, with_faults};
+ghost use Rattle.spectra_resolved.specs.Views.{resolved_data, link_data};
+ghost use Rattle.spectra_resolved.specs.Findings.{found_in, with_faults};
 ghost use Rattle.spectra_judge.specs.Kinds.{Truth, is_truth as is_truth_lem, can_equal as can_equal_lem, reduced as reduced_lem};
 ghost use Rattle.spectra_judge.specs.KindViews.{kind_data};
 ghost use Rattle.spectra_judge.specs.Operators.{gives as gives_lem};
@@ -11,11 +11,10 @@ ghost use Rattle.spectra_judge.specs.Around.{AreRising};
 ghost use Rattle.spectra_judge.specs.Known.{setting_data, wanted};
 ghost use Rattle.spectra_judge.specs.Judged.{kind_of, form_kind, wrong, first_of as first_of_lem, faults, form_faults, operand_faults, argument_faults};
 ghost use Rattle.spectra_judge.specs.OpenedViews.{opened_at};
-ghost use Rattle.spectra_judge.specs.Chains.{link_data, form_data, opened as opened_lem, link_faults, chain_kind, chain_faults};
+ghost use Rattle.spectra_judge.specs.Chains.{form_data, opened as opened_lem, link_faults, chain_kind, chain_faults};
 
 use crate::around::{Around, under_next, within};
 use crate::chains::{Opened, first_of, opened_in, operator_at};
-use crate::findings::Findings;
 use crate::kind::{Kind, can_equal, is_truth, reduced};
 use crate::known::Setting;
 use crate::leaves::{
@@ -24,6 +23,7 @@ use crate::leaves::{
 };
 use crate::misplaced::{report_next, report_operator};
 use crate::operators::{gives, is_past, is_past_prefix};
+use spectra_resolved::findings::Findings;
 use spectra_resolved::spot::Spot;
 use spectra_resolved::tree::{Link, Resolved, Shape};
 use spectra_trees::tree::PrefixWord;
@@ -90,7 +90,7 @@ fn walk_shape<'a>(
     }
 }
 
-#[tactic(auto, using(crate::proofs::First::with_faults_append))]
+#[tactic(auto, using(spectra_resolved::proofs::First::with_faults_append))]
 // The kind of what an operator before its operand gives.
 #[cycle(walking)]
 fn walk_prefix<'a>(
@@ -113,7 +113,7 @@ fn walk_prefix<'a>(
     Kind::Truth
 }
 
-#[tactic(auto, using(crate::proofs::First::with_faults_append))]
+#[tactic(auto, using(spectra_resolved::proofs::First::with_faults_append))]
 // The kind of a remainder.
 #[cycle(walking)]
 fn walk_remainder<'a>(
@@ -160,7 +160,7 @@ fn walk_links<'a>(
     kind
 }
 
-#[tactic(auto, using(crate::proofs::First::with_faults_append))]
+#[tactic(auto, using(spectra_resolved::proofs::First::with_faults_append))]
 // The kind of what an operator gives, whose first operand has a kind. `next` is the one around the operator.
 #[cycle(walking)]
 fn walk_link<'a>(
@@ -204,7 +204,7 @@ fn walk_operands<'a>(
     Kind::Truth
 }
 
-#[tactic(auto, using(crate::proofs::First::with_faults_append))]
+#[tactic(auto, using(spectra_resolved::proofs::First::with_faults_append))]
 // An operand with its operator.
 #[cycle(walking)]
 fn walk_operand(
@@ -242,7 +242,7 @@ fn walk_arguments(
     }
 }
 
-#[tactic(auto, using(crate::proofs::First::with_faults_append))]
+#[tactic(auto, using(spectra_resolved::proofs::First::with_faults_append))]
 // An argument for a parameter of a kind.
 #[cycle(walking)]
 fn walk_argument(

@@ -1,5 +1,6 @@
 use Rattle.std.proofs.Common.{◌≡◌, ℕ, ◌≤◌, None, length, drop, map}
-use Rattle.spectra_judge.specs.Chains.{link_data, brought_in}
+use Rattle.spectra_resolved.specs.Views.{link_data}
+use Rattle.spectra_judge.specs.Chains.{brought_in}
 use Rattle.spectra_judge.proofs.chains.bringing_in.Given as goal
 
 -- none of those that were looked at is a past operator that a body brings

@@ -1,5 +1,5 @@
 use Rattle.std.proofs.Common.{drop, map}
-use Rattle.spectra_judge.specs.Chains.{link_data}
+use Rattle.spectra_resolved.specs.Views.{link_data}
 use Rattle.spectra_judge.proofs.Chained.{opened_by}
 use Rattle.spectra_judge.proofs.chains.opened_in.Goals as goal
 

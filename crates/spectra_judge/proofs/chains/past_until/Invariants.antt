@@ -1,5 +1,6 @@
 use Rattle.std.proofs.Common.{◌≡◌, ℕ, ◌≤◌, false, length, drop, map}
-use Rattle.spectra_judge.specs.Chains.{link_data, has_past}
+use Rattle.spectra_resolved.specs.Views.{link_data}
+use Rattle.spectra_judge.specs.Chains.{has_past}
 use Rattle.spectra_judge.proofs.chains.past_until.Given as goal
 
 -- none of those that were looked at is a past operator

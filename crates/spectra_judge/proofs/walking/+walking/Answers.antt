@@ -1,16 +1,16 @@
 use Rattle.std.proofs.Common.{◌≡◌, ◌+◌, ◌∷◌, ◌++◌, drop, map, get_or, sym, ap, ◌∙◌, arith}
 use Rattle.std.proofs.Common.{w64}
 use Rattle.std.proofs.lemmas.Int.{to_z-of_z}
-use Rattle.spectra_resolved.specs.Views.{resolved_data}
-use Rattle.spectra_judge.specs.Findings.{found_in, with_faults}
+use Rattle.spectra_resolved.specs.Views.{resolved_data, link_data}
+use Rattle.spectra_resolved.specs.Findings.{found_in, with_faults}
 use Rattle.spectra_judge.specs.Kinds.{Anything, is_truth, can_equal}
 use Rattle.spectra_judge.specs.KindViews.{kind_data}
 use Rattle.spectra_judge.specs.Operators.{is_past}
 use Rattle.spectra_judge.specs.Known.{setting_data, wanted}
 use Rattle.spectra_judge.specs.Judged.{kind_of, wrong, first_of, binary_faults, remainder_faults, operator_faults, faults, operand_faults, argument_faults}
-use Rattle.spectra_judge.specs.Chains.{link_data, opened, link_faults, chain_kind, chain_faults}
-use Rattle.spectra_judge.proofs.First.{with_faults_append}
-use Rattle.spectra_judge.proofs.Folded.{chain_folded, link_folded}
+use Rattle.spectra_judge.specs.Chains.{opened, chain_kind, chain_faults}
+use Rattle.spectra_resolved.proofs.First.{with_faults_append}
+use Rattle.spectra_resolved.proofs.Trees.{chain_data}
 use Rattle.spectra_judge.proofs.Chained.{chain_kind_is, chain_faults_is}
 use Rattle.spectra_judge.proofs.Leftover.{from_place, operand_left, argument_left, kind_left, link_left}
 use Rattle.spectra_judge.proofs.walking.+walking.Goals as goal
@@ -92,7 +92,6 @@ walk_link-returns-clause-found t c =
     (c.walk-second.ensures.found ∙ ap (λ f. with_faults f (faults s inner second)) (c.report_operator.ensures ∙ (λ i. with_faults old (operator_faults s (c.is_past.ensures i) next l.at))))
     ∙ sym (with_faults_append (with_faults old operator) (faults s inner second) own)
     ∙ sym (with_faults_append old operator (faults s inner second ++ own))
-    ∙ ap (λ d. with_faults old (link_faults s inner next kind d)) (sym (link_folded l))
 
 pub walk_remainder-returns-clause-found : goal.walk_remainder-returns-clause-found
 walk_remainder-returns-clause-found t c =
@@ -114,7 +113,7 @@ walk-returns-in-Chain-clause-kind t c =
     c.walk_links.ensures.kind
     ∙ (λ i. chain_kind known (first i) (map link_data (c.deref-in-Chain-2.ensures.value i)))
     ∙ chain_kind_is known (resolved_data head.value) (map link_data links.items)
-    ∙ ap (kind_of known) (sym (ap resolved_data c.in-Chain.is ∙ chain_folded head links))
+    ∙ ap (kind_of known) (sym (ap resolved_data c.in-Chain.is ∙ chain_data head links))
 
 pub walk-returns-in-Chain-clause-found : goal.walk-returns-in-Chain-clause-found
 walk-returns-in-Chain-clause-found t c =
@@ -129,4 +128,4 @@ walk-returns-in-Chain-clause-found t c =
     c.walk_links.ensures.found
     ∙ (λ i. with_faults (found i) (chain_faults s o (first i) (map link_data (c.deref-in-Chain-2.ensures.value i))))
     ∙ chain_faults_is s o old (resolved_data head.value) (map link_data links.items)
-    ∙ ap (λ e. with_faults old (faults s o e)) (sym (ap resolved_data c.in-Chain.is ∙ chain_folded head links))
+    ∙ ap (λ e. with_faults old (faults s o e)) (sym (ap resolved_data c.in-Chain.is ∙ chain_data head links))
