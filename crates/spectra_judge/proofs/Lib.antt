@@ -1,0 +1,16 @@
+pub mod SameNames
+pub mod First
+pub mod Lists
+pub mod LastFirst
+pub mod Chained
+pub mod Leftover
+pub mod Empty
+pub mod Spans
+pub mod KindsFit
+pub mod Nesting
+pub mod Typed
+pub mod Searching
+pub mod Least
+pub mod Lines
+pub mod Banned
+pub mod Bans

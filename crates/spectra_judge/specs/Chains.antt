@@ -1,0 +1,45 @@
+-- Operators in text order, each of which has all before it as its first operand.
+use Rattle.std.specs.Prelude.{Bool, ◌&&◌, List, [], ◌∷◌, ◌++◌, Option, None}
+use Rattle.std.specs.List.{list_any}
+use Rattle.spectra_resolved.specs.declared.spot.Spot.{Spot}
+use Rattle.spectra_resolved.specs.declared.tree.Shape.{Shape, fold-Shape}
+use Rattle.spectra_resolved.specs.Resolved.{ResolvedTree, Form, LinkData}
+use Rattle.spectra_resolved.specs.Views.{resolved_step, shape_step, link_step}
+use Rattle.spectra_resolved.specs.declared.findings.Finding.{Finding}
+use Rattle.spectra_judge.specs.Kinds.{Kind}
+use Rattle.spectra_judge.specs.Operators.{gives, is_past}
+use Rattle.spectra_judge.specs.Around.{Around, Brought, is_brought, first_brought, within}
+use Rattle.spectra_judge.specs.Known.{Known, Setting}
+use Rattle.spectra_judge.specs.Judged.{kind_of, binary_faults, operator_faults, faults}
+
+-- what the shapes of the program's trees stand for
+abbrev pub form_data : Shape → Form
+form_data = fold-Shape ResolvedTree Form LinkData resolved_step shape_step link_step
+
+-- what is open in the operands of the first of these operators
+abbrev pub opened : Brought → Around → List LinkData → Around
+opened names around [] = around
+opened names around (l ∷ ls) = within names (is_past l.word) l.at (opened names around ls)
+
+-- whether one of them is a past operator, and the place of the last one that a body brings
+abbrev pub has_past : List LinkData → Bool
+has_past ls = list_any (λ l. is_past l.word) ls
+
+abbrev pub brought_in : Brought → List LinkData → Option Spot
+brought_in names [] = None
+brought_in names (l ∷ ls) = first_brought (brought_in names ls) (is_past l.word && is_brought names l.at) l.at
+
+-- An operator and its second operand, where the first one has a kind. So much is open in its operands; and around it, so a `next`.
+abbrev pub link_faults : Setting → (inner : Around) → (next : Option Spot) → Kind → LinkData → List Finding
+link_faults s inner next k l =
+    operator_faults s (is_past l.word) next l.at ++ (faults s inner l.second ++ binary_faults l.word k (kind_of s.known l.second) l.at)
+
+-- what operators behind a first operand of this kind give, and their faults
+abbrev pub chain_kind : Known → Kind → List LinkData → Kind
+chain_kind known k [] = k
+chain_kind known k (l ∷ ls) = chain_kind known (gives l.word k (kind_of known l.second)) ls
+
+abbrev pub chain_faults : Setting → Around → Kind → List LinkData → List Finding
+chain_faults s around k [] = []
+chain_faults s around k (l ∷ ls) =
+    link_faults s (opened s.known.brought around (l ∷ ls)) around.next k l ++ chain_faults s around (gives l.word k (kind_of s.known l.second)) ls

@@ -1,0 +1,12 @@
+pub mod Kinds
+pub mod KindViews
+pub mod Operators
+pub mod Standings
+pub mod Findings
+pub mod Around
+pub mod Known
+pub mod Judged
+pub mod Chains
+pub mod OpenedViews
+pub mod Erased
+pub mod Laws

@@ -1,0 +1,140 @@
+//! The kinds and faults of single parts of an expression.
+
+ghost use Rattle.std.specs.Prelude.{◌≡◌};
+ghost use Rattle.spectra_resolved.specs.Findings.{found_in, with_faults};
+ghost use Rattle.spectra_judge.specs.KindViews.{kind_data};
+ghost use Rattle.spectra_judge.specs.Around.{AreRising};
+ghost use Rattle.spectra_judge.specs.Known.{known_data, setting_data};
+ghost use Rattle.spectra_judge.specs.Judged.{hole_kind as hole_kind_lem, leaf_kind as leaf_kind_lem, misuse_kind as misuse_kind_lem, wrong, wide, binary_faults, remainder_faults, leaf_faults, misuse_faults};
+
+use crate::findings::report_if;
+use crate::kind::{Kind, is_whole, is_wide, reduced};
+use crate::known::{Known, Setting, kind_at};
+use crate::misplaced::{report_parameter, report_variable};
+use crate::operators::{gives, takes};
+use spectra_resolved::findings::Findings;
+use spectra_resolved::spot::Spot;
+use spectra_resolved::tree::{Hole, Leaf, Misuse};
+use spectra_trees::tree::BinaryWord;
+
+// What fits where a hole is.
+fn hole_kind<'a>(hole: Hole) -> Kind<'a>
+    ensures { kind_data result ≡ hole_kind_lem hole }
+{
+    match hole {
+        Hole::Anything => Kind::Anything,
+        Hole::Truth => Kind::Truth,
+    }
+}
+
+/// The kind of a tree without parts.
+pub fn leaf_kind<'a>(known: &Known<'_, 'a>, leaf: Leaf) -> Kind<'a>
+    ensures { kind_data result ≡ leaf_kind_lem (known_data known.now) leaf }
+{
+    match leaf {
+        Leaf::Truth(_) => Kind::Truth,
+        Leaf::Number(z) => Kind::Whole(z, z),
+        Leaf::EnumName(n) => Kind::OneName(n),
+        Leaf::Variable(k) => kind_at(known.variables, k),
+        Leaf::Parameter(k) => kind_at(known.parameters, k),
+        Leaf::Own(k) => kind_at(known.own, k),
+        Leaf::Define(k) => kind_at(known.defines, k),
+        Leaf::Hole(hole) => hole_kind(hole),
+    }
+}
+
+/// What a misused name fits.
+pub fn misuse_kind<'a>(misuse: Misuse) -> Kind<'a>
+    ensures { kind_data result ≡ misuse_kind_lem misuse }
+{
+    match misuse {
+        Misuse::Arity(_) => Kind::Truth,
+        Misuse::Unknown => Kind::Anything,
+        Misuse::Bare(_) => Kind::Anything,
+        Misuse::Called(_) => Kind::Anything,
+    }
+}
+
+/// Reports an operand or argument of the wrong kind.
+pub fn report_wrong(findings: &mut Findings, right: bool, at: Spot)
+    ensures { found_in findings.new ≡ with_faults (found_in findings.old) (wrong right at) }
+{
+    report_if(findings, !right, 9, at);
+}
+
+// Reports a span that is too wide.
+fn report_wide(findings: &mut Findings, kind: Kind<'_>, at: Spot)
+    ensures { found_in findings.new ≡ with_faults (found_in findings.old) (wide (kind_data kind.entry) at) }
+{
+    report_if(findings, is_wide(kind), 14, at);
+}
+
+#[tactic(auto, using(spectra_resolved::proofs::First::with_faults_append))]
+/// Reports what is wrong with the operands of an operator, and with what it gives.
+pub fn report_binary(findings: &mut Findings, word: BinaryWord, a: Kind<'_>, b: Kind<'_>, at: Spot)
+    ensures { found_in findings.new ≡ with_faults (found_in findings.old) (binary_faults word (kind_data a.entry) (kind_data b.entry) at) }
+{
+    report_wrong(findings, takes(word, a, b), at);
+    report_wide(findings, gives(word, a, b), at);
+}
+
+#[tactic(auto, using(spectra_resolved::proofs::First::with_faults_append))]
+/// Reports what is wrong with a remainder by `n`, of an operand of a kind.
+pub fn report_remainder(
+    findings: &mut Findings,
+    kind: Kind<'_>,
+    operator: Spot,
+    number_at: Spot,
+    n: i64,
+)
+    ensures { found_in findings.new ≡ with_faults (found_in findings.old) (remainder_faults (kind_data kind.entry) operator number_at n) }
+{
+    report_wrong(findings, is_whole(kind), operator);
+    report_if(findings, n <= 0, 14, number_at);
+    report_wide(findings, reduced(n), operator);
+}
+
+/// Reports what is wrong with a tree without parts.
+pub fn report_leaf(
+    findings: &mut Findings,
+    setting: &Setting<'_, '_>,
+    next: Option<Spot>,
+    at: Spot,
+    leaf: Leaf,
+)
+    requires rising { AreRising (setting_data setting.now).known.brought }
+    ensures { found_in findings.new ≡ with_faults (found_in findings.old) (leaf_faults (setting_data setting.now) next at leaf) }
+{
+    match leaf {
+        Leaf::Number(z) => report_wide(findings, Kind::Whole(z, z), at),
+        Leaf::Variable(k) => {
+            let system = setting.known.is_system(k);
+            report_variable(findings, setting, next, at, system);
+        }
+        Leaf::Parameter(_) => report_parameter(findings, setting, next, at),
+        Leaf::Truth(_) => {}
+        Leaf::EnumName(_) => {}
+        Leaf::Own(_) => {}
+        Leaf::Define(_) => {}
+        Leaf::Hole(_) => {}
+    }
+}
+
+/// Reports what is wrong with what a misused name reads.
+pub fn report_misuse(
+    findings: &mut Findings,
+    setting: &Setting<'_, '_>,
+    next: Option<Spot>,
+    at: Spot,
+    misuse: Misuse,
+)
+    requires rising { AreRising (setting_data setting.now).known.brought }
+    ensures { found_in findings.new ≡ with_faults (found_in findings.old) (misuse_faults (setting_data setting.now) next at misuse) }
+{
+    match misuse {
+        Misuse::Called(leaf) => report_leaf(findings, setting, next, at, leaf),
+        Misuse::Unknown => {}
+        Misuse::Bare(_) => {}
+        Misuse::Arity(_) => {}
+    }
+}

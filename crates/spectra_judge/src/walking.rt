@@ -1,0 +1,261 @@
+//! One walk over an expression, which gives its kind and reports its faults.
+
+ghost use Rattle.std.specs.Prelude.{◌≡◌, ℕ, ◌∷◌, ◌++◌, map, drop};
+ghost use Rattle.spectra_resolved.specs.Resolved.{Form, trees};
+ghost use Rattle.spectra_resolved.specs.Views.{resolved_data, link_data};
+ghost use Rattle.spectra_resolved.specs.Findings.{found_in, with_faults};
+ghost use Rattle.spectra_judge.specs.Kinds.{Truth, is_truth as is_truth_lem, can_equal as can_equal_lem, reduced as reduced_lem};
+ghost use Rattle.spectra_judge.specs.KindViews.{kind_data};
+ghost use Rattle.spectra_judge.specs.Operators.{gives as gives_lem};
+ghost use Rattle.spectra_judge.specs.Around.{AreRising};
+ghost use Rattle.spectra_judge.specs.Known.{setting_data, wanted};
+ghost use Rattle.spectra_judge.specs.Judged.{kind_of, form_kind, wrong, first_of as first_of_lem, faults, form_faults, operand_faults, argument_faults};
+ghost use Rattle.spectra_judge.specs.OpenedViews.{opened_at};
+ghost use Rattle.spectra_judge.specs.Chains.{form_data, opened as opened_lem, link_faults, chain_kind, chain_faults};
+
+use crate::around::{Around, under_next, within};
+use crate::chains::{Opened, first_of, opened_in, operator_at};
+use crate::kind::{Kind, can_equal, is_truth, reduced};
+use crate::known::Setting;
+use crate::leaves::{
+    leaf_kind, misuse_kind, report_binary, report_leaf, report_misuse, report_remainder,
+    report_wrong,
+};
+use crate::misplaced::{report_next, report_operator};
+use crate::operators::{gives, is_past, is_past_prefix};
+use spectra_resolved::findings::Findings;
+use spectra_resolved::spot::Spot;
+use spectra_resolved::tree::{Link, Resolved, Shape};
+use spectra_trees::tree::PrefixWord;
+
+/// The kind of an expression, whose faults are reported.
+#[cycle(walking)]
+pub fn walk<'a>(
+    findings: &mut Findings,
+    setting: &Setting<'_, 'a>,
+    around: Around,
+    tree: &Resolved,
+) -> Kind<'a>
+    requires rising { AreRising (setting_data setting.now).known.brought }
+    ensures kind { kind_data result ≡ kind_of (setting_data setting.now).known (resolved_data tree.now) }
+    ensures found { found_in findings.new ≡ with_faults (found_in findings.old) (faults (setting_data setting.now) around (resolved_data tree.now)) }
+{
+    match tree {
+        Resolved::Chain(head, links) => {
+            let opened = opened_in(setting.known.brought, links);
+            let kind = walk(findings, setting, opened.at(around, 0), head);
+            walk_links(findings, setting, around, opened, kind, links)
+        }
+        Resolved::Node(_, at, shape) => walk_shape(findings, setting, around, *at, shape),
+    }
+}
+
+// The kind of an expression that stands at a place.
+#[cycle(walking)]
+fn walk_shape<'a>(
+    findings: &mut Findings,
+    setting: &Setting<'_, 'a>,
+    around: Around,
+    at: Spot,
+    shape: &Shape,
+) -> Kind<'a>
+    requires rising { AreRising (setting_data setting.now).known.brought }
+    ensures kind { kind_data result ≡ form_kind (setting_data setting.now).known (form_data shape.now) }
+    ensures found { found_in findings.new ≡ with_faults (found_in findings.old) (form_faults (setting_data setting.now) around at (form_data shape.now)) }
+{
+    match shape {
+        Shape::Leaf(leaf) => {
+            report_leaf(findings, setting, around.next, at, *leaf);
+            leaf_kind(&setting.known, *leaf)
+        }
+        Shape::Predicate(number, ts) => {
+            walk_arguments(findings, setting, around, Some(*number), ts);
+            Kind::Truth
+        }
+        Shape::Misuse(misuse, ts) => {
+            report_misuse(findings, setting, around.next, at, *misuse);
+            walk_arguments(findings, setting, around, None, ts);
+            misuse_kind(*misuse)
+        }
+        Shape::Next(t) => {
+            report_next(findings, setting, around, at);
+            walk(findings, setting, under_next(at, around), t)
+        }
+        Shape::Prefix(word, t) => walk_prefix(findings, setting, around, at, *word, t),
+        Shape::Mod(t, number_at, n) => {
+            walk_remainder(findings, setting, around, at, t, *number_at, *n)
+        }
+        Shape::And(ts, operators) => walk_operands(findings, setting, around, at, ts, operators),
+        Shape::Or(ts, operators) => walk_operands(findings, setting, around, at, ts, operators),
+    }
+}
+
+#[tactic(auto, using(spectra_resolved::proofs::First::with_faults_append))]
+// The kind of what an operator before its operand gives.
+#[cycle(walking)]
+fn walk_prefix<'a>(
+    findings: &mut Findings,
+    setting: &Setting<'_, 'a>,
+    around: Around,
+    at: Spot,
+    word: PrefixWord,
+    t: &Resolved,
+) -> Kind<'a>
+    requires rising { AreRising (setting_data setting.now).known.brought }
+    ensures kind { kind_data result ≡ Truth }
+    ensures found { found_in findings.new ≡ with_faults (found_in findings.old) (form_faults (setting_data setting.now) around at (Form.Prefix word (resolved_data t.now))) }
+{
+    let past = is_past_prefix(word);
+    report_operator(findings, setting, past, around.next, at);
+    let inner = within(setting.known.brought, past, at, around);
+    let kind = walk(findings, setting, inner, t);
+    report_wrong(findings, is_truth(kind), at);
+    Kind::Truth
+}
+
+#[tactic(auto, using(spectra_resolved::proofs::First::with_faults_append))]
+// The kind of a remainder.
+#[cycle(walking)]
+fn walk_remainder<'a>(
+    findings: &mut Findings,
+    setting: &Setting<'_, 'a>,
+    around: Around,
+    at: Spot,
+    t: &Resolved,
+    number_at: Spot,
+    n: i64,
+) -> Kind<'a>
+    requires rising { AreRising (setting_data setting.now).known.brought }
+    ensures kind { kind_data result ≡ reduced_lem n }
+    ensures found { found_in findings.new ≡ with_faults (found_in findings.old) (form_faults (setting_data setting.now) around at (Form.Mod (resolved_data t.now) number_at n)) }
+{
+    let kind = walk(findings, setting, around, t);
+    report_remainder(findings, kind, at, number_at, n);
+    reduced(n)
+}
+
+// The kind of what operators in text order give, behind a first operand of a kind. `opened` says what is open in the operands
+// of each.
+#[cycle(walking)]
+fn walk_links<'a>(
+    findings: &mut Findings,
+    setting: &Setting<'_, 'a>,
+    around: Around,
+    opened: Opened,
+    first: Kind<'a>,
+    links: &[Link],
+) -> Kind<'a>
+    requires rising { AreRising (setting_data setting.now).known.brought }
+    requires opened { (place : ℕ) → opened_lem (setting_data setting.now).known.brought around (map link_data (drop place links.now)) ≡ opened_at opened around place }
+    ensures kind { kind_data result ≡ chain_kind (setting_data setting.now).known (kind_data first.entry) (map link_data links.now) }
+    ensures found { found_in findings.new ≡ with_faults (found_in findings.old) (chain_faults (setting_data setting.now) around (kind_data first.entry) (map link_data links.now)) }
+{
+    let mut kind = first;
+    let mut place = 0;
+    for link in links {
+        let inner = opened.at(around, place);
+        kind = walk_link(findings, setting, inner, around.next, kind, link);
+        place += 1;
+    }
+    kind
+}
+
+#[tactic(auto, using(spectra_resolved::proofs::First::with_faults_append))]
+// The kind of what an operator gives, whose first operand has a kind. `next` is the one around the operator.
+#[cycle(walking)]
+fn walk_link<'a>(
+    findings: &mut Findings,
+    setting: &Setting<'_, 'a>,
+    inner: Around,
+    next: Option<Spot>,
+    kind: Kind<'a>,
+    link: &Link,
+) -> Kind<'a>
+    requires rising { AreRising (setting_data setting.now).known.brought }
+    ensures kind { kind_data result ≡ gives_lem (link_data link.now).word (kind_data kind.entry) (kind_of (setting_data setting.now).known (link_data link.now).second) }
+    ensures found { found_in findings.new ≡ with_faults (found_in findings.old) (link_faults (setting_data setting.now) inner next (kind_data kind.entry) (link_data link.now)) }
+{
+    report_operator(findings, setting, is_past(link.word), next, link.at);
+    let second = walk(findings, setting, inner, &link.second);
+    report_binary(findings, link.word, kind, second, link.at);
+    gives(link.word, kind, second)
+}
+
+// The operands of a conjunction or disjunction, with the operators between them.
+#[cycle(walking)]
+fn walk_operands<'a>(
+    findings: &mut Findings,
+    setting: &Setting<'_, 'a>,
+    around: Around,
+    at: Spot,
+    ts: &[Resolved],
+    operators: &[Spot],
+) -> Kind<'a>
+    requires rising { AreRising (setting_data setting.now).known.brought }
+    ensures kind { kind_data result ≡ Truth }
+    ensures found { found_in findings.new ≡ with_faults (found_in findings.old) (operand_faults (setting_data setting.now) around at (at ∷ operators.now) (trees (map resolved_data ts.now))) }
+{
+    let mut place = 0;
+    for t in ts {
+        let operator = operator_at(at, operators, place);
+        walk_operand(findings, setting, around, operator, t);
+        place += 1;
+    }
+    Kind::Truth
+}
+
+#[tactic(auto, using(spectra_resolved::proofs::First::with_faults_append))]
+// An operand with its operator.
+#[cycle(walking)]
+fn walk_operand(
+    findings: &mut Findings,
+    setting: &Setting<'_, '_>,
+    around: Around,
+    operator: Spot,
+    t: &Resolved,
+)
+    requires rising { AreRising (setting_data setting.now).known.brought }
+    ensures { found_in findings.new ≡ with_faults (found_in findings.old) (faults (setting_data setting.now) around (resolved_data t.now)
+        ++ wrong (is_truth_lem (kind_of (setting_data setting.now).known (resolved_data t.now))) operator) }
+{
+    let kind = walk(findings, setting, around, t);
+    report_wrong(findings, is_truth(kind), operator);
+}
+
+// Arguments, for the parameters of a predicate where there is one.
+#[cycle(walking)]
+fn walk_arguments(
+    findings: &mut Findings,
+    setting: &Setting<'_, '_>,
+    around: Around,
+    predicate: Option<usize>,
+    ts: &[Resolved],
+)
+    requires rising { AreRising (setting_data setting.now).known.brought }
+    ensures { found_in findings.new ≡ with_faults (found_in findings.old) (argument_faults (setting_data setting.now) around (wanted (setting_data setting.now).known predicate) (trees (map resolved_data ts.now))) }
+{
+    let mut place = 0;
+    for t in ts {
+        let parameter = setting.known.wanted(predicate, place);
+        walk_argument(findings, setting, around, parameter, t);
+        place += 1;
+    }
+}
+
+#[tactic(auto, using(spectra_resolved::proofs::First::with_faults_append))]
+// An argument for a parameter of a kind.
+#[cycle(walking)]
+fn walk_argument(
+    findings: &mut Findings,
+    setting: &Setting<'_, '_>,
+    around: Around,
+    parameter: Kind<'_>,
+    t: &Resolved,
+)
+    requires rising { AreRising (setting_data setting.now).known.brought }
+    ensures { found_in findings.new ≡ with_faults (found_in findings.old) (faults (setting_data setting.now) around (resolved_data t.now)
+        ++ wrong (can_equal_lem (kind_data parameter.entry) (kind_of (setting_data setting.now).known (resolved_data t.now))) (first_of_lem (resolved_data t.now))) }
+{
+    let kind = walk(findings, setting, around, t);
+    report_wrong(findings, can_equal(parameter, kind), first_of(t));
+}

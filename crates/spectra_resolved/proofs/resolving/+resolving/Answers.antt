@@ -1,0 +1,122 @@
+use Rattle.std.proofs.Common.{◌+◌, add-one, drop-cons, ◌≡◌, true, false, ◌++◌, List, [], ◌∷◌, map, drop, reverse, refl, sym, ap, ◌∙◌, append-nil, arith, rules}
+use Rattle.std.proofs.lemmas.List.{drop_all}
+use Rattle.spectra_trees.specs.declared.tree.ExprTree.{ExprTree, size-ExprTree}
+use Rattle.spectra_trees.specs.Data as written
+use Rattle.spectra_trees.specs.Data.{expressions}
+use Rattle.spectra_trees.specs.Views.{name_data, form_data, expr_data}
+use Rattle.spectra_trees.proofs.Folded.{call_folded, and_folded, or_folded, binary_folded, read_folded}
+use Rattle.spectra_resolved.specs.Spots.{spot_at, spot_of}
+use Rattle.spectra_resolved.specs.Findings.{found_in, with_faults}
+use Rattle.spectra_resolved.specs.Resolved.{tree, Form, trees, listed, chained}
+use Rattle.spectra_resolved.specs.Views.{resolved_data, link_data}
+use Rattle.spectra_resolved.specs.LookViews.{look_data}
+use Rattle.spectra_resolved.specs.Resolving.{call_form, resolved_form, resolved_each, misuses, own_misuse, misuses_of_each}
+use Rattle.spectra_resolved.specs.ResolverViews.{resolved_by, resolved_each_by}
+use Rattle.spectra_resolved.proofs.First.{found_later, with_faults_append}
+use Rattle.spectra_resolved.proofs.Steps.{chain_step, chain_found, first_smaller, each_step, each_found}
+use Rattle.spectra_resolved.proofs.Trees.{trees-listed, call-misuses, read-misuses}
+use Rattle.spectra_resolved.proofs.resolving.+resolving.Goals as goal
+
+pub node-returns-in_ok-arguments-in-Call-clause-tree : goal.node-returns-in_ok-arguments-in-Call-clause-tree
+node-returns-in_ok-arguments-in-Call-clause-tree t c =
+    let r = c.args.resolver.now in
+    let look = look_data r.look in
+    let e = c.args.e.now in
+    let name = name_data c.in-Call.name in
+    c.called.ensures.tree
+    ∙ (λ i. tree (c.spot_at-first.ensures i) (spot_of r.file name) (call_form (look name.text) (c.in_ok-arguments-in-Call.ensures.trees i)))
+    ∙ ap (λ (es : List ExprTree). resolved_form look r.file (spot_at r.file e.first) (spot_at r.file e.at) (written.Form.Call name (expressions (map expr_data es)))) c.deref.ensures.value
+    ∙ sym (ap (resolved_form look r.file (spot_at r.file e.first) (spot_at r.file e.at)) (ap form_data c.in-Call.is ∙ call_folded c.in-Call.name c.in-Call.es))
+
+pub node-returns-in_ok-arguments-in-Call-clause-found : goal.node-returns-in_ok-arguments-in-Call-clause-found
+node-returns-in_ok-arguments-in-Call-clause-found t c =
+    let r = c.args.resolver.now in
+    let look = look_data r.look in
+    let e = c.args.e.now in
+    let name = name_data c.in-Call.name in
+    let at = spot_of r.file name in
+    let old = found_in c.args.findings.now in
+    let all = resolved_each_by r (expressions (map expr_data c.deref.result.now)) in
+    c.called.ensures.found
+    ∙ (λ i. with_faults (c.in_ok-arguments-in-Call.ensures.found i) (own_misuse at (call_form (look name.text) (c.in_ok-arguments-in-Call.ensures.trees i))))
+    ∙ sym (found_later old (own_misuse at (call_form (look name.text) all)) (misuses_of_each all))
+    ∙ ap (with_faults old) (sym (call-misuses at (look name.text) all))
+    ∙ ap (λ (es : List ExprTree). with_faults old (misuses (resolved_form look r.file (spot_at r.file e.first) (spot_at r.file e.at) (written.Form.Call name (expressions (map expr_data es)))))) c.deref.ensures.value
+    ∙ sym (ap (λ f. with_faults old (misuses (resolved_form look r.file (spot_at r.file e.first) (spot_at r.file e.at) f))) (ap form_data c.in-Call.is ∙ call_folded c.in-Call.name c.in-Call.es))
+
+pub trees-returns-clause-trees : goal.trees-returns-clause-trees
+trees-returns-clause-trees t c =
+    let r = c.args.resolver.now in
+    let left : drop c.loop-e.e-index c.args.es.now ≡ [] = drop_all _ _ c.loop-e-test.false in
+    let all = ap (λ es. map resolved_data c.loop-e.made.items ++ listed (resolved_each_by r (expressions (map expr_data es)))) (sym left) ∙ c.loop-e.invariant.same in
+    ap trees (sym (append-nil (map resolved_data c.loop-e.made.items)) ∙ all) ∙ trees-listed (resolved_each_by r (expressions (map expr_data c.args.es.now)))
+
+pub node-returns-in_ok-operators-in-And-clause-tree : goal.node-returns-in_ok-operators-in-And-clause-tree
+node-returns-in_ok-operators-in-And-clause-tree t c =
+    let r = c.args.resolver.now in
+    let e = c.args.e.now in
+    c.conjunction.ensures
+    ∙ (λ i. tree (c.spot_at-first.ensures i) (c.spot_at-at.ensures i) (Form.And (c.in_ok-parts-in-And.ensures.trees i) (c.in_ok-operators-in-And.ensures i)))
+    ∙ (λ i. resolved_form (look_data r.look) r.file (spot_at r.file e.first) (spot_at r.file e.at) (written.Form.And (expressions (map expr_data (c.deref-in-And.ensures.value i))) (c.deref-in-And-2.ensures.value i)))
+    ∙ sym (ap (resolved_form (look_data r.look) r.file (spot_at r.file e.first) (spot_at r.file e.at)) (ap form_data c.in-And.is ∙ and_folded c.in-And.es c.in-And.ops))
+
+pub node-returns-in_ok-operators-in-And-clause-found : goal.node-returns-in_ok-operators-in-And-clause-found
+node-returns-in_ok-operators-in-And-clause-found t c =
+    let r = c.args.resolver.now in
+    let e = c.args.e.now in
+    let old = found_in c.args.findings.now in
+    c.in_ok-parts-in-And.ensures.found
+    ∙ ap (λ (es : List ExprTree). with_faults old (misuses_of_each (resolved_each_by r (expressions (map expr_data es))))) c.deref-in-And.ensures.value
+    ∙ sym (ap (λ f. with_faults old (misuses (resolved_form (look_data r.look) r.file (spot_at r.file e.first) (spot_at r.file e.at) f))) (ap form_data c.in-And.is ∙ and_folded c.in-And.es c.in-And.ops))
+
+pub node-returns-in_ok-operators-in-Or-clause-tree : goal.node-returns-in_ok-operators-in-Or-clause-tree
+node-returns-in_ok-operators-in-Or-clause-tree t c =
+    let r = c.args.resolver.now in
+    let e = c.args.e.now in
+    c.disjunction.ensures
+    ∙ (λ i. tree (c.spot_at-first.ensures i) (c.spot_at-at.ensures i) (Form.Or (c.in_ok-parts-in-Or.ensures.trees i) (c.in_ok-operators-in-Or.ensures i)))
+    ∙ (λ i. resolved_form (look_data r.look) r.file (spot_at r.file e.first) (spot_at r.file e.at) (written.Form.Or (expressions (map expr_data (c.deref-in-Or.ensures.value i))) (c.deref-in-Or-2.ensures.value i)))
+    ∙ sym (ap (resolved_form (look_data r.look) r.file (spot_at r.file e.first) (spot_at r.file e.at)) (ap form_data c.in-Or.is ∙ or_folded c.in-Or.es c.in-Or.ops))
+
+pub node-returns-in_ok-operators-in-Or-clause-found : goal.node-returns-in_ok-operators-in-Or-clause-found
+node-returns-in_ok-operators-in-Or-clause-found t c =
+    let r = c.args.resolver.now in
+    let e = c.args.e.now in
+    let old = found_in c.args.findings.now in
+    c.in_ok-parts-in-Or.ensures.found
+    ∙ ap (λ (es : List ExprTree). with_faults old (misuses_of_each (resolved_each_by r (expressions (map expr_data es))))) c.deref-in-Or.ensures.value
+    ∙ sym (ap (λ f. with_faults old (misuses (resolved_form (look_data r.look) r.file (spot_at r.file e.first) (spot_at r.file e.at) f))) (ap form_data c.in-Or.is ∙ or_folded c.in-Or.es c.in-Or.ops))
+
+pub tree-chain-preserved : goal.tree-chain-preserved
+tree-chain-preserved t c =
+    let r = c.args.resolver.now in
+    let head = c.chain.head.now in
+    let word = c.in-Binary.word in
+    let a = c.in-Binary.a in
+    let b = c.in-Binary.b in
+    let next = c.deref-head.ensures in
+    let second = c.deref.ensures in
+    let smaller = first_smaller head word a b c.in-Binary.is in
+    record {
+      same = ap (λ (e : ExprTree). chained (resolved_by r (expr_data e)) (map link_data (reverse c.push.new.self.items))) next
+          ∙ chain_step r head word a b c.in-Binary.is c.chain.links.items c.push.new.self.items c.in_ok-link.field-0 (resolved_by r (expr_data c.args.e.now)) c.in_ok-push.ensures.items
+          (c.in_ok-link.ensures.link ∙ ap (λ (e : ExprTree). record { first = spot_at r.file head.first; at = spot_at r.file head.at; word = word; second = resolved_by r (expr_data e) }) second)
+          c.chain.invariant.same;
+      found = (λ i. with_faults (c.in_ok-link.ensures.found i) (misuses (resolved_by r (expr_data (next i)))))
+          ∙ ap (λ (e : ExprTree). with_faults (with_faults (found_in c.chain.findings) (misuses (resolved_by r (expr_data e)))) (misuses (resolved_by r (expr_data a.value)))) second
+          ∙ chain_found r head word a b c.in-Binary.is (found_in c.chain.findings) _ c.chain.invariant.found;
+      no_larger = let same = ap size-ExprTree next in let before = c.chain.invariant.no_larger in omega (arith, smaller, same, before);
+    }
+
+pub trees-loop-e-preserved : goal.trees-loop-e-preserved
+trees-loop-e-preserved t c =
+    let r = c.args.resolver.now in
+    let es = c.args.es.now in
+    let i = c.loop-e.e-index in
+    let e = c.e-item.result in
+    let rest : drop i es ≡ e ∷ drop (i + 1) es = drop-cons es i e c.loop-e-test.true ∙ (λ j. sym c.e-item.is j ∷ drop (sym (add-one i) j) es) in
+    record {
+      same = each_step r es i e rest c.loop-e.made.items c.push.new.self.items c.in_ok-tree.field-0 _ c.in_ok-push.ensures.items c.in_ok-tree.ensures.tree c.loop-e.invariant.same;
+      found = ap (λ f. with_faults f (misuses_of_each (resolved_each_by r (expressions (map expr_data (drop (i + 1) es)))))) c.in_ok-tree.ensures.found
+          ∙ each_found r es i e rest (found_in c.loop-e.findings) _ c.loop-e.invariant.found;
+    }

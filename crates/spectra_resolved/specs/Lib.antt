@@ -1,0 +1,16 @@
+pub mod Spots
+pub mod Findings
+pub mod Numbers
+pub mod Resolved
+pub mod Views
+pub mod Texts
+pub mod TextViews
+pub mod Spaces
+pub mod Tables
+pub mod Enums
+pub mod EnumViews
+pub mod Looks
+pub mod LookViews
+pub mod Resolving
+pub mod Regexes
+pub mod ResolverViews

@@ -1,0 +1,88 @@
+-- The tree of an expression with each name replaced by what it stands for, and the names that mean nothing in it.
+use Rattle.std.specs.Prelude.{ℕ, ◌==◌, true, false, List, [], ◌∷◌, ◌++◌, Option, Some, None, length, map, if◌then◌else◌}
+use Rattle.spectra_trees.specs.declared.tree.Place.{Place}
+use Rattle.spectra_trees.specs.Data as written
+use Rattle.spectra_trees.specs.Data.{NameData, Expression, expression, Expressions}
+use Rattle.spectra_resolved.specs.declared.spot.Spot.{Spot}
+use Rattle.spectra_resolved.specs.declared.tree.Leaf.TheVariants as leaves
+use Rattle.spectra_resolved.specs.declared.tree.Misuse.{Misuse}
+use Rattle.spectra_resolved.specs.declared.tree.Misuse.TheVariants as misuse
+use Rattle.spectra_resolved.specs.declared.table.Named.{Named}
+use Rattle.spectra_resolved.specs.declared.table.Named.TheVariants as names
+use Rattle.spectra_resolved.specs.declared.findings.Finding.{Finding}
+use Rattle.spectra_resolved.specs.Findings.{fault}
+use Rattle.spectra_resolved.specs.Numbers.{number_of, signed}
+use Rattle.spectra_resolved.specs.Spots.{spot_at, spot_of}
+use Rattle.spectra_resolved.specs.Looks.{Looking}
+use Rattle.spectra_resolved.specs.Resolved.{ResolvedTree, tree, Form, ResolvedTrees, listed}
+
+-- ---- what a name is
+
+-- a name without parentheses
+abbrev pub read_form : Option Named → Form
+read_form (Some (names.Leaf leaf)) = Form.LeafOf leaf
+read_form (Some (names.Predicate k arity)) = Form.MisuseOf (misuse.Bare k) ResolvedTrees.none
+read_form _ = Form.MisuseOf misuse.Unknown ResolvedTrees.none
+
+-- a name with arguments
+abbrev pub call_form : Option Named → ResolvedTrees → Form
+call_form (Some (names.Leaf leaf)) ts = Form.MisuseOf (misuse.Called leaf) ts
+call_form (Some (names.Predicate k arity)) ts = if length (listed ts) == arity then Form.PredicateOf k ts else Form.MisuseOf (misuse.Arity k) ts
+call_form _ ts = Form.MisuseOf misuse.Unknown ts
+
+-- ---- the tree of an expression
+
+abbrev mutual
+  pub resolved : Looking → (file : ℕ) → Expression → ResolvedTree
+  resolved look file (expression first at form) = resolved_form look file (spot_at file first) (spot_at file at) form
+
+  pub resolved_form : Looking → (file : ℕ) → (first at : Spot) → written.Form → ResolvedTree
+  resolved_form look file first at written.Form.True = tree first at (Form.LeafOf (leaves.Truth true))
+  resolved_form look file first at written.Form.False = tree first at (Form.LeafOf (leaves.Truth false))
+  resolved_form look file first at (written.Form.Number negative digits) = tree first at (Form.LeafOf (leaves.Number (signed negative digits)))
+  resolved_form look file first at (written.Form.Read name) = tree first (spot_of file name) (read_form (look name.text))
+  resolved_form look file first at (written.Form.Call name es) = tree first (spot_of file name) (call_form (look name.text) (resolved_each look file es))
+  resolved_form look file first at (written.Form.Next e) = tree first at (Form.Next (resolved look file e))
+  resolved_form look file first at (written.Form.Prefix word e) = tree first at (Form.Prefix word (resolved look file e))
+  resolved_form look file first at (written.Form.Binary word a b) = tree first at (Form.Binary word (resolved look file a) (resolved look file b))
+  resolved_form look file first at (written.Form.Mod e number digits) = tree first at (Form.Mod (resolved look file e) (spot_at file number) (number_of digits))
+  resolved_form look file first at (written.Form.And es ops) = tree first at (Form.And (resolved_each look file es) (map (spot_at file) ops))
+  resolved_form look file first at (written.Form.Or es ops) = tree first at (Form.Or (resolved_each look file es) (map (spot_at file) ops))
+
+  pub resolved_each : Looking → (file : ℕ) → Expressions → ResolvedTrees
+  resolved_each look file Expressions.none = ResolvedTrees.none
+  resolved_each look file (Expressions.one_more e es) = ResolvedTrees.one_more (resolved look file e) (resolved_each look file es)
+
+-- ---- names that mean nothing where they stand
+
+-- the number of the fault: an unknown name, a wrong number of arguments, a predicate without parentheses or another name with
+abbrev pub fault_of : Misuse → ℕ
+fault_of misuse.Unknown = 7
+fault_of (misuse.Arity k) = 16
+fault_of (misuse.Bare k) = 9
+fault_of (misuse.Called leaf) = 9
+
+-- a misused name, at the name
+abbrev pub own_misuse : Spot → Form → List Finding
+own_misuse at (Form.MisuseOf m ts) = fault (fault_of m) at ∷ []
+own_misuse at _ = []
+
+-- each misused name in a tree
+abbrev mutual
+  pub misuses : ResolvedTree → List Finding
+  misuses (tree first at form) = form_misuses at form
+
+  pub form_misuses : Spot → Form → List Finding
+  form_misuses at (Form.LeafOf leaf) = []
+  form_misuses at (Form.PredicateOf k ts) = misuses_of_each ts
+  form_misuses at (Form.MisuseOf m ts) = fault (fault_of m) at ∷ misuses_of_each ts
+  form_misuses at (Form.Next t) = misuses t
+  form_misuses at (Form.Prefix word t) = misuses t
+  form_misuses at (Form.Binary word a b) = misuses a ++ misuses b
+  form_misuses at (Form.Mod t number_at n) = misuses t
+  form_misuses at (Form.And ts ops) = misuses_of_each ts
+  form_misuses at (Form.Or ts ops) = misuses_of_each ts
+
+  pub misuses_of_each : ResolvedTrees → List Finding
+  misuses_of_each ResolvedTrees.none = []
+  misuses_of_each (ResolvedTrees.one_more t ts) = misuses t ++ misuses_of_each ts

@@ -1,0 +1,26 @@
+-- Places in several files, and names with their places.
+use Rattle.std.specs.Prelude.{ℕ, List}
+use Rattle.spectra_trees.specs.declared.tree.Place.{Place}
+use Rattle.spectra_trees.specs.Data.{NameData}
+use Rattle.spectra_resolved.specs.declared.spot.Spot.{Spot}
+use Rattle.spectra_resolved.specs.declared.spot.Mention.{Mention}
+
+-- a place of a file
+abbrev pub spot_at : (file : ℕ) → Place → Spot
+spot_at file at = record { file = file; line = at.line; column = at.column }
+
+-- where a name of a file stands
+abbrev pub spot_of : (file : ℕ) → NameData → Spot
+spot_of file name = record { file = file; line = name.line; column = name.column }
+
+-- a name as it is written, and where
+pub record MentionData : Type 0 where
+  pub text : List ℕ
+  pub at : Spot
+
+abbrev pub mentioned : (file : ℕ) → NameData → MentionData
+mentioned file name = record { text = name.text; at = spot_of file name }
+
+-- what the program's stand for
+abbrev pub mention_data : Mention → MentionData
+mention_data m = record { text = m.text.now; at = m.at }

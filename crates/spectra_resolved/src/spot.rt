@@ -1,0 +1,54 @@
+//! Places in several files.
+
+ghost use Rattle.std.specs.Prelude.{◌≡◌, ℕ};
+ghost use Rattle.spectra_trees.specs.Views.{name_data};
+ghost use Rattle.spectra_resolved.specs.Spots.{spot_at as spot_at_lem, spot_of as spot_of_lem, mentioned as mentioned_lem, mention_data};
+
+use spectra_trees::tree::{Name, Place};
+
+/// A place in one of several files: the file's number in the order of reading, from 0, with the line and the column, from 1.
+#[derive(Clone, Copy, Debug, PartialEq, Eq)]
+pub struct Spot {
+    pub file: usize,
+    pub line: u32,
+    pub column: u32,
+}
+
+/// A name as it is written, and where.
+#[derive(Clone, Copy)]
+pub struct Mention<'t> {
+    pub text: &'t str,
+    pub at: Spot,
+}
+
+/// A place of a file.
+pub fn spot_at(file: usize, at: Place) -> Spot
+    ensures { result ≡ spot_at_lem file at }
+{
+    Spot {
+        file,
+        line: at.line,
+        column: at.column,
+    }
+}
+
+/// Where a name of a file stands.
+pub fn spot_of(file: usize, name: &Name) -> Spot
+    ensures { result ≡ spot_of_lem file (name_data name.now) }
+{
+    Spot {
+        file,
+        line: name.line,
+        column: name.column,
+    }
+}
+
+/// A name of a file, and where it stands.
+pub fn mentioned<'t>(file: usize, name: &'t Name) -> Mention<'t>
+    ensures { mention_data result ≡ mentioned_lem file (name_data name.now) }
+{
+    Mention {
+        text: name.text.as_str(),
+        at: spot_of(file, name),
+    }
+}
