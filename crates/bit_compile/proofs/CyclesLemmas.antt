@@ -1,19 +1,24 @@
 -- The tables that are left to be read, and the cases of several formulas.
-use Rattle.std.proofs.Common.{◌≡◌, ℕ, zero, suc, ◌+◌, ◌<◌, ◌≤◌, true, List, [], ◌∷◌, ◌++◌, map, length, take, get_or, refl, sym, ap, arith}
+use Rattle.std.proofs.Common.{◌≡◌, ℕ, zero, suc, ◌+◌, ◌<◌, ◌≤◌, true, List, [], ◌∷◌, ◌++◌, map, length, take, drop, get_or, refl, sym, ◌∙◌, ap, subst, arith, Result, IfOk}
 use Rattle.spec_model.specs.declared.expr.Expr.{Expr}
 use Rattle.spec_model.specs.declared.game.Hidden.{Hidden}
 use Rattle.spec_model.specs.declared.value.Value.{Value}
 use Rattle.spec_model.specs.declared.value.Value.TheVariants as value
 use Rattle.spec_model.specs.Syntax.{Formula, Constant, Variable, NextOf, Negation, Conjunction, Disjunction, Implication, Equivalence, Comparison, Sum, Difference, Product, Remainder, PastOf, Entry}
 use Rattle.spec_model.specs.Views.{formula}
-use Rattle.spec_model.specs.FormulaSizes.{nodes_in_each}
+use Rattle.spec_model.specs.FormulaSizes.{nodes_in, nodes_in_each}
 use Rattle.spec_model.specs.Games.{GameData}
 use Rattle.spec_model.specs.Diagrams.{Function}
 use Rattle.game_values.specs.Safety.{formulas_in}
 use Rattle.game_values.specs.declared.seen.At.{At}
 use Rattle.game_values.specs.declared.seen.At.TheVariants.{Next}
-use Rattle.bit_compile.specs.Compiled.{Case, Entries, truth_in, truths_in, cases_in, values_in}
-use Rattle.bit_compile.specs.CaseRoots.{true_cases}
+use Rattle.bdd_ops.specs.Contents.{Contents}
+use Rattle.regions.specs.declared.types.Halt.{Halt}
+use Rattle.bit_compile.specs.declared.cases.CaseRoot.{CaseRoot}
+use Rattle.bit_compile.specs.Compiled.{Case, Entries, both_truths, truth_in, truths_in, cases_in, values_in}
+use Rattle.bit_compile.specs.CaseRoots.{AddsCases, true_cases}
+use Rattle.bit_compile.specs.Known.{IsKnown, AreKnown}
+use Rattle.bit_compile.proofs.Folding.{drop_next}
 
 -- how many nodes the tables' atoms have
 abbrev pub atoms_left : List Hidden → ℕ
@@ -76,3 +81,20 @@ pub got : {X : Type 0} (xs : List X) (i : ℕ) (d d' : X) → i < length xs → 
 got [] i d d' h = absurd (omega arith)
 got (x ∷ xs) zero d d' h = refl
 got (x ∷ xs) (suc i) d d' h = got xs i d d' (omega arith)
+
+-- ---- the next of several formulas
+
+pub known_next : (g : GameData) (es : List Expr) (i : ℕ) (e : Expr) → i < length es → e ≡ get_or es i e → AreKnown g (formulas_in (drop i es)) → IsKnown g (formula e) × AreKnown g (formulas_in (drop (i + 1) es))
+known_next g es i e h is known = subst (λ (ds : List Expr). AreKnown g (formulas_in ds)) (drop_next es i e h is) known
+
+pub heavier_next : (es : List Expr) (i : ℕ) (e : Expr) → i < length es → e ≡ get_or es i e → nodes_in_each (formulas_in (drop i es)) ≡ nodes_in (formula e) + nodes_in_each (formulas_in (drop (i + 1) es))
+heavier_next es i e h is = ap (λ (ds : List Expr). nodes_in_each (formulas_in ds)) (drop_next es i e h is)
+
+-- ---- truth values as cases
+
+pub both_made : {V : Type 0} (g : GameData) (entries : Entries) (at : At) (old new : Contents) (items : V → List CaseRoot) (r : Result V Halt) (e f : Formula) → e ≡ f → cases_in g entries at f ≡ both_truths (truth_in g entries at f) →
+    IfOk r (λ v. AddsCases old new (items v) (both_truths (truth_in g entries at e))) → IfOk r (λ v. AddsCases old new (items v) (cases_in g entries at e))
+both_made g entries at old new items r e f is both made =
+    let same : both_truths (truth_in g entries at e) ≡ cases_in g entries at e =
+    ap (λ (d : Formula). both_truths (truth_in g entries at d)) is ∙ (sym both ∙ ap (λ (d : Formula). cases_in g entries at d) (sym is)) in
+    subst (λ (cs : List Case). IfOk r (λ v. AddsCases old new (items v) cs)) same made

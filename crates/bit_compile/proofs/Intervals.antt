@@ -1,6 +1,7 @@
 -- The values that a formula may have are those of its kind, and its value is among them.
 use Rattle.std.proofs.Common.{◌≡◌, ℕ, zero, suc, ◌+◌, ◌-◌, ◌^◌, ◌<◌, ℤ, pos, neg_ℤ, ◌+ℤ◌, ◌-ℤ◌, ◌≤ℤ◌, nat_abs, Bool, true, false, ◌&&◌, ◌==◌, if◌then◌else◌, List, [], ◌∷◌, map, length, Option, Some, None, is_some, option_map, slice_get, get_or, refl, sym, ◌∙◌, ap, subst, arith, cond}
-use Rattle.std.specs.Prelude.{int_le, int_lt}
+use Rattle.std.specs.Prelude.{int_le, int_lt, FitsSigned}
+use Rattle.std.specs.Int.{w64, int_min, int_max}
 use Rattle.std.specs.List.{list_any, list_all}
 use Rattle.std.proofs.lemmas.Bool.{and_parts, and_from, false≢true}
 use Rattle.std.proofs.lemmas.Int.{ints, clamps}
@@ -214,3 +215,12 @@ countable_remainder (Some (Whole a b)) n vs some = at (int_lt (pos 0) n) refl so
     at true e some = countable_whole (pos 0) (n -ℤ pos 1) (grind (arith, ints)) some
     at false e some = absurd (false≢true some)
 countable_remainder _ n vs some = absurd (false≢true some)
+
+-- products whose least and greatest are within 10^12 fit 64 bits
+pub products_fit : (p q r t : ℤ) → (pos 0 -ℤ pos (10 ^ 12)) ≤ℤ int_min (int_min p q) (int_min r t) → int_max (int_max p q) (int_max r t) ≤ℤ pos (10 ^ 12) → FitsSigned w64 r × FitsSigned w64 t
+products_fit p q r t low high =
+    let r_low : (pos 0 -ℤ pos (10 ^ 12)) ≤ℤ r = omega (arith, ints, clamps, low) in
+    let r_high : r ≤ℤ pos (10 ^ 12) = omega (arith, ints, clamps, high) in
+    let t_low : (pos 0 -ℤ pos (10 ^ 12)) ≤ℤ t = omega (arith, ints, clamps, low) in
+    let t_high : t ≤ℤ pos (10 ^ 12) = omega (arith, ints, clamps, high) in
+    (grind (arith, ints), grind (arith, ints))

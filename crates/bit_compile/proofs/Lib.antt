@@ -13,9 +13,13 @@ pub mod Meanings
 pub mod Knowing
 pub mod ReadVariables
 pub mod TableMeanings
+pub mod Pairing
 pub mod Places
+pub mod EntryLemmas
 pub mod FormulaMeanings
 pub mod ReadLevels
+pub mod FormulaFolds
 pub mod CyclesLemmas
+pub mod SceneLemmas
 pub mod CompiledFormulas
 pub mod Readiness

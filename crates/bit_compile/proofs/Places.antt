@@ -5,7 +5,9 @@ use Rattle.std.proofs.lemmas.List.{length-map}
 use Rattle.std.proofs.lemmas.Option.{slice_get-map}
 use Rattle.spec_model.specs.declared.value.Value.TheVariants as value
 use Rattle.spec_model.specs.declared.value.Var.{Var}
-use Rattle.spec_model.specs.Views.{variable_data}
+use Rattle.std.specs.List.{list_all}
+use Rattle.spec_model.specs.Views.{domain_data, variable_data}
+use Rattle.spec_model.specs.WellMade.{is_domain}
 use Rattle.spec_model.specs.declared.value.Owner.{Owner}
 use Rattle.spec_model.specs.declared.value.Owner.TheVariants.{Env, Sys}
 use Rattle.spec_model.specs.Values.{DomainData, TruthValues}
@@ -208,3 +210,13 @@ place_output g vars k v same h e f =
   where
     of_place : slice_get g.variables k ≡ Some (variable_data v) → place_of g k ≡ length g.hidden + (count_by (λ v. is_env v.owner) g.variables + count_by (λ v. not (is_env v.owner)) (take k g.variables))
     of_place there = rw (there, f) refl
+
+pub domain_read : (vars : List Var) (k : ℕ) (v : Var) → k < length vars → v ≡ get_or vars k v → domain_data v.domain ≡ get_or (map (λ (u : VariableData). u.domain) (map variable_data vars)) k TruthValues
+domain_read [] k v h e = absurd (omega arith)
+domain_read (w ∷ vars) zero v h e = ap (λ (u : Var). domain_data u.domain) e
+domain_read (w ∷ vars) (suc k) v h e = domain_read vars k v (omega arith) e
+
+pub domain_well : (vars : List Var) (k : ℕ) (v : Var) → k < length vars → v ≡ get_or vars k v → list_all (λ (u : VariableData). is_domain u.domain) (map variable_data vars) ≡ true → is_domain (domain_data v.domain) ≡ true
+domain_well [] k v h e all = absurd (omega arith)
+domain_well (w ∷ vars) zero v h e all = ap (λ (u : Var). is_domain (domain_data u.domain)) e ∙ (and_parts (is_domain (domain_data w.domain)) _ all).0
+domain_well (w ∷ vars) (suc k) v h e all = domain_well vars k v (omega arith) e (and_parts (is_domain (domain_data w.domain)) _ all).1

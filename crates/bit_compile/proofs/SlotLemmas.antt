@@ -1,10 +1,12 @@
 -- Where the slots of a list of domains stand.
-use Rattle.std.proofs.Common.{◌≡◌, ℕ, zero, suc, ◌+◌, ◌*◌, ◌^◌, ◌<◌, ◌≤◌, List, [], ◌∷◌, ◌++◌, length, take, get_or, refl, sym, ◌∙◌, ap, subst, arith, true, false, ◌⊎◌, inl, inr}
+use Rattle.std.proofs.Common.{◌≡◌, ℕ, zero, suc, ◌+◌, ◌*◌, ◌^◌, ◌<◌, ◌≤◌, List, [], ◌∷◌, ◌++◌, map, length, take, get_or, refl, sym, ◌∙◌, ap, subst, arith, true, false, ◌⊎◌, inl, inr}
 use Rattle.std.proofs.lemmas.Bool.{false≢true, and_parts}
 use Rattle.std.specs.List.{list_any}
 use Rattle.spec_model.specs.declared.value.Value.{Value}
 use Rattle.spec_model.specs.declared.value.Value.TheVariants as value
-use Rattle.spec_model.specs.Values.{DomainData, is_assignment, same_value, values_of}
+use Rattle.spec_model.specs.declared.value.Domain.{Domain}
+use Rattle.spec_model.specs.Views.{domain_data}
+use Rattle.spec_model.specs.Values.{DomainData, TruthValues, is_assignment, same_value, values_of}
 use Rattle.game_values.specs.declared.seen.At.{At}
 use Rattle.game_values.specs.declared.seen.At.TheVariants.{Now, Next}
 use Rattle.bit_compile.specs.declared.slots.Slot.{Slot}
@@ -103,3 +105,9 @@ length-assignment [] [] e = refl
 length-assignment [] (w ∷ vs) e = absurd (false≢true e)
 length-assignment (d ∷ ds) [] e = absurd (false≢true e)
 length-assignment (d ∷ ds) (w ∷ vs) e = ap suc (length-assignment ds vs (and_parts (list_any (same_value w) (values_of d)) _ e).1)
+
+-- the domain numbered k, from that of the program
+pub domain_is : (ds : List Domain) (k : ℕ) (d : Domain) → k < length ds → d ≡ get_or ds k d → domain_data d ≡ get_or (map domain_data ds) k TruthValues
+domain_is [] k d h e = absurd (omega arith)
+domain_is (x ∷ ds) zero d h e = ap domain_data e
+domain_is (x ∷ ds) (suc k) d h e = domain_is ds k d (omega arith) e

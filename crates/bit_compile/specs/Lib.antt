@@ -5,5 +5,7 @@ pub mod Making
 pub mod Compiled
 pub mod CaseRoots
 pub mod Known
+pub mod Scenes
 pub mod CompileLaws
+pub mod Proper
 pub mod Examples

@@ -125,6 +125,27 @@ impl Codes {
         self.levels
     }
 
+    /// How many hidden tables and variables a state has.
+    pub fn count(&self) -> usize
+        ensures { result ≡ length self.now }
+    {
+        self.slots.len()
+    }
+
+    /// The domain at this place of a state.
+    pub fn domain(&self, k: usize) -> &Domain
+        requires { k < length self.now }
+        ensures domain { domain_data result.now ≡ domain_in self.now k }
+        ensures countable { IsCountable (domain_data result.now) }
+    {
+        &self.domains[k]
+    }
+
+    /// The allocator.
+    pub fn alloc(&self) -> Global {
+        *self.domains.allocator()
+    }
+
     /// The bits of the hidden table or variable at this place of a state.
     fn slot(&self, k: usize) -> Slot
         requires { k < length self.now }

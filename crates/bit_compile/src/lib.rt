@@ -6,26 +6,33 @@
 //!
 //! A formula's function of these bits is made value by value: each value that a part may have, with where it has it.
 //!
-//! Contract: `Codes::write` gives the bits of a state, `Codes::has_code` the diagram of one value, `cases::cases_from` those
-//! of several, and `pairs::pair_root` that of the pairs that pass a test. That a formula's function is its value is the law
-//! `laws::compiled_is_the_formula`.
+//! Contract: `Codes::write` gives the bits of a state, `Codes::has_code` the diagram of one value, `compile` that of a formula
+//! over a state and the next one, and `proper::proper` that of the bits that are a state's. A compiled formula is its value
+//! by a clause of `compile`, which rests on the law `laws::compiled_is_the_formula`.
 //! Path: game, operations → **codes** → regions as diagrams.
 #![tactic(auto)]
 
 pub mod cases;
 mod codes;
+mod compiling;
 mod domains;
-pub mod folds;
+mod folds;
+mod formulas;
 pub mod laws;
 mod letters;
 mod named;
 mod numbers;
-pub mod operation;
-pub mod pairs;
+mod operation;
+mod pairs;
+pub mod proper;
+mod reading;
+mod scenes;
 mod slots;
+mod spans;
 pub mod steps;
 
 pub use codes::Codes;
+pub use formulas::compile;
 /// Memory ran out.
 pub use std::alloc::AllocError as OutOfMemory;
 

@@ -1,0 +1,84 @@
+-- Pairs of cases, of which some were made on the way and are given back.
+use Rattle.std.proofs.Common.{◌≡◌, ℕ, ◌+◌, Bool, true, false, not, ◌&&◌, ◌||◌, Result, IfOk, List, [], ◌∷◌, map, refl, sym, ◌∙◌, ap, subst}
+use Rattle.spec_model.specs.declared.value.Value.{Value}
+use Rattle.std.specs.Bool.{beq}
+use Rattle.spec_model.specs.Values.{same_value, values_of}
+use Rattle.spec_model.specs.Diagrams.{Function}
+use Rattle.bdd_store.specs.State.{IsRoot, roots_at}
+use Rattle.bdd_ops.specs.Contents.{Contents}
+use Rattle.bdd_ops.specs.Calls.{KeepsRoots}
+use Rattle.regions.specs.declared.types.Halt.{Halt}
+use Rattle.bit_compile.specs.declared.cases.CaseRoot.{CaseRoot}
+use Rattle.bit_compile.specs.declared.operation.Operation.{Operation}
+use Rattle.bit_compile.specs.Making.{Makes}
+use Rattle.bit_compile.specs.Compiled.{Case, both_truths, same_truth, some_pair, results, span_of}
+use Rattle.bit_compile.specs.CaseRoots.{cases_at, roots_in, AreKept, HasTogether, AddsCases, Leaves}
+use Rattle.bit_compile.proofs.Between.{between_cases, cases_kept, cases_stay, cases_through, leaves_between, root_before, still_kept, through_cases, together, together_after, together_left}
+
+-- the values of cases, by their roots
+pub values_at : (c : Contents) (xs : List CaseRoot) → map (λ (d : Case). d.value) (cases_at c xs) ≡ map (λ (x : CaseRoot). x.value) xs
+values_at c [] = refl
+values_at c (x ∷ xs) = ap (λ (vs : List Value). x.value ∷ vs) (values_at c xs)
+
+-- the cases that were made are read as `seen`
+module _ (old mid : Contents) (made seen : List CaseRoot) (cs : List Case) (adds : AddsCases old mid made cs) (keeps : KeepsRoots old mid) (same : seen ≡ made) where
+  pub seen_kept : AreKept mid.state seen
+  seen_kept = subst (λ (xs : List CaseRoot). AreKept mid.state xs) (sym same) (cases_kept old mid made cs adds)
+
+  pub seen_are : cases_at mid seen ≡ cs
+  seen_are = ap (cases_at mid) same ∙ adds.are
+
+  pub seen_values : (bs : List Value) → map (λ (d : Case). d.value) cs ≡ bs → map (λ (x : CaseRoot). x.value) seen ≡ bs
+  seen_values bs is = sym (values_at mid seen) ∙ (ap (map (λ (d : Case). d.value)) seen_are ∙ is)
+
+  pub made_together : (whole : Contents) (r : Result ℕ Halt) (f : Function) → Makes mid whole r f → HasTogether whole.state made
+  made_together whole r f makes = together_after mid whole made r f (together old mid made cs adds) makes
+
+  pub made_left : {V : Type 0} (items : V → List CaseRoot) (whole : Contents) (r : Result V Halt) (ds : List Case) → IfOk r (λ v. AddsCases mid whole (items v) ds) → Leaves mid whole r → HasTogether whole.state made
+  made_left items whole r ds more leaves = together_left items mid whole made r ds (together old mid made cs adds) more leaves
+
+  pub others_kept : (xs : List CaseRoot) → AreKept old.state xs → AreKept mid.state xs
+  others_kept xs kept = still_kept old.state mid.state xs (root_before old mid made cs adds) kept
+
+  pub other_kept : (n : ℕ) → IsRoot old.state n → IsRoot mid.state n
+  other_kept n root = root_before old mid made cs adds n root
+
+  module _ (whole new : Contents) (back : (n : ℕ) → roots_at whole.state n ≡ roots_at new.state n + roots_in made n) (table : new.state.table ≡ whole.state.table) where
+    -- a function of what was made, once that is given back
+    pub made_through : (r : Result ℕ Halt) (f g : Function) → Makes mid whole r g → g ≡ f → Makes old new r f
+    made_through r f g makes is = through_cases old mid whole new made cs r f g adds keeps makes is back table
+
+    -- pairs of what was kept and of what was made
+    pub pairs_with : (t : Value → Value → Bool) (kept : List CaseRoot) (r : Result ℕ Halt) → AreKept old.state kept → Makes mid whole r (some_pair t (cases_at mid kept) (cases_at mid seen)) → Makes old new r (some_pair t (cases_at old kept) cs)
+    pairs_with t kept r are makes =
+        made_through r (some_pair t (cases_at old kept) cs) (some_pair t (cases_at mid kept) (cases_at mid seen)) makes
+        (ap (λ (ds : List Case). some_pair t ds (cases_at mid seen)) (cases_stay old mid kept keeps are) ∙ ap (λ (ds : List Case). some_pair t (cases_at old kept) ds) seen_are)
+
+    pub made_leaves : {V : Type 0} (r : Result V Halt) → Leaves mid whole r → Leaves old new r
+    made_leaves r leaves = leaves_between old mid whole new (roots_in made) (between_cases old mid made cs adds keeps) back table r leaves
+
+    pub cases_with : {V : Type 0} (items : V → List CaseRoot) (r : Result V Halt) (ds es : List Case) → IfOk r (λ v. AddsCases mid whole (items v) ds) → ds ≡ es → IfOk r (λ v. AddsCases old new (items v) es)
+    cases_with items r ds es more is = cases_through items old mid whole new (roots_in made) r es ds (between_cases old mid made cs adds keeps) more is back table
+
+    -- results of what was kept and of what was made
+    pub results_with : {V : Type 0} (items : V → List CaseRoot) (op : Operation) (kept : List CaseRoot) (bs : List Value) (r : Result V Halt) → AreKept old.state kept → map (λ (d : Case). d.value) cs ≡ bs →
+        IfOk r (λ v. AddsCases mid whole (items v) (results op (cases_at mid kept) (cases_at mid seen) (values_of (span_of op (map (λ (x : CaseRoot). x.value) kept) (map (λ (x : CaseRoot). x.value) seen))))) →
+        IfOk r (λ v. AddsCases old new (items v) (results op (cases_at old kept) cs (values_of (span_of op (map (λ (x : CaseRoot). x.value) kept) bs))))
+    results_with items op kept bs r are is more =
+        let vs : List Value = map (λ (x : CaseRoot). x.value) kept in
+        cases_with items r _ _ more
+        (ap (λ (ws : List Value). results op (cases_at mid kept) (cases_at mid seen) (values_of (span_of op vs ws))) (seen_values bs is)
+        ∙ (ap (λ (ds : List Case). results op ds (cases_at mid seen) (values_of (span_of op vs bs))) (cases_stay old mid kept keeps are)
+        ∙ ap (λ (ds : List Case). results op (cases_at old kept) ds (values_of (span_of op vs bs))) seen_are))
+
+-- ---- truth values
+
+-- the pairs of equal truth values are where the two functions agree
+pub both_same : (f g : Function) → some_pair same_value (both_truths f) (both_truths g) ≡ same_truth f g
+both_same f g = λ i s. at (f s) (g s) i
+  where
+    at : (a b : Bool) → ((not a && not b || (false || false)) || ((false || (a && b || false)) || false)) ≡ beq a b
+    at true true = refl
+    at true false = refl
+    at false true = refl
+    at false false = refl

@@ -1,0 +1,36 @@
+-- What formulas are compiled in, and which of them can be.
+use Rattle.std.specs.Prelude.{◌≡◌, ◌<◌, ◌≤◌, ℕ, pos, true, List, [], ◌∷◌, map, length}
+use Rattle.std.specs.List.{list_all, AllByRecursion}
+use Rattle.spec_model.specs.declared.game.Hidden.{Hidden}
+use Rattle.spec_model.specs.declared.value.Value.TheVariants as value
+use Rattle.spec_model.specs.Values.{DomainData, values_of}
+use Rattle.spec_model.specs.Syntax.{Formula, Constant, Variable, NextOf, Negation, Conjunction, Disjunction, Implication, Equivalence, Comparison, Sum, Difference, Product, Remainder, PastOf, Entry, Formulas}
+use Rattle.spec_model.specs.GameViews.{game_data, hidden_data}
+use Rattle.spec_model.specs.Games.{GameData}
+use Rattle.spec_model.specs.WellMade.{is_domain}
+use Rattle.game_values.specs.Safety.{formulas_in}
+use Rattle.game_values.specs.Whole.{IsWhole}
+use Rattle.game_values.specs.declared.seen.At.{At}
+use Rattle.bit_compile.specs.declared.operation.Operation.{Operation}
+use Rattle.bit_compile.specs.declared.operation.Operation.TheVariants.{Add, Sub, Mul, Mod}
+use Rattle.bit_compile.specs.declared.scenes.Scene.{Scene}
+use Rattle.bit_compile.specs.Domains.{IsCountable, state_domains}
+use Rattle.bit_compile.specs.Compiled.{Entries, entries_of}
+use Rattle.bit_compile.specs.Known.{IsReadable}
+
+abbrev pub game_seen : Scene → GameData
+game_seen s = game_data s.game.now
+
+abbrev pub codes_seen : Scene → List DomainData
+codes_seen s = s.codes.now
+
+abbrev pub entries_seen : Scene → Entries
+entries_seen s = entries_of (game_seen s) (map hidden_data s.hidden.now)
+
+-- the bits are those of the game's states, and the tables can be read
+pub record IsScene (s : Scene) : Type 0 where
+  pub codes : codes_seen s ≡ state_domains (game_seen s)
+  pub domains : list_all (λ v. is_domain v.domain) (game_seen s).variables ≡ true
+  pub few : length (game_seen s).variables ≤ 1024
+  pub within : length s.hidden.now ≤ length (game_seen s).hidden
+  pub tables : AllByRecursion (IsReadable (game_seen s)) s.hidden.now

@@ -1,0 +1,397 @@
+//! The diagram of a formula, by cases on the expression.
+
+ghost use Rattle.std.specs.Prelude.{◌≤◌, ◌||◌, map, IfOk};
+ghost use Rattle.spec_model.specs.Syntax.{Comparison, Remainder};
+ghost use Rattle.spec_model.specs.Views.{formula};
+ghost use Rattle.spec_model.specs.Values.{values_of};
+ghost use Rattle.game_values.specs.Safety.{formulas_in};
+ghost use Rattle.bdd_store.specs.State.{IsRoot};
+ghost use Rattle.bdd_ops.specs.Contents.{function_at};
+ghost use Rattle.bit_compile.specs.Domains.{level_count, IsCountable};
+ghost use Rattle.bit_compile.specs.Making.{Makes};
+ghost use Rattle.bit_compile.specs.Compiled.{truth_in, truths_in, cases_in, entry_of, is_not, implied, same_truth, both_truths, some_pair, results, values_in, span_of};
+ghost use Rattle.bit_compile.specs.CaseRoots.{AreKept, AddsCases, Leaves, cases_at, folded as folded_lem, passes, true_cases};
+ghost use Rattle.bit_compile.specs.Scenes.{IsScene, codes_seen, entries_seen, game_seen};
+ghost use Rattle.bit_compile.specs.Known.{IsKnown, AreKnown, operated_cases};
+
+use crate::cases::{CaseRoot, Source, cases_from, cases_of_truth, release_all};
+use crate::folds::{Fold, folded};
+use crate::operation::Operation;
+use crate::pairs::{Test, pair_root};
+use crate::reading::{variable_cases, variable_root};
+use crate::scenes::Scene;
+use crate::spans::{operation_cases, remainder_cases, same_root, table_root};
+use crate::steps::{constant, not, or};
+use bdd_ops::{Diagrams, Root};
+use game_values::seen::At;
+use game_values::values::truth;
+use regions::Halt;
+use spec_model::expr::{Compare, Expr};
+use spec_model::value::Value;
+
+/// Where a formula is true.
+#[cycle(compile)]
+pub fn truth_root(diagrams: &mut Diagrams, scene: &Scene, at: At, e: &Expr) -> Result<Root, Halt>
+    requires scene { IsScene scene.now }
+    requires levels { level_count (codes_seen scene.now) ≤ diagrams.old.state.table.levels }
+    requires known { IsKnown (game_seen scene.now) (formula e.now) }
+    ensures { Makes diagrams.old diagrams.new result (truth_in (game_seen scene.now) (entries_seen scene.now) at (formula e.now)) }
+{
+    match e {
+        Expr::Const(v) => constant(diagrams, truth(*v)),
+        Expr::Var(k) => variable_root(diagrams, scene, at, *k as usize),
+        Expr::Next(a) => truth_root(diagrams, scene, At::Next, a),
+        Expr::Not(a) => negated_root(diagrams, scene, at, a),
+        Expr::And(es) => joined_root(diagrams, scene, at, Fold::All, es),
+        Expr::Or(es) => joined_root(diagrams, scene, at, Fold::Some, es),
+        Expr::Implies(a, b) => implied_root(diagrams, scene, at, a, b),
+        Expr::Iff(a, b) => equivalent_root(diagrams, scene, at, a, b),
+        Expr::Cmp(c, a, b) => compared_root(diagrams, scene, at, *c, a, b),
+        Expr::Table(h, n) => entry_root(diagrams, scene, *h as usize, *n as usize),
+        Expr::Add(_, _) => constant(diagrams, false),
+        Expr::Sub(_, _) => constant(diagrams, false),
+        Expr::Mul(_, _) => constant(diagrams, false),
+        Expr::Mod(_, _) => constant(diagrams, false),
+        Expr::Past(_, _) => constant(diagrams, false),
+    }
+}
+
+/// Where a formula is false.
+#[cycle(compile)]
+fn negated_root(diagrams: &mut Diagrams, scene: &Scene, at: At, e: &Expr) -> Result<Root, Halt>
+    requires scene { IsScene scene.now }
+    requires levels { level_count (codes_seen scene.now) ≤ diagrams.old.state.table.levels }
+    requires known { IsKnown (game_seen scene.now) (formula e.now) }
+    ensures { Makes diagrams.old diagrams.new result (is_not (truth_in (game_seen scene.now) (entries_seen scene.now) at (formula e.now))) }
+{
+    let root = truth_root(diagrams, scene, at, e)?;
+    let other = not(diagrams, &root);
+    diagrams.release(root);
+    other
+}
+
+/// Where a formula is false, or another is true.
+#[cycle(compile)]
+fn implied_root(
+    diagrams: &mut Diagrams,
+    scene: &Scene,
+    at: At,
+    a: &Expr,
+    b: &Expr,
+) -> Result<Root, Halt>
+    requires scene { IsScene scene.now }
+    requires levels { level_count (codes_seen scene.now) ≤ diagrams.old.state.table.levels }
+    requires a_known { IsKnown (game_seen scene.now) (formula a.now) }
+    requires b_known { IsKnown (game_seen scene.now) (formula b.now) }
+    ensures { Makes diagrams.old diagrams.new result (implied (truth_in (game_seen scene.now) (entries_seen scene.now) at (formula a.now)) (truth_in (game_seen scene.now) (entries_seen scene.now) at (formula b.now))) }
+{
+    let root = negated_root(diagrams, scene, at, a)?;
+    let whole = or_truth(diagrams, scene, at, &root, b);
+    diagrams.release(root);
+    whole
+}
+
+/// Where a root is true, or a formula is.
+#[cycle(compile)]
+fn or_truth(
+    diagrams: &mut Diagrams,
+    scene: &Scene,
+    at: At,
+    first: &Root,
+    e: &Expr,
+) -> Result<Root, Halt>
+    requires scene { IsScene scene.now }
+    requires levels { level_count (codes_seen scene.now) ≤ diagrams.old.state.table.levels }
+    requires known { IsKnown (game_seen scene.now) (formula e.now) }
+    requires kept { IsRoot diagrams.old.state first.now }
+    ensures { Makes diagrams.old diagrams.new result (λ s. function_at diagrams.old first.now s || truth_in (game_seen scene.now) (entries_seen scene.now) at (formula e.now) s) }
+{
+    let root = truth_root(diagrams, scene, at, e)?;
+    let whole = or(diagrams, first, &root);
+    diagrams.release(root);
+    whole
+}
+
+/// Where two formulas are both true, or neither is.
+#[cycle(compile)]
+fn equivalent_root(
+    diagrams: &mut Diagrams,
+    scene: &Scene,
+    at: At,
+    a: &Expr,
+    b: &Expr,
+) -> Result<Root, Halt>
+    requires scene { IsScene scene.now }
+    requires levels { level_count (codes_seen scene.now) ≤ diagrams.old.state.table.levels }
+    requires a_known { IsKnown (game_seen scene.now) (formula a.now) }
+    requires b_known { IsKnown (game_seen scene.now) (formula b.now) }
+    ensures { Makes diagrams.old diagrams.new result (same_truth (truth_in (game_seen scene.now) (entries_seen scene.now) at (formula a.now)) (truth_in (game_seen scene.now) (entries_seen scene.now) at (formula b.now))) }
+{
+    let root = truth_root(diagrams, scene, at, a)?;
+    let whole = same_as_truth(diagrams, scene, at, &root, b);
+    diagrams.release(root);
+    whole
+}
+
+/// Where a root and a formula are both true, or neither is.
+#[cycle(compile)]
+fn same_as_truth(
+    diagrams: &mut Diagrams,
+    scene: &Scene,
+    at: At,
+    first: &Root,
+    e: &Expr,
+) -> Result<Root, Halt>
+    requires scene { IsScene scene.now }
+    requires levels { level_count (codes_seen scene.now) ≤ diagrams.old.state.table.levels }
+    requires known { IsKnown (game_seen scene.now) (formula e.now) }
+    requires kept { IsRoot diagrams.old.state first.now }
+    ensures { Makes diagrams.old diagrams.new result (same_truth (function_at diagrams.old first.now) (truth_in (game_seen scene.now) (entries_seen scene.now) at (formula e.now))) }
+{
+    let root = truth_root(diagrams, scene, at, e)?;
+    let whole = same_root(diagrams, scene.alloc(), first, &root);
+    diagrams.release(root);
+    whole
+}
+
+/// Where each of several formulas is true.
+#[cycle(compile)]
+fn truth_cases(
+    diagrams: &mut Diagrams,
+    scene: &Scene,
+    at: At,
+    es: &[Expr],
+) -> Result<Vec<CaseRoot>, Halt>
+    requires scene { IsScene scene.now }
+    requires levels { level_count (codes_seen scene.now) ≤ diagrams.old.state.table.levels }
+    requires known { AreKnown (game_seen scene.now) (formulas_in es.now) }
+    ensures made { IfOk result (λ cases. AddsCases diagrams.old diagrams.new cases.items (true_cases (truths_in (game_seen scene.now) (entries_seen scene.now) at (formulas_in es.now)))) }
+    ensures leaves { Leaves diagrams.old diagrams.new result }
+{
+    let Ok(mut cases) = Vec::with_capacity(scene.alloc(), es.len()) else {
+        return Err(Halt::Memory);
+    };
+    for e in es {
+        match truth_root(diagrams, scene, at, e) {
+            Ok(root) => cases.push_reserved(CaseRoot {
+                value: Value::Bool(true),
+                root,
+            }),
+            Err(halt) => {
+                release_all(diagrams, cases);
+                return Err(halt);
+            }
+        }
+    }
+    Ok(cases)
+}
+
+/// Where all of several formulas are true, or some are.
+#[cycle(compile)]
+fn joined_root(
+    diagrams: &mut Diagrams,
+    scene: &Scene,
+    at: At,
+    fold: Fold,
+    es: &[Expr],
+) -> Result<Root, Halt>
+    requires scene { IsScene scene.now }
+    requires levels { level_count (codes_seen scene.now) ≤ diagrams.old.state.table.levels }
+    requires known { AreKnown (game_seen scene.now) (formulas_in es.now) }
+    ensures { Makes diagrams.old diagrams.new result (folded_lem fold (truths_in (game_seen scene.now) (entries_seen scene.now) at (formulas_in es.now))) }
+{
+    let cases = truth_cases(diagrams, scene, at, es)?;
+    let root = folded(diagrams, fold, &cases);
+    release_all(diagrams, cases);
+    root
+}
+
+/// Where a comparison holds.
+#[cycle(compile)]
+fn compared_root(
+    diagrams: &mut Diagrams,
+    scene: &Scene,
+    at: At,
+    c: Compare,
+    a: &Expr,
+    b: &Expr,
+) -> Result<Root, Halt>
+    requires scene { IsScene scene.now }
+    requires levels { level_count (codes_seen scene.now) ≤ diagrams.old.state.table.levels }
+    requires a_known { IsKnown (game_seen scene.now) (formula a.now) }
+    requires b_known { IsKnown (game_seen scene.now) (formula b.now) }
+    ensures { Makes diagrams.old diagrams.new result (truth_in (game_seen scene.now) (entries_seen scene.now) at (Comparison c (formula a.now) (formula b.now))) }
+{
+    let xs = cases_of(diagrams, scene, at, a)?;
+    let root = compared_with(diagrams, scene, at, c, &xs, b);
+    release_all(diagrams, xs);
+    root
+}
+
+/// Where some of these values compares with the value of a formula.
+#[cycle(compile)]
+fn compared_with(
+    diagrams: &mut Diagrams,
+    scene: &Scene,
+    at: At,
+    c: Compare,
+    xs: &[CaseRoot],
+    b: &Expr,
+) -> Result<Root, Halt>
+    requires scene { IsScene scene.now }
+    requires levels { level_count (codes_seen scene.now) ≤ diagrams.old.state.table.levels }
+    requires known { IsKnown (game_seen scene.now) (formula b.now) }
+    requires kept { AreKept diagrams.old.state xs.now }
+    ensures { Makes diagrams.old diagrams.new result (some_pair (passes (Test.Compared c)) (cases_at diagrams.old xs.now) (cases_in (game_seen scene.now) (entries_seen scene.now) at (formula b.now))) }
+{
+    let ys = cases_of(diagrams, scene, at, b)?;
+    let root = pair_root(diagrams, &Test::Compared(c), xs, &ys);
+    release_all(diagrams, ys);
+    root
+}
+
+/// Where an entry of a hidden table is true.
+#[cycle(compile)]
+fn entry_root(diagrams: &mut Diagrams, scene: &Scene, h: usize, n: usize) -> Result<Root, Halt>
+    requires scene { IsScene scene.now }
+    requires levels { level_count (codes_seen scene.now) ≤ diagrams.old.state.table.levels }
+    ensures { Makes diagrams.old diagrams.new result (entry_of (entries_seen scene.now) h n) }
+{
+    if h >= scene.hidden.len() {
+        return constant(diagrams, false);
+    }
+    let table = &scene.hidden[h];
+    if n >= table.tables.len() {
+        return constant(diagrams, false);
+    }
+    let atoms = truth_cases(diagrams, &scene.before(h), At::Now, &table.atoms)?;
+    let root = table_root(
+        diagrams,
+        scene.codes,
+        h,
+        table,
+        &table.tables[n],
+        &atoms,
+        scene.alloc(),
+    );
+    release_all(diagrams, atoms);
+    root
+}
+
+/// Each value that a formula may have, with where it has it.
+#[cycle(compile)]
+fn cases_of(diagrams: &mut Diagrams, scene: &Scene, at: At, e: &Expr) -> Result<Vec<CaseRoot>, Halt>
+    requires scene { IsScene scene.now }
+    requires levels { level_count (codes_seen scene.now) ≤ diagrams.old.state.table.levels }
+    requires known { IsKnown (game_seen scene.now) (formula e.now) }
+    ensures made { IfOk result (λ cases. AddsCases diagrams.old diagrams.new cases.items (cases_in (game_seen scene.now) (entries_seen scene.now) at (formula e.now))) }
+    ensures leaves { Leaves diagrams.old diagrams.new result }
+{
+    match e {
+        Expr::Const(v) => cases_from(diagrams, scene.alloc(), &Source::Everywhere, &[*v]),
+        Expr::Var(k) => variable_cases(diagrams, scene, at, *k as usize),
+        Expr::Next(a) => cases_of(diagrams, scene, At::Next, a),
+        Expr::Add(a, b) => operated(diagrams, scene, at, Operation::Add, a, b),
+        Expr::Sub(a, b) => operated(diagrams, scene, at, Operation::Sub, a, b),
+        Expr::Mul(a, b) => operated(diagrams, scene, at, Operation::Mul, a, b),
+        Expr::Mod(a, n) => remainders(diagrams, scene, at, a, *n),
+        Expr::Not(_) => both_cases(diagrams, scene, at, e),
+        Expr::And(_) => both_cases(diagrams, scene, at, e),
+        Expr::Or(_) => both_cases(diagrams, scene, at, e),
+        Expr::Implies(_, _) => both_cases(diagrams, scene, at, e),
+        Expr::Iff(_, _) => both_cases(diagrams, scene, at, e),
+        Expr::Cmp(_, _, _) => both_cases(diagrams, scene, at, e),
+        Expr::Past(_, _) => both_cases(diagrams, scene, at, e),
+        Expr::Table(_, _) => both_cases(diagrams, scene, at, e),
+    }
+}
+
+/// False and true, with where a formula is either.
+#[cycle(compile)]
+fn both_cases(
+    diagrams: &mut Diagrams,
+    scene: &Scene,
+    at: At,
+    e: &Expr,
+) -> Result<Vec<CaseRoot>, Halt>
+    requires scene { IsScene scene.now }
+    requires levels { level_count (codes_seen scene.now) ≤ diagrams.old.state.table.levels }
+    requires known { IsKnown (game_seen scene.now) (formula e.now) }
+    ensures made { IfOk result (λ cases. AddsCases diagrams.old diagrams.new cases.items (both_truths (truth_in (game_seen scene.now) (entries_seen scene.now) at (formula e.now)))) }
+    ensures leaves { Leaves diagrams.old diagrams.new result }
+{
+    let root = truth_root(diagrams, scene, at, e)?;
+    let cases = cases_of_truth(diagrams, scene.alloc(), &root);
+    diagrams.release(root);
+    cases
+}
+
+/// Each number that an operation gives, with where it is had.
+#[cycle(compile)]
+fn operated(
+    diagrams: &mut Diagrams,
+    scene: &Scene,
+    at: At,
+    op: Operation,
+    a: &Expr,
+    b: &Expr,
+) -> Result<Vec<CaseRoot>, Halt>
+    requires scene { IsScene scene.now }
+    requires levels { level_count (codes_seen scene.now) ≤ diagrams.old.state.table.levels }
+    requires a_known { IsKnown (game_seen scene.now) (formula a.now) }
+    requires b_known { IsKnown (game_seen scene.now) (formula b.now) }
+    requires span { IsCountable (span_of op (values_in (game_seen scene.now) (formula a.now)) (values_in (game_seen scene.now) (formula b.now))) }
+    ensures made { IfOk result (λ cases. AddsCases diagrams.old diagrams.new cases.items (operated_cases (game_seen scene.now) (entries_seen scene.now) at op (formula a.now) (formula b.now))) }
+    ensures leaves { Leaves diagrams.old diagrams.new result }
+{
+    let xs = cases_of(diagrams, scene, at, a)?;
+    let cases = operated_with(diagrams, scene, at, op, &xs, b);
+    release_all(diagrams, xs);
+    cases
+}
+
+/// Each number that an operation gives on these values and on those of a formula, with where it is had.
+#[cycle(compile)]
+fn operated_with(
+    diagrams: &mut Diagrams,
+    scene: &Scene,
+    at: At,
+    op: Operation,
+    xs: &[CaseRoot],
+    b: &Expr,
+) -> Result<Vec<CaseRoot>, Halt>
+    requires scene { IsScene scene.now }
+    requires levels { level_count (codes_seen scene.now) ≤ diagrams.old.state.table.levels }
+    requires known { IsKnown (game_seen scene.now) (formula b.now) }
+    requires span { IsCountable (span_of op (map (λ x. x.value) xs.now) (values_in (game_seen scene.now) (formula b.now))) }
+    requires kept { AreKept diagrams.old.state xs.now }
+    ensures made { let c = diagrams.old in let g = game_seen scene.now in
+        IfOk result (λ cases. AddsCases c diagrams.new cases.items (results op (cases_at c xs.now) (cases_in g (entries_seen scene.now) at (formula b.now)) (values_of (span_of op (map (λ x. x.value) xs.now) (values_in g (formula b.now)))))) }
+    ensures leaves { Leaves diagrams.old diagrams.new result }
+{
+    let ys = cases_of(diagrams, scene, at, b)?;
+    let cases = operation_cases(diagrams, scene.alloc(), op, xs, &ys);
+    release_all(diagrams, ys);
+    cases
+}
+
+/// Each remainder of a formula's number, with where it is had.
+#[cycle(compile)]
+fn remainders(
+    diagrams: &mut Diagrams,
+    scene: &Scene,
+    at: At,
+    a: &Expr,
+    n: i64,
+) -> Result<Vec<CaseRoot>, Halt>
+    requires scene { IsScene scene.now }
+    requires levels { level_count (codes_seen scene.now) ≤ diagrams.old.state.table.levels }
+    requires known { IsKnown (game_seen scene.now) (Remainder (formula a.now) n) }
+    ensures made { IfOk result (λ cases. AddsCases diagrams.old diagrams.new cases.items (cases_in (game_seen scene.now) (entries_seen scene.now) at (Remainder (formula a.now) n))) }
+    ensures leaves { Leaves diagrams.old diagrams.new result }
+{
+    let xs = cases_of(diagrams, scene, at, a)?;
+    let cases = remainder_cases(diagrams, scene.alloc(), &xs, n);
+    release_all(diagrams, xs);
+    cases
+}
