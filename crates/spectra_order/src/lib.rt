@@ -6,9 +6,9 @@
 //! Path: text → tokens → trees → **specification** → game → regions → layers → strategy → verdict → lines.
 #![tactic(auto)]
 
-mod cycles;
+pub mod cycles;
 mod marks;
 pub mod order;
-mod placing;
+pub mod placing;
 mod todo;
 mod uses;
