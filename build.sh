@@ -21,7 +21,7 @@ esac
 crates=$(grep -c '^[a-z]' crates.txt)
 jobs=$(nproc)
 log=${TMPDIR:-/tmp}/spectra-build.log
-echo "build: $crates crates, $jobs at a time; from nothing it took an hour on four processors shared with other work; the log is $log"
+echo "build: $crates crates, $jobs at a time; from nothing some three to four processor hours, about an hour on four (an estimate); the log is $log"
 rt all check --jobs "$jobs" 2>&1 | tee "$log" | awk -v all="$crates" '
   /^crate [a-z0-9_]+:/ { name = $2; sub(":", "", name) }
   /^logic=proved/ { done++; printf "build: %d of %d crates proved, last %s\n", done, all, name; fflush() }'
