@@ -6,3 +6,5 @@ pub mod SetCalls
 pub mod GoalLaws
 pub mod MoveOutcomes
 pub mod MoveLaws
+pub mod AskLaws
+pub mod StartLaws

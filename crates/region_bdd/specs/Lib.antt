@@ -6,3 +6,5 @@ pub mod TraitLaws
 pub mod Seen
 pub mod Goals
 pub mod One
+pub mod Asking
+pub mod Room

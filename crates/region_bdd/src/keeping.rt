@@ -1,6 +1,7 @@
 //! What becomes of a diagram that a call made, or was refused.
 
 ghost use Rattle.std.specs.Prelude.{◌≡◌, ◌<◌, None, vec_len, vec_capacity};
+ghost use Rattle.region_bdd.specs.Asking.{SettlesAnswer};
 ghost use Rattle.region_bdd.specs.Keeping.{Settles, SettlesOutputs};
 
 use crate::own::Refused;
@@ -49,6 +50,25 @@ pub fn settle_outputs(
             let slot = slots.keep(Content::Outputs(when, root));
             Ok(BddMove { slot })
         }
+        Err(Halt::Memory) => Err(Halt::Memory),
+        Err(Halt::Budget) => {
+            *refused = Some(why);
+            Err(Halt::Budget)
+        }
+    }
+}
+
+/// Hands an answer on, or tells why there is none.
+pub fn settle_answer(
+    refused: &mut Option<Refused>,
+    made: Result<bool, Halt>,
+    why: Refused,
+) -> Result<bool, Halt>
+    requires { refused.old ≡ None }
+    ensures { SettlesAnswer refused.new made result why }
+{
+    match made {
+        Ok(yes) => Ok(yes),
         Err(Halt::Memory) => Err(Halt::Memory),
         Err(Halt::Budget) => {
             *refused = Some(why);

@@ -9,15 +9,18 @@
 //! Path: game → sets as diagrams → **regions as diagrams** → layers.
 #![tactic(auto)]
 
+mod asking;
 mod forcing;
 mod giving_back;
 mod keeping;
 mod moves;
 mod object;
 mod own;
+mod search;
 mod sets;
 mod slots;
 mod spending;
+mod starting;
 
 pub use object::RegionBdd;
 pub use slots::{BddMove, BddRegion};

@@ -60,7 +60,7 @@ invariant_of-self-2 c =
     let why : Refused = record { asked = asked.OutMoves c.args.when; first = Some c.args.t.now.slot; second = None } in
     let makes = subst (λ (to : List ℕ). Makes d c.shift-made.new.diagrams c.shift-made.result (shifted to f)) c.deref.ensures.value c.shift-made.ensures.makes in
     let done = moves_answered g o.own c.args.when o.levels d slots c.shift-made.new.diagrams c.room.new.self.slots.items c.settle_outputs.new.slots.slots.items o.refused c.settle_outputs.new.refused o.whole c.requires.free c.room.ensures.same (shifted o.levels.to.items f) (now.set c.args.t.now) (tells_next g o.levels.to.items o.whole.lists_are.to f (now.set c.args.t.now) tells) why (States (now.set c.args.t.now) ∷ []) (one_argument g o.own o.levels d slots o.refused o.whole c.args.t.now c.region.result.now here_t) c.shift-made.result c.settle_outputs.result makes c.settle_outputs.ensures in
-    record { whole = done.object }
+    record { whole = done.object; coded = o.coded; room = o.room }
 
 pub returns-clause-made : goal.returns-clause-made
 returns-clause-made c =
