@@ -49,8 +49,8 @@ module _ (g : GameData) (f h : Function) (r : Before → Bool) (told : TellsBefo
   first_not_empty said answer = same_truth said (r None) (λ e. some (r None) refl (answer.0 e)) (λ e. answer.1 (λ same. false≢true (sym (off same) ∙ e)))
     where
       some : (x : Bool) → r None ≡ x → (f ≡ h → ⊥) → x ≡ true
-      some true is no = refl
-      some false is no = absurd (no (empty is))
+      some true is differ = refl
+      some false is differ = absurd (differ (empty is))
 
 -- ---- what the call answers and leaves
 

@@ -8,3 +8,4 @@ pub mod MoveOutcomes
 pub mod MoveLaws
 pub mod AskLaws
 pub mod StartLaws
+pub mod LeadingLaws

@@ -39,10 +39,10 @@ module _ (g : GameData) (own : Own) (lists : NextLevels) (c : Contents) (slots :
     there : Tells g Next (shifted lists.to.items (function_at c root)) ((kept_of g c slots refused).set r)
     there = tells_next g lists.to.items object.lists_are.to (function_at c root) ((kept_of g c slots refused).set r) (region_tells g own lists c slots refused object r root here)
 
-    pub kept_function : Function
+    abbrev pub kept_function : Function
     kept_function = avoiding (move_functions c own.first) lists.reply.items lists.all.items (shifted lists.to.items (function_at c root))
 
-    pub rest_function : Function
+    abbrev pub rest_function : Function
     rest_function = avoiding (move_functions c own.first) lists.reply.items lists.all.items (negated (shifted lists.to.items (function_at c root)))
 
     tells_kept : TellsBefore g First kept_function (some_keeps_out g ((kept_of g c slots refused).set r))

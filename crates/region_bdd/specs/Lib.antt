@@ -8,3 +8,4 @@ pub mod Goals
 pub mod One
 pub mod Asking
 pub mod Room
+pub mod Leading

@@ -30,6 +30,7 @@ use Rattle.region_bdd.specs.declared.slots.Slot.TheVariants.{Free, Taken, Spent}
 use Rattle.region_bdd.specs.declared.own.Own.{Own}
 use Rattle.region_bdd.specs.declared.own.Refused.{Refused}
 use Rattle.region_bdd.specs.declared.search.Search.{Search}
+use Rattle.region_bdd.specs.Room.{IsRoom}
 use Rattle.region_bdd.specs.Slots.{Shown, Nothing, Set, OutputsInto, InputsInto, shown_of}
 use Rattle.region_bdd.specs.Object.{TellGoals, OwnFunctions, OwnFits, ShownFits, AllFit, NoneSpent, IsSound, IsOpen, IsObject}
 

@@ -13,6 +13,7 @@ mod asking;
 mod forcing;
 mod giving_back;
 mod keeping;
+mod leading;
 mod moves;
 mod object;
 mod own;

@@ -135,8 +135,8 @@ returns-clause-cause c =
     let done = told g o.own o.levels d c.is_empty-asked.new.diagrams slots o.refused c.settle_answer.new.refused o.whole c.requires.free (f ≡ function_at d o.own.step.nothing) why (States (now.set c.args.t.now) ∷ []) (one_argument g o.own o.levels d slots o.refused o.whole c.args.t.now c.region.result.now here) c.is_empty-asked.result c.settle_answer.result (c.is_empty-asked.ensures d f c.avoiding_set-made.ensures (nothing_root g o.own o.levels d slots o.refused o.whole)) c.settle_answer.ensures in
     done.cause
 
-pub invariant_of-self-2 : goal.invariant_of-self-2
-invariant_of-self-2 c =
+pub invariant_of-self : goal.invariant_of-self
+invariant_of-self c =
     let o = c.args.self.now in
     let g = game_data o.game in
     let slots = o.slots.slots.items in
