@@ -32,7 +32,9 @@ mod spans;
 pub mod steps;
 
 pub use codes::Codes;
+pub use domains::{code, size};
 pub use formulas::compile;
+pub use numbers::power;
 /// Memory ran out.
 pub use std::alloc::AllocError as OutOfMemory;
 

@@ -153,7 +153,7 @@ module _ (g : GameData) where
 pub tells_negated : (g : GameData) (when : When) (f : Function) (r : Before → State → Bool) → TellsMoves g when f r → TellsMoves g when (negated f) (λ b s. not (r b s))
 tells_negated g when f r told = record { at_moves = λ b s bits time here before has. ap not (told.at_moves b s bits time here before has) }
 
-not_any : {X : Type 0} (l q : X → Bool) (xs : List X) → not (list_any (λ x. l x && not (q x)) xs) ≡ list_all (λ x. not (l x) || q x) xs
+pub not_any : {X : Type 0} (l q : X → Bool) (xs : List X) → not (list_any (λ x. l x && not (q x)) xs) ≡ list_all (λ x. not (l x) || q x) xs
 not_any l q [] = refl
 not_any l q (x ∷ xs) = at (l x) (q x) (list_any (λ x. l x && not (q x)) xs) ∙ ap (λ c. (not (l x) || q x) && c) (not_any l q xs)
   where
