@@ -9,3 +9,5 @@ pub mod MoveLaws
 pub mod AskLaws
 pub mod StartLaws
 pub mod LeadingLaws
+pub mod FindLaws
+pub mod FindCalls

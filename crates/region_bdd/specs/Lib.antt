@@ -9,3 +9,4 @@ pub mod One
 pub mod Asking
 pub mod Room
 pub mod Leading
+pub mod Finding

@@ -4,14 +4,17 @@
 //! own formulas. Where a call of the store is refused at its second try, the call of the object answers `Budget` and the
 //! object tells from then on which call it was and all that was held.
 //!
-//! Contract: each call of `RegionBdd` that stands here meets its clauses of the trait `Regions`. Nothing makes the object
-//! yet, so it has no test: its making, `in_moves`, the starts, `has`, `first_out`, `first_in` and the trait come next.
+//! Contract: `RegionBdd` meets the trait `Regions` whole. Each call that may answer `Budget` does so only where the store
+//! then holds exactly its budget of nodes (`cause`).
 //! Path: game → sets as diagrams → **regions as diagrams** → layers.
 #![tactic(auto)]
 
 mod asking;
+mod finding;
+mod first_moves;
 mod forcing;
 mod giving_back;
+mod impls;
 mod keeping;
 mod leading;
 mod moves;

@@ -127,4 +127,14 @@ impl Slots {
             _ => unreachable!(),
         }
     }
+    /// What a slot holds.
+    pub fn content(&self, slot: usize) -> &Content
+        requires { (content : Content) × HasContent self.now.slots.items slot content }
+        ensures { HasContent self.now.slots.items slot result.now }
+    {
+        match &self.slots[slot] {
+            Slot::Taken(content) => content,
+            _ => unreachable!(),
+        }
+    }
 }

@@ -48,10 +48,10 @@ module _ (g : GameData) where
   pub input_suffices : (p : Assignment → Bool) (x : Assignment) → is_input g x ≡ true → p x ≡ true → list_any p (inputs_of g) ≡ true
   input_suffices p x fits e = at_assignment (domains_of is_env g.variables) (λ x. p x ≡ true → list_any p (inputs_of g) ≡ true) (each_suffices p (inputs_of g)) x fits e
 
-  input_fits : (s : State) → is_state g s ≡ true → is_input g s.position.input ≡ true
+  pub input_fits : (s : State) → is_state g s ≡ true → is_input g s.position.input ≡ true
   input_fits s e = (and_parts (is_input g s.position.input) _ (and_parts (are_hidden_values g.hidden s.hidden) _ e).1).0
 
-  output_fits : (s : State) → is_state g s ≡ true → is_output g s.position.output ≡ true
+  pub output_fits : (s : State) → is_state g s ≡ true → is_output g s.position.output ≡ true
   output_fits s e = (and_parts (is_input g s.position.input) (is_output g s.position.output) (and_parts (are_hidden_values g.hidden s.hidden) _ e).1).1
 
   -- a move leads to a state

@@ -95,3 +95,9 @@ module _ (before own after : List DomainData) (n end : ℕ) (long : length befor
   assignment_part fits =
       let same = length-assignment own vs fits in
       (omega (arith, same, ends), λ k below. subst (λ d. list_any (same_value (value_in vs k)) (values_of d) ≡ true) (sym (get_part before own after TruthValues n k long (omega (arith, same, below)))) (value_among own vs k fits below))
+
+-- the values of all slots are an assignment
+pub whole_assignment : (ds : List DomainData) (vs : List Value) → ArePart ds 0 (length ds) vs → is_assignment ds vs ≡ true
+whole_assignment ds vs part =
+    let count = part.0 in
+    assignment_from ds vs (omega (arith, count)) (λ k below. let here : 0 + k ≡ k = omega arith in subst (λ i. list_any (same_value (value_in vs k)) (values_of (domain_in ds i)) ≡ true) here (part.1 k below))

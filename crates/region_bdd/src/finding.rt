@@ -1,0 +1,112 @@
+//! What a search for a first move asks for and what it fixes.
+
+ghost use Rattle.std.specs.Prelude.{◌≡◌, ◌<◌, ◌≤◌, ◌↔◌, length, List, IsTrue};
+ghost use Rattle.spec_model.specs.declared.value.Value.{Value};
+ghost use Rattle.spec_model.specs.Diagrams.{Bits};
+ghost use Rattle.game_values.specs.declared.seen.At.{At};
+ghost use Rattle.bdd_store.specs.State.{IsRoot};
+ghost use Rattle.bdd_ops.specs.Paths.{Agrees};
+ghost use Rattle.bit_compile.specs.Domains.{level_count};
+ghost use Rattle.state_diagrams.specs.Members.{AreMembers};
+ghost use Rattle.state_search.specs.Parts.{ArePart, HaveValues, AreFixed};
+ghost use Rattle.region_bdd.specs.Room.{member_count};
+ghost use Rattle.region_bdd.specs.Finding.{outputs_asked, inputs_asked, AreStateAt, HaveState, AreStateFixed, IsMoveFixed};
+
+use bdd_ops::{Conjunction, Diagrams, Root};
+use bit_compile::Codes;
+use game_values::seen::At;
+use regions::When;
+use spec_model::value::Value;
+use state_diagrams::moves::Members;
+use state_search::{fit, fix, loosen};
+
+/// Asks for legal outputs that lead into the target.
+pub fn ask_outputs(all: &mut Conjunction, diagrams: &Diagrams, members: &Members, target: &Root)
+    requires members { AreMembers diagrams.now members.now }
+    requires target { IsRoot diagrams.now.state target.now }
+    requires room { member_count members.now < all.old.most }
+    ensures { all.new ≡ record { levels = all.old.levels; most = all.old.most; roots = outputs_asked members.now target.now } }
+{
+    all.clear();
+    diagrams.include_all(&members.inputs, all);
+    diagrams.include_all(&members.outputs, all);
+    diagrams.include_all(&members.update, all);
+    diagrams.include(target, all);
+}
+
+/// Asks for legal inputs all of whose legal outputs lead into a set, where `leads` is true of these.
+pub fn ask_inputs(all: &mut Conjunction, diagrams: &Diagrams, members: &Members, leads: &Root)
+    requires members { AreMembers diagrams.now members.now }
+    requires leads { IsRoot diagrams.now.state leads.now }
+    requires room { member_count members.now < all.old.most }
+    ensures { all.new ≡ record { levels = all.old.levels; most = all.old.most; roots = inputs_asked members.now leads.now } }
+{
+    all.clear();
+    diagrams.include_all(&members.inputs, all);
+    diagrams.include(leads, all);
+}
+
+/// Fixes the present bits of the state before a later move, and no others. False where the values are no state's.
+pub fn fix_before(codes: &Codes, when: When, state: &[Value], fixed: &mut [Option<bool>]) -> bool
+    requires room { length fixed.old ≡ level_count codes.now }
+    ensures answer { IsTrue result ↔ AreStateAt codes.now when state.now }
+    ensures fixes { IsTrue result → AreStateFixed codes.now when state.now fixed.new }
+    ensures allows { IsTrue result → (s : Bits) → HaveState codes.now when state.now s → Agrees fixed.new 0 s }
+{
+    loosen(fixed);
+    match when {
+        When::First => true,
+        When::Later => {
+            let end = codes.count();
+            if !fit(codes, 0, end, state) {
+                return false;
+            }
+            fix(codes, At::Now, 0, end, state, fixed);
+            true
+        }
+    }
+}
+
+/// Fixes besides the next bits of the values of the slots from slot `from` up to slot `end`. False where the values are
+/// not theirs.
+fn fix_next(
+    codes: &Codes,
+    from: usize,
+    end: usize,
+    values: &[Value],
+    fixed: &mut [Option<bool>],
+) -> bool
+    requires rising { from ≤ end }
+    requires known { end ≤ length codes.now }
+    requires room { length fixed.old ≡ level_count codes.now }
+    ensures answer { IsTrue result ↔ ArePart codes.now from end values.now }
+    ensures fixes { IsTrue result → AreFixed codes.now At.Next from values.now fixed.new }
+    ensures keeps { IsTrue result → (vs : List Value) → length vs ≤ length codes.now → AreFixed codes.now At.Now 0 vs fixed.old → AreFixed codes.now At.Now 0 vs fixed.new }
+    ensures allows { IsTrue result → (s : Bits) → Agrees fixed.old 0 s → HaveValues codes.now At.Next from values.now s → Agrees fixed.new 0 s }
+{
+    if !fit(codes, from, end, values) {
+        return false;
+    }
+    fix(codes, At::Next, from, end, values, fixed);
+    true
+}
+
+/// Fixes the state before a later move and the values of the slots from slot `from` up to slot `end` after it, and no
+/// others. False where the values are no state's, or not those of the slots.
+pub fn fix_move(
+    codes: &Codes,
+    when: When,
+    state: &[Value],
+    from: usize,
+    end: usize,
+    values: &[Value],
+    fixed: &mut [Option<bool>],
+) -> bool
+    requires rising { from ≤ end }
+    requires known { end ≤ length codes.now }
+    requires room { length fixed.old ≡ level_count codes.now }
+    ensures answer { IsTrue result ↔ (AreStateAt codes.now when state.now × ArePart codes.now from end values.now) }
+    ensures fixes { IsTrue result → IsMoveFixed codes.now when state.now from values.now fixed.new }
+{
+    fix_before(codes, when, state, fixed) && fix_next(codes, from, end, values, fixed)
+}
