@@ -1,18 +1,15 @@
 -- What is left after a diagram was asked for and given back, and what it tells of the first move.
-use Rattle.std.proofs.Common.{◌≡◌, ◌↔◌, ℕ, ◌+◌, ◌<◌, ◌==◌, Bool, true, false, not, cond, List, [], ◌∷◌, ◌++◌, map, Option, Some, None, Result, Ok, Err, IfOk, IfErr, IsTrue, refl, sym, ◌∙◌, ap, subst, arith, is_ok}
+use Rattle.std.proofs.Common.{◌≡◌, ◌↔◌, ℕ, Bool, true, false, not, List, ◌++◌, map, Option, None, Result, Ok, Err, IfOk, IfErr, IsTrue, refl, sym, ◌∙◌, ap, subst}
 use Rattle.std.proofs.lemmas.Bool.{false≢true}
-use Rattle.node_table.specs.Table.{Table, diagram_at, count_of}
-use Rattle.spec_model.specs.Diagrams.{Bits, Function, value, shifted}
+use Rattle.spec_model.specs.Diagrams.{Bits, Function}
 use Rattle.spec_model.specs.Games.{GameData}
 use Rattle.spec_model.specs.Steps.{Before}
-use Rattle.spec_model.specs.Sets.{StateSet, system_forces}
 use Rattle.regions.specs.Kept.{Meaning, Call, Stays, Halts, IsSameGame}
 use Rattle.regions.specs.declared.types.Halt.{Halt}
 use Rattle.regions.specs.declared.types.Halt.TheVariants as halt
 use Rattle.regions.specs.declared.types.When.TheVariants.{First}
-use Rattle.bdd_store.specs.State.{State, IsRoot, roots_at, AddsRoot, SameRoots, IsFull, diagram_of}
-use Rattle.bdd_ops.specs.Contents.{Contents, function_at}
-use Rattle.bdd_ops.specs.Calls.{KeepsRoots}
+use Rattle.bdd_store.specs.State.{IsRoot, IsFull}
+use Rattle.bdd_ops.specs.Contents.{Contents}
 use Rattle.bit_compile.specs.Making.{Makes}
 use Rattle.bit_compile.proofs.MakingLemmas.{is_root}
 use Rattle.state_diagrams.specs.declared.moves.NextLevels.{NextLevels}
@@ -23,8 +20,7 @@ use Rattle.region_bdd.specs.declared.own.Own.{Own}
 use Rattle.region_bdd.specs.declared.own.Refused.{Refused}
 use Rattle.region_bdd.specs.Slots.{shown_of}
 use Rattle.region_bdd.specs.Asking.{Answers, SettlesAnswer}
-use Rattle.region_bdd.specs.Object.{NoneSpent, IsObject, IsOpen, call_of, argument_in, kept_of}
-use Rattle.region_bdd.proofs.OutcomeLaws.{is_memory}
+use Rattle.region_bdd.specs.Object.{IsObject, call_of, argument_in, kept_of}
 use Rattle.region_bdd.proofs.ObjectLaws.{none_refused, sound_same, stays_same, halts_memory, halts_budget}
 
 -- what is told before the first move is one truth value
@@ -110,9 +106,9 @@ told g own lists c c' slots was refused object free fact why arguments are made 
     subst (λ (o : Option Refused). Told g own lists c c' slots o refused result fact (call_of why.asked) arguments) (sym none)
     (told_plain g own lists c c' slots object' fact why arguments are made asked result refused settles)
 
-pub answers_by : (result : Result Bool Halt) (fact : Type 0) (x : Bool) → IfOk result (λ said. IsTrue said ↔ fact) → ((said : Bool) → (IsTrue said ↔ fact) → said ≡ x) → IfOk result (λ said. said ≡ x)
-answers_by (Ok said) fact x answer by = by said answer
-answers_by (Err h) fact x answer by = tt
+pub answers_by : (result : Result Bool Halt) (fact : Type 0) (x : Bool) (Left : Type 0) → IfOk result (λ said. IsTrue said ↔ fact) → IfOk result (λ said. Left) → ((said : Bool) → (IsTrue said ↔ fact) → said ≡ x) → IfOk result (λ said. (said ≡ x) × Left)
+answers_by (Ok said) fact x Left answer left by = (by said answer, left)
+answers_by (Err h) fact x Left answer left by = tt
 
 -- what was made is kept
 pub roots_made : (old new : Contents) (made : Result ℕ Halt) (f : Function) → Makes old new made f → IfOk made (λ r. IsRoot new.state r)

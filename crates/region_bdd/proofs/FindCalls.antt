@@ -1,20 +1,20 @@
 -- What the searches for first moves ask for and fix, and what they find.
-use Rattle.std.proofs.Common.{◌≡◌, ◌↔◌, ℕ, ◌+◌, ◌<◌, ◌≤◌, Bool, true, false, not, ◌&&◌, List, [], ◌∷◌, ◌++◌, length, map, take, find, Option, Some, None, refl, sym, ◌∙◌, ap, subst, arith}
+use Rattle.std.proofs.Common.{◌≡◌, ℕ, ◌+◌, ◌≤◌, Bool, true, false, not, ◌&&◌, List, [], ◌∷◌, ◌++◌, length, map, take, find, Option, Some, None, refl, sym, ◌∙◌, ap, subst, arith}
 use Rattle.std.proofs.lemmas.Bool.{and_parts, and_from, false≢true}
 use Rattle.std.proofs.lemmas.List.Elements.{All-nil, All-cons, All-append, All-from_get_or}
 use Rattle.std.proofs.Math.Seq.{take-append_seam}
-use Rattle.std.specs.List.{All, list_all}
+use Rattle.std.specs.List.{All}
 use Rattle.spec_model.specs.declared.value.Value.{Value}
-use Rattle.spec_model.specs.Values.{DomainData, is_assignment}
-use Rattle.spec_model.specs.Diagrams.{Bits, Function}
+use Rattle.spec_model.specs.Values.{DomainData}
+use Rattle.spec_model.specs.Diagrams.{Bits}
 use Rattle.spec_model.specs.Moves.{is_env, domains_of}
-use Rattle.spec_model.specs.Games.{GameData, State, listed, inputs_of, outputs_of}
-use Rattle.spec_model.specs.Steps.{Before, is_input, is_state}
+use Rattle.spec_model.specs.Games.{GameData, listed, inputs_of, outputs_of}
+use Rattle.spec_model.specs.Steps.{Before, is_input}
 use Rattle.spec_model.specs.Sets.{StateSet}
 use Rattle.regions.specs.declared.types.When.{When}
 use Rattle.regions.specs.declared.types.When.TheVariants.{First, Later}
 use Rattle.regions.specs.Kept.{Kept, Stays, Outputs as OutputMoves, Inputs as InputMoves}
-use Rattle.regions.specs.Rules.{is_time, AreBefore, outputs_into, inputs_into}
+use Rattle.regions.specs.Rules.{AreBefore, outputs_into, inputs_into}
 use Rattle.game_values.specs.declared.seen.At.TheVariants.{Now, Next}
 use Rattle.bdd_store.specs.State.{IsRoot}
 use Rattle.bdd_ops.specs.Paths.{Agrees, IsFirst, HasNone}
@@ -81,11 +81,11 @@ module _ (c : Contents) where
       all-append lines (t ∷ []) s
       ∙ (ap (λ b. all_of c lines s && b) (alone t s)
       ∙ ap (λ b. b && function_at c t s)
-        (all-append (m.inputs.items ++ m.outputs.items) m.update.items s
-        ∙ (ap (λ b. all_of c (m.inputs.items ++ m.outputs.items) s && b) (all-true m.update.items s)
-        ∙ ap (λ b. b && all_true (functions_at c m.update.items) s)
-          (all-append m.inputs.items m.outputs.items s
-          ∙ (ap (λ b. all_of c m.inputs.items s && b) (all-true m.outputs.items s) ∙ ap (λ b. b && all_true (functions_at c m.outputs.items) s) (all-true m.inputs.items s))))))
+      (all-append (m.inputs.items ++ m.outputs.items) m.update.items s
+      ∙ (ap (λ b. all_of c (m.inputs.items ++ m.outputs.items) s && b) (all-true m.update.items s)
+      ∙ ap (λ b. b && all_true (functions_at c m.update.items) s)
+      (all-append m.inputs.items m.outputs.items s
+      ∙ (ap (λ b. all_of c m.inputs.items s && b) (all-true m.outputs.items s) ∙ ap (λ b. b && all_true (functions_at c m.outputs.items) s) (all-true m.inputs.items s))))))
 
   outputs_parts : (m : Members) (t : ℕ) (s : Bits) → all_of c (outputs_asked m t) s ≡ true → ((move_functions c m).inputs s ≡ true) × ((move_functions c m).outputs s ≡ true) × ((move_functions c m).update s ≡ true) × (function_at c t s ≡ true)
   outputs_parts m t s e =

@@ -1,5 +1,5 @@
 -- The first outputs, and the first inputs, that bits show.
-use Rattle.std.proofs.Common.{◌≡◌, ℕ, ◌+◌, ◌<◌, ◌≤◌, pos, Bool, true, false, not, ◌&&◌, ◌||◌, List, [], ◌∷◌, ◌++◌, length, length-append, map, find, Option, Some, None, refl, sym, ◌∙◌, ap, subst, arith}
+use Rattle.std.proofs.Common.{◌≡◌, ℕ, ◌+◌, pos, Bool, true, false, not, ◌||◌, List, [], ◌++◌, length, length-append, map, find, Option, Some, None, refl, sym, ◌∙◌, ap, subst, arith}
 use Rattle.std.proofs.lemmas.Bool.{and_parts, and_from, false≢true}
 use Rattle.std.proofs.lemmas.List.{length-map}
 use Rattle.std.specs.List.{list_all}
@@ -10,7 +10,7 @@ use Rattle.spec_model.specs.Diagrams.{Bits, Function}
 use Rattle.spec_model.specs.Moves.{is_env, domains_of}
 use Rattle.spec_model.specs.Games.{GameData, State, listed, inputs_of, outputs_of}
 use Rattle.spec_model.specs.Steps.{Before, is_state, is_input, is_output, reached, legal_input, legal_output, assumptions_hold, guarantees_hold}
-use Rattle.spec_model.specs.Sets.{StateSet, output_into, input_into}
+use Rattle.spec_model.specs.Sets.{StateSet}
 use Rattle.regions.specs.declared.types.When.{When}
 use Rattle.regions.specs.Rules.{is_time, outputs_into, inputs_into}
 use Rattle.game_values.specs.declared.seen.At.TheVariants.{Now, Next}
@@ -23,7 +23,6 @@ use Rattle.state_diagrams.specs.MoveBits.{HasBefore, TellsMoves, follows, AreNex
 use Rattle.state_diagrams.specs.Members.{MoveFunctions}
 use Rattle.state_diagrams.specs.Forcing.{FitMoves, HasMoves}
 use Rattle.state_diagrams.proofs.BitLemmas.{has_bits}
-use Rattle.state_diagrams.proofs.QuantLemmas.{AgreesOff}
 use Rattle.state_diagrams.proofs.MoveLemmas.{before_kept, mixed, mixed_off, mixed_state, reached_is, follows-reached, hidden_is}
 use Rattle.state_diagrams.proofs.ForceLemmas.{input_fits, output_fits, state_reached, not_any}
 use Rattle.state_search.specs.Parts.{AreOf, HaveValues, SamePresent}
@@ -245,9 +244,9 @@ module _ (g : GameData) where
             here = here;
             agrees = allows (after t s) before' (state_input t (after t s) here has);
             is = is_all (after t s) (after_inputs x z s before here past_legal.0)
-              (fit.outputs.at_moves b t (after t s) time here before' has ∙ ends.0)
-              (fit.update.at_moves b t (after t s) time here before' has ∙ follows-reached g b x z)
-              (states.settled t (after t s) here has ∙ inside);
+                (fit.outputs.at_moves b t (after t s) time here before' has ∙ ends.0)
+                (fit.update.at_moves b t (after t s) time here before' has ∙ follows-reached g b x z)
+                (states.settled t (after t s) here has ∙ inside);
           }
 
       pub output_found : (s : Bits) → IsFirst fixed all 0 (level_count (state_domains g)) s → FindsOutput into s
@@ -262,10 +261,10 @@ module _ (g : GameData) where
             of_slots = output_of t shown.here;
             bits = state_output t s shown.here shown.has;
             found = find-first outs into y (output_fits g t shown.here) shown.passes (λ z fits_z passes.
-              let other = output_shown z s (fixes s first.agrees) fits_z passes in
-              let order = first.first (after (reached g b x z) s) other.agrees other.is in
-              let states_order = after_order t (reached g b x z) s shown.here other.here shown.has order in
-              outputs_order b x y z fits here (subst (λ (u : State). comes_before (state_domains g) (listed (reached g b x z)) (listed u) ≡ false) (sym shown.reached_there) states_order));
+                let other = output_shown z s (fixes s first.agrees) fits_z passes in
+                let order = first.first (after (reached g b x z) s) other.agrees other.is in
+                let states_order = after_order t (reached g b x z) s shown.here other.here shown.has order in
+                outputs_order b x y z fits here (subst (λ (u : State). comes_before (state_domains g) (listed (reached g b x z)) (listed u) ≡ false) (sym shown.reached_there) states_order));
           }
 
       pub no_output : HasNone fixed all 0 → find into (outputs_of g) ≡ None
@@ -327,11 +326,11 @@ module _ (g : GameData) where
             of_slots = input_of u shown.here;
             bits = state_input u s shown.here shown.has;
             found = find-first ins onto x (input_fits g u shown.here) passes (λ z fits_z passes_z.
-              let other = input_shown z s before fits_z passes_z in
-              let v = reached g b z moves.some_output.0 in
-              let order = first.first (after v s) other.agrees other.is in
-              let states_order = after_order u v s shown.here other.here shown.has order in
-              inputs_order b x y z moves.some_output.0 here (subst (λ (w : State). comes_before (state_domains g) (listed v) (listed w) ≡ false) (sym shown.reached_there) states_order));
+                let other = input_shown z s before fits_z passes_z in
+                let v = reached g b z moves.some_output.0 in
+                let order = first.first (after v s) other.agrees other.is in
+                let states_order = after_order u v s shown.here other.here shown.has order in
+                inputs_order b x y z moves.some_output.0 here (subst (λ (w : State). comes_before (state_domains g) (listed v) (listed w) ≡ false) (sym shown.reached_there) states_order));
           }
 
       pub no_input : HasNone fixed all 0 → find onto (inputs_of g) ≡ None

@@ -1,14 +1,13 @@
 -- What a set with the inputs that lead into it needs of the object, and what is left of making it.
-use Rattle.std.proofs.Common.{◌≡◌, ℕ, ◌+◌, ◌<◌, not, length, slice_index, Result, Ok, Err, IfOk, IsErrAnd, List, Option, refl, sym, ◌∙◌, ap, subst, arith, is_ok}
+use Rattle.std.proofs.Common.{◌≡◌, ℕ, not, Result, Ok, Err, IsErrAnd, List, Option, sym, ◌∙◌, ap, subst, arith, is_ok}
 use Rattle.std.proofs.lemmas.Bool.{false≢true}
 use Rattle.spec_model.specs.Diagrams.{Function, shifted}
-use Rattle.spec_model.specs.Games.{GameData, State}
-use Rattle.spec_model.specs.Sets.{StateSet}
+use Rattle.spec_model.specs.Games.{GameData}
 use Rattle.regions.specs.declared.types.Halt.{Halt}
 use Rattle.regions.specs.declared.types.Halt.TheVariants as halt
 use Rattle.regions.specs.declared.types.When.{When}
 use Rattle.regions.specs.declared.types.When.TheVariants.{First, Later}
-use Rattle.game_values.specs.declared.seen.At.TheVariants.{Now, Next}
+use Rattle.game_values.specs.declared.seen.At.TheVariants.{Next}
 use Rattle.bdd_store.specs.State.{IsRoot}
 use Rattle.bdd_ops.specs.Contents.{Contents, function_at}
 use Rattle.bdd_ops.specs.Calls.{negated}
@@ -17,7 +16,7 @@ use Rattle.bit_compile.proofs.MakingLemmas.{is_root, root_added}
 use Rattle.state_diagrams.specs.declared.moves.NextLevels.{NextLevels}
 use Rattle.state_diagrams.specs.StateBits.{Tells}
 use Rattle.state_diagrams.specs.MoveBits.{TellsMoves, some_leads}
-use Rattle.state_diagrams.specs.Members.{MoveFunctions, AreMembers, move_functions, reply_of}
+use Rattle.state_diagrams.specs.Members.{AreMembers, move_functions, reply_of}
 use Rattle.state_diagrams.specs.Forcing.{FitMoves}
 use Rattle.state_diagrams.proofs.SpentLemmas.{function_kept}
 use Rattle.state_diagrams.proofs.SetLemmas.{told_at}

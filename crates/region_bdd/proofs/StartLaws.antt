@@ -1,5 +1,5 @@
 -- What players force at the first move, told by the diagram of where an input keeps the system out of a set.
-use Rattle.std.proofs.Common.{◌≡◌, ℕ, Bool, not, Option, IsTrue, ◌↔◌, ◌<◌, length, slice_index, ◌∙◌, ap, arith, List, None}
+use Rattle.std.proofs.Common.{◌≡◌, ℕ, Bool, not, Option, IsTrue, ◌↔◌, slice_index, ◌∙◌, ap, arith, List, None}
 use Rattle.spec_model.specs.Diagrams.{Function, shifted}
 use Rattle.spec_model.specs.Games.{GameData}
 use Rattle.spec_model.specs.Sets.{system_forces, environment_forces}

@@ -7,6 +7,7 @@ use Rattle.regions.specs.declared.types.When.{When}
 use Rattle.regions.specs.declared.types.When.TheVariants.{First, Later}
 use Rattle.game_values.specs.declared.seen.At.TheVariants.{Now, Next}
 use Rattle.bdd_ops.specs.Paths.{Agrees}
+use Rattle.bdd_ops.specs.Together.{Together}
 use Rattle.state_diagrams.specs.declared.moves.Members.{Members}
 use Rattle.state_search.specs.Parts.{ArePart, HaveValues, AreFixed}
 
@@ -17,6 +18,10 @@ outputs_asked m target = ((m.inputs.items ++ m.outputs.items) ++ m.update.items)
 -- those that are true together at legal inputs all of whose legal outputs lead into a set
 abbrev pub inputs_asked : Members → ℕ → List ℕ
 inputs_asked m leads = m.inputs.items ++ leads ∷ []
+
+-- these are asked for, and the room is the same
+abbrev pub AsksFor : (old new : Together) → List ℕ → Type 0
+AsksFor old new roots = new ≡ record { levels = old.levels; most = old.most; roots = roots }
 
 -- before a later move the values are those of all slots
 abbrev pub AreStateAt : List DomainData → When → List Value → Type 0
@@ -32,6 +37,10 @@ HaveState ds Later values s = HaveValues ds Now 0 values s
 abbrev pub AreStateFixed : List DomainData → When → List Value → List (Option Bool) → Type 0
 AreStateFixed ds First values fixed = Unit {0}
 AreStateFixed ds Later values fixed = AreFixed ds Now 0 values fixed
+
+-- bits with this state before agree with what is fixed
+abbrev pub AllowsState : List DomainData → When → List Value → List (Option Bool) → Type 0
+AllowsState ds when state fixed = (s : Bits) → HaveState ds when state s → Agrees fixed 0 s
 
 -- the bits that agree are those with this state before and these next values
 pub record IsMoveFixed (ds : List DomainData) (when : When) (state : List Value) (from : ℕ) (values : List Value) (fixed : List (Option Bool)) : Type 0 where

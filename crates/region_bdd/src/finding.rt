@@ -8,9 +8,9 @@ ghost use Rattle.bdd_store.specs.State.{IsRoot};
 ghost use Rattle.bdd_ops.specs.Paths.{Agrees};
 ghost use Rattle.bit_compile.specs.Domains.{level_count};
 ghost use Rattle.state_diagrams.specs.Members.{AreMembers};
-ghost use Rattle.state_search.specs.Parts.{ArePart, HaveValues, AreFixed};
+ghost use Rattle.state_search.specs.Parts.{ArePart, AreFixed, AllowsValues, KeepsOtherBits};
 ghost use Rattle.region_bdd.specs.Room.{member_count};
-ghost use Rattle.region_bdd.specs.Finding.{outputs_asked, inputs_asked, AreStateAt, HaveState, AreStateFixed, IsMoveFixed};
+ghost use Rattle.region_bdd.specs.Finding.{outputs_asked, inputs_asked, AsksFor, AreStateAt, AreStateFixed, AllowsState, IsMoveFixed};
 
 use bdd_ops::{Conjunction, Diagrams, Root};
 use bit_compile::Codes;
@@ -25,7 +25,7 @@ pub fn ask_outputs(all: &mut Conjunction, diagrams: &Diagrams, members: &Members
     requires members { AreMembers diagrams.now members.now }
     requires target { IsRoot diagrams.now.state target.now }
     requires room { member_count members.now < all.old.most }
-    ensures { all.new ≡ record { levels = all.old.levels; most = all.old.most; roots = outputs_asked members.now target.now } }
+    ensures { AsksFor all.old all.new (outputs_asked members.now target.now) }
 {
     all.clear();
     diagrams.include_all(&members.inputs, all);
@@ -39,7 +39,7 @@ pub fn ask_inputs(all: &mut Conjunction, diagrams: &Diagrams, members: &Members,
     requires members { AreMembers diagrams.now members.now }
     requires leads { IsRoot diagrams.now.state leads.now }
     requires room { member_count members.now < all.old.most }
-    ensures { all.new ≡ record { levels = all.old.levels; most = all.old.most; roots = inputs_asked members.now leads.now } }
+    ensures { AsksFor all.old all.new (inputs_asked members.now leads.now) }
 {
     all.clear();
     diagrams.include_all(&members.inputs, all);
@@ -51,7 +51,7 @@ pub fn fix_before(codes: &Codes, when: When, state: &[Value], fixed: &mut [Optio
     requires room { length fixed.old ≡ level_count codes.now }
     ensures answer { IsTrue result ↔ AreStateAt codes.now when state.now }
     ensures fixes { IsTrue result → AreStateFixed codes.now when state.now fixed.new }
-    ensures allows { IsTrue result → (s : Bits) → HaveState codes.now when state.now s → Agrees fixed.new 0 s }
+    ensures allows { IsTrue result → AllowsState codes.now when state.now fixed.new }
 {
     loosen(fixed);
     match when {
@@ -76,13 +76,12 @@ fn fix_next(
     values: &[Value],
     fixed: &mut [Option<bool>],
 ) -> bool
-    requires rising { from ≤ end }
-    requires known { end ≤ length codes.now }
+    requires within { (from ≤ end) × (end ≤ length codes.now) }
     requires room { length fixed.old ≡ level_count codes.now }
     ensures answer { IsTrue result ↔ ArePart codes.now from end values.now }
     ensures fixes { IsTrue result → AreFixed codes.now At.Next from values.now fixed.new }
-    ensures keeps { IsTrue result → (vs : List Value) → length vs ≤ length codes.now → AreFixed codes.now At.Now 0 vs fixed.old → AreFixed codes.now At.Now 0 vs fixed.new }
-    ensures allows { IsTrue result → (s : Bits) → Agrees fixed.old 0 s → HaveValues codes.now At.Next from values.now s → Agrees fixed.new 0 s }
+    ensures keeps { IsTrue result → KeepsOtherBits codes.now At.Next fixed.old fixed.new }
+    ensures allows { IsTrue result → AllowsValues codes.now At.Next from values.now fixed.old fixed.new }
 {
     if !fit(codes, from, end, values) {
         return false;
@@ -105,7 +104,8 @@ pub fn fix_move(
     requires rising { from ≤ end }
     requires known { end ≤ length codes.now }
     requires room { length fixed.old ≡ level_count codes.now }
-    ensures answer { IsTrue result ↔ (AreStateAt codes.now when state.now × ArePart codes.now from end values.now) }
+    ensures answer { IsTrue result ↔
+        (AreStateAt codes.now when state.now × ArePart codes.now from end values.now) }
     ensures fixes { IsTrue result → IsMoveFixed codes.now when state.now from values.now fixed.new }
 {
     fix_before(codes, when, state, fixed) && fix_next(codes, from, end, values, fixed)

@@ -18,8 +18,8 @@ impl RegionBdd {
     pub fn start_sys(&mut self, t: &BddRegion) -> Result<bool, Halt>
         requires free { (seen self.old).jam ≡ None }
         requires t { HasRegion (seen self.old) t.now }
-        ensures answer { let k = seen self.old in IfOk result (λ yes. yes ≡ system_forces k.game (k.set t.now) None) }
-        ensures stays { IfOk result (λ _. Stays (seen self.old) (seen self.new)) }
+        ensures answer { let k = seen self.old in
+            IfOk result (λ yes. (yes ≡ system_forces k.game (k.set t.now) None) × Stays k (seen self.new)) }
         ensures halted { let k = seen self.old in
             IfErr result (Halts k (seen self.new) StartSys (States (k.set t.now) ∷ [])) }
         ensures same { IsSameGame (seen self.old) (seen self.new) }
@@ -44,8 +44,8 @@ impl RegionBdd {
     pub fn start_env(&mut self, t: &BddRegion) -> Result<bool, Halt>
         requires free { (seen self.old).jam ≡ None }
         requires t { HasRegion (seen self.old) t.now }
-        ensures answer { let k = seen self.old in IfOk result (λ yes. yes ≡ environment_forces k.game (k.set t.now) None) }
-        ensures stays { IfOk result (λ _. Stays (seen self.old) (seen self.new)) }
+        ensures answer { let k = seen self.old in
+            IfOk result (λ yes. (yes ≡ environment_forces k.game (k.set t.now) None) × Stays k (seen self.new)) }
         ensures halted { let k = seen self.old in
             IfErr result (Halts k (seen self.new) StartEnv (States (k.set t.now) ∷ [])) }
         ensures same { IsSameGame (seen self.old) (seen self.new) }

@@ -1,18 +1,17 @@
 -- Bits that are fixed, number by number.
-use Rattle.std.proofs.Common.{◌≡◌, ℕ, zero, suc, ◌+◌, ◌-◌, ◌^◌, ◌<◌, ◌≤◌, nat_le, Bool, true, false, not, if◌then◌else◌, Option, Some, None, List, [], ◌∷◌, length, get_or, set, get_or-set_same, get_or-set_other, refl, sym, ◌∙◌, ap, subst, arith, ◌⊎◌, inl, inr}
+use Rattle.std.proofs.Common.{◌≡◌, ℕ, suc, ◌+◌, ◌-◌, ◌^◌, ◌<◌, ◌≤◌, nat_le, Bool, true, false, not, Option, Some, None, List, length, set, get_or-set_same, get_or-set_other, refl, sym, ◌∙◌, ap, subst, arith, ◌⊎◌, inl, inr}
 use Rattle.std.proofs.lemmas.Bool.{false≢true, and_parts}
 use Rattle.std.proofs.lemmas.Bool.Decides.{nat_tests}
 use Rattle.std.proofs.lemmas.List.{get_or_past}
-use Rattle.std.specs.List.{list_any}
 use Rattle.spec_model.specs.declared.value.Value.{Value}
-use Rattle.spec_model.specs.Values.{DomainData, same_value, values_of}
+use Rattle.spec_model.specs.Values.{DomainData}
 use Rattle.spec_model.specs.Diagrams.{Bits}
 use Rattle.game_values.specs.declared.seen.At.{At}
 use Rattle.bdd_ops.specs.Paths.{AgreesAt, fixed_at, Agrees}
-use Rattle.bit_compile.specs.Codes.{has_number, level_at, width_at, domain_in, IsOutside}
+use Rattle.bit_compile.specs.Codes.{has_number, level_at, width_at, IsOutside}
 use Rattle.bit_compile.proofs.NumberLemmas.{number_high, number_low}
 use Rattle.bit_compile.proofs.SlotLemmas.{earlier_before, others_outside}
-use Rattle.state_search.specs.Parts.{value_in, has_value_at, AreOf, HaveValues, AgreesWithin, IsFixedTo, AreFixed}
+use Rattle.state_search.specs.Parts.{value_in, has_value_at, AgreesWithin, IsFixedTo, AreFixed}
 
 -- ---- nothing fixed
 

@@ -1,10 +1,7 @@
 -- Values and the codes that they are read from.
-use Rattle.std.proofs.Common.{◌≡◌, ℕ, zero, suc, ◌+◌, ◌-◌, ◌^◌, ◌<◌, ◌≤◌, ◌==◌, ℤ, pos, nat_abs, ◌+ℤ◌, ◌-ℤ◌, ◌≤ℤ◌, int_le, nat_le, Bool, true, false, cond, List, [], ◌∷◌, length, map, get_or, set, get_or-set_same, get_or-set_other, refl, sym, ◌∙◌, ap, subst, arith, ◌⊎◌, inl, inr}
-use Rattle.std.proofs.lemmas.Bool.{and_from}
-use Rattle.std.proofs.lemmas.Bool.Decides.{nat_tests}
+use Rattle.std.proofs.Common.{◌≡◌, ℕ, zero, suc, ◌+◌, ◌-◌, ◌^◌, ◌<◌, ◌==◌, ℤ, pos, nat_abs, ◌+ℤ◌, ◌-ℤ◌, ◌≤ℤ◌, int_le, true, false, cond, List, [], ◌∷◌, length, map, get_or, set, get_or-set_same, get_or-set_other, refl, sym, ◌∙◌, ap, subst, arith, ◌⊎◌, inl, inr}
 use Rattle.std.proofs.lemmas.Int.{ints}
 use Rattle.std.proofs.lemmas.List.Sums.{passes_at_first}
-use Rattle.std.specs.List.{list_any}
 use Rattle.spec_model.specs.declared.value.Value.{Value}
 use Rattle.spec_model.specs.declared.value.Value.TheVariants as value
 use Rattle.spec_model.specs.Values.{DomainData, WholeNumbers, same_value, values_of, rank_of, rising_from}
@@ -13,7 +10,7 @@ use Rattle.spec_model.proofs.AllStates.{same_value-true}
 use Rattle.game_values.specs.declared.seen.At.{At}
 use Rattle.bit_compile.specs.Codes.{has_number, level_at, width_at, domain_in}
 use Rattle.bit_compile.proofs.DomainLemmas.{size-whole}
-use Rattle.bit_compile.proofs.NumberLemmas.{one_number, number_high, number_low}
+use Rattle.bit_compile.proofs.NumberLemmas.{one_number, number_high}
 use Rattle.bit_compile.proofs.LawLemmas.{any_place, code_small}
 use Rattle.state_search.specs.Parts.{value_in, ShowsValue, AreOf, HaveValues}
 

@@ -9,7 +9,7 @@ ghost use Rattle.game_values.specs.declared.seen.At.{At};
 ghost use Rattle.bdd_ops.specs.Paths.{fixed_at, Agrees};
 ghost use Rattle.bit_compile.specs.Domains.{level_count};
 ghost use Rattle.bit_compile.specs.Codes.{IsOutside, has_number, domain_in, width_at, level_at};
-ghost use Rattle.state_search.specs.Parts.{ArePart, HaveValues, AgreesWithin, IsFixedTo, AreFixed};
+ghost use Rattle.state_search.specs.Parts.{ArePart, AgreesWithin, IsFixedTo, IsValueFixed, AllowsValue, AreFixed, AllowsValues, KeepsOtherBits};
 
 use bit_compile::{Codes, code, power};
 use game_values::seen::At;
@@ -30,7 +30,8 @@ fn fix_number(fixed: &mut [Option<bool>], level: usize, width: u32, n: usize)
     requires within { level + width ≤ length fixed.old }
     ensures fixes { IsFixedTo fixed.new level width n }
     ensures allows { (s : Bits) → has_number level width n s ≡ true → AgreesWithin fixed.new level width s }
-    ensures others { (m : ℕ) → (m < level) ⊎ (level + width ≤ m) → fixed_at fixed.new m ≡ fixed_at fixed.old m }
+    ensures others { (m : ℕ) → (m < level) ⊎ (level + width ≤ m) →
+        fixed_at fixed.new m ≡ fixed_at fixed.old m }
 {
     if width == 0 {
         return;
@@ -47,8 +48,8 @@ fn fix_value(codes: &Codes, at: At, k: usize, value: Value, fixed: &mut [Option<
     requires known { k < length codes.now }
     requires among { list_any (same_value value) (values_of (domain_in codes.now k)) ≡ true }
     requires room { length fixed.old ≡ level_count codes.now }
-    ensures fixes { IsFixedTo fixed.new (level_at codes.now at k) (width_at codes.now k) (rank_of (domain_in codes.now k) value) }
-    ensures allows { (s : Bits) → has_number (level_at codes.now at k) (width_at codes.now k) (rank_of (domain_in codes.now k) value) s ≡ true → AgreesWithin fixed.new (level_at codes.now at k) (width_at codes.now k) s }
+    ensures fixes { IsValueFixed codes.now at k value fixed.new }
+    ensures allows { AllowsValue codes.now at k value fixed.new }
     ensures others { (m : ℕ) → IsOutside codes.now at k m → fixed_at fixed.new m ≡ fixed_at fixed.old m }
 {
     let n = code(codes.domain(k), value);
@@ -68,8 +69,8 @@ pub fn fix(
     requires known { end ≤ length codes.now }
     requires room { length fixed.old ≡ level_count codes.now }
     ensures fixes { AreFixed codes.now at from values.now fixed.new }
-    ensures allows { (s : Bits) → Agrees fixed.old 0 s → HaveValues codes.now at from values.now s → Agrees fixed.new 0 s }
-    ensures keeps { (other : At) (vs : List Value) → other ≢ at → length vs ≤ length codes.now → AreFixed codes.now other 0 vs fixed.old → AreFixed codes.now other 0 vs fixed.new }
+    ensures allows { AllowsValues codes.now at from values.now fixed.old fixed.new }
+    ensures keeps { KeepsOtherBits codes.now at fixed.old fixed.new }
 {
     for k in 0..end - from {
         fix_value(codes, at, from + k, values[k], fixed);

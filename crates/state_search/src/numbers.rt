@@ -41,7 +41,8 @@ fn whole(lo: i64, hi: i64, n: usize) -> i64
 /// The value of a domain with this code, if it has one.
 pub fn value_of(domain: &Domain, n: usize) -> Value
     requires { IsCountable (domain_data domain.now) }
-    ensures { n < length (values_of (domain_data domain.now)) → result ≡ slice_index_or (values_of (domain_data domain.now)) n (Value.Bool false) }
+    ensures { let values = values_of (domain_data domain.now) in
+        n < length values → result ≡ slice_index_or values n (Value.Bool false) }
 {
     if n >= size(domain) {
         return Value::Bool(false);

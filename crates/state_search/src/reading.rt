@@ -27,7 +27,8 @@ pub fn read(codes: &Codes, at: At, from: usize, end: usize, bits: &[bool], value
     requires part { from + length values.old ≡ end }
     requires known { end ≤ length codes.now }
     requires room { length bits.now ≡ level_count codes.now }
-    ensures { (vs : List Value) → length vs ≡ length values.old → AreOf codes.now from vs → HaveValues codes.now at from vs (bits_of bits.now) → values.new ≡ vs }
+    ensures { (vs : List Value) → length vs ≡ length values.old → AreOf codes.now from vs →
+        HaveValues codes.now at from vs (bits_of bits.now) → values.new ≡ vs }
 {
     for k in 0..end - from {
         values[k] = read_value(codes, at, from + k, bits);

@@ -1,4 +1,4 @@
-use Rattle.std.proofs.Common.{Ok, Err, refl}
+use Rattle.std.proofs.Common.{Err, refl}
 use Rattle.bit_compile.proofs.MakingLemmas.{given_back}
 use Rattle.state_diagrams.proofs.SpentLemmas.{still_root}
 use Rattle.region_bdd.proofs.LeadingLaws.{two_kept, refused_two}

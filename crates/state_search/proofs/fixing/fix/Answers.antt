@@ -1,4 +1,4 @@
-use Rattle.std.proofs.Common.{◌≡◌, ℕ, ◌+◌, ◌<◌, ◌≤◌, length, ◌∙◌, arith}
+use Rattle.std.proofs.Common.{◌+◌, ◌<◌, length, ◌∙◌, arith}
 use Rattle.state_search.specs.Parts.{value_in}
 use Rattle.state_search.proofs.FixLemmas.{fixes_more, keeps_more, allows_more, others_fixed}
 use Rattle.state_search.proofs.fixing.fix.Goals as goal

@@ -1,4 +1,4 @@
-use Rattle.std.proofs.Common.{◌≡◌, ℕ, suc, ◌+◌, ◌-◌, ◌^◌, ◌<◌, subst, sym, arith}
+use Rattle.std.proofs.Common.{◌≡◌, ℕ, suc, ◌+◌, ◌-◌, ◌^◌, ◌<◌, subst, arith}
 use Rattle.state_search.proofs.numbers.+digits.Goals as goal
 
 pub returns-then-bits-level-clause-small : goal.returns-then-bits-level-clause-small

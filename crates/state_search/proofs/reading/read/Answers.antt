@@ -1,4 +1,4 @@
-use Rattle.std.proofs.Common.{◌≡◌, ℕ, ◌+◌, ◌<◌, length, length-set, ◌∙◌, sym, arith}
+use Rattle.std.proofs.Common.{◌<◌, length, length-set, ◌∙◌, sym, arith}
 use Rattle.spec_model.specs.Diagrams.{bits_of}
 use Rattle.state_search.proofs.ReadLemmas.{shows_one, values_more, same_values}
 use Rattle.state_search.proofs.reading.read.Goals as goal

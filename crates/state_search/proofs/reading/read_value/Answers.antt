@@ -2,7 +2,7 @@ use Rattle.std.proofs.Common.{ℕ, ◌^◌, ◌<◌, ◌≡◌, true, false, len
 use Rattle.spec_model.specs.declared.value.Value.TheVariants as value
 use Rattle.spec_model.specs.Values.{DomainData, values_of}
 use Rattle.spec_model.specs.Diagrams.{bits_of}
-use Rattle.bit_compile.specs.Codes.{has_number, level_at, width_at}
+use Rattle.bit_compile.specs.Codes.{has_number, width_at}
 use Rattle.state_search.proofs.ReadLemmas.{code_below, value_is}
 use Rattle.state_search.proofs.reading.read_value.Goals as goal
 

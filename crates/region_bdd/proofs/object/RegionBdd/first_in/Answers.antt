@@ -1,15 +1,12 @@
-use Rattle.std.proofs.Common.{◌≡◌, ◌+◌, ◌<◌, ◌-◌, ℕ, Bool, true, false, List, Option, length, find, Some, None, sym, ◌∙◌, ap, subst, arith}
+use Rattle.std.proofs.Common.{◌≡◌, ℕ, Bool, List, Option, length, find, Some, None, sym, ◌∙◌, ap, subst, arith}
 use Rattle.std.proofs.lemmas.Bool.{false≢true}
 use Rattle.std.proofs.lemmas.List.{length-map}
 use Rattle.std.specs.List.{All}
 use Rattle.spec_model.specs.declared.value.Value.{Value}
 use Rattle.spec_model.specs.GameViews.{game_data, hidden_data}
-use Rattle.spec_model.specs.Values.{DomainData}
 use Rattle.spec_model.specs.Diagrams.{Function, bits_of}
-use Rattle.spec_model.specs.Games.{inputs_of, outputs_of}
-use Rattle.spec_model.specs.Sets.{StateSet}
-use Rattle.regions.specs.declared.types.When.{When}
-use Rattle.regions.specs.Rules.{AreBefore, outputs_into, inputs_into}
+use Rattle.spec_model.specs.Games.{inputs_of}
+use Rattle.regions.specs.Rules.{AreBefore, inputs_into}
 use Rattle.game_values.specs.declared.seen.At.TheVariants.{Now, Next}
 use Rattle.bdd_store.specs.State.{IsRoot}
 use Rattle.bdd_ops.specs.Contents.{function_at}
@@ -17,20 +14,19 @@ use Rattle.bdd_ops.specs.Paths.{IsFirst, HasNone}
 use Rattle.bdd_ops.specs.Together.{Together, all_of}
 use Rattle.bit_compile.specs.Domains.{state_domains, level_count}
 use Rattle.state_diagrams.specs.declared.moves.Members.{Members}
-use Rattle.state_diagrams.specs.StateBits.{TellsStates, set_at}
+use Rattle.state_diagrams.specs.StateBits.{set_at}
 use Rattle.state_diagrams.specs.Members.{AreMembers}
 use Rattle.state_search.specs.Parts.{AreOf, HaveValues}
 use Rattle.region_bdd.specs.declared.slots.Content.{Content}
-use Rattle.region_bdd.specs.declared.slots.Content.TheVariants.{Outputs, Inputs}
-use Rattle.region_bdd.specs.Slots.{HasContent, shown_in, shown_meaning}
+use Rattle.region_bdd.specs.declared.slots.Content.TheVariants.{Inputs}
+use Rattle.region_bdd.specs.Slots.{HasContent}
 use Rattle.region_bdd.specs.Leading.{members_at}
-use Rattle.region_bdd.specs.Finding.{outputs_asked, inputs_asked}
+use Rattle.region_bdd.specs.Finding.{inputs_asked}
 use Rattle.region_bdd.proofs.SlotLaws.{fit_here, one_itself}
 use Rattle.region_bdd.proofs.ObjectLaws.{within_root}
 use Rattle.region_bdd.proofs.MoveLaws.{moves_held}
 use Rattle.region_bdd.proofs.LeadingLaws.{members_kept}
-use Rattle.region_bdd.proofs.FindLaws.{slots_long}
-use Rattle.region_bdd.proofs.FindCalls.{written, outputs_kept, inputs_kept, are_state, state_at, state_fixed, state_allows, spans_part, part_spans, spans_fixed, output_read, input_read, out_none, out_found, out_nothing, in_found, in_nothing, moves_shown, outputs_content, inputs_content, of_outputs, of_inputs}
+use Rattle.region_bdd.proofs.FindCalls.{written, inputs_kept, are_state, state_at, state_fixed, state_allows, input_read, in_found, in_nothing, moves_shown, inputs_content, of_inputs}
 use Rattle.region_bdd.proofs.object.RegionBdd.first_in.Goals as goal
 
 pub content-requires : goal.content-requires
@@ -149,10 +145,10 @@ returns-clause-first c = λ when' t b choice are.
     let s = bits_of c.first_common_path.new.out in
     let there = c.first_common_path.ensures.first c.if-not-first_common_path.false in
     let first = subst (λ (f : Function). IsFirst c.fix_before.new.fixed f 0 (level_count (state_domains g)) s) asked
-      (subst (λ (fx : List (Option Bool)). IsFirst fx (all_of d c.ask_inputs.new.all.roots) 0 (level_count (state_domains g)) s) (c.deref.ensures.value ∙ written _ c.fix_before.new.fixed _ (let a = c.fix_before.auto.fixed in let b = c.deref_mut.ensures.len in omega (arith, a, b)))
-      (subst (λ (n : ℕ). IsFirst c.deref.result.now (all_of d c.ask_inputs.new.all.roots) 0 n s) o.whole.levels there)) in
+    (subst (λ (fx : List (Option Bool)). IsFirst fx (all_of d c.ask_inputs.new.all.roots) 0 (level_count (state_domains g)) s) (c.deref.ensures.value ∙ written _ c.fix_before.new.fixed _ (let a = c.fix_before.auto.fixed in let b = c.deref_mut.ensures.len in omega (arith, a, b)))
+    (subst (λ (n : ℕ). IsFirst c.deref.result.now (all_of d c.ask_inputs.new.all.roots) 0 n s) o.whole.levels there)) in
     let read = subst (λ (bs : List Bool). (vs : List Value) → length vs ≡ length c.args.input.now → AreOf o.codes c.len-from.result vs → HaveValues o.codes Next c.len-from.result vs (bits_of bs) → c.read.new.values ≡ vs) (c.deref-2.ensures.value ∙ written _ c.first_common_path.new.out _ (let a = c.first_common_path.auto.out in let b = c.deref_mut-2.ensures.len in omega (arith, a, b))) c.read.ensures in
     of_inputs (λ w u. AreBefore g w b c.args.state.now → find (inputs_into g w u b) (inputs_of g) ≡ Some c.read.new.values) when when' set t both
     (λ are. input_read g o.codes o.coded c.len-from.result (omega (arith, from_is, hidden)) (inputs_into g when set b) s c.args.input.now c.read.new.values
-      (in_found g o.own o.levels d slots o.refused o.whole when b c.args.state.now are set leads fits.1 c.fix_before.new.fixed fixes allows s first) c.requires.room read)
+    (in_found g o.own o.levels d slots o.refused o.whole when b c.args.state.now are set leads fits.1 c.fix_before.new.fixed fixes allows s first) c.requires.room read)
     are

@@ -1,4 +1,4 @@
-use Rattle.std.proofs.Common.{◌≡◌, ◌+◌, ◌<◌, ◌-◌, ℕ, Bool, true, false, List, Option, length, find, Some, None, sym, ◌∙◌, ap, subst, arith}
+use Rattle.std.proofs.Common.{◌≡◌, ◌-◌, ℕ, Bool, List, Option, length, find, Some, None, sym, ◌∙◌, ap, subst, arith}
 use Rattle.std.proofs.lemmas.Bool.{false≢true}
 use Rattle.std.proofs.lemmas.List.{length-map}
 use Rattle.std.specs.List.{All}
@@ -6,11 +6,9 @@ use Rattle.spec_model.specs.declared.value.Value.{Value}
 use Rattle.spec_model.specs.GameViews.{game_data, hidden_data}
 use Rattle.spec_model.specs.Values.{DomainData}
 use Rattle.spec_model.specs.Diagrams.{Function, bits_of}
-use Rattle.spec_model.specs.Games.{inputs_of, outputs_of}
-use Rattle.spec_model.specs.Sets.{StateSet}
-use Rattle.regions.specs.declared.types.When.{When}
-use Rattle.regions.specs.Rules.{AreBefore, outputs_into, inputs_into}
-use Rattle.game_values.specs.declared.seen.At.TheVariants.{Now, Next}
+use Rattle.spec_model.specs.Games.{outputs_of}
+use Rattle.regions.specs.Rules.{AreBefore, outputs_into}
+use Rattle.game_values.specs.declared.seen.At.TheVariants.{Next}
 use Rattle.bdd_store.specs.State.{IsRoot}
 use Rattle.bdd_ops.specs.Contents.{function_at}
 use Rattle.bdd_ops.specs.Paths.{IsFirst, HasNone}
@@ -21,16 +19,16 @@ use Rattle.state_diagrams.specs.StateBits.{TellsStates, set_at}
 use Rattle.state_diagrams.specs.Members.{AreMembers}
 use Rattle.state_search.specs.Parts.{AreOf, HaveValues}
 use Rattle.region_bdd.specs.declared.slots.Content.{Content}
-use Rattle.region_bdd.specs.declared.slots.Content.TheVariants.{Outputs, Inputs}
-use Rattle.region_bdd.specs.Slots.{HasContent, shown_in, shown_meaning}
+use Rattle.region_bdd.specs.declared.slots.Content.TheVariants.{Outputs}
+use Rattle.region_bdd.specs.Slots.{HasContent}
 use Rattle.region_bdd.specs.Leading.{members_at}
-use Rattle.region_bdd.specs.Finding.{outputs_asked, inputs_asked}
+use Rattle.region_bdd.specs.Finding.{outputs_asked}
 use Rattle.region_bdd.proofs.SlotLaws.{fit_here, one_itself}
 use Rattle.region_bdd.proofs.ObjectLaws.{within_root}
 use Rattle.region_bdd.proofs.MoveLaws.{moves_held}
 use Rattle.region_bdd.proofs.LeadingLaws.{members_kept}
 use Rattle.region_bdd.proofs.FindLaws.{slots_long}
-use Rattle.region_bdd.proofs.FindCalls.{written, outputs_kept, inputs_kept, are_state, state_at, state_fixed, state_allows, spans_part, part_spans, spans_fixed, output_read, input_read, out_none, out_found, out_nothing, in_found, in_nothing, moves_shown, outputs_content, inputs_content, of_outputs, of_inputs}
+use Rattle.region_bdd.proofs.FindCalls.{written, outputs_kept, state_at, spans_part, part_spans, spans_fixed, output_read, out_none, out_found, out_nothing, moves_shown, outputs_content, of_outputs}
 use Rattle.region_bdd.proofs.object.RegionBdd.first_out.Goals as goal
 
 pub content-requires : goal.content-requires
@@ -107,7 +105,7 @@ returns-then-not-fix_move-clause-first c = λ when' t b choice are.
     let count_is = c.count-count.ensures in
     of_outputs (λ w u. AreBefore g w b c.args.state.now → find (outputs_into g w u b x) (outputs_of g) ≡ None) when when' set t both
     (λ are. out_none g o.own o.levels d slots o.refused o.whole when b c.args.state.now are root states x (λ fit.
-      absurd (false≢true (sym c.if-not-fix_move.true ∙ c.fix_move.ensures.answer.1 (state_at g o.codes o.coded when c.args.state.now fit.0, part_spans g o.codes o.coded c.len-from.result (c.count-count.result - length c.args.out.now) (omega (arith, from_is, hidden)) (omega (arith, count_is, coded, long, c.requires.room)) x fit.1)))))
+    absurd (false≢true (sym c.if-not-fix_move.true ∙ c.fix_move.ensures.answer.1 (state_at g o.codes o.coded when c.args.state.now fit.0, part_spans g o.codes o.coded c.len-from.result (c.count-count.result - length c.args.out.now) (omega (arith, from_is, hidden)) (omega (arith, count_is, coded, long, c.requires.room)) x fit.1)))))
     are
 
 pub returns-then-not-first_common_path-clause-first : goal.returns-then-not-first_common_path-clause-first
@@ -162,10 +160,10 @@ returns-clause-first c = λ when' t b choice are.
     let s = bits_of c.first_common_path.new.out in
     let there = c.first_common_path.ensures.first c.if-not-first_common_path.false in
     let first = subst (λ (f : Function). IsFirst c.fix_move.new.fixed f 0 (level_count (state_domains g)) s) asked
-      (subst (λ (fx : List (Option Bool)). IsFirst fx (all_of d c.ask_outputs.new.all.roots) 0 (level_count (state_domains g)) s) (c.deref.ensures.value ∙ written _ c.fix_move.new.fixed _ (let a = c.fix_move.auto.fixed in let b = c.deref_mut.ensures.len in omega (arith, a, b)))
-      (subst (λ (n : ℕ). IsFirst c.deref.result.now (all_of d c.ask_outputs.new.all.roots) 0 n s) o.whole.levels there)) in
+    (subst (λ (fx : List (Option Bool)). IsFirst fx (all_of d c.ask_outputs.new.all.roots) 0 (level_count (state_domains g)) s) (c.deref.ensures.value ∙ written _ c.fix_move.new.fixed _ (let a = c.fix_move.auto.fixed in let b = c.deref_mut.ensures.len in omega (arith, a, b)))
+    (subst (λ (n : ℕ). IsFirst c.deref.result.now (all_of d c.ask_outputs.new.all.roots) 0 n s) o.whole.levels there)) in
     let read = subst (λ (bs : List Bool). (vs : List Value) → length vs ≡ length c.args.out.now → AreOf o.codes (c.count-count.result - length c.args.out.now) vs → HaveValues o.codes Next (c.count-count.result - length c.args.out.now) vs (bits_of bs) → c.read.new.values ≡ vs) (c.deref-2.ensures.value ∙ written _ c.first_common_path.new.out _ (let a = c.first_common_path.auto.out in let b = c.deref_mut-2.ensures.len in omega (arith, a, b))) c.read.ensures in
     of_outputs (λ w u. AreBefore g w b c.args.state.now → find (outputs_into g w u b x) (outputs_of g) ≡ Some c.read.new.values) when when' set t both
     (λ are. output_read g o.codes o.coded c.len-from.result (c.count-count.result - length c.args.out.now) (omega (arith, from_is, hidden)) (omega (arith, count_is, coded, long, c.requires.room)) (outputs_into g when set b x) s c.args.out.now c.read.new.values
-      (out_found g o.own o.levels d slots o.refused o.whole when b c.args.state.now are root states x part c.fix_move.new.fixed fixes s first) c.requires.room read)
+    (out_found g o.own o.levels d slots o.refused o.whole when b c.args.state.now are root states x part c.fix_move.new.fixed fixes s first) c.requires.room read)
     are

@@ -1,4 +1,4 @@
-use Rattle.std.proofs.Common.{◌≡◌, ℕ, Bool, true, List, [], refl, sym, ◌∙◌, ap, subst, arith}
+use Rattle.std.proofs.Common.{◌≡◌, ℕ, Bool, true, List, sym, ◌∙◌, ap, subst, arith}
 use Rattle.std.proofs.lemmas.Bool.{false≢true}
 use Rattle.spec_model.specs.GameViews.{game_data}
 use Rattle.spec_model.specs.declared.value.Value.{Value}
@@ -55,4 +55,3 @@ returns-clause-answer c = λ s here is.
     let shown : HasValues (state_domains g) Now c.args.state.now bits = subst (λ (ds : List DomainData). HasValues ds Now c.args.state.now bits) o.coded c.write.ensures.written in
     let has : HasValues (state_domains g) Now (listed s) bits = subst (λ (vs : List Value). HasValues (state_domains g) Now vs bits) (sym is) shown in
     c.eval.ensures ∙ (ap (λ (bs : List Bool). f (bits_of bs)) (c.deref.ensures.value ∙ written _ c.write.new.bits _ (let a = c.write.auto.bits in let b = c.deref_mut.ensures.len in omega (arith, a, b))) ∙ told_at g Now f ((kept_of g d slots o.refused).set c.args.a.now) tells s bits here has)
-

@@ -5,7 +5,6 @@ use Rattle.regions.specs.Kept.{States}
 use Rattle.bdd_ops.specs.Contents.{function_at}
 use Rattle.state_diagrams.proofs.ShiftLemmas.{rises_to_next}
 use Rattle.state_diagrams.proofs.SpentLemmas.{still_root}
-use Rattle.bit_compile.proofs.MakingLemmas.{is_root}
 use Rattle.region_bdd.specs.declared.own.Refused.{Refused}
 use Rattle.region_bdd.specs.declared.own.Asked.TheVariants as asked
 use Rattle.region_bdd.specs.Object.{kept_of}
@@ -81,20 +80,7 @@ returns-clause-answer c =
     let now = kept_of g d slots o.refused in
     let why : Refused = record { asked = asked.StartEnv; first = Some c.args.t.now.slot; second = None } in
     let done = told g o.own o.levels d c.is_not_empty-asked.new.diagrams slots o.refused c.settle_answer.new.refused o.whole c.requires.free ((f ≡ function_at d o.own.step.nothing → ⊥)) why (States (now.set c.args.t.now) ∷ []) (one_argument g o.own o.levels d slots o.refused o.whole c.args.t.now c.region.result.now here) c.is_not_empty-asked.result c.settle_answer.result (c.is_not_empty-asked.ensures d f c.avoiding_rest-made.ensures (nothing_root g o.own o.levels d slots o.refused o.whole)) c.settle_answer.ensures in
-    answers_by c.settle_answer.result (f ≡ function_at d o.own.step.nothing → ⊥) (environment_forces g (now.set c.args.t.now) None) done.answer (λ said answer. environment_answer g o.own o.levels d slots o.refused o.whole c.args.t.now c.region.result.now here said answer)
-
-pub returns-clause-stays : goal.returns-clause-stays
-returns-clause-stays c =
-    let o = c.args.self.now in
-    let g = game_data o.game in
-    let slots = o.slots.slots.items in
-    let d = o.diagrams in
-    let here = c.region.ensures in
-    let f = rest_function g o.own o.levels d slots o.refused o.whole c.args.t.now c.region.result.now here in
-    let now = kept_of g d slots o.refused in
-    let why : Refused = record { asked = asked.StartEnv; first = Some c.args.t.now.slot; second = None } in
-    let done = told g o.own o.levels d c.is_not_empty-asked.new.diagrams slots o.refused c.settle_answer.new.refused o.whole c.requires.free ((f ≡ function_at d o.own.step.nothing → ⊥)) why (States (now.set c.args.t.now) ∷ []) (one_argument g o.own o.levels d slots o.refused o.whole c.args.t.now c.region.result.now here) c.is_not_empty-asked.result c.settle_answer.result (c.is_not_empty-asked.ensures d f c.avoiding_rest-made.ensures (nothing_root g o.own o.levels d slots o.refused o.whole)) c.settle_answer.ensures in
-    done.stays
+    answers_by c.settle_answer.result (f ≡ function_at d o.own.step.nothing → ⊥) (environment_forces g (now.set c.args.t.now) None) _ done.answer done.stays (λ said answer. environment_answer g o.own o.levels d slots o.refused o.whole c.args.t.now c.region.result.now here said answer)
 
 pub returns-clause-halted : goal.returns-clause-halted
 returns-clause-halted c =
