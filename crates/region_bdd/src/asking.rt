@@ -25,8 +25,13 @@ pub fn avoiding_set(
 ) -> Result<Root, Halt>
     requires t { IsRoot diagrams.old.state t.now }
     requires first { AreMembers diagrams.old own.now.first }
-    requires rising { RisesOver diagrams.old.state.table.levels levels.now.to.items (function_at diagrams.old t.now) }
-    ensures { Makes diagrams.old diagrams.new result (avoiding (move_functions diagrams.old own.now.first) levels.now.reply.items levels.now.all.items (shifted levels.now.to.items (function_at diagrams.old t.now))) }
+    requires rising { let old = diagrams.old in
+        RisesOver old.state.table.levels levels.now.to.items (function_at old t.now) }
+    ensures { let old = diagrams.old in
+        let next = shifted levels.now.to.items (function_at old t.now) in
+        Makes old diagrams.new result
+        (avoiding (move_functions old own.now.first) levels.now.reply.items
+        levels.now.all.items next) }
 {
     let target = shift(diagrams, t, &levels.to)?;
     avoided(diagrams, target, &own.first, levels)
@@ -41,8 +46,13 @@ pub fn avoiding_rest(
 ) -> Result<Root, Halt>
     requires t { IsRoot diagrams.old.state t.now }
     requires first { AreMembers diagrams.old own.now.first }
-    requires rising { RisesOver diagrams.old.state.table.levels levels.now.to.items (function_at diagrams.old t.now) }
-    ensures { Makes diagrams.old diagrams.new result (avoiding (move_functions diagrams.old own.now.first) levels.now.reply.items levels.now.all.items (negated (shifted levels.now.to.items (function_at diagrams.old t.now)))) }
+    requires rising { let old = diagrams.old in
+        RisesOver old.state.table.levels levels.now.to.items (function_at old t.now) }
+    ensures { let old = diagrams.old in
+        let next = shifted levels.now.to.items (function_at old t.now) in
+        Makes old diagrams.new result
+        (avoiding (move_functions old own.now.first) levels.now.reply.items
+        levels.now.all.items (negated next)) }
 {
     let next = shift(diagrams, t, &levels.to)?;
     let target = not_spent(diagrams, next)?;
@@ -53,7 +63,8 @@ pub fn avoiding_rest(
 fn is_nothing(diagrams: &mut Diagrams, root: Root, nothing: &Root) -> bool
     requires root { IsRoot diagrams.old.state root }
     requires nothing { IsRoot diagrams.old.state nothing.now }
-    ensures answer { IsTrue result ↔ function_at diagrams.old root ≡ function_at diagrams.old nothing.now }
+    ensures answer { let old = diagrams.old in
+        IsTrue result ↔ function_at old root ≡ function_at old nothing.now }
     ensures released { AddsRoot diagrams.new.state diagrams.old.state root }
     ensures table { diagrams.new.state.table ≡ diagrams.old.state.table }
 {
@@ -70,7 +81,8 @@ pub fn is_empty(
 ) -> Result<bool, Halt>
     requires made { IfOk made (λ r. IsRoot diagrams.old.state r) }
     requires nothing { IsRoot diagrams.old.state nothing.now }
-    ensures { (base : Contents) (f : Function) → Makes base diagrams.old made f → IsRoot base.state nothing.now → Answers base diagrams.new result (f ≡ function_at base nothing.now) }
+    ensures { (base : Contents) (f : Function) → Makes base diagrams.old made f →
+        IsRoot base.state nothing.now → Answers base diagrams.new result (f ≡ function_at base nothing.now) }
 {
     match made {
         Ok(root) => Ok(is_nothing(diagrams, root, nothing)),
@@ -86,7 +98,8 @@ pub fn is_not_empty(
 ) -> Result<bool, Halt>
     requires made { IfOk made (λ r. IsRoot diagrams.old.state r) }
     requires nothing { IsRoot diagrams.old.state nothing.now }
-    ensures { (base : Contents) (f : Function) → Makes base diagrams.old made f → IsRoot base.state nothing.now → Answers base diagrams.new result (f ≡ function_at base nothing.now → ⊥) }
+    ensures { (base : Contents) (f : Function) → Makes base diagrams.old made f →
+        IsRoot base.state nothing.now → Answers base diagrams.new result (f ≡ function_at base nothing.now → ⊥) }
 {
     match made {
         Ok(root) => Ok(!is_nothing(diagrams, root, nothing)),

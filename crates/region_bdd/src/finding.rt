@@ -81,7 +81,8 @@ fn fix_next(
     ensures answer { IsTrue result ↔ ArePart codes.now from end values.now }
     ensures fixes { IsTrue result → AreFixed codes.now At.Next from values.now fixed.new }
     ensures keeps { IsTrue result → KeepsOtherBits codes.now At.Next fixed.old fixed.new }
-    ensures allows { IsTrue result → AllowsValues codes.now At.Next from values.now fixed.old fixed.new }
+    ensures allows { IsTrue result →
+        AllowsValues codes.now At.Next from values.now fixed.old fixed.new }
 {
     if !fit(codes, from, end, values) {
         return false;

@@ -20,7 +20,8 @@ impl RegionBdd {
     /// Whether the region has the state.
     pub fn has(&mut self, a: &BddRegion, state: &[Value]) -> bool
         requires a { HasRegion (seen self.old) a.now }
-        ensures answer { (s : State) → IsTrue (is_state (seen self.old).game s) → listed s ≡ state.now → result ≡ (seen self.old).set a.now s }
+        ensures answer { let k = seen self.old in (s : State) → IsTrue (is_state k.game s) →
+            listed s ≡ state.now → result ≡ k.set a.now s }
         ensures stays { Stays (seen self.old) (seen self.new) }
         ensures same { IsSameGame (seen self.old) (seen self.new) }
     {
@@ -43,8 +44,9 @@ impl RegionBdd {
         requires m { HasMove (seen self.old) m.now }
         requires kind { GivesOutputs (seen self.old) m.now }
         requires room { length out.old ≡ output_count (seen self.old).game }
-        ensures first { let k = seen self.old in (when : When) (t : StateSet) (b : Before) → k.choice m.now ≡ Outputs when t →
-            AreBefore k.game when b state.now → Found result out.new (find (outputs_into k.game when t b input.now) (outputs_of k.game)) }
+        ensures first { let k = seen self.old in (when : When) (t : StateSet) (b : Before) →
+            k.choice m.now ≡ Outputs when t → AreBefore k.game when b state.now →
+            Found result out.new (find (outputs_into k.game when t b input.now) (outputs_of k.game)) }
         ensures stays { Stays (seen self.old) (seen self.new) }
         ensures same { IsSameGame (seen self.old) (seen self.new) }
     {
@@ -83,8 +85,9 @@ impl RegionBdd {
         requires m { HasMove (seen self.old) m.now }
         requires kind { GivesInputs (seen self.old) m.now }
         requires room { length input.old ≡ input_count (seen self.old).game }
-        ensures first { let k = seen self.old in (when : When) (t : StateSet) (b : Before) → k.choice m.now ≡ Inputs when t →
-            AreBefore k.game when b state.now → Found result input.new (find (inputs_into k.game when t b) (inputs_of k.game)) }
+        ensures first { let k = seen self.old in (when : When) (t : StateSet) (b : Before) →
+            k.choice m.now ≡ Inputs when t → AreBefore k.game when b state.now →
+            Found result input.new (find (inputs_into k.game when t b) (inputs_of k.game)) }
         ensures stays { Stays (seen self.old) (seen self.new) }
         ensures same { IsSameGame (seen self.old) (seen self.new) }
     {

@@ -25,8 +25,11 @@ fn leading(
 ) -> Result<Root, Halt>
     requires t { IsRoot diagrams.old.state t.now }
     requires members { AreMembers diagrams.old members.now }
-    requires rising { RisesOver diagrams.old.state.table.levels levels.now.to.items (function_at diagrams.old t.now) }
-    ensures { Makes diagrams.old diagrams.new result (leading_in (move_functions diagrams.old members.now) levels.now (function_at diagrams.old t.now)) }
+    requires rising { let old = diagrams.old in
+        RisesOver old.state.table.levels levels.now.to.items (function_at old t.now) }
+    ensures { let old = diagrams.old in
+        let set = function_at old t.now in
+        Makes old diagrams.new result (leading_in (move_functions old members.now) levels.now set) }
 {
     let next = shift(diagrams, t, &levels.to)?;
     let target = not_spent(diagrams, next)?;
@@ -37,7 +40,8 @@ fn leading(
 fn beside_made(diagrams: &mut Diagrams, t: &Root, made: Root) -> Result<(Root, Root), Halt>
     requires t { IsRoot diagrams.old.state t.now }
     requires made { IsRoot diagrams.old.state made }
-    ensures { (base : Contents) (h : Function) → Makes base diagrams.old (Ok made) h → IsRoot base.state t.now → MakesTwo base diagrams.new result (function_at base t.now) h }
+    ensures { (base : Contents) (h : Function) → Makes base diagrams.old (Ok made) h →
+        IsRoot base.state t.now → MakesTwo base diagrams.new result (function_at base t.now) h }
 {
     match keep(diagrams, t) {
         Ok(root) => Ok((root, made)),
@@ -57,8 +61,12 @@ pub fn with_leading(
 ) -> Result<(Root, Root), Halt>
     requires t { IsRoot diagrams.old.state t.now }
     requires members { AreMembers diagrams.old members.now }
-    requires rising { RisesOver diagrams.old.state.table.levels levels.now.to.items (function_at diagrams.old t.now) }
-    ensures { MakesTwo diagrams.old diagrams.new result (function_at diagrams.old t.now) (leading_in (move_functions diagrams.old members.now) levels.now (function_at diagrams.old t.now)) }
+    requires rising { let old = diagrams.old in
+        RisesOver old.state.table.levels levels.now.to.items (function_at old t.now) }
+    ensures { let old = diagrams.old in
+        let set = function_at old t.now in
+        let leads = leading_in (move_functions old members.now) levels.now set in
+        MakesTwo old diagrams.new result set leads }
 {
     let leads = leading(diagrams, t, members, levels)?;
     beside_made(diagrams, t, leads)

@@ -19,7 +19,8 @@ impl RegionBdd {
         requires free { (seen self.old).jam ≡ None }
         requires t { HasRegion (seen self.old) t.now }
         ensures answer { let k = seen self.old in
-            IfOk result (λ yes. (yes ≡ system_forces k.game (k.set t.now) None) × Stays k (seen self.new)) }
+            let forces = system_forces k.game (k.set t.now) None in
+            IfOk result (λ yes. (yes ≡ forces) × Stays k (seen self.new)) }
         ensures halted { let k = seen self.old in
             IfErr result (Halts k (seen self.new) StartSys (States (k.set t.now) ∷ [])) }
         ensures same { IsSameGame (seen self.old) (seen self.new) }
@@ -45,7 +46,8 @@ impl RegionBdd {
         requires free { (seen self.old).jam ≡ None }
         requires t { HasRegion (seen self.old) t.now }
         ensures answer { let k = seen self.old in
-            IfOk result (λ yes. (yes ≡ environment_forces k.game (k.set t.now) None) × Stays k (seen self.new)) }
+            let forces = environment_forces k.game (k.set t.now) None in
+            IfOk result (λ yes. (yes ≡ forces) × Stays k (seen self.new)) }
         ensures halted { let k = seen self.old in
             IfErr result (Halts k (seen self.new) StartEnv (States (k.set t.now) ∷ [])) }
         ensures same { IsSameGame (seen self.old) (seen self.new) }

@@ -29,7 +29,8 @@ fn fix_number(fixed: &mut [Option<bool>], level: usize, width: u32, n: usize)
     requires narrow { width ≤ 64 }
     requires within { level + width ≤ length fixed.old }
     ensures fixes { IsFixedTo fixed.new level width n }
-    ensures allows { (s : Bits) → has_number level width n s ≡ true → AgreesWithin fixed.new level width s }
+    ensures allows { (s : Bits) → has_number level width n s ≡ true →
+        AgreesWithin fixed.new level width s }
     ensures others { (m : ℕ) → (m < level) ⊎ (level + width ≤ m) →
         fixed_at fixed.new m ≡ fixed_at fixed.old m }
 {
@@ -50,7 +51,8 @@ fn fix_value(codes: &Codes, at: At, k: usize, value: Value, fixed: &mut [Option<
     requires room { length fixed.old ≡ level_count codes.now }
     ensures fixes { IsValueFixed codes.now at k value fixed.new }
     ensures allows { AllowsValue codes.now at k value fixed.new }
-    ensures others { (m : ℕ) → IsOutside codes.now at k m → fixed_at fixed.new m ≡ fixed_at fixed.old m }
+    ensures others { (m : ℕ) → IsOutside codes.now at k m →
+        fixed_at fixed.new m ≡ fixed_at fixed.old m }
 {
     let n = code(codes.domain(k), value);
     fix_number(fixed, codes.level(at, k) as usize, codes.width(k), n);

@@ -18,3 +18,6 @@ mod reading;
 pub use fitting::fit;
 pub use fixing::{fix, loosen};
 pub use reading::read;
+
+#[cfg(test)]
+mod tests;
