@@ -3,3 +3,4 @@ pub mod StateBits
 pub mod MoveBits
 pub mod Members
 pub mod Forcing
+pub mod Lists
