@@ -4,3 +4,4 @@ pub mod MoveBits
 pub mod Members
 pub mod Forcing
 pub mod Lists
+pub mod Levels

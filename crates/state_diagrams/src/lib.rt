@@ -8,6 +8,7 @@
 
 pub mod forcing;
 pub mod laws;
+pub mod levels;
 pub mod lists;
 pub mod moves;
 pub mod spent;
