@@ -10,3 +10,4 @@ pub mod StateLemmas
 pub mod ListLemmas
 pub mod ProperLemmas
 pub mod LevelLemmas
+pub mod GoalLemmas

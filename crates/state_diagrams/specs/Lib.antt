@@ -5,3 +5,4 @@ pub mod Members
 pub mod Forcing
 pub mod Lists
 pub mod Levels
+pub mod Goals

@@ -7,6 +7,7 @@
 #![tactic(auto)]
 
 pub mod forcing;
+pub mod goals;
 pub mod laws;
 pub mod levels;
 pub mod lists;
