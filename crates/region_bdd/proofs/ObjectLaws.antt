@@ -31,14 +31,14 @@ use Rattle.region_bdd.proofs.SlotLaws.{map-get, place_of, get_here, takes_place,
 -- ---- the same functions
 
 module _ (c c' : Contents) where
-  list_same : (roots : List ℕ) → ((n : ℕ) → 0 < times_in n roots → function_at c' n ≡ function_at c n) → functions_at c' roots ≡ functions_at c roots
+  pub list_same : (roots : List ℕ) → ((n : ℕ) → 0 < times_in n roots → function_at c' n ≡ function_at c n) → functions_at c' roots ≡ functions_at c roots
   list_same [] same = refl
   list_same (r ∷ roots) same =
       let first = same r (let one = one_itself r in omega (arith, one)) in
       let rest = list_same roots (λ n some. same n (omega (arith, some))) in
       ap (λ f. f ∷ functions_at c' roots) first ∙ ap (λ fs. function_at c r ∷ fs) rest
 
-  members_same : (m : Members) → ((n : ℕ) → 0 < roots_of_members n m → function_at c' n ≡ function_at c n) → move_functions c' m ≡ move_functions c m
+  pub members_same : (m : Members) → ((n : ℕ) → 0 < roots_of_members n m → function_at c' n ≡ function_at c n) → move_functions c' m ≡ move_functions c m
   members_same m same =
       let inputs = list_same m.inputs.items (λ n some. same n (omega (arith, some))) in
       let outputs = list_same m.outputs.items (λ n some. same n (omega (arith, some))) in
