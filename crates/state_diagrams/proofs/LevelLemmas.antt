@@ -1,7 +1,7 @@
 -- Lists of the levels of next bits, slot by slot.
 use Rattle.std.proofs.Common.{◌≡◌, ℕ, zero, suc, ◌+◌, ◌-◌, ◌*◌, ◌==◌, ◌<◌, ◌≤◌, ◌⊎◌, nat_le, nat_lt, Bool, true, false, not, ◌&&◌, ◌||◌, List, [], ◌∷◌, ◌++◌, length, length-append, map, take, get_or, slice_index_or, refl, sym, ◌∙◌, ap, subst, arith, inl, inr}
-use Rattle.std.proofs.lemmas.Bool.{and_parts, or_cases, or_left, or_right, false≢true}
-use borrow.Author.Tests.{ltb-true, eqb-true, eq-eqb}
+use Rattle.std.proofs.lemmas.Bool.{and_parts, and_from, or_cases, or_left, or_right, false≢true, leb-true, le-leb}
+use borrow.Author.Tests.{ltb-true, lt-ltb, eqb-true, eq-eqb}
 use Rattle.spec_model.specs.Values.{DomainData}
 use Rattle.spec_model.specs.Games.{GameData}
 use Rattle.game_values.specs.declared.seen.At.{At}
@@ -28,6 +28,26 @@ levels-push l zero = ap (λ m. m ∷ []) (omega arith)
 levels-push l (suc n) =
     let place : l + suc n ≡ suc l + n = omega arith in
     ap (λ ms. l ∷ ms) (ap (λ m. levels_from (suc l) n ++ m ∷ []) place ∙ levels-push (suc l) n)
+
+-- one level more
+pub levels_more : (list items new : List ℕ) (first level : ℕ) → first ≤ level → items ≡ list ++ levels_from first (level - first) → new ≡ items ++ level ∷ [] → new ≡ list ++ levels_from first (level + 1 - first)
+levels_more list items new first level low is pushed =
+    let n = level - first in
+    let place : first + n ≡ level = omega (arith, low) in
+    let more : suc n ≡ level + 1 - first = omega (arith, low) in
+    pushed ∙ (ap (λ ms. ms ++ level ∷ []) is ∙ (append-assoc list (levels_from first n) (level ∷ [])
+    ∙ ap (λ ms. list ++ ms) (ap (λ m. levels_from first n ++ m ∷ []) (sym place) ∙ (levels-push first n ∙ ap (levels_from first) more))))
+  where
+    append-assoc : (xs ys zs : List ℕ) → (xs ++ ys) ++ zs ≡ xs ++ (ys ++ zs)
+    append-assoc [] ys zs = refl
+    append-assoc (x ∷ xs) ys zs = ap (λ ms. x ∷ ms) (append-assoc xs ys zs)
+
+pub no_level : (list : List ℕ) (first : ℕ) → list ≡ list ++ levels_from first (first - first)
+no_level list first = let none : 0 ≡ first - first = omega arith in append-nil list ∙ ap (λ n. list ++ levels_from first n) none
+  where
+    append-nil : (xs : List ℕ) → xs ≡ xs ++ []
+    append-nil [] = refl
+    append-nil (x ∷ xs) = ap (λ ms. x ∷ ms) (append-nil xs)
 
 get-level : (l n j d : ℕ) → j < n → get_or (levels_from l n) j d ≡ l + j
 get-level l zero j d less = absurd (omega arith)
@@ -60,6 +80,20 @@ among-append m [] ys = refl
 among-append m (x ∷ xs) ys = ap (λ b. (m == x) || b) (among-append m xs ys) ∙ or_assoc (m == x) (is_among m xs) (is_among m ys)
 
 -- ---- slot by slot
+
+pub is_outside : (first past k : ℕ) → (k < first) ⊎ (past ≤ k) → is_elsewhere first past k ≡ true
+is_outside first past k out = at (nat_le first k && nat_lt k past) refl out
+  where
+    at : (b : Bool) → (nat_le first k && nat_lt k past) ≡ b → (k < first) ⊎ (past ≤ k) → not (nat_le first k && nat_lt k past) ≡ true
+    at false e out = ap not e
+    at true e out =
+        let parts = and_parts (nat_le first k) (nat_lt k past) e in
+        let low = leb-true first k parts.0 in
+        let high = ltb-true k past parts.1 in
+        elim out [ inl before ↦ absurd (omega (arith, low, before)) | inr after ↦ absurd (omega (arith, high, after)) ]
+
+pub is_inside : (first past k : ℕ) → first ≤ k → k < past → is_elsewhere first past k ≡ false
+is_inside first past k low high = ap not (and_from (nat_le first k) (nat_lt k past) (le-leb first k low) (lt-ltb k past high))
 
 pub no_slots : (ds : List DomainData) (test : ℕ → Bool) (levels : List ℕ) → levels ≡ [] → HasNextBits ds test 0 levels
 no_slots ds test levels none =

@@ -26,6 +26,24 @@ fn with_levels(mut list: Vec<u32>, first: u32, count: u32) -> Result<Vec<u32>, O
     Ok(list)
 }
 
+/// The list with the levels of one slot's next bits more, unless the slot is one of those from `first` up to `past`.
+fn with_slot(
+    levels: Vec<u32>,
+    codes: &Codes,
+    first: usize,
+    past: usize,
+    k: usize,
+) -> Result<Vec<u32>, OutOfMemory>
+    requires { k < length codes.now }
+    ensures { HasNextBits codes.now (is_elsewhere first past) k levels.items → IfOk result (λ more. HasNextBits codes.now (is_elsewhere first past) (k + 1) more.items) }
+{
+    if k < first || past <= k {
+        with_levels(levels, codes.level(At::Next, k), codes.width(k))
+    } else {
+        Ok(levels)
+    }
+}
+
 /// The levels of the next bits of each slot, but for those from `first` up to `past`.
 fn next_bits(
     alloc: Global,
@@ -37,9 +55,7 @@ fn next_bits(
 {
     let mut levels = Vec::new(alloc);
     for k in 0..codes.count() {
-        if k < first || past <= k {
-            levels = with_levels(levels, codes.level(At::Next, k), codes.width(k))?;
-        }
+        levels = with_slot(levels, codes, first, past, k)?;
     }
     Ok(levels)
 }

@@ -14,4 +14,4 @@ loop-root-preserved c =
     }
 
 pub returns-clause-released : goal.returns-clause-released
-returns-clause-released c = all_popped c.args.diagrams.now.state c.loop-root.diagrams.state c.args.roots.items c.loop-root.roots.items c.loop-root.invariant.left (none_left c.loop-root.roots c.in_default.ensures.roots.0)
+returns-clause-released c = all_popped c.args.diagrams.now.state c.loop-root.diagrams.state c.args.roots.items c.loop-root.roots.items c.loop-root.invariant.left (none_left c.loop-root.roots c.in_default.ensures.cases.0)
