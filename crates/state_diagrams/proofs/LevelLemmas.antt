@@ -1,8 +1,11 @@
 -- Lists of the levels of next bits, slot by slot.
-use Rattle.std.proofs.Common.{◌≡◌, ℕ, zero, suc, ◌+◌, ◌-◌, ◌*◌, ◌==◌, ◌<◌, ◌≤◌, ◌⊎◌, nat_le, nat_lt, Bool, true, false, not, ◌&&◌, ◌||◌, List, [], ◌∷◌, ◌++◌, length, length-append, map, take, get_or, slice_index_or, refl, sym, ◌∙◌, ap, subst, arith, inl, inr}
-use Rattle.std.proofs.lemmas.Bool.{and_parts, and_from, or_cases, or_left, or_right, false≢true, leb-true, le-leb}
-use borrow.Author.Tests.{ltb-true, lt-ltb, eqb-true, eq-eqb}
+use Rattle.std.proofs.Common.{◌≡◌, ℕ, zero, suc, ◌+◌, ◌-◌, ◌*◌, ◌==◌, ◌<◌, ◌≤◌, ◌⊎◌, nat_le, nat_lt, Bool, true, false, not, ◌&&◌, ◌||◌, Vec, Result, Ok, Err, IfOk, List, [], ◌∷◌, ◌++◌, length, length-append, map, take, get_or, slice_index_or, refl, sym, ◌∙◌, ap, subst, arith, inl, inr}
+use Rattle.std.proofs.lemmas.Bool.{and_parts, or_cases, or_left, or_right, false≢true}
+use borrow.Author.Tests.{ltb-true, eqb-true, eq-eqb}
+use Rattle.std.specs.declared.alloc.Global.{Global}
+use Rattle.std.specs.declared.alloc.AllocError.{AllocError}
 use Rattle.spec_model.specs.Values.{DomainData}
+use Rattle.spec_model.specs.Moves.{is_env, domains_of}
 use Rattle.spec_model.specs.Games.{GameData}
 use Rattle.game_values.specs.declared.seen.At.{At}
 use Rattle.game_values.specs.declared.seen.At.TheVariants.{Now, Next}
@@ -14,7 +17,7 @@ use Rattle.bit_compile.specs.Proper.{levels_from}
 use Rattle.bit_compile.proofs.SlotLemmas.{slot_before, earlier_before, others_outside}
 use Rattle.bit_compile.proofs.CyclesLemmas.{take_all}
 use Rattle.bit_compile.proofs.Places.{get-after, get-before}
-use Rattle.state_diagrams.specs.MoveBits.{AreNextOf, LeadsToNext, is_any_slot}
+use Rattle.state_diagrams.specs.MoveBits.{AreNextOf, LeadsToNext, is_any_slot, is_reply_slot}
 use Rattle.state_diagrams.specs.Levels.{HasNextBits, LeadsOn, is_elsewhere}
 
 -- ---- levels in a row
@@ -81,20 +84,6 @@ among-append m (x ∷ xs) ys = ap (λ b. (m == x) || b) (among-append m xs ys) �
 
 -- ---- slot by slot
 
-pub is_outside : (first past k : ℕ) → (k < first) ⊎ (past ≤ k) → is_elsewhere first past k ≡ true
-is_outside first past k out = at (nat_le first k && nat_lt k past) refl out
-  where
-    at : (b : Bool) → (nat_le first k && nat_lt k past) ≡ b → (k < first) ⊎ (past ≤ k) → not (nat_le first k && nat_lt k past) ≡ true
-    at false e out = ap not e
-    at true e out =
-        let parts = and_parts (nat_le first k) (nat_lt k past) e in
-        let low = leb-true first k parts.0 in
-        let high = ltb-true k past parts.1 in
-        elim out [ inl before ↦ absurd (omega (arith, low, before)) | inr after ↦ absurd (omega (arith, high, after)) ]
-
-pub is_inside : (first past k : ℕ) → first ≤ k → k < past → is_elsewhere first past k ≡ false
-is_inside first past k low high = ap not (and_from (nat_le first k) (nat_lt k past) (le-leb first k low) (lt-ltb k past high))
-
 pub no_slots : (ds : List DomainData) (test : ℕ → Bool) (levels : List ℕ) → levels ≡ [] → HasNextBits ds test 0 levels
 no_slots ds test levels none =
     record {
@@ -125,6 +114,11 @@ module _ (ds : List DomainData) (test : ℕ → Bool) (n : ℕ) (levels : List �
 
       here : (m : ℕ) → IsBitOf ds Next n m → is_among m (levels_from (level_at ds Next n) (width_at ds n)) ≡ true
       here m bit = among_levels (level_at ds Next n) (width_at ds n) m bit.0 bit.1
+
+  -- the same of the list that is made, where the level and the width are known as others
+  pub slot_in_made : (l w : ℕ) (r : Result (Vec ℕ Global) AllocError) → test n ≡ true → l ≡ level_at ds Next n → w ≡ width_at ds n → IfOk r (λ new. new.items ≡ levels ++ levels_from l w) → IfOk r (λ new. HasNextBits ds test (n + 1) new.items)
+  slot_in_made l w (Ok new) pass level wide is = slot_in new.items pass (is ∙ (ap (λ k. levels ++ levels_from k w) level ∙ ap (λ k. levels ++ levels_from (level_at ds Next n) k) wide))
+  slot_in_made l w (Err e) pass level wide is = tt
 
   -- the slot is left out
   pub slot_out : test n ≡ false → HasNextBits ds test (n + 1) levels
@@ -185,6 +179,12 @@ module _ (g : GameData) where
           at : (b : Bool) → (nat_le 0 k && nat_lt k 0) ≡ b → not (nat_le 0 k && nat_lt k 0) ≡ true
           at true e = let less = ltb-true k 0 (and_parts (nat_le 0 k) (nat_lt k 0) e).1 in absurd (omega (arith, less))
           at false e = ap not e
+
+  -- where the inputs are left out, those of replies are
+  pub are_replies : (first past : ℕ) (levels : List ℕ) → first ≡ length g.hidden → past ≡ length g.hidden + length (domains_of is_env g.variables) → HasNextBits (state_domains g) (is_elsewhere first past) (length (state_domains g)) levels → AreNextOf g (is_reply_slot g) levels
+  are_replies first past levels from_here to_here bits =
+      are_next (is_reply_slot g) levels (subst (λ (a : ℕ). HasNextBits (state_domains g) (is_elsewhere a (length g.hidden + length (domains_of is_env g.variables))) (length (state_domains g)) levels) from_here
+      (subst (λ (b : ℕ). HasNextBits (state_domains g) (is_elsewhere first b) (length (state_domains g)) levels) to_here bits))
 
 -- ---- where each level leads
 

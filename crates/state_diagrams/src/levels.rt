@@ -5,7 +5,7 @@ ghost use Rattle.spec_model.specs.GameViews.{game_data};
 ghost use Rattle.spec_model.specs.WellMade.{WellMade};
 ghost use Rattle.bit_compile.specs.Domains.{state_domains};
 ghost use Rattle.bit_compile.specs.Proper.{levels_from};
-ghost use Rattle.state_diagrams.specs.Levels.{HasNextBits, LeadsOn, is_elsewhere};
+ghost use Rattle.state_diagrams.specs.Levels.{HasNextBits, LeadsOn, is_elsewhere as is_elsewhere_lem};
 ghost use Rattle.state_diagrams.specs.Forcing.{AreLevelsOf};
 
 use crate::moves::NextLevels;
@@ -26,6 +26,13 @@ fn with_levels(mut list: Vec<u32>, first: u32, count: u32) -> Result<Vec<u32>, O
     Ok(list)
 }
 
+/// Whether a slot is none of those from `first` up to `past`.
+fn is_elsewhere(first: usize, past: usize, k: usize) -> bool
+    ensures { result ≡ is_elsewhere_lem first past k }
+{
+    !(first <= k && k < past)
+}
+
 /// The list with the levels of one slot's next bits more, unless the slot is one of those from `first` up to `past`.
 fn with_slot(
     levels: Vec<u32>,
@@ -35,9 +42,9 @@ fn with_slot(
     k: usize,
 ) -> Result<Vec<u32>, OutOfMemory>
     requires { k < length codes.now }
-    ensures { HasNextBits codes.now (is_elsewhere first past) k levels.items → IfOk result (λ more. HasNextBits codes.now (is_elsewhere first past) (k + 1) more.items) }
+    ensures { HasNextBits codes.now (is_elsewhere_lem first past) k levels.items → IfOk result (λ more. HasNextBits codes.now (is_elsewhere_lem first past) (k + 1) more.items) }
 {
-    if k < first || past <= k {
+    if is_elsewhere(first, past, k) {
         with_levels(levels, codes.level(At::Next, k), codes.width(k))
     } else {
         Ok(levels)
@@ -51,7 +58,7 @@ fn next_bits(
     first: usize,
     past: usize,
 ) -> Result<Vec<u32>, OutOfMemory>
-    ensures { IfOk result (λ levels. HasNextBits codes.now (is_elsewhere first past) (length codes.now) levels.items) }
+    ensures { IfOk result (λ levels. HasNextBits codes.now (is_elsewhere_lem first past) (length codes.now) levels.items) }
 {
     let mut levels = Vec::new(alloc);
     for k in 0..codes.count() {

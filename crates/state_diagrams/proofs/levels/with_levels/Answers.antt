@@ -7,7 +7,7 @@ pub loop-level-init : goal.loop-level-init
 loop-level-init c = no_level c.args.list.items c.args.first
 
 pub loop-level-preserved : goal.loop-level-preserved
-loop-level-preserved c = levels_more c.args.list.items c.loop-level.list.items _ c.args.first c.loop-level.level (omega (arith, c.loop-level.auto)) c.loop-level.invariant c.push.ensures.items
+loop-level-preserved c = levels_more c.args.list.items c.loop-level.list.items _ c.args.first c.loop-level.level (omega (arith, c.loop-level.auto)) c.loop-level.invariant c.in_ok-push.ensures.items
 
 pub returns : goal.returns
 returns c =
