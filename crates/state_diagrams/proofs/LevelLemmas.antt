@@ -1,5 +1,5 @@
 -- Lists of the levels of next bits, slot by slot.
-use Rattle.std.proofs.Common.{◌≡◌, ℕ, zero, suc, ◌+◌, ◌-◌, ◌*◌, ◌==◌, ◌<◌, ◌≤◌, ◌⊎◌, nat_le, nat_lt, Bool, true, false, not, ◌&&◌, ◌||◌, Vec, Result, Ok, Err, IfOk, List, [], ◌∷◌, ◌++◌, length, length-append, map, take, get_or, slice_index_or, refl, sym, ◌∙◌, ap, subst, arith, inl, inr}
+use Rattle.std.proofs.Common.{◌≡◌, ℕ, zero, suc, ◌+◌, ◌-◌, ◌*◌, ◌==◌, ◌<◌, ◌≤◌, ◌⊎◌, nat_le, nat_lt, Bool, true, false, not, ◌&&◌, ◌||◌, Vec, Result, Ok, Err, IfOk, List, [], ◌∷◌, ◌++◌, length, length-append, take, get_or, refl, sym, ◌∙◌, ap, subst, arith, inl, inr}
 use Rattle.std.proofs.lemmas.Bool.{and_parts, or_cases, or_left, or_right, false≢true}
 use borrow.Author.Tests.{ltb-true, eqb-true, eq-eqb}
 use Rattle.std.specs.declared.alloc.Global.{Global}
@@ -10,7 +10,7 @@ use Rattle.spec_model.specs.Games.{GameData}
 use Rattle.game_values.specs.declared.seen.At.{At}
 use Rattle.game_values.specs.declared.seen.At.TheVariants.{Now, Next}
 use Rattle.bdd_ops.specs.Functions.{is_among}
-use Rattle.bit_compile.specs.Domains.{state_domains, level_count, width_of}
+use Rattle.bit_compile.specs.Domains.{state_domains, level_count}
 use Rattle.bit_compile.specs.Codes.{level_at, width_at, IsOutside}
 use Rattle.bit_compile.specs.CompileLaws.{IsBitOf}
 use Rattle.bit_compile.specs.Proper.{levels_from}
@@ -156,9 +156,9 @@ module _ (g : GameData) where
       record {
         has = λ k m known passes level. bits.has k m known passes level;
         leaves = λ k m known fails level. none m (λ among. (
-          let found = bits.only m among in
-          let same = one_slot (state_domains g) Next k found.0 m known found.1 level found.3 in
-          false≢true (sym fails ∙ (ap test same ∙ found.2))));
+            let found = bits.only m among in
+            let same = one_slot (state_domains g) Next k found.0 m known found.1 level found.3 in
+            false≢true (sym fails ∙ (ap test same ∙ found.2))));
         leaves_present = λ k m known level. none m (λ among. (let found = bits.only m among in never_both (state_domains g) k found.0 m known found.1 level found.3));
       }
     where
@@ -204,13 +204,13 @@ module _ (ds : List DomainData) (n : ℕ) (to : List ℕ) (so_far : LeadsOn ds n
   leads_more present new first second =
       record {
         long = (
-          let one = ap length first ∙ length-append to row in
-          let two = ap length second ∙ length-append present row in
-          let wide = length-levels (level_at ds Next n) (width_at ds n) in
-          let so_long = so_far.long in
-          let more = count_more ds n known in
-          let next : n + 1 ≡ suc n = omega arith in
-          rw next (omega (arith, one, two, wide, so_long, more)));
+            let one = ap length first ∙ length-append to row in
+            let two = ap length second ∙ length-append present row in
+            let wide = length-levels (level_at ds Next n) (width_at ds n) in
+            let so_long = so_far.long in
+            let more = count_more ds n known in
+            let next : n + 1 ≡ suc n = omega arith in
+            rw next (omega (arith, one, two, wide, so_long, more)));
         to_next = λ k m less bit. elim (last_or k less) [
           | inl before ↦ (
               let high = bit.1 in

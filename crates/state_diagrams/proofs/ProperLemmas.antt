@@ -1,13 +1,13 @@
 -- The bits that have the code of a value in each slot are those of states.
-use Rattle.std.proofs.Common.{◌≡◌, ℕ, zero, suc, ◌+◌, ◌<◌, ◌⊎◌, pos, ◌-ℤ◌, ℤ, nat_abs, Bool, true, false, ◌&&◌, nat_lt, List, [], ◌∷◌, ◌++◌, length, map, get_or, refl, sym, ◌∙◌, ap, subst, arith, inl, inr}
+use Rattle.std.proofs.Common.{◌≡◌, ℕ, zero, suc, ◌<◌, ◌⊎◌, pos, ◌-ℤ◌, nat_abs, Bool, true, false, nat_lt, List, [], ◌∷◌, ◌++◌, length, map, get_or, refl, sym, ◌∙◌, ap, subst, arith, inl, inr}
 use Rattle.std.proofs.lemmas.Bool.{and_parts, and_from, or_cases, or_left, or_right, false≢true}
 use Rattle.std.proofs.lemmas.Int.{ints}
 use Rattle.std.proofs.lemmas.List.{map-append}
-use Rattle.std.specs.List.{list_any, list_all}
+use Rattle.std.specs.List.{list_any}
 use borrow.Author.Tests.{lt-ltb}
 use Rattle.spec_model.specs.declared.value.Value.{Value}
 use Rattle.spec_model.specs.declared.value.Value.TheVariants as value
-use Rattle.spec_model.specs.Values.{DomainData, WholeNumbers, is_assignment, same_value, values_of, rank_of}
+use Rattle.spec_model.specs.Values.{DomainData, is_assignment, same_value, values_of, rank_of}
 use Rattle.spec_model.specs.Diagrams.{Bits, Function}
 use Rattle.spec_model.specs.Moves.{is_env, domains_of}
 use Rattle.spec_model.specs.Games.{GameData, HiddenData, State, listed}
@@ -17,13 +17,13 @@ use Rattle.spec_model.proofs.AllStates.{same_value-true}
 use Rattle.spec_model.proofs.Domains.{in_range, none_in_range, no_number}
 use Rattle.game_values.specs.declared.seen.At.{At}
 use Rattle.bit_compile.specs.Domains.{state_domains, table_domain}
-use Rattle.bit_compile.specs.Codes.{HasValues, domain_in, code_at}
+use Rattle.bit_compile.specs.Codes.{HasValues, domain_in}
 use Rattle.bit_compile.specs.Compiled.{Case, is_code, all_of}
 use Rattle.bit_compile.specs.Proper.{has_some_value, proper, AreOfValues}
 use Rattle.bit_compile.proofs.Describing.{same_value-refl}
 use Rattle.bit_compile.proofs.SlotLemmas.{value_among, length-assignment}
 use Rattle.bit_compile.proofs.LawLemmas.{state_listed}
-use Rattle.state_diagrams.specs.StateBits.{HasState, Tells}
+use Rattle.state_diagrams.specs.StateBits.{Tells}
 use Rattle.state_diagrams.proofs.SetLemmas.{tells_by}
 
 -- ---- one slot

@@ -1,4 +1,4 @@
-use Rattle.std.proofs.Common.{◌≡◌, ◌++◌, ◌∷◌, [], Ok, List, map, take, ◌∙◌, ap, subst, sym}
+use Rattle.std.proofs.Common.{◌++◌, ◌∷◌, [], Ok, List, map, take, ◌∙◌, ap, subst, sym}
 use Rattle.spec_model.specs.declared.game.Goal.{Goal}
 use Rattle.spec_model.specs.Diagrams.{Function}
 use Rattle.spec_model.specs.Games.{GoalData}

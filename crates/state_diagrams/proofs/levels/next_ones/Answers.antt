@@ -1,4 +1,4 @@
-use Rattle.std.proofs.Common.{◌≡◌, ◌<◌, ◌++◌, List, ℕ, length, ◌∙◌, ap, arith}
+use Rattle.std.proofs.Common.{◌<◌, ◌++◌, List, ℕ, length, ◌∙◌, ap, arith}
 use Rattle.game_values.specs.declared.seen.At.TheVariants.{Next}
 use Rattle.bit_compile.specs.Codes.{level_at}
 use Rattle.bit_compile.specs.Proper.{levels_from}

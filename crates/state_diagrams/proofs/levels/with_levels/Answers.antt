@@ -1,4 +1,4 @@
-use Rattle.std.proofs.Common.{◌≡◌, ◌-◌, ◌+◌, ◌++◌, ◌∙◌, ap, arith}
+use Rattle.std.proofs.Common.{◌≡◌, ◌-◌, ◌++◌, ◌∙◌, ap, arith}
 use Rattle.bit_compile.specs.Proper.{levels_from}
 use Rattle.state_diagrams.proofs.LevelLemmas.{levels_more, no_level}
 use Rattle.state_diagrams.proofs.levels.with_levels.Goals as goal

@@ -1,4 +1,4 @@
-use Rattle.std.proofs.Common.{◌≡◌, ◌++◌, ◌∷◌, [], ℕ, Ok, Err, List, Result, ◌∙◌, ap, subst}
+use Rattle.std.proofs.Common.{◌++◌, ◌∷◌, [], ℕ, List, Result, ◌∙◌, ap, subst}
 use Rattle.regions.specs.declared.types.Halt.{Halt}
 use Rattle.bit_compile.specs.Making.{Makes}
 use Rattle.state_diagrams.proofs.ListLemmas.{list_more}
