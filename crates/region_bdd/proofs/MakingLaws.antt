@@ -1,5 +1,5 @@
 -- Parts of the object's own diagrams, made one after the other.
-use Rattle.std.proofs.Common.{◌≡◌, ℕ, ◌+◌, ◌<◌, ◌≤◌, false, Vec, Result, Ok, Err, IfOk, IsErrAnd, is_ok, List, [], refl, sym, ◌∙◌, ap, subst, arith, cond, ◌==◌}
+use Rattle.std.proofs.Common.{◌≡◌, ℕ, ◌+◌, ◌<◌, ◌≤◌, false, Vec, Result, Ok, Err, IfOk, IsErrAnd, is_ok, List, [], Option, None, refl, sym, ◌∙◌, ap, subst, arith, cond, ◌==◌}
 use Rattle.std.proofs.lemmas.Bool.{false≢true}
 use Rattle.std.specs.declared.alloc.Global.{Global}
 use Rattle.node_table.specs.Table.{diagram_at, count_of}
@@ -9,7 +9,13 @@ use Rattle.spec_model.specs.Games.{GameData, GoalData}
 use Rattle.regions.specs.declared.types.Halt.{Halt}
 use Rattle.regions.specs.declared.types.Halt.TheVariants as halt
 use Rattle.regions.specs.declared.types.When.{When}
-use Rattle.bdd_store.specs.State.{State, IsRoot, roots_at}
+use Rattle.regions.specs.declared.types.When.TheVariants.{First, Later}
+use Rattle.game_values.specs.declared.seen.At.TheVariants.{Now}
+use Rattle.spec_model.specs.Sets.{all_states}
+use Rattle.spec_model.specs.WellMade.{WellMade}
+use Rattle.bit_compile.specs.Domains.{state_domains, level_count}
+use Rattle.bit_compile.specs.Proper.{proper}
+use Rattle.bdd_store.specs.State.{IsRoot, roots_at, IsNewStore}
 use Rattle.bdd_ops.specs.Contents.{Contents, function_at}
 use Rattle.bdd_ops.specs.Calls.{KeepsRoots}
 use Rattle.bit_compile.specs.Making.{Makes}
@@ -18,9 +24,15 @@ use Rattle.state_diagrams.specs.Members.{MoveFunctions, functions_at, move_funct
 use Rattle.state_diagrams.specs.Lists.{MakesList, one_at}
 use Rattle.state_diagrams.specs.Lines.{MakesMembers, roots_of_members}
 use Rattle.state_diagrams.specs.Goals.{TellGoals}
-use Rattle.state_diagrams.specs.Forcing.{FitMoves}
+use Rattle.state_diagrams.specs.Forcing.{FitMoves, AreLevelsOf}
+use Rattle.state_diagrams.specs.StateBits.{Tells}
+use Rattle.state_diagrams.specs.declared.moves.NextLevels.{NextLevels}
+use Rattle.state_diagrams.proofs.ProperLemmas.{proper_tells}
 use Rattle.state_diagrams.proofs.ListLemmas.{one_itself}
-use Rattle.region_bdd.specs.Making.{MakesPart, in_both, FitBoth, listed_times, FitGoals, FitLines}
+use Rattle.region_bdd.specs.declared.own.Own.{Own}
+use Rattle.region_bdd.specs.declared.slots.Slot.{Slot}
+use Rattle.region_bdd.specs.Object.{roots_of_own, IsObject}
+use Rattle.region_bdd.specs.Making.{MakesPart, in_both, FitBoth, FitNothing, FitProper, listed_times, FitGoals, FitLines, FitOwn}
 use Rattle.region_bdd.proofs.ObjectLaws.{list_same, members_same}
 
 -- ---- parts that are one root, a list of goals, or members
@@ -74,9 +86,6 @@ module _ {V : Type 0} (tv : ℕ → V → ℕ) (FV : Contents → V → Type 0) 
         meaning = λ n root. keeps.meaning n (before n root) ∙ first.keeps.meaning n root;
       }
 
-  pub part_counted : (n : ℕ) → tv n v ≤ roots_at mid.state n
-  part_counted n = let more = first.added n in omega (arith, more)
-
   module _ {W : Type 0} (tw : ℕ → W → ℕ) (FW : Contents → W → Type 0) where
     pub both_made : (new : Contents) (w : W) → MakesPart tw FW mid new (Ok w) → Stays tv FV → MakesPart (in_both tv tw) (FitBoth FV FW) old new (Ok (v, w))
     both_made new w second stays =
@@ -88,36 +97,48 @@ module _ {V : Type 0} (tv : ℕ → V → ℕ) (FV : Contents → V → Type 0) 
           full = λ e. absurd (false≢true (sym (ap is_ok e)));
         }
 
-    -- the first is still kept where the second is refused
-    pub still_counted : (whole : Contents) (h : Halt) → MakesPart tw FW mid whole (Err h) → (n : ℕ) → tv n v ≤ roots_at whole.state n
-    still_counted whole h second n = let all = part_counted n in let same = second.refused n in omega (arith, all, same)
+-- ---- the object
 
-    -- and is given back
-    pub given_back : {X : Type 0} (tx : ℕ → X → ℕ) (FX : Contents → X → Type 0) (whole new : Contents) (h : Halt) → MakesPart tw FW mid whole (Err h) → ((n : ℕ) → roots_at whole.state n ≡ roots_at new.state n + tv n v) → new.state.table ≡ whole.state.table → MakesPart tx FX old new (Err h)
-    given_back tx FX whole new h second back table =
-        let keeps = keeps_both whole second.keeps in
-        record {
-          fit = tt;
-          added = tt;
-          refused = λ n. (let one = first.added n in let two = second.refused n in let three = back n in omega (arith, one, two, three));
-          keeps = record {
-            levels = ap (λ t. t.levels) table ∙ keeps.levels;
-            budget = ap (λ t. t.budget) table ∙ keeps.budget;
-            meaning = λ n root. ap (λ t. diagram_at t n) table ∙ keeps.meaning n root;
-          };
-          full = λ e. subst (λ t. count_of t ≡ t.budget) (sym table) (second.full (ap (λ (k : Halt). Err k) (ap (halt_or h) e)));
-        }
-      where
-        halt_or : {Y : Type 0} → Halt → Result Y Halt → Halt
-        halt_or a (Ok y) = a
-        halt_or a (Err k) = k
+abbrev pub formula_times : ℕ → (Vec ℕ Global × Vec ℕ Global) × (Members × Members) → ℕ
+formula_times = in_both (in_both listed_times listed_times) (in_both roots_of_members roots_of_members)
 
--- a refusal that is handed on
-pub part_refused : {V W : Type 0} (tv : ℕ → V → ℕ) (FV : Contents → V → Type 0) (tw : ℕ → W → ℕ) (FW : Contents → W → Type 0) (old new : Contents) (r : Result W Halt) (h : Halt) → IsErrAnd r (λ y. y ≡ h) → MakesPart tv FV old new (Err h) → MakesPart tw FW old new r
-part_refused tv FV tw FW old new (Ok w) h is makes = absurd is
-part_refused tv FV tw FW old new (Err k) h is makes =
-    record { fit = tt; added = tt; refused = makes.refused; keeps = makes.keeps; full = λ e. makes.full (ap (λ (j : Halt). Err j) (sym is ∙ ap (halt_or k) e)) }
-  where
-    halt_or : {Y : Type 0} → Halt → Result Y Halt → Halt
-    halt_or a (Ok y) = a
-    halt_or a (Err j) = j
+abbrev pub FitFormulas : GameData → Contents → (Vec ℕ Global × Vec ℕ Global) × (Members × Members) → Type 0
+FitFormulas g = FitBoth (FitBoth (FitGoals g g.assume) (FitGoals g g.goals)) (FitBoth (FitLines g First) (FitLines g Later))
+
+pub own_made : (g : GameData) (ds : List DomainData) (old mid new : Contents) (nothing all : ℕ) (p : (Vec ℕ Global × Vec ℕ Global) × (Members × Members)) → ds ≡ state_domains g →
+    MakesPart (in_both one_at one_at) (FitBoth FitNothing (FitProper ds)) old mid (Ok (nothing, all)) → MakesPart formula_times (FitFormulas g) mid new (Ok p) →
+    MakesPart roots_of_own (FitOwn g) old new (Ok (record { step = record { nothing = nothing; proper = all; later = p.1.1 }; assume = p.0.0; goals = p.0.1; first = p.1.0 }))
+own_made g ds old mid new nothing all p same first second =
+    let stays = both_stay one_at one_at FitNothing (FitProper ds) (root_stays (λ b. false)) (root_stays (proper ds Now)) in
+    let both = both_made (in_both one_at one_at) (FitBoth FitNothing (FitProper ds)) old mid (nothing, all) first formula_times (FitFormulas g) new p second stays in
+    let fit = both.fit in
+    let is = fit.0.1 ∙ ap (λ es. proper es Now) same in
+    record {
+      fit = record {
+        nothing = fit.0.0;
+        proper = subst (λ (f : Function). Tells g Now f (all_states g)) (sym is) (proper_tells g Now);
+        assume = fit.1.0.0;
+        goals = fit.1.0.1;
+        first = fit.1.1.0;
+        later = fit.1.1.1;
+      };
+      added = λ n. (let all_of = both.added n in omega (arith, all_of));
+      refused = tt;
+      keeps = both.keeps;
+      full = λ e. absurd (false≢true (sym (ap is_ok e)));
+    }
+
+pub object_made : (g : GameData) (levels budget : ℕ) (made new : Contents) (own : Own) (lists : NextLevels) (slots : List Slot) → slots ≡ [] → WellMade g → levels ≡ level_count (state_domains g) → AreLevelsOf g lists → IsNewStore made.state levels budget →
+    MakesPart roots_of_own (FitOwn g) made new (Ok own) → IsObject g new own lists slots None
+object_made g levels budget made new own lists slots empty well many are store part =
+    subst (λ (ss : List Slot). IsObject g new own lists ss None) (sym empty) (record {
+      made = well;
+      levels = part.keeps.levels ∙ (store.has_levels ∙ many);
+      lists_are = are;
+      sound = record {
+        counted = λ n. (let all = part.added n in let none = store.no_root n in omega (arith, all, none));
+        own_fits = part.fit;
+        slots_fit = tt;
+      };
+      unspent = tt;
+    })

@@ -149,16 +149,19 @@ fn own(
 {
     let (nothing, all) = sets(diagrams, codes)?;
     match formulas(diagrams, codes, game, levels) {
-        Ok(((assume, guaranteed), (first, later))) => Ok(Own {
-            step: StepRoots {
-                nothing,
-                proper: all,
-                later,
-            },
-            assume,
-            goals: guaranteed,
-            first,
-        }),
+        Ok(parts) => {
+            let ((assume, guaranteed), (first, later)) = parts;
+            Ok(Own {
+                step: StepRoots {
+                    nothing,
+                    proper: all,
+                    later,
+                },
+                assume,
+                goals: guaranteed,
+                first,
+            })
+        }
         Err(halt) => {
             diagrams.release(nothing);
             diagrams.release(all);
