@@ -1,0 +1,144 @@
+-- What a call that makes a region leaves, whatever came of its diagram.
+use Rattle.std.proofs.Common.{◌≡◌, ℕ, List, ◌++◌, map, Option, Some, None, Result, Ok, Err, IfOk, IfErr, refl, sym, ◌∙◌, ap, subst, arith, Bool, true, false, is_ok}
+use Rattle.std.proofs.lemmas.Bool.{false≢true}
+use Rattle.bdd_store.specs.declared.fault.StoreFault.{StoreFault}
+use Rattle.bdd_store.specs.declared.fault.StoreFault.TheVariants as fault
+use Rattle.spec_model.specs.Diagrams.{Function}
+use Rattle.spec_model.specs.Games.{GameData}
+use Rattle.spec_model.specs.Sets.{StateSet}
+use Rattle.game_values.specs.declared.seen.At.TheVariants.{Now}
+use Rattle.regions.specs.Kept.{Region as RegionItem, Meaning, States, Call, MakesRegion, Halts, IsSameGame}
+use Rattle.regions.specs.declared.types.Halt.{Halt}
+use Rattle.regions.specs.declared.types.Halt.TheVariants as halt
+use Rattle.bdd_ops.specs.Contents.{Contents, function_at}
+use Rattle.bit_compile.specs.Making.{Makes, halted}
+use Rattle.state_diagrams.specs.declared.moves.NextLevels.{NextLevels}
+use Rattle.state_diagrams.specs.StateBits.{Tells, TellsStates, set_at}
+use Rattle.region_bdd.specs.declared.slots.Content.TheVariants.{Region}
+use Rattle.region_bdd.specs.declared.slots.Slot.{Slot}
+use Rattle.region_bdd.specs.declared.slots.BddRegion.{BddRegion}
+use Rattle.region_bdd.specs.declared.own.Own.{Own}
+use Rattle.region_bdd.specs.declared.own.Refused.{Refused}
+use Rattle.region_bdd.specs.Slots.{shown_of}
+use Rattle.region_bdd.specs.Keeping.{Settles}
+use Rattle.region_bdd.specs.Object.{IsObject, IsOpen, call_of, argument_in, kept_of}
+use Rattle.region_bdd.proofs.SlotLaws.{open_taken}
+use Rattle.region_bdd.proofs.ObjectLaws.{none_refused, sound_same, sound_taken, makes_item, halts_memory, halts_budget}
+
+-- whether a result is a refusal for want of memory
+abbrev pub is_memory : {T : Type 0} → Result T Halt → Bool
+is_memory (Ok x) = false
+is_memory (Err halt.Memory) = true
+is_memory (Err halt.Budget) = false
+
+-- what the call answers and leaves
+pub record Outcome (g : GameData) (own : Own) (lists : NextLevels) (c c' : Contents) (slots new : List Slot) (refused : Option Refused) (result : Result BddRegion Halt) (t : StateSet) (asked : Call) (arguments : List Meaning) : Type 0 where
+  pub made : IfOk result (λ r. MakesRegion (kept_of g c slots None) (kept_of g c' new refused) r t)
+  pub halted : IfErr result (Halts (kept_of g c slots None) (kept_of g c' new refused) asked arguments)
+  pub same : IsSameGame (kept_of g c slots None) (kept_of g c' new refused)
+  pub object : IsObject g c' own lists new refused
+
+module _ (g : GameData) (own : Own) (lists : NextLevels) (c c' : Contents) (slots new : List Slot) (refused : Option Refused) (object : IsObject g c own lists slots None) (f : Function) (t : StateSet) (tells : Tells g Now f t) (why : Refused) (arguments : List Meaning)
+    (arguments_are : argument_in g (map (shown_of c) slots) why.first ++ argument_in g (map (shown_of c) slots) why.second ≡ arguments) where
+  pub outcome : (made : Result ℕ Halt) (result : Result BddRegion Halt) → Makes c c' made f → Settles slots new refused made result why → Outcome g own lists c c' slots new refused result t (call_of why.asked) arguments
+  outcome (Ok root) (Ok r) makes settles =
+      let told : function_at c' root ≡ f = makes.meaning in
+      let fits : TellsStates g Now (function_at c' root) = subst (TellsStates g Now) (sym told) tells.states in
+      let is : set_at g Now (function_at c' root) ≡ t = ap (set_at g Now) told ∙ tells.set in
+      let made : MakesRegion (kept_of g c slots None) (kept_of g c' new None) r t = makes_item g own c c' slots object.sound makes.keeps new r.slot (Region root) (RegionItem r) (States t) settles.0 (λ w. ap (λ u. w (RegionItem r) (States u)) is) in
+      record {
+        made = subst (λ (o : Option Refused). MakesRegion (kept_of g c slots None) (kept_of g c' new o) r t) (sym settles.1) made;
+        halted = tt;
+        same = record { game = refl; bound = makes.keeps.budget };
+        object = record {
+          made = object.made;
+          levels = makes.keeps.levels ∙ object.levels;
+          lists_are = object.lists_are;
+          sound = sound_taken g own c c' slots object.sound makes.keeps new r.slot root (Region root) (λ n. refl) makes.added settles.0 fits;
+          unspent = subst (λ (o : Option Refused). IsOpen o new) (sym settles.1) (open_taken slots new r.slot (Region root) settles.0 object.unspent);
+        };
+      }
+  outcome (Err halt.Memory) (Err halt.Memory) makes settles = at_rest new refused settles.0 settles.1
+    where
+      at_rest : (new : List Slot) (refused : Option Refused) → new ≡ slots → refused ≡ None → Outcome g own lists c c' slots new refused (Err halt.Memory) t (call_of why.asked) arguments
+      at_rest new refused same unspent =
+          subst (λ (ss : List Slot). Outcome g own lists c c' slots ss refused (Err halt.Memory) t (call_of why.asked) arguments) (sym same)
+          (subst (λ (o : Option Refused). Outcome g own lists c c' slots slots o (Err halt.Memory) t (call_of why.asked) arguments) (sym unspent)
+          (record {
+            made = tt;
+            halted = halts_memory g own c c' slots object.sound makes.keeps (call_of why.asked) arguments;
+            same = record { game = refl; bound = makes.keeps.budget };
+            object = record { made = object.made; levels = makes.keeps.levels ∙ object.levels; lists_are = object.lists_are; sound = sound_same g own c c' slots object.sound makes.keeps makes.refused; unspent = object.unspent };
+          }))
+  outcome (Err halt.Budget) (Err halt.Budget) makes settles = at_rest new refused settles.0 settles.1
+    where
+      at_rest : (new : List Slot) (refused : Option Refused) → new ≡ slots → refused ≡ Some why → Outcome g own lists c c' slots new refused (Err halt.Budget) t (call_of why.asked) arguments
+      at_rest new refused same told =
+          subst (λ (ss : List Slot). Outcome g own lists c c' slots ss refused (Err halt.Budget) t (call_of why.asked) arguments) (sym same)
+          (subst (λ (o : Option Refused). Outcome g own lists c c' slots slots o (Err halt.Budget) t (call_of why.asked) arguments) (sym told)
+          (record {
+            made = tt;
+            halted = halts_budget g own c c' slots object.sound makes.keeps why (call_of why.asked) arguments object.unspent refl arguments_are;
+            same = record { game = refl; bound = makes.keeps.budget };
+            object = record { made = object.made; levels = makes.keeps.levels ∙ object.levels; lists_are = object.lists_are; sound = sound_same g own c c' slots object.sound makes.keeps makes.refused; unspent = tt };
+          }))
+  outcome (Ok root) (Err halt.Memory) makes settles = absurd settles
+  outcome (Ok root) (Err halt.Budget) makes settles = absurd settles
+  outcome (Err halt.Memory) (Ok r) makes settles = absurd settles
+  outcome (Err halt.Budget) (Ok r) makes settles = absurd settles
+  outcome (Err halt.Memory) (Err halt.Budget) makes settles = absurd settles
+  outcome (Err halt.Budget) (Err halt.Memory) makes settles = absurd settles
+
+-- the same, as the calls have it: with room made for the diagram first
+pub record Answered (g : GameData) (own : Own) (lists : NextLevels) (c c' : Contents) (slots new : List Slot) (was refused : Option Refused) (result : Result BddRegion Halt) (t : StateSet) (asked : Call) (arguments : List Meaning) : Type 0 where
+  pub made : IfOk result (λ r. MakesRegion (kept_of g c slots was) (kept_of g c' new refused) r t)
+  pub halted : IfErr result (Halts (kept_of g c slots was) (kept_of g c' new refused) asked arguments)
+  pub same : IsSameGame (kept_of g c slots was) (kept_of g c' new refused)
+  pub object : IsObject g c' own lists new refused
+
+module _ (g : GameData) (own : Own) (lists : NextLevels) (c : Contents) (slots : List Slot) where
+  answered_free : (c' : Contents) (new : List Slot) (refused : Option Refused) (result : Result BddRegion Halt) (t : StateSet) (asked : Call) (arguments : List Meaning) (was : Option Refused) → was ≡ None →
+      Outcome g own lists c c' slots new refused result t asked arguments → Answered g own lists c c' slots new was refused result t asked arguments
+  answered_free c' new refused result t asked arguments was free outcome =
+      subst (λ (o : Option Refused). Answered g own lists c c' slots new o refused result t asked arguments) (sym free)
+      (record { made = outcome.made; halted = outcome.halted; same = outcome.same; object = outcome.object })
+
+  pub answered : (c' : Contents) (mid new : List Slot) (was refused : Option Refused) (object : IsObject g c own lists slots was) → (kept_of g c slots was).jam ≡ None → mid ≡ slots → (f : Function) (t : StateSet) → Tells g Now f t → (why : Refused) (arguments : List Meaning) →
+      argument_in g (map (shown_of c) slots) why.first ++ argument_in g (map (shown_of c) slots) why.second ≡ arguments → (made : Result ℕ Halt) (result : Result BddRegion Halt) → Makes c c' made f → Settles mid new refused made result why →
+      Answered g own lists c c' slots new was refused result t (call_of why.asked) arguments
+  answered c' mid new was refused object free room f t tells why arguments are made result makes settles =
+      let none = none_refused g c slots was free in
+      let object' : IsObject g c own lists slots None = subst (λ (o : Option Refused). IsObject g c own lists slots o) none object in
+      let settles' : Settles slots new refused made result why = subst (λ (ss : List Slot). Settles ss new refused made result why) room settles in
+      answered_free c' new refused result t (call_of why.asked) arguments was none (outcome g own lists c c' slots new refused object' f t tells why arguments are made result makes settles')
+
+  -- where there was no room for it
+  pub no_room : (mid : List Slot) (was : Option Refused) (object : IsObject g c own lists slots was) → (kept_of g c slots was).jam ≡ None → mid ≡ slots → (t : StateSet) (asked : Call) (arguments : List Meaning) → Answered g own lists c c slots mid was was (Err halt.Memory) t asked arguments
+  no_room mid was object free room t asked arguments =
+      let none = none_refused g c slots was free in
+      subst (λ (ss : List Slot). Answered g own lists c c slots ss was was (Err halt.Memory) t asked arguments) (sym room)
+      (record {
+        made = tt;
+        halted = subst (λ (o : Option Refused). Halts (kept_of g c slots o) (kept_of g c slots o) asked arguments halt.Memory) (sym none) (record { held = λ w. omega arith; jam = refl });
+        same = record { game = refl; bound = refl };
+        object = object;
+      })
+
+-- ---- why the budget ran out
+
+pub budget_cause : (old new : List Slot) (refused : Option Refused) (made : Result ℕ Halt) (result : Result BddRegion Halt) (why : Refused) (P : Type 0) → Settles old new refused made result why → (made ≡ Err halt.Budget → P) → result ≡ Err halt.Budget → P
+budget_cause old new refused (Ok root) (Ok r) why P settles full e = absurd (false≢true (sym (ap is_ok e)))
+budget_cause old new refused (Err halt.Memory) (Err halt.Memory) why P settles full e = absurd (false≢true (sym (ap is_memory e)))
+budget_cause old new refused (Err halt.Budget) (Err halt.Budget) why P settles full e = full refl
+budget_cause old new refused (Ok root) (Err halt.Memory) why P settles full e = absurd settles
+budget_cause old new refused (Ok root) (Err halt.Budget) why P settles full e = absurd settles
+budget_cause old new refused (Err halt.Memory) (Ok r) why P settles full e = absurd settles
+budget_cause old new refused (Err halt.Budget) (Ok r) why P settles full e = absurd settles
+budget_cause old new refused (Err halt.Memory) (Err halt.Budget) why P settles full e = absurd settles
+budget_cause old new refused (Err halt.Budget) (Err halt.Memory) why P settles full e = absurd settles
+
+-- keeping a root never fills the store
+pub never_full : (kept : Result ℕ StoreFault) → (kept ≡ Err fault.Full → ⊥) → halted kept ≡ Err halt.Budget → ⊥
+never_full (Ok r) never e = false≢true (sym (ap is_ok e))
+never_full (Err fault.Full) never e = never refl
+never_full (Err fault.Memory) never e = false≢true (sym (ap is_memory e))

@@ -1,0 +1,98 @@
+use Rattle.std.proofs.Common.{ℕ, List, [], ◌∷◌, Some, None, sym, subst}
+use Rattle.spec_model.specs.Diagrams.{shifted}
+use Rattle.spec_model.specs.GameViews.{game_data}
+use Rattle.regions.specs.Kept.{States}
+use Rattle.bdd_ops.specs.Contents.{function_at}
+use Rattle.bdd_ops.specs.Calls.{RisesOver}
+use Rattle.bit_compile.specs.Making.{Makes}
+use Rattle.state_diagrams.proofs.ShiftLemmas.{rises_to_next, tells_next}
+use Rattle.region_bdd.specs.declared.slots.Content.TheVariants.{Region}
+use Rattle.region_bdd.specs.declared.slots.Slot.{Slot}
+use Rattle.region_bdd.specs.declared.own.Refused.{Refused}
+use Rattle.region_bdd.specs.declared.own.Asked.TheVariants as asked
+use Rattle.region_bdd.specs.Slots.{HasContent, HasRegionRoot}
+use Rattle.region_bdd.specs.Object.{kept_of}
+use Rattle.region_bdd.proofs.ObjectLaws.{region_root}
+use Rattle.region_bdd.proofs.MoveOutcomes.{moves_answered, moves_cause}
+use Rattle.region_bdd.proofs.SetCalls.{held_root, region_tells, one_argument}
+use Rattle.region_bdd.proofs.object.RegionBdd.out_moves.Goals as goal
+
+pub region-requires : goal.region-requires
+region-requires c =
+    let o = c.args.self.now in
+    let g = game_data o.game in
+    let slots = o.slots.slots.items in
+    let d = o.diagrams in
+    subst (λ (ss : List Slot). HasRegionRoot ss c.args.t.now.slot) (sym c.room.ensures.same) (region_root g d slots o.refused c.args.t.now c.requires.t)
+
+pub shift-made-requires-clause-kept : goal.shift-made-requires-clause-kept
+shift-made-requires-clause-kept c =
+    let o = c.args.self.now in
+    let g = game_data o.game in
+    let slots = o.slots.slots.items in
+    let d = o.diagrams in
+    let here_t = subst (λ (ss : List Slot). HasContent ss c.args.t.now.slot (Region c.region.result.now)) c.room.ensures.same c.region.ensures in
+    let f = function_at d c.region.result.now in
+    let tells = region_tells g o.own o.levels d slots o.refused o.whole c.args.t.now c.region.result.now here_t in
+    held_root g o.own o.levels d slots o.refused o.whole c.args.t.now c.region.result.now here_t
+
+pub shift-made-requires-clause-rising : goal.shift-made-requires-clause-rising
+shift-made-requires-clause-rising c =
+    let o = c.args.self.now in
+    let g = game_data o.game in
+    let slots = o.slots.slots.items in
+    let d = o.diagrams in
+    let here_t = subst (λ (ss : List Slot). HasContent ss c.args.t.now.slot (Region c.region.result.now)) c.room.ensures.same c.region.ensures in
+    let f = function_at d c.region.result.now in
+    let tells = region_tells g o.own o.levels d slots o.refused o.whole c.args.t.now c.region.result.now here_t in
+    subst (λ (to : List ℕ). RisesOver d.state.table.levels to f) (sym c.deref.ensures.value) (rises_to_next g f tells.states d.state.table.levels o.levels.to.items o.whole.levels o.whole.lists_are.to)
+
+pub invariant_of-self-2 : goal.invariant_of-self-2
+invariant_of-self-2 c =
+    let o = c.args.self.now in
+    let g = game_data o.game in
+    let slots = o.slots.slots.items in
+    let d = o.diagrams in
+    let here_t = subst (λ (ss : List Slot). HasContent ss c.args.t.now.slot (Region c.region.result.now)) c.room.ensures.same c.region.ensures in
+    let f = function_at d c.region.result.now in
+    let tells = region_tells g o.own o.levels d slots o.refused o.whole c.args.t.now c.region.result.now here_t in
+    let now = kept_of g d slots o.refused in
+    let why : Refused = record { asked = asked.OutMoves c.args.when; first = Some c.args.t.now.slot; second = None } in
+    let makes = subst (λ (to : List ℕ). Makes d c.shift-made.new.diagrams c.shift-made.result (shifted to f)) c.deref.ensures.value c.shift-made.ensures.makes in
+    let done = moves_answered g o.own c.args.when o.levels d slots c.shift-made.new.diagrams c.room.new.self.slots.items c.settle_outputs.new.slots.slots.items o.refused c.settle_outputs.new.refused o.whole c.requires.free c.room.ensures.same (shifted o.levels.to.items f) (now.set c.args.t.now) (tells_next g o.levels.to.items o.whole.lists_are.to f (now.set c.args.t.now) tells) why (States (now.set c.args.t.now) ∷ []) (one_argument g o.own o.levels d slots o.refused o.whole c.args.t.now c.region.result.now here_t) c.shift-made.result c.settle_outputs.result makes c.settle_outputs.ensures in
+    record { whole = done.object }
+
+pub returns-clause-made : goal.returns-clause-made
+returns-clause-made c =
+    let o = c.args.self.now in
+    let g = game_data o.game in
+    let slots = o.slots.slots.items in
+    let d = o.diagrams in
+    let here_t = subst (λ (ss : List Slot). HasContent ss c.args.t.now.slot (Region c.region.result.now)) c.room.ensures.same c.region.ensures in
+    let f = function_at d c.region.result.now in
+    let tells = region_tells g o.own o.levels d slots o.refused o.whole c.args.t.now c.region.result.now here_t in
+    let now = kept_of g d slots o.refused in
+    let why : Refused = record { asked = asked.OutMoves c.args.when; first = Some c.args.t.now.slot; second = None } in
+    let makes = subst (λ (to : List ℕ). Makes d c.shift-made.new.diagrams c.shift-made.result (shifted to f)) c.deref.ensures.value c.shift-made.ensures.makes in
+    let done = moves_answered g o.own c.args.when o.levels d slots c.shift-made.new.diagrams c.room.new.self.slots.items c.settle_outputs.new.slots.slots.items o.refused c.settle_outputs.new.refused o.whole c.requires.free c.room.ensures.same (shifted o.levels.to.items f) (now.set c.args.t.now) (tells_next g o.levels.to.items o.whole.lists_are.to f (now.set c.args.t.now) tells) why (States (now.set c.args.t.now) ∷ []) (one_argument g o.own o.levels d slots o.refused o.whole c.args.t.now c.region.result.now here_t) c.shift-made.result c.settle_outputs.result makes c.settle_outputs.ensures in
+    done.made
+
+pub returns-clause-halted : goal.returns-clause-halted
+returns-clause-halted c =
+    let o = c.args.self.now in
+    let g = game_data o.game in
+    let slots = o.slots.slots.items in
+    let d = o.diagrams in
+    let here_t = subst (λ (ss : List Slot). HasContent ss c.args.t.now.slot (Region c.region.result.now)) c.room.ensures.same c.region.ensures in
+    let f = function_at d c.region.result.now in
+    let tells = region_tells g o.own o.levels d slots o.refused o.whole c.args.t.now c.region.result.now here_t in
+    let now = kept_of g d slots o.refused in
+    let why : Refused = record { asked = asked.OutMoves c.args.when; first = Some c.args.t.now.slot; second = None } in
+    let makes = subst (λ (to : List ℕ). Makes d c.shift-made.new.diagrams c.shift-made.result (shifted to f)) c.deref.ensures.value c.shift-made.ensures.makes in
+    let done = moves_answered g o.own c.args.when o.levels d slots c.shift-made.new.diagrams c.room.new.self.slots.items c.settle_outputs.new.slots.slots.items o.refused c.settle_outputs.new.refused o.whole c.requires.free c.room.ensures.same (shifted o.levels.to.items f) (now.set c.args.t.now) (tells_next g o.levels.to.items o.whole.lists_are.to f (now.set c.args.t.now) tells) why (States (now.set c.args.t.now) ∷ []) (one_argument g o.own o.levels d slots o.refused o.whole c.args.t.now c.region.result.now here_t) c.shift-made.result c.settle_outputs.result makes c.settle_outputs.ensures in
+    done.halted
+
+pub returns-clause-cause : goal.returns-clause-cause
+returns-clause-cause c =
+    let why : Refused = record { asked = asked.OutMoves c.args.when; first = Some c.args.t.now.slot; second = None } in
+    moves_cause c.room.new.self.slots.items c.settle_outputs.new.slots.slots.items c.settle_outputs.new.refused c.shift-made.result c.settle_outputs.result c.args.when why _ c.settle_outputs.ensures c.shift-made.ensures.makes.full

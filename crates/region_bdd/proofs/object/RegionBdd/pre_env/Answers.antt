@@ -1,0 +1,96 @@
+use Rattle.std.proofs.Common.{true, List, [], ◌∷◌, Some, None, sym, subst}
+use Rattle.spec_model.specs.Diagrams.{shifted}
+use Rattle.spec_model.specs.GameViews.{game_data}
+use Rattle.spec_model.specs.Sets.{pre_env as environment_forces_set}
+use Rattle.regions.specs.Kept.{States}
+use Rattle.bdd_ops.specs.Contents.{function_at}
+use Rattle.bdd_ops.specs.Functions.{joined, join_of}
+use Rattle.bdd_ops.specs.Calls.{negated}
+use Rattle.state_diagrams.specs.Members.{move_functions, avoiding}
+use Rattle.state_diagrams.proofs.ShiftLemmas.{rises_to_next}
+use Rattle.region_bdd.specs.declared.slots.Content.TheVariants.{Region}
+use Rattle.region_bdd.specs.declared.slots.Slot.{Slot}
+use Rattle.region_bdd.specs.declared.own.Refused.{Refused}
+use Rattle.region_bdd.specs.declared.own.Asked.TheVariants as asked
+use Rattle.region_bdd.specs.Slots.{HasContent, HasRegionRoot}
+use Rattle.region_bdd.specs.Object.{kept_of}
+use Rattle.region_bdd.proofs.ObjectLaws.{region_root}
+use Rattle.region_bdd.proofs.OutcomeLaws.{answered, budget_cause}
+use Rattle.region_bdd.proofs.SetCalls.{later_roots, held_root, region_tells, one_argument, tells_kept_in}
+use Rattle.region_bdd.proofs.object.RegionBdd.pre_env.Goals as goal
+
+pub region-requires : goal.region-requires
+region-requires c =
+    let o = c.args.self.now in
+    let g = game_data o.game in
+    let slots = o.slots.slots.items in
+    let d = o.diagrams in
+    subst (λ (ss : List Slot). HasRegionRoot ss c.args.t.now.slot) (sym c.room.ensures.same) (region_root g d slots o.refused c.args.t.now c.requires.t)
+
+pub environment_states-made-requires-clause-t : goal.environment_states-made-requires-clause-t
+environment_states-made-requires-clause-t c =
+    let o = c.args.self.now in
+    let g = game_data o.game in
+    let slots = o.slots.slots.items in
+    let d = o.diagrams in
+    let here_t = subst (λ (ss : List Slot). HasContent ss c.args.t.now.slot (Region c.region.result.now)) c.room.ensures.same c.region.ensures in
+    held_root g o.own o.levels d slots o.refused c.args.self.now.whole c.args.t.now c.region.result.now here_t
+
+pub environment_states-made-requires-clause-later : goal.environment_states-made-requires-clause-later
+environment_states-made-requires-clause-later c =
+    let o = c.args.self.now in
+    let g = game_data o.game in
+    let slots = o.slots.slots.items in
+    let d = o.diagrams in
+    let here_t = subst (λ (ss : List Slot). HasContent ss c.args.t.now.slot (Region c.region.result.now)) c.room.ensures.same c.region.ensures in
+    later_roots g o.own o.levels d slots o.refused c.args.self.now.whole
+
+pub environment_states-made-requires-clause-rising : goal.environment_states-made-requires-clause-rising
+environment_states-made-requires-clause-rising c =
+    let o = c.args.self.now in
+    let g = game_data o.game in
+    let slots = o.slots.slots.items in
+    let d = o.diagrams in
+    let here_t = subst (λ (ss : List Slot). HasContent ss c.args.t.now.slot (Region c.region.result.now)) c.room.ensures.same c.region.ensures in
+    rises_to_next g (function_at d c.region.result.now) (region_tells g o.own o.levels d slots o.refused c.args.self.now.whole c.args.t.now c.region.result.now here_t).states d.state.table.levels o.levels.to.items c.args.self.now.whole.levels c.args.self.now.whole.lists_are.to
+
+pub returns-clause-made : goal.returns-clause-made
+returns-clause-made c =
+    let o = c.args.self.now in
+    let g = game_data o.game in
+    let slots = o.slots.slots.items in
+    let d = o.diagrams in
+    let here_t = subst (λ (ss : List Slot). HasContent ss c.args.t.now.slot (Region c.region.result.now)) c.room.ensures.same c.region.ensures in
+    let now = kept_of g d slots o.refused in
+    let why : Refused = record { asked = asked.PreEnv; first = Some c.args.t.now.slot; second = None } in
+    let done = answered g o.own o.levels d slots c.environment_states-made.new.diagrams c.room.new.self.slots.items c.settle.new.slots.slots.items o.refused c.settle.new.refused c.args.self.now.whole c.requires.free c.room.ensures.same (joined (join_of true) (avoiding (move_functions d o.own.step.later) o.levels.reply.items o.levels.all.items (negated (shifted o.levels.to.items (function_at d c.region.result.now)))) (function_at d o.own.step.proper)) (environment_forces_set g (now.set c.args.t.now)) (tells_kept_in g o.own o.levels d slots o.refused c.args.self.now.whole c.args.t.now c.region.result.now here_t) why (States (now.set c.args.t.now) ∷ []) (one_argument g o.own o.levels d slots o.refused c.args.self.now.whole c.args.t.now c.region.result.now here_t) c.environment_states-made.result c.settle.result (c.environment_states-made.ensures.made) c.settle.ensures in
+    done.made
+
+pub returns-clause-halted : goal.returns-clause-halted
+returns-clause-halted c =
+    let o = c.args.self.now in
+    let g = game_data o.game in
+    let slots = o.slots.slots.items in
+    let d = o.diagrams in
+    let here_t = subst (λ (ss : List Slot). HasContent ss c.args.t.now.slot (Region c.region.result.now)) c.room.ensures.same c.region.ensures in
+    let now = kept_of g d slots o.refused in
+    let why : Refused = record { asked = asked.PreEnv; first = Some c.args.t.now.slot; second = None } in
+    let done = answered g o.own o.levels d slots c.environment_states-made.new.diagrams c.room.new.self.slots.items c.settle.new.slots.slots.items o.refused c.settle.new.refused c.args.self.now.whole c.requires.free c.room.ensures.same (joined (join_of true) (avoiding (move_functions d o.own.step.later) o.levels.reply.items o.levels.all.items (negated (shifted o.levels.to.items (function_at d c.region.result.now)))) (function_at d o.own.step.proper)) (environment_forces_set g (now.set c.args.t.now)) (tells_kept_in g o.own o.levels d slots o.refused c.args.self.now.whole c.args.t.now c.region.result.now here_t) why (States (now.set c.args.t.now) ∷ []) (one_argument g o.own o.levels d slots o.refused c.args.self.now.whole c.args.t.now c.region.result.now here_t) c.environment_states-made.result c.settle.result (c.environment_states-made.ensures.made) c.settle.ensures in
+    done.halted
+
+pub invariant_of-self-2 : goal.invariant_of-self-2
+invariant_of-self-2 c =
+    let o = c.args.self.now in
+    let g = game_data o.game in
+    let slots = o.slots.slots.items in
+    let d = o.diagrams in
+    let here_t = subst (λ (ss : List Slot). HasContent ss c.args.t.now.slot (Region c.region.result.now)) c.room.ensures.same c.region.ensures in
+    let now = kept_of g d slots o.refused in
+    let why : Refused = record { asked = asked.PreEnv; first = Some c.args.t.now.slot; second = None } in
+    let done = answered g o.own o.levels d slots c.environment_states-made.new.diagrams c.room.new.self.slots.items c.settle.new.slots.slots.items o.refused c.settle.new.refused c.args.self.now.whole c.requires.free c.room.ensures.same (joined (join_of true) (avoiding (move_functions d o.own.step.later) o.levels.reply.items o.levels.all.items (negated (shifted o.levels.to.items (function_at d c.region.result.now)))) (function_at d o.own.step.proper)) (environment_forces_set g (now.set c.args.t.now)) (tells_kept_in g o.own o.levels d slots o.refused c.args.self.now.whole c.args.t.now c.region.result.now here_t) why (States (now.set c.args.t.now) ∷ []) (one_argument g o.own o.levels d slots o.refused c.args.self.now.whole c.args.t.now c.region.result.now here_t) c.environment_states-made.result c.settle.result (c.environment_states-made.ensures.made) c.settle.ensures in
+    record { whole = done.object }
+
+pub returns-clause-cause : goal.returns-clause-cause
+returns-clause-cause c =
+    let why : Refused = record { asked = asked.PreEnv; first = Some c.args.t.now.slot; second = None } in
+    budget_cause c.room.new.self.slots.items c.settle.new.slots.slots.items c.settle.new.refused c.environment_states-made.result c.settle.result why _ c.settle.ensures c.environment_states-made.ensures.made.full

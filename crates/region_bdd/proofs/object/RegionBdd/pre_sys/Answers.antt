@@ -1,0 +1,94 @@
+use Rattle.std.proofs.Common.{List, [], ◌∷◌, Some, None, sym, subst}
+use Rattle.spec_model.specs.Diagrams.{ite as choice, shifted}
+use Rattle.spec_model.specs.GameViews.{game_data}
+use Rattle.spec_model.specs.Sets.{pre_sys as system_forces_set}
+use Rattle.regions.specs.Kept.{States}
+use Rattle.bdd_ops.specs.Contents.{function_at}
+use Rattle.state_diagrams.specs.Members.{move_functions, avoiding}
+use Rattle.state_diagrams.proofs.ShiftLemmas.{rises_to_next}
+use Rattle.region_bdd.specs.declared.slots.Content.TheVariants.{Region}
+use Rattle.region_bdd.specs.declared.slots.Slot.{Slot}
+use Rattle.region_bdd.specs.declared.own.Refused.{Refused}
+use Rattle.region_bdd.specs.declared.own.Asked.TheVariants as asked
+use Rattle.region_bdd.specs.Slots.{HasContent, HasRegionRoot}
+use Rattle.region_bdd.specs.Object.{kept_of}
+use Rattle.region_bdd.proofs.ObjectLaws.{region_root}
+use Rattle.region_bdd.proofs.OutcomeLaws.{answered, budget_cause}
+use Rattle.region_bdd.proofs.SetCalls.{later_roots, held_root, region_tells, one_argument, tells_forced}
+use Rattle.region_bdd.proofs.object.RegionBdd.pre_sys.Goals as goal
+
+pub region-requires : goal.region-requires
+region-requires c =
+    let o = c.args.self.now in
+    let g = game_data o.game in
+    let slots = o.slots.slots.items in
+    let d = o.diagrams in
+    subst (λ (ss : List Slot). HasRegionRoot ss c.args.t.now.slot) (sym c.room.ensures.same) (region_root g d slots o.refused c.args.t.now c.requires.t)
+
+pub system_states-made-requires-clause-t : goal.system_states-made-requires-clause-t
+system_states-made-requires-clause-t c =
+    let o = c.args.self.now in
+    let g = game_data o.game in
+    let slots = o.slots.slots.items in
+    let d = o.diagrams in
+    let here_t = subst (λ (ss : List Slot). HasContent ss c.args.t.now.slot (Region c.region.result.now)) c.room.ensures.same c.region.ensures in
+    held_root g o.own o.levels d slots o.refused c.args.self.now.whole c.args.t.now c.region.result.now here_t
+
+pub system_states-made-requires-clause-later : goal.system_states-made-requires-clause-later
+system_states-made-requires-clause-later c =
+    let o = c.args.self.now in
+    let g = game_data o.game in
+    let slots = o.slots.slots.items in
+    let d = o.diagrams in
+    let here_t = subst (λ (ss : List Slot). HasContent ss c.args.t.now.slot (Region c.region.result.now)) c.room.ensures.same c.region.ensures in
+    later_roots g o.own o.levels d slots o.refused c.args.self.now.whole
+
+pub system_states-made-requires-clause-rising : goal.system_states-made-requires-clause-rising
+system_states-made-requires-clause-rising c =
+    let o = c.args.self.now in
+    let g = game_data o.game in
+    let slots = o.slots.slots.items in
+    let d = o.diagrams in
+    let here_t = subst (λ (ss : List Slot). HasContent ss c.args.t.now.slot (Region c.region.result.now)) c.room.ensures.same c.region.ensures in
+    rises_to_next g (function_at d c.region.result.now) (region_tells g o.own o.levels d slots o.refused c.args.self.now.whole c.args.t.now c.region.result.now here_t).states d.state.table.levels o.levels.to.items c.args.self.now.whole.levels c.args.self.now.whole.lists_are.to
+
+pub returns-clause-made : goal.returns-clause-made
+returns-clause-made c =
+    let o = c.args.self.now in
+    let g = game_data o.game in
+    let slots = o.slots.slots.items in
+    let d = o.diagrams in
+    let here_t = subst (λ (ss : List Slot). HasContent ss c.args.t.now.slot (Region c.region.result.now)) c.room.ensures.same c.region.ensures in
+    let now = kept_of g d slots o.refused in
+    let why : Refused = record { asked = asked.PreSys; first = Some c.args.t.now.slot; second = None } in
+    let done = answered g o.own o.levels d slots c.system_states-made.new.diagrams c.room.new.self.slots.items c.settle.new.slots.slots.items o.refused c.settle.new.refused c.args.self.now.whole c.requires.free c.room.ensures.same (choice (avoiding (move_functions d o.own.step.later) o.levels.reply.items o.levels.all.items (shifted o.levels.to.items (function_at d c.region.result.now))) (function_at d o.own.step.nothing) (function_at d o.own.step.proper)) (system_forces_set g (now.set c.args.t.now)) (tells_forced g o.own o.levels d slots o.refused c.args.self.now.whole c.args.t.now c.region.result.now here_t) why (States (now.set c.args.t.now) ∷ []) (one_argument g o.own o.levels d slots o.refused c.args.self.now.whole c.args.t.now c.region.result.now here_t) c.system_states-made.result c.settle.result (c.system_states-made.ensures.made) c.settle.ensures in
+    done.made
+
+pub returns-clause-halted : goal.returns-clause-halted
+returns-clause-halted c =
+    let o = c.args.self.now in
+    let g = game_data o.game in
+    let slots = o.slots.slots.items in
+    let d = o.diagrams in
+    let here_t = subst (λ (ss : List Slot). HasContent ss c.args.t.now.slot (Region c.region.result.now)) c.room.ensures.same c.region.ensures in
+    let now = kept_of g d slots o.refused in
+    let why : Refused = record { asked = asked.PreSys; first = Some c.args.t.now.slot; second = None } in
+    let done = answered g o.own o.levels d slots c.system_states-made.new.diagrams c.room.new.self.slots.items c.settle.new.slots.slots.items o.refused c.settle.new.refused c.args.self.now.whole c.requires.free c.room.ensures.same (choice (avoiding (move_functions d o.own.step.later) o.levels.reply.items o.levels.all.items (shifted o.levels.to.items (function_at d c.region.result.now))) (function_at d o.own.step.nothing) (function_at d o.own.step.proper)) (system_forces_set g (now.set c.args.t.now)) (tells_forced g o.own o.levels d slots o.refused c.args.self.now.whole c.args.t.now c.region.result.now here_t) why (States (now.set c.args.t.now) ∷ []) (one_argument g o.own o.levels d slots o.refused c.args.self.now.whole c.args.t.now c.region.result.now here_t) c.system_states-made.result c.settle.result (c.system_states-made.ensures.made) c.settle.ensures in
+    done.halted
+
+pub invariant_of-self-2 : goal.invariant_of-self-2
+invariant_of-self-2 c =
+    let o = c.args.self.now in
+    let g = game_data o.game in
+    let slots = o.slots.slots.items in
+    let d = o.diagrams in
+    let here_t = subst (λ (ss : List Slot). HasContent ss c.args.t.now.slot (Region c.region.result.now)) c.room.ensures.same c.region.ensures in
+    let now = kept_of g d slots o.refused in
+    let why : Refused = record { asked = asked.PreSys; first = Some c.args.t.now.slot; second = None } in
+    let done = answered g o.own o.levels d slots c.system_states-made.new.diagrams c.room.new.self.slots.items c.settle.new.slots.slots.items o.refused c.settle.new.refused c.args.self.now.whole c.requires.free c.room.ensures.same (choice (avoiding (move_functions d o.own.step.later) o.levels.reply.items o.levels.all.items (shifted o.levels.to.items (function_at d c.region.result.now))) (function_at d o.own.step.nothing) (function_at d o.own.step.proper)) (system_forces_set g (now.set c.args.t.now)) (tells_forced g o.own o.levels d slots o.refused c.args.self.now.whole c.args.t.now c.region.result.now here_t) why (States (now.set c.args.t.now) ∷ []) (one_argument g o.own o.levels d slots o.refused c.args.self.now.whole c.args.t.now c.region.result.now here_t) c.system_states-made.result c.settle.result (c.system_states-made.ensures.made) c.settle.ensures in
+    record { whole = done.object }
+
+pub returns-clause-cause : goal.returns-clause-cause
+returns-clause-cause c =
+    let why : Refused = record { asked = asked.PreSys; first = Some c.args.t.now.slot; second = None } in
+    budget_cause c.room.new.self.slots.items c.settle.new.slots.slots.items c.settle.new.refused c.system_states-made.result c.settle.result why _ c.settle.ensures c.system_states-made.ensures.made.full

@@ -1,0 +1,22 @@
+//! The object: a game, its diagrams, and what is held.
+
+ghost use Rattle.spec_model.specs.GameViews.{game_data};
+ghost use Rattle.region_bdd.specs.Object.{IsObject};
+ghost use Rattle.region_bdd.specs.One.{object_is_one};
+
+use crate::own::{Own, Refused};
+use crate::slots::Slots;
+use bdd_ops::Diagrams;
+use spec_model::game::Game;
+use state_diagrams::moves::NextLevels;
+
+/// Regions over a game of any size.
+pub struct RegionBdd {
+    pub game: Game,
+    pub diagrams: Diagrams,
+    pub own: Own,
+    pub levels: NextLevels,
+    pub slots: Slots,
+    pub refused: Option<Refused>,
+    pub ghost whole: { IsObject (game_data game) diagrams own levels slots.slots.items refused } by { object_is_one (game_data game) diagrams own levels slots.slots.items refused },
+}
