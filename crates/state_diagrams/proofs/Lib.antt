@@ -7,3 +7,6 @@ pub mod ForceLemmas
 pub mod SpentLemmas
 pub mod ShiftLemmas
 pub mod StateLemmas
+pub mod ListLemmas
+pub mod LineLemmas
+pub mod MadeLemmas

@@ -8,6 +8,9 @@
 
 pub mod forcing;
 pub mod laws;
+pub mod lines;
+pub mod lists;
+mod members;
 pub mod moves;
 pub mod spent;
 pub mod steps;
