@@ -6,3 +6,4 @@ pub mod SetCalls
 pub mod GoalLaws
 pub mod MoveOutcomes
 pub mod MoveLaws
+pub mod MakingLaws

@@ -1,17 +1,14 @@
 -- Slots and their roots, as slots are taken, freed and marked.
-use Rattle.std.proofs.Common.{◌≡◌, ℕ, zero, suc, ◌+◌, ◌<◌, ◌≤◌, cond, List, [], ◌∷◌, ◌++◌, length, map, Some, get_or, slice_get, slice_set, refl, sym, ◌∙◌, ap, subst, arith, inl, inr}
-use borrow.Author.Tests.{eq-eqb}
+use Rattle.std.proofs.Common.{◌≡◌, ℕ, zero, suc, ◌+◌, ◌<◌, ◌≤◌, List, [], ◌∷◌, ◌++◌, length, map, Some, get_or, slice_get, slice_set, refl, sym, ◌∙◌, ap, subst, arith, inl, inr}
 use Rattle.spec_model.specs.Games.{GameData}
 use Rattle.bdd_ops.specs.Contents.{Contents, function_at}
 use Rattle.region_bdd.specs.declared.slots.Content.{Content}
 use Rattle.region_bdd.specs.declared.slots.Content.TheVariants.{Region, Outputs, Inputs}
 use Rattle.region_bdd.specs.declared.slots.Slot.{Slot}
 use Rattle.region_bdd.specs.declared.slots.Slot.TheVariants.{Free, Taken, Spent}
-use Rattle.region_bdd.specs.Slots.{Nothing, Set, OutputsInto, InputsInto, shown_in, shown_of, shown_once, HasContent, TakesSlot, FreesSlot, MarksSpent, TakesPlace, ClearsPlace, one_at, roots_within, roots_of_slot, roots_of_slots}
+use Rattle.state_diagrams.proofs.ListLemmas.{one_itself}
+use Rattle.region_bdd.specs.Slots.{Nothing, Set, OutputsInto, InputsInto, shown_in, shown_of, shown_once, HasContent, TakesSlot, FreesSlot, MarksSpent, TakesPlace, ClearsPlace, roots_within, roots_of_slot, roots_of_slots}
 use Rattle.region_bdd.specs.Object.{ShownFits, AllFit, NoneSpent}
-
-pub one_itself : (n : ℕ) → one_at n n ≡ 1
-one_itself n = ap (λ b. cond b 1 0) (eq-eqb n n refl)
 
 -- ---- lists
 

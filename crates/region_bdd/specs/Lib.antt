@@ -6,3 +6,4 @@ pub mod TraitLaws
 pub mod Seen
 pub mod Goals
 pub mod One
+pub mod Making

@@ -30,7 +30,8 @@ use Rattle.region_bdd.specs.declared.slots.Slot.TheVariants.{Free, Taken, Spent}
 use Rattle.region_bdd.specs.declared.own.Own.{Own}
 use Rattle.region_bdd.specs.declared.own.Refused.{Refused}
 use Rattle.region_bdd.specs.Slots.{Shown, Nothing, Set, OutputsInto, InputsInto, shown_of}
-use Rattle.region_bdd.specs.Object.{TellGoals, OwnFunctions, OwnFits, ShownFits, AllFit, NoneSpent, IsSound, IsOpen, IsObject}
+use Rattle.state_diagrams.specs.Goals.{TellGoals}
+use Rattle.region_bdd.specs.Object.{OwnFunctions, OwnFits, ShownFits, AllFit, NoneSpent, IsSound, IsOpen, IsObject}
 
 -- ---- a state is known by its values
 

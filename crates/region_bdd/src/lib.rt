@@ -12,6 +12,7 @@
 mod forcing;
 mod giving_back;
 mod keeping;
+mod making;
 mod moves;
 mod object;
 mod own;

@@ -10,3 +10,6 @@ pub mod StateLemmas
 pub mod ListLemmas
 pub mod LineLemmas
 pub mod MadeLemmas
+pub mod ProperLemmas
+pub mod LevelLemmas
+pub mod GoalLemmas

@@ -5,3 +5,5 @@ pub mod Members
 pub mod Forcing
 pub mod Lists
 pub mod Lines
+pub mod Levels
+pub mod Goals

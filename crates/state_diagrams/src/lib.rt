@@ -7,7 +7,9 @@
 #![tactic(auto)]
 
 pub mod forcing;
+pub mod goals;
 pub mod laws;
+pub mod levels;
 pub mod lines;
 pub mod lists;
 mod members;
