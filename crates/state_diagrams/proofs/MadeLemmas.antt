@@ -1,5 +1,5 @@
 -- Members of moves, from the lists of roots that were made one after the other.
-use Rattle.std.proofs.Common.{◌≡◌, ℕ, ◌+◌, ◌<◌, Bool, true, false, ◌&&◌, Vec, Result, Ok, Err, is_ok, List, [], ◌∷◌, ◌++◌, slice_index, length, take, get_or, append_assoc, refl, sym, ◌∙◌, ap, subst, arith}
+use Rattle.std.proofs.Common.{◌≡◌, ℕ, ◌+◌, ◌<◌, Bool, true, false, ◌&&◌, Vec, Result, Ok, Err, IsErrAnd, is_ok, List, [], ◌∷◌, ◌++◌, slice_index, length, take, get_or, append_assoc, refl, sym, ◌∙◌, ap, subst, arith}
 use Rattle.std.proofs.lemmas.Bool.{and_parts, false≢true}
 use Rattle.std.proofs.lemmas.List.{map-append}
 use Rattle.std.proofs.lemmas.List.Folds.{list_all-append}
@@ -141,6 +141,11 @@ root_fails old new h fs f list =
 pub members_fail : (g : GameData) (when : When) (old new : Contents) (h : Halt) (fs : List Function) → MakesList old new (Err h) fs → MakesMembers g when old new (Err h)
 members_fail g when old new h fs list =
     record { fit = tt; added = tt; refused = list.refused; keeps = list.keeps; full = λ e. list.full (ap (λ (k : Halt). Err k) (ap (halt_or h) e)) }
+
+-- a refusal that is handed on
+pub members_refused_by : (g : GameData) (when : When) (old new : Contents) (r : Result Members Halt) (h : Halt) (fs : List Function) → IsErrAnd r (λ y. y ≡ h) → MakesList old new (Err h) fs → MakesMembers g when old new r
+members_refused_by g when old new (Ok m) h fs is list = absurd is
+members_refused_by g when old new (Err y) h fs is list = members_fail g when old new y fs (subst (λ (k : Halt). MakesList old new (Err k) fs) (sym is) list)
 
 -- ---- what is kept of members
 

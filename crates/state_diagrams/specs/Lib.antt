@@ -7,3 +7,4 @@ pub mod Lists
 pub mod Lines
 pub mod Levels
 pub mod Goals
+pub mod Updates

@@ -7,6 +7,7 @@ use Rattle.state_diagrams.specs.declared.lines.Side.TheVariants.{Assumptions, Gu
 use Rattle.state_diagrams.specs.Members.{AreRoots}
 use Rattle.state_diagrams.specs.Lists.{MakesList}
 use Rattle.state_diagrams.specs.Lines.{game_seen, functions_judged}
+use Rattle.state_diagrams.proofs.ProperLemmas.{proper_tells}
 use Rattle.state_diagrams.proofs.MadeLemmas.{first_stays, first_is, members_fit, members_made}
 use Rattle.state_diagrams.proofs.members.with_inputs.Goals as goal
 
@@ -27,4 +28,4 @@ returns-in-Ok c = λ base mid us first second told.
     let gar = functions_judged g to Guarantees when ++ p ∷ [] in
     let same = first_is base mid old c.args.update c.args.outputs us gar first second in
     let third = subst (λ (hs : List Function). MakesList old new (Ok c.in-Ok.inputs) (asm ++ hs)) same (rw c.deref.ensures.value at c.in-Ok.ensures) in
-    members_made base mid old new c.args.update c.args.outputs c.in-Ok.inputs us gar (asm ++ us) first second third g when (members_fit g to when c.requires.scene.made c.requires.scene.to c.requires.states us told)
+    members_made base mid old new c.args.update c.args.outputs c.in-Ok.inputs us gar (asm ++ us) first second third g when (members_fit g to when c.requires.scene.made c.requires.scene.to (proper_tells g Next) us told)
