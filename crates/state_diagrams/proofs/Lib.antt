@@ -8,6 +8,8 @@ pub mod SpentLemmas
 pub mod ShiftLemmas
 pub mod StateLemmas
 pub mod ListLemmas
+pub mod LineLemmas
+pub mod MadeLemmas
 pub mod ProperLemmas
 pub mod LevelLemmas
 pub mod GoalLemmas

@@ -4,5 +4,7 @@ pub mod MoveBits
 pub mod Members
 pub mod Forcing
 pub mod Lists
+pub mod Lines
 pub mod Levels
 pub mod Goals
+pub mod Updates
