@@ -9,6 +9,7 @@
 //! Path: game → sets as diagrams → **regions as diagrams** → layers.
 #![tactic(auto)]
 
+mod ending;
 mod forcing;
 mod giving_back;
 mod keeping;

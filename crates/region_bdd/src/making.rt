@@ -1,9 +1,8 @@
 //! Making the object: its own diagrams, part by part. Where a part is refused, those before it are given back.
 
-ghost use Rattle.std.specs.Prelude.{◌≡◌, ◌≤◌, ◌+◌, ℕ, [], None, IfOk};
+ghost use Rattle.std.specs.Prelude.{◌≡◌, ◌≤◌, [], None, IfOk};
 ghost use Rattle.spec_model.specs.GameViews.{game_data};
 ghost use Rattle.spec_model.specs.WellMade.{WellMade};
-ghost use Rattle.bdd_store.specs.State.{roots_at};
 ghost use Rattle.bit_compile.specs.Domains.{state_domains, level_count};
 ghost use Rattle.state_diagrams.specs.Lists.{one_at};
 ghost use Rattle.state_diagrams.specs.Lines.{roots_of_members};
@@ -13,6 +12,7 @@ ghost use Rattle.region_bdd.specs.Object.{roots_of_own};
 ghost use Rattle.region_bdd.specs.Making.{MakesPart, in_both, FitBoth, FitNothing, FitProper, listed_times, FitGoals, FitLines, FitOwn};
 ghost use Rattle.region_bdd.specs.Seen.{seen};
 
+use crate::ending::release_members;
 use crate::object::RegionBdd;
 use crate::own::Own;
 use crate::slots::Slots;
@@ -26,26 +26,10 @@ use spec_model::game::Game;
 use state_diagrams::forcing::StepRoots;
 use state_diagrams::goals::goal_roots;
 use state_diagrams::levels::next_levels;
-use state_diagrams::lines::{first_members, later_members};
 use state_diagrams::lists::release_list;
+use state_diagrams::members::{first_members, later_members};
 use state_diagrams::moves::{Members, NextLevels};
 use std::alloc::Global;
-
-/// Gives back the roots of members.
-fn release_members(diagrams: &mut Diagrams, members: Members)
-    requires { (n : ℕ) → roots_of_members n members ≤ roots_at diagrams.old.state n }
-    ensures released { (n : ℕ) → roots_at diagrams.old.state n ≡ roots_at diagrams.new.state n + roots_of_members n members }
-    ensures table { diagrams.new.state.table ≡ diagrams.old.state.table }
-{
-    let Members {
-        inputs,
-        outputs,
-        update,
-    } = members;
-    release_list(diagrams, inputs);
-    release_list(diagrams, outputs);
-    release_list(diagrams, update);
-}
 
 /// No state and all states, at the present bits.
 fn sets(diagrams: &mut Diagrams, codes: &Codes) -> Result<(Root, Root), Halt>
