@@ -6,4 +6,7 @@ pub mod SetCalls
 pub mod GoalLaws
 pub mod MoveOutcomes
 pub mod MoveLaws
+pub mod AskLaws
+pub mod StartLaws
+pub mod LeadingLaws
 pub mod MakingLaws

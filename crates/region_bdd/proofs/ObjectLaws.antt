@@ -7,7 +7,7 @@ use Rattle.game_values.specs.declared.seen.At.TheVariants.{Now}
 use Rattle.regions.specs.Kept.{Item, Region as RegionItem, Meaning, States, weight, meaning_of, meanings, HasRegion, Makes, Stays, Spends, Halts, jam_after, Jam, Call}
 use Rattle.regions.specs.declared.types.Halt.TheVariants as halt
 use Rattle.node_table.specs.Table.{Table, diagram_at}
-use Rattle.bdd_store.specs.State.{IsRoot, AddsRoot, SameRoots}
+use Rattle.bdd_store.specs.State.{IsRoot, roots_at, AddsRoot, SameRoots}
 use Rattle.bdd_ops.specs.Contents.{Contents, function_at}
 use Rattle.bdd_ops.specs.Calls.{KeepsRoots}
 use Rattle.state_diagrams.specs.declared.moves.Members.{Members}
@@ -108,11 +108,11 @@ module _ (g : GameData) (own : Own) where
           slots_fit = slots_stay;
         }
 
-    -- a content of one root came
-    pub sound_taken : (new : List Slot) (i r : ℕ) (content : Content) → ((n : ℕ) → roots_within n content ≡ one_at n r) → AddsRoot c.state c'.state r → TakesSlot slots new i (Taken content) → ShownFits g (shown_in c' content) → IsSound g c' own new
-    sound_taken new i r content one adds taken fits =
+    -- a content came, with its roots
+    pub sound_taken : (new : List Slot) (i : ℕ) (content : Content) → ((n : ℕ) → roots_at c'.state n ≡ roots_at c.state n + roots_within n content) → TakesSlot slots new i (Taken content) → ShownFits g (shown_in c' content) → IsSound g c' own new
+    sound_taken new i content adds taken fits =
         record {
-          counted = λ n. (let more = adds n in let all = sound.counted n in let slots_more = roots_taken n slots new i content taken in let is = one n in omega (arith, more, all, slots_more, is));
+          counted = λ n. (let more = adds n in let all = sound.counted n in let slots_more = roots_taken n slots new i content taken in omega (arith, more, all, slots_more));
           own_fits = subst (OwnFits g) (sym own_stays) sound.own_fits;
           slots_fit = fit_taken g c' slots new i content taken slots_stay fits;
         }

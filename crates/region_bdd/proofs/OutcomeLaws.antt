@@ -54,7 +54,7 @@ module _ (g : GameData) (own : Own) (lists : NextLevels) (c c' : Contents) (slot
           made = object.made;
           levels = makes.keeps.levels ∙ object.levels;
           lists_are = object.lists_are;
-          sound = sound_taken g own c c' slots object.sound makes.keeps new r.slot root (Region root) (λ n. refl) makes.added settles.0 fits;
+          sound = sound_taken g own c c' slots object.sound makes.keeps new r.slot (Region root) makes.added settles.0 fits;
           unspent = subst (λ (o : Option Refused). IsOpen o new) (sym settles.1) (open_taken slots new r.slot (Region root) settles.0 object.unspent);
         };
       }

@@ -6,4 +6,7 @@ pub mod TraitLaws
 pub mod Seen
 pub mod Goals
 pub mod One
+pub mod Asking
+pub mod Room
+pub mod Leading
 pub mod Making

@@ -29,6 +29,8 @@ use Rattle.region_bdd.specs.declared.slots.Slot.{Slot}
 use Rattle.region_bdd.specs.declared.slots.Slot.TheVariants.{Free, Taken, Spent}
 use Rattle.region_bdd.specs.declared.own.Own.{Own}
 use Rattle.region_bdd.specs.declared.own.Refused.{Refused}
+use Rattle.region_bdd.specs.declared.search.Search.{Search}
+use Rattle.region_bdd.specs.Room.{IsRoom}
 use Rattle.region_bdd.specs.Slots.{Shown, Nothing, Set, OutputsInto, InputsInto, shown_of}
 use Rattle.state_diagrams.specs.Goals.{TellGoals}
 use Rattle.region_bdd.specs.Object.{OwnFunctions, OwnFits, ShownFits, AllFit, NoneSpent, IsSound, IsOpen, IsObject}
@@ -157,3 +159,6 @@ well_made_one g = λ x y i. record { few_variables = le_prop x.few_variables y.f
 
 pub object_is_one : (g : GameData) (c : Contents) (own : Own) (lists : NextLevels) (slots : List Slot) (refused : Option Refused) → IsProp (IsObject g c own lists slots refused)
 object_is_one g c own lists slots refused = λ x y i. record { made = well_made_one g x.made y.made i; levels = ℕ_set _ _ x.levels y.levels i; lists_are = lists_one g lists x.lists_are y.lists_are i; sound = sound_one g c own slots x.sound y.sound i; unspent = open_one refused slots x.unspent y.unspent i }
+
+pub room_is_one : (levels : ℕ) (own : Own) (search : Search) → IsProp (IsRoom levels own search)
+room_is_one levels own search = λ x y i. record { bits = ℕ_set _ _ x.bits y.bits i; fixed = ℕ_set _ _ x.fixed y.fixed i; levels_are = ℕ_set _ _ x.levels_are y.levels_are i; first = le_prop x.first y.first i; later = le_prop x.later y.later i }

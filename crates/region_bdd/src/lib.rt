@@ -4,22 +4,26 @@
 //! own formulas. Where a call of the store is refused at its second try, the call of the object answers `Budget` and the
 //! object tells from then on which call it was and all that was held.
 //!
-//! Contract: each call of `RegionBdd` that stands here meets its clauses of the trait `Regions`. Nothing makes the object
-//! yet, so it has no test: its making, `in_moves`, the starts, `has`, `first_out`, `first_in` and the trait come next.
+//! Contract: `RegionBdd::make` gives an object that holds nothing, and each call of it that stands here meets its clauses of
+//! the trait `Regions`. `has`, `first_out`, `first_in` and the trait come next.
 //! Path: game → sets as diagrams → **regions as diagrams** → layers.
 #![tactic(auto)]
 
+mod asking;
 mod ending;
 mod forcing;
 mod giving_back;
 mod keeping;
+mod leading;
 mod making;
 mod moves;
 mod object;
 mod own;
+mod search;
 mod sets;
 mod slots;
 mod spending;
+mod starting;
 
 pub use object::RegionBdd;
 pub use slots::{BddMove, BddRegion};

@@ -1,6 +1,6 @@
 //! Making the object: its own diagrams, part by part. Where a part is refused, those before it are given back.
 
-ghost use Rattle.std.specs.Prelude.{◌≡◌, ◌≤◌, [], None, IfOk};
+ghost use Rattle.std.specs.Prelude.{◌≡◌, ◌<◌, ◌≤◌, [], None, IfOk, IfSome};
 ghost use Rattle.spec_model.specs.GameViews.{game_data};
 ghost use Rattle.spec_model.specs.WellMade.{WellMade};
 ghost use Rattle.bit_compile.specs.Domains.{state_domains, level_count};
@@ -10,14 +10,16 @@ ghost use Rattle.state_diagrams.specs.Forcing.{AreLevelsOf};
 ghost use Rattle.region_bdd.specs.Slots.{kept_in};
 ghost use Rattle.region_bdd.specs.Object.{roots_of_own};
 ghost use Rattle.region_bdd.specs.Making.{MakesPart, in_both, FitBoth, FitNothing, FitProper, listed_times, FitGoals, FitLines, FitOwn};
+ghost use Rattle.region_bdd.specs.Room.{IsRoom, member_count};
 ghost use Rattle.region_bdd.specs.Seen.{seen};
 
-use crate::ending::release_members;
+use crate::ending::{release_members, release_own};
 use crate::object::RegionBdd;
 use crate::own::Own;
+use crate::search::Search;
 use crate::slots::Slots;
 use bdd_ops::{Diagrams, Root};
-use bit_compile::Codes;
+use bit_compile::{Codes, OutOfMemory};
 use bit_compile::proper::proper;
 use bit_compile::steps::constant;
 use game_values::seen::At;
@@ -29,7 +31,7 @@ use state_diagrams::levels::next_levels;
 use state_diagrams::lists::release_list;
 use state_diagrams::members::{first_members, later_members};
 use state_diagrams::moves::{Members, NextLevels};
-use std::alloc::Global;
+use std::alloc::{AllocError, Global};
 
 /// No state and all states, at the present bits.
 fn sets(diagrams: &mut Diagrams, codes: &Codes) -> Result<(Root, Root), Halt>
@@ -154,6 +156,24 @@ fn own(
     }
 }
 
+/// Place for the lines of a move and one diagram more, if there is a number for it.
+fn place_for(members: &Members) -> Option<u32>
+    ensures { IfSome result (λ most. member_count members.now < most) }
+{
+    let outputs = members.outputs.len().checked_add(members.update.len())?;
+    let all = members.inputs.len().checked_add(outputs)?;
+    u32::try_from(all.checked_add(1)?).ok()
+}
+
+/// Room for searches among the lines of moves. Want of a number for it is want of memory.
+fn room(alloc: Global, levels: u32, own: &Own) -> Result<Search, OutOfMemory>
+    ensures { IfOk result (λ search. IsRoom levels own.now search) }
+{
+    let first = place_for(&own.first).ok_or(AllocError)?;
+    let later = place_for(&own.step.later).ok_or(AllocError)?;
+    Search::make(alloc, levels, first.max(later))
+}
+
 impl RegionBdd {
     /// The regions of a game, in a store of at most `budget` nodes, the two constants among them. `Budget`: the game's own
     /// diagrams and unfinished results fill it. `Memory`: none was given.
@@ -172,6 +192,10 @@ impl RegionBdd {
             return Err(Halt::Memory);
         };
         let own = own(&mut diagrams, &codes, &game, &levels)?;
+        let Ok(search) = room(alloc, codes.levels(), &own) else {
+            release_own(&mut diagrams, own);
+            return Err(Halt::Memory);
+        };
         let slots = Slots {
             slots: Vec::new(alloc),
             free: 0,
@@ -183,6 +207,8 @@ impl RegionBdd {
             levels,
             slots,
             refused: None,
+            codes,
+            search,
         })
     }
 }

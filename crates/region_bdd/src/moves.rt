@@ -1,12 +1,13 @@
 //! Moves into regions.
 
 ghost use Rattle.std.specs.Prelude.{◌≡◌, [], ◌∷◌, None, Err, IfOk, IfErr};
-ghost use Rattle.regions.specs.Kept.{States, Move, Outputs, OutMoves, HasRegion, HasMove, Makes, Halts, Spends, IsSameGame};
+ghost use Rattle.regions.specs.Kept.{States, Move, Outputs, Inputs, OutMoves, InMoves, HasRegion, HasMove, Makes, Halts, Spends, IsSameGame};
 ghost use Rattle.bdd_store.specs.State.{IsFull};
 ghost use Rattle.region_bdd.specs.Seen.{seen};
 
 use crate::giving_back::give_back;
-use crate::keeping::settle_outputs;
+use crate::keeping::{settle_inputs, settle_outputs};
+use crate::leading::with_leading;
 use crate::object::RegionBdd;
 use crate::own::{Asked, Refused};
 use crate::slots::{BddMove, BddRegion};
@@ -35,6 +36,34 @@ impl RegionBdd {
             second: None,
         };
         settle_outputs(&mut self.slots, &mut self.refused, made, when, why)
+    }
+
+    /// The legal inputs all of whose legal outputs lead into `t`, after each state.
+    pub fn in_moves(&mut self, when: When, t: &BddRegion) -> Result<BddMove, Halt>
+        requires free { (seen self.old).jam ≡ None }
+        requires t { HasRegion (seen self.old) t.now }
+        ensures made { let k = seen self.old in
+            IfOk result (λ m. Makes k (seen self.new) (Move m) (Inputs when (k.set t.now))) }
+        ensures halted { let k = seen self.old in
+            IfErr result (Halts k (seen self.new) (InMoves when) (States (k.set t.now) ∷ [])) }
+        ensures same { IsSameGame (seen self.old) (seen self.new) }
+        ensures cause { result ≡ Err Halt.Budget → IsFull self.new.diagrams.state }
+    {
+        let Ok(()) = self.slots.room() else {
+            return Err(Halt::Memory);
+        };
+        let made = with_leading(
+            &mut self.diagrams,
+            self.slots.region(t),
+            self.own.members(when),
+            &self.levels,
+        );
+        let why = Refused {
+            asked: Asked::InMoves(when),
+            first: Some(t.slot),
+            second: None,
+        };
+        settle_inputs(&mut self.slots, &mut self.refused, made, when, why)
     }
 
     /// Takes moves out of what is held. After the budget ran out their diagrams stay, since the object tells of them.

@@ -3,6 +3,7 @@
 ghost use Rattle.std.specs.Prelude.{◌≡◌, ◌<◌, length, slice_index};
 ghost use Rattle.regions.specs.Rules.{number_of};
 ghost use Rattle.region_bdd.specs.Goals.{goal_roots};
+ghost use Rattle.region_bdd.specs.Leading.{members_at};
 
 use bdd_ops::Root;
 use regions::{Recur, When};
@@ -57,6 +58,15 @@ impl Own {
         match what {
             Recur::Assumption(k) => &self.assume[k],
             Recur::Guarantee(k) => &self.goals[k],
+        }
+    }
+    /// The lines of the first moves, or of later ones.
+    pub fn members(&self, when: When) -> &Members
+        ensures { result.now ≡ members_at self.now when }
+    {
+        match when {
+            When::First => &self.first,
+            When::Later => &self.step.later,
         }
     }
 }

@@ -90,7 +90,7 @@ invariant_of-self-2 c =
     let now = kept_of g d slots o.refused in
     let why : Refused = record { asked = asked.And; first = Some c.args.a.now.slot; second = Some c.args.b.now.slot } in
     let done = answered g o.own o.levels d slots c.and-made.new.diagrams c.room.new.self.slots.items c.settle.new.slots.slots.items o.refused c.settle.new.refused c.args.self.now.whole c.requires.free c.room.ensures.same (joined (join_of true) (function_at d c.region.result.now) (function_at d c.region-2.result.now)) (both (now.set c.args.a.now) (now.set c.args.b.now)) (tells_both g Now _ _ _ _ (region_tells g o.own o.levels d slots o.refused c.args.self.now.whole c.args.a.now c.region.result.now here_a) (region_tells g o.own o.levels d slots o.refused c.args.self.now.whole c.args.b.now c.region-2.result.now here_b)) why (States (now.set c.args.a.now) ∷ States (now.set c.args.b.now) ∷ []) (two_arguments g o.own o.levels d slots o.refused c.args.self.now.whole c.args.a.now c.args.b.now c.region.result.now c.region-2.result.now here_a here_b) c.and-made.result c.settle.result (c.and-made.ensures.makes) c.settle.ensures in
-    record { whole = done.object }
+    record { whole = done.object; coded = o.coded; room = o.room }
 
 pub returns-clause-cause : goal.returns-clause-cause
 returns-clause-cause c =

@@ -66,7 +66,7 @@ invariant_of-self-2 c =
     let now = kept_of g d slots o.refused in
     let why : Refused = record { asked = asked.Not; first = Some c.args.a.now.slot; second = None } in
     let done = answered g o.own o.levels d slots c.ite-made.new.diagrams c.room.new.self.slots.items c.settle.new.slots.slots.items o.refused c.settle.new.refused c.args.self.now.whole c.requires.free c.room.ensures.same (choice (function_at d c.region.result.now) (function_at d o.own.step.nothing) (function_at d o.own.step.proper)) (rest g (now.set c.args.a.now)) (tells_not g o.own o.levels d slots o.refused c.args.self.now.whole c.args.a.now c.region.result.now here_a) why (States (now.set c.args.a.now) ∷ []) (one_argument g o.own o.levels d slots o.refused c.args.self.now.whole c.args.a.now c.region.result.now here_a) c.ite-made.result c.settle.result (c.ite-made.ensures.makes) c.settle.ensures in
-    record { whole = done.object }
+    record { whole = done.object; coded = o.coded; room = o.room }
 
 pub returns-clause-cause : goal.returns-clause-cause
 returns-clause-cause c =

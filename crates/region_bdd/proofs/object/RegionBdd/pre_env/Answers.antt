@@ -88,7 +88,7 @@ invariant_of-self-2 c =
     let now = kept_of g d slots o.refused in
     let why : Refused = record { asked = asked.PreEnv; first = Some c.args.t.now.slot; second = None } in
     let done = answered g o.own o.levels d slots c.environment_states-made.new.diagrams c.room.new.self.slots.items c.settle.new.slots.slots.items o.refused c.settle.new.refused c.args.self.now.whole c.requires.free c.room.ensures.same (joined (join_of true) (avoiding (move_functions d o.own.step.later) o.levels.reply.items o.levels.all.items (negated (shifted o.levels.to.items (function_at d c.region.result.now)))) (function_at d o.own.step.proper)) (environment_forces_set g (now.set c.args.t.now)) (tells_kept_in g o.own o.levels d slots o.refused c.args.self.now.whole c.args.t.now c.region.result.now here_t) why (States (now.set c.args.t.now) ∷ []) (one_argument g o.own o.levels d slots o.refused c.args.self.now.whole c.args.t.now c.region.result.now here_t) c.environment_states-made.result c.settle.result (c.environment_states-made.ensures.made) c.settle.ensures in
-    record { whole = done.object }
+    record { whole = done.object; coded = o.coded; room = o.room }
 
 pub returns-clause-cause : goal.returns-clause-cause
 returns-clause-cause c =

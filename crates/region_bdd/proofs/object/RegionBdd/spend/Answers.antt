@@ -43,6 +43,8 @@ invariant_of-self c =
             sound = spent.1;
             unspent = subst (λ (r : Option Refused). IsOpen r new) (sym some.1) tt;
           };
+      coded = c.args.self.now.coded;
+      room = c.args.self.now.room;
     }
 
 pub free_region-root-requires : goal.free_region-root-requires
@@ -84,4 +86,6 @@ invariant_of-self-2 c =
             sound = spent.1;
             unspent = subst (λ (r : Option Refused). IsOpen r new) (sym none) spent.2;
           };
+      coded = c.args.self.now.coded;
+      room = c.args.self.now.room;
     }

@@ -38,7 +38,7 @@ invariant_of-self c =
     let new = c.spend.new.self.slots.items in
     let some = some_refused o.refused (sym c.is_some.ensures ∙ c.if-is_some.true) in
     let spent = moves_marked g o.own d d slots new c.args.m o.whole.sound held some.0 c.spend.ensures in
-    record { whole = record { made = o.whole.made; levels = o.whole.levels; lists_are = o.whole.lists_are; sound = spent.1; unspent = subst (λ (r : Option Refused). IsOpen r new) (sym some.1) tt } }
+    record { whole = record { made = o.whole.made; levels = o.whole.levels; lists_are = o.whole.lists_are; sound = spent.1; unspent = subst (λ (r : Option Refused). IsOpen r new) (sym some.1) tt }; coded = o.coded; room = o.room }
 
 pub free-content-requires : goal.free-content-requires
 free-content-requires c =
@@ -88,4 +88,4 @@ invariant_of-self-2 c =
     let none = not_refused o.refused (sym c.is_some.ensures ∙ c.if-is_some.false) in
     let clear = subst (λ (r : Option Refused). IsOpen r slots) none o.whole.unspent in
     let spent = moves_freed g o.own d c.give_back.new.diagrams slots new c.args.m o.whole.sound this c.free-content.ensures.frees c.give_back.ensures.back c.give_back.ensures.table clear in
-    record { whole = record { made = o.whole.made; levels = ap (λ t. t.levels) c.give_back.ensures.table ∙ o.whole.levels; lists_are = o.whole.lists_are; sound = spent.1; unspent = subst (λ (r : Option Refused). IsOpen r new) (sym none) spent.2 } }
+    record { whole = record { made = o.whole.made; levels = ap (λ t. t.levels) c.give_back.ensures.table ∙ o.whole.levels; lists_are = o.whole.lists_are; sound = spent.1; unspent = subst (λ (r : Option Refused). IsOpen r new) (sym none) spent.2 }; coded = o.coded; room = o.room }

@@ -1,0 +1,120 @@
+-- What is left after a diagram was asked for and given back, and what it tells of the first move.
+use Rattle.std.proofs.Common.{◌≡◌, ◌↔◌, ℕ, ◌+◌, ◌<◌, ◌==◌, Bool, true, false, not, cond, List, [], ◌∷◌, ◌++◌, map, Option, Some, None, Result, Ok, Err, IfOk, IfErr, IsTrue, refl, sym, ◌∙◌, ap, subst, arith, is_ok}
+use Rattle.std.proofs.lemmas.Bool.{false≢true}
+use Rattle.node_table.specs.Table.{Table, diagram_at, count_of}
+use Rattle.spec_model.specs.Diagrams.{Bits, Function, value, shifted}
+use Rattle.spec_model.specs.Games.{GameData}
+use Rattle.spec_model.specs.Steps.{Before}
+use Rattle.spec_model.specs.Sets.{StateSet, system_forces}
+use Rattle.regions.specs.Kept.{Meaning, Call, Stays, Halts, IsSameGame}
+use Rattle.regions.specs.declared.types.Halt.{Halt}
+use Rattle.regions.specs.declared.types.Halt.TheVariants as halt
+use Rattle.regions.specs.declared.types.When.TheVariants.{First}
+use Rattle.bdd_store.specs.State.{State, IsRoot, roots_at, AddsRoot, SameRoots, IsFull, diagram_of}
+use Rattle.bdd_ops.specs.Contents.{Contents, function_at}
+use Rattle.bdd_ops.specs.Calls.{KeepsRoots}
+use Rattle.bit_compile.specs.Making.{Makes}
+use Rattle.bit_compile.proofs.MakingLemmas.{is_root}
+use Rattle.state_diagrams.specs.declared.moves.NextLevels.{NextLevels}
+use Rattle.state_diagrams.specs.MoveBits.{TellsBefore}
+use Rattle.state_diagrams.proofs.ForceLemmas.{same_truth}
+use Rattle.region_bdd.specs.declared.slots.Slot.{Slot}
+use Rattle.region_bdd.specs.declared.own.Own.{Own}
+use Rattle.region_bdd.specs.declared.own.Refused.{Refused}
+use Rattle.region_bdd.specs.Slots.{shown_of}
+use Rattle.region_bdd.specs.Asking.{Answers, SettlesAnswer}
+use Rattle.region_bdd.specs.Object.{NoneSpent, IsObject, IsOpen, call_of, argument_in, kept_of}
+use Rattle.region_bdd.proofs.OutcomeLaws.{is_memory}
+use Rattle.region_bdd.proofs.ObjectLaws.{none_refused, sound_same, stays_same, halts_memory, halts_budget}
+
+-- what is told before the first move is one truth value
+module _ (g : GameData) (f h : Function) (r : Before → Bool) (told : TellsBefore g First f r) (nothing : h ≡ (λ b. false)) where
+  says : (b : Bits) → f b ≡ r None
+  says b = told.at_time None b refl tt
+
+  off : f ≡ h → r None ≡ false
+  off same = sym (says (λ level. false)) ∙ ap (λ (k : Function). k (λ level. false)) (same ∙ nothing)
+
+  empty : r None ≡ false → f ≡ h
+  empty is = (λ i b. (says b ∙ is) i) ∙ sym nothing
+
+  pub first_empty : (said : Bool) → (IsTrue said ↔ f ≡ h) → said ≡ not (r None)
+  first_empty said answer = same_truth said (not (r None)) (λ e. ap not (off (answer.0 e))) (λ e. answer.1 (empty (turned (r None) e)))
+    where
+      turned : (x : Bool) → not x ≡ true → x ≡ false
+      turned true e = absurd (false≢true e)
+      turned false e = refl
+
+  pub first_not_empty : (said : Bool) → (IsTrue said ↔ (f ≡ h → ⊥)) → said ≡ r None
+  first_not_empty said answer = same_truth said (r None) (λ e. some (r None) refl (answer.0 e)) (λ e. answer.1 (λ same. false≢true (sym (off same) ∙ e)))
+    where
+      some : (x : Bool) → r None ≡ x → (f ≡ h → ⊥) → x ≡ true
+      some true is differ = refl
+      some false is differ = absurd (differ (empty is))
+
+-- ---- what the call answers and leaves
+
+pub record Told (g : GameData) (own : Own) (lists : NextLevels) (c c' : Contents) (slots : List Slot) (was refused : Option Refused) (result : Result Bool Halt) (fact : Type 0) (asked : Call) (arguments : List Meaning) : Type 0 where
+  pub answer : IfOk result (λ said. IsTrue said ↔ fact)
+  pub stays : IfOk result (λ said. Stays (kept_of g c slots was) (kept_of g c' slots refused))
+  pub halted : IfErr result (Halts (kept_of g c slots was) (kept_of g c' slots refused) asked arguments)
+  pub same : IsSameGame (kept_of g c slots was) (kept_of g c' slots refused)
+  pub cause : result ≡ Err halt.Budget → IsFull c'.state
+  pub object : IsObject g c' own lists slots refused
+
+module _ (g : GameData) (own : Own) (lists : NextLevels) (c c' : Contents) (slots : List Slot) (object : IsObject g c own lists slots None) (fact : Type 0) (why : Refused) (arguments : List Meaning)
+    (arguments_are : argument_in g (map (shown_of c) slots) why.first ++ argument_in g (map (shown_of c) slots) why.second ≡ arguments) where
+  still : Answers c c' (Err halt.Memory) fact → IsObject g c' own lists slots None
+  still asked = record { made = object.made; levels = asked.keeps.levels ∙ object.levels; lists_are = object.lists_are; sound = sound_same g own c c' slots object.sound asked.keeps asked.roots; unspent = object.unspent }
+
+  told_plain : (made : Result Bool Halt) → Answers c c' made fact → (result : Result Bool Halt) (refused : Option Refused) → SettlesAnswer refused made result why → Told g own lists c c' slots None refused result fact (call_of why.asked) arguments
+  told_plain (Ok said) asked result refused settles =
+      subst (λ (r : Result Bool Halt). Told g own lists c c' slots None refused r fact (call_of why.asked) arguments) (sym settles.0)
+      (subst (λ (o : Option Refused). Told g own lists c c' slots None o (Ok said) fact (call_of why.asked) arguments) (sym settles.1)
+      (record {
+        answer = asked.answer;
+        stays = stays_same g own c c' slots object.sound asked.keeps None;
+        halted = tt;
+        same = record { game = refl; bound = asked.keeps.budget };
+        cause = asked.full;
+        object = record { made = object.made; levels = asked.keeps.levels ∙ object.levels; lists_are = object.lists_are; sound = sound_same g own c c' slots object.sound asked.keeps asked.roots; unspent = object.unspent };
+      }))
+  told_plain (Err halt.Memory) asked result refused settles =
+      subst (λ (r : Result Bool Halt). Told g own lists c c' slots None refused r fact (call_of why.asked) arguments) (sym settles.0)
+      (subst (λ (o : Option Refused). Told g own lists c c' slots None o (Err halt.Memory) fact (call_of why.asked) arguments) (sym settles.1)
+      (record {
+        answer = tt;
+        stays = tt;
+        halted = halts_memory g own c c' slots object.sound asked.keeps (call_of why.asked) arguments;
+        same = record { game = refl; bound = asked.keeps.budget };
+        cause = asked.full;
+        object = still asked;
+      }))
+  told_plain (Err halt.Budget) asked result refused settles =
+      subst (λ (r : Result Bool Halt). Told g own lists c c' slots None refused r fact (call_of why.asked) arguments) (sym settles.0)
+      (subst (λ (o : Option Refused). Told g own lists c c' slots None o (Err halt.Budget) fact (call_of why.asked) arguments) (sym settles.1)
+      (record {
+        answer = tt;
+        stays = tt;
+        halted = halts_budget g own c c' slots object.sound asked.keeps why (call_of why.asked) arguments object.unspent refl arguments_are;
+        same = record { game = refl; bound = asked.keeps.budget };
+        cause = asked.full;
+        object = record { made = object.made; levels = asked.keeps.levels ∙ object.levels; lists_are = object.lists_are; sound = sound_same g own c c' slots object.sound asked.keeps asked.roots; unspent = tt };
+      }))
+
+pub told : (g : GameData) (own : Own) (lists : NextLevels) (c c' : Contents) (slots : List Slot) (was refused : Option Refused) (object : IsObject g c own lists slots was) → (kept_of g c slots was).jam ≡ None → (fact : Type 0) (why : Refused) (arguments : List Meaning) →
+    argument_in g (map (shown_of c) slots) why.first ++ argument_in g (map (shown_of c) slots) why.second ≡ arguments → (made result : Result Bool Halt) → Answers c c' made fact → SettlesAnswer refused made result why → Told g own lists c c' slots was refused result fact (call_of why.asked) arguments
+told g own lists c c' slots was refused object free fact why arguments are made result asked settles =
+    let none = none_refused g c slots was free in
+    let object' : IsObject g c own lists slots None = subst (λ (o : Option Refused). IsObject g c own lists slots o) none object in
+    subst (λ (o : Option Refused). Told g own lists c c' slots o refused result fact (call_of why.asked) arguments) (sym none)
+    (told_plain g own lists c c' slots object' fact why arguments are made asked result refused settles)
+
+pub answers_by : (result : Result Bool Halt) (fact : Type 0) (x : Bool) → IfOk result (λ said. IsTrue said ↔ fact) → ((said : Bool) → (IsTrue said ↔ fact) → said ≡ x) → IfOk result (λ said. said ≡ x)
+answers_by (Ok said) fact x answer by = by said answer
+answers_by (Err h) fact x answer by = tt
+
+-- what was made is kept
+pub roots_made : (old new : Contents) (made : Result ℕ Halt) (f : Function) → Makes old new made f → IfOk made (λ r. IsRoot new.state r)
+roots_made old new (Ok r) f makes = is_root old new r f makes
+roots_made old new (Err h) f makes = tt

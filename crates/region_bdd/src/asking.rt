@@ -1,0 +1,95 @@
+//! Where some legal first input keeps the system out of a set, and whether there is such an input.
+
+ghost use Rattle.std.specs.Prelude.{◌≡◌, ◌↔◌, IfOk, IsTrue};
+ghost use Rattle.spec_model.specs.Diagrams.{Function, shifted};
+ghost use Rattle.bdd_store.specs.State.{IsRoot, AddsRoot};
+ghost use Rattle.bdd_ops.specs.Contents.{Contents, function_at};
+ghost use Rattle.bdd_ops.specs.Calls.{negated, RisesOver};
+ghost use Rattle.bit_compile.specs.Making.{Makes};
+ghost use Rattle.state_diagrams.specs.Members.{AreMembers, move_functions, avoiding};
+ghost use Rattle.region_bdd.specs.Asking.{Answers};
+
+use crate::own::Own;
+use bdd_ops::{Diagrams, Root};
+use regions::Halt;
+use state_diagrams::moves::{NextLevels, avoided};
+use state_diagrams::spent::not_spent;
+use state_diagrams::steps::shift;
+
+/// Where some legal first input has no legal first output into a set.
+pub fn avoiding_set(
+    diagrams: &mut Diagrams,
+    t: &Root,
+    own: &Own,
+    levels: &NextLevels,
+) -> Result<Root, Halt>
+    requires t { IsRoot diagrams.old.state t.now }
+    requires first { AreMembers diagrams.old own.now.first }
+    requires rising { RisesOver diagrams.old.state.table.levels levels.now.to.items (function_at diagrams.old t.now) }
+    ensures { Makes diagrams.old diagrams.new result (avoiding (move_functions diagrams.old own.now.first) levels.now.reply.items levels.now.all.items (shifted levels.now.to.items (function_at diagrams.old t.now))) }
+{
+    let target = shift(diagrams, t, &levels.to)?;
+    avoided(diagrams, target, &own.first, levels)
+}
+
+/// Where some legal first input has no legal first output out of a set.
+pub fn avoiding_rest(
+    diagrams: &mut Diagrams,
+    t: &Root,
+    own: &Own,
+    levels: &NextLevels,
+) -> Result<Root, Halt>
+    requires t { IsRoot diagrams.old.state t.now }
+    requires first { AreMembers diagrams.old own.now.first }
+    requires rising { RisesOver diagrams.old.state.table.levels levels.now.to.items (function_at diagrams.old t.now) }
+    ensures { Makes diagrams.old diagrams.new result (avoiding (move_functions diagrams.old own.now.first) levels.now.reply.items levels.now.all.items (negated (shifted levels.now.to.items (function_at diagrams.old t.now)))) }
+{
+    let next = shift(diagrams, t, &levels.to)?;
+    let target = not_spent(diagrams, next)?;
+    avoided(diagrams, target, &own.first, levels)
+}
+
+/// Whether a diagram is that of no state. It is given back.
+fn is_nothing(diagrams: &mut Diagrams, root: Root, nothing: &Root) -> bool
+    requires root { IsRoot diagrams.old.state root }
+    requires nothing { IsRoot diagrams.old.state nothing.now }
+    ensures answer { IsTrue result ↔ function_at diagrams.old root ≡ function_at diagrams.old nothing.now }
+    ensures released { AddsRoot diagrams.new.state diagrams.old.state root }
+    ensures table { diagrams.new.state.table ≡ diagrams.old.state.table }
+{
+    let same = diagrams.equal(&root, nothing);
+    diagrams.release(root);
+    same
+}
+
+/// Whether a diagram that was asked for is that of no state. It is given back.
+pub fn is_empty(
+    diagrams: &mut Diagrams,
+    made: Result<Root, Halt>,
+    nothing: &Root,
+) -> Result<bool, Halt>
+    requires made { IfOk made (λ r. IsRoot diagrams.old.state r) }
+    requires nothing { IsRoot diagrams.old.state nothing.now }
+    ensures { (base : Contents) (f : Function) → Makes base diagrams.old made f → IsRoot base.state nothing.now → Answers base diagrams.new result (f ≡ function_at base nothing.now) }
+{
+    match made {
+        Ok(root) => Ok(is_nothing(diagrams, root, nothing)),
+        Err(halt) => Err(halt),
+    }
+}
+
+/// Whether a diagram that was asked for is not that of no state. It is given back.
+pub fn is_not_empty(
+    diagrams: &mut Diagrams,
+    made: Result<Root, Halt>,
+    nothing: &Root,
+) -> Result<bool, Halt>
+    requires made { IfOk made (λ r. IsRoot diagrams.old.state r) }
+    requires nothing { IsRoot diagrams.old.state nothing.now }
+    ensures { (base : Contents) (f : Function) → Makes base diagrams.old made f → IsRoot base.state nothing.now → Answers base diagrams.new result (f ≡ function_at base nothing.now → ⊥) }
+{
+    match made {
+        Ok(root) => Ok(!is_nothing(diagrams, root, nothing)),
+        Err(halt) => Err(halt),
+    }
+}

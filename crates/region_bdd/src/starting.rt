@@ -1,0 +1,68 @@
+//! What players force at the first move.
+
+ghost use Rattle.std.specs.Prelude.{◌≡◌, [], ◌∷◌, None, Err, IfOk, IfErr};
+ghost use Rattle.spec_model.specs.Sets.{system_forces, environment_forces};
+ghost use Rattle.regions.specs.Kept.{States, StartSys, StartEnv, HasRegion, Halts, Stays, IsSameGame};
+ghost use Rattle.bdd_store.specs.State.{IsFull};
+ghost use Rattle.region_bdd.specs.Seen.{seen};
+
+use crate::asking::{avoiding_rest, avoiding_set, is_empty, is_not_empty};
+use crate::keeping::settle_answer;
+use crate::object::RegionBdd;
+use crate::own::{Asked, Refused};
+use crate::slots::BddRegion;
+use regions::Halt;
+
+impl RegionBdd {
+    /// Whether every legal first input has a legal first output into `t`.
+    pub fn start_sys(&mut self, t: &BddRegion) -> Result<bool, Halt>
+        requires free { (seen self.old).jam ≡ None }
+        requires t { HasRegion (seen self.old) t.now }
+        ensures answer { let k = seen self.old in IfOk result (λ yes. yes ≡ system_forces k.game (k.set t.now) None) }
+        ensures stays { IfOk result (λ _. Stays (seen self.old) (seen self.new)) }
+        ensures halted { let k = seen self.old in
+            IfErr result (Halts k (seen self.new) StartSys (States (k.set t.now) ∷ [])) }
+        ensures same { IsSameGame (seen self.old) (seen self.new) }
+        ensures cause { result ≡ Err Halt.Budget → IsFull self.new.diagrams.state }
+    {
+        let made = avoiding_set(
+            &mut self.diagrams,
+            self.slots.region(t),
+            &self.own,
+            &self.levels,
+        );
+        let asked = is_empty(&mut self.diagrams, made, &self.own.step.nothing);
+        let why = Refused {
+            asked: Asked::StartSys,
+            first: Some(t.slot),
+            second: None,
+        };
+        settle_answer(&mut self.refused, asked, why)
+    }
+
+    /// Whether some legal first input has all its legal first outputs in `t`.
+    pub fn start_env(&mut self, t: &BddRegion) -> Result<bool, Halt>
+        requires free { (seen self.old).jam ≡ None }
+        requires t { HasRegion (seen self.old) t.now }
+        ensures answer { let k = seen self.old in IfOk result (λ yes. yes ≡ environment_forces k.game (k.set t.now) None) }
+        ensures stays { IfOk result (λ _. Stays (seen self.old) (seen self.new)) }
+        ensures halted { let k = seen self.old in
+            IfErr result (Halts k (seen self.new) StartEnv (States (k.set t.now) ∷ [])) }
+        ensures same { IsSameGame (seen self.old) (seen self.new) }
+        ensures cause { result ≡ Err Halt.Budget → IsFull self.new.diagrams.state }
+    {
+        let made = avoiding_rest(
+            &mut self.diagrams,
+            self.slots.region(t),
+            &self.own,
+            &self.levels,
+        );
+        let asked = is_not_empty(&mut self.diagrams, made, &self.own.step.nothing);
+        let why = Refused {
+            asked: Asked::StartEnv,
+            first: Some(t.slot),
+            second: None,
+        };
+        settle_answer(&mut self.refused, asked, why)
+    }
+}
