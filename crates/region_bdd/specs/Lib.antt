@@ -10,3 +10,4 @@ pub mod Asking
 pub mod Room
 pub mod Leading
 pub mod Making
+pub mod Examples

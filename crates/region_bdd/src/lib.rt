@@ -27,3 +27,6 @@ mod starting;
 
 pub use object::RegionBdd;
 pub use slots::{BddMove, BddRegion};
+
+#[cfg(test)]
+mod tests;
