@@ -7,3 +7,5 @@ pub mod ForceLemmas
 pub mod SpentLemmas
 pub mod ShiftLemmas
 pub mod StateLemmas
+pub mod ListLemmas
+pub mod UpdateLemmas

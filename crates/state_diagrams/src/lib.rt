@@ -8,6 +8,8 @@
 
 pub mod forcing;
 pub mod laws;
+pub mod lists;
 pub mod moves;
 pub mod spent;
 pub mod steps;
+pub mod updates;
