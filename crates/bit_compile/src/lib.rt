@@ -30,9 +30,11 @@ mod scenes;
 mod slots;
 mod spans;
 pub mod steps;
+mod updates;
 
 pub use codes::Codes;
 pub use formulas::compile;
+pub use updates::update;
 /// Memory ran out.
 pub use std::alloc::AllocError as OutOfMemory;
 
