@@ -102,7 +102,10 @@ fn y_is_forced_from_the_states_of_x(rt: HostRuntime) {
     };
     assert!(rt; forces_y(&rt, &mut o, true, Set::X), "by the system");
     assert!(rt; forces_y(&rt, &mut o, false, Set::X), "by the environment");
-    assert!(rt; !forces_y(&rt, &mut o, true, Set::Y), "from other states than y's");
+    assert!(rt;
+        !forces_y(&rt, &mut o, true, Set::Y),
+        "from other states than y's"
+    );
 }
 
 #[test]
