@@ -30,11 +30,13 @@ mod scenes;
 mod slots;
 mod spans;
 pub mod steps;
+mod updates;
 
 pub use codes::Codes;
 pub use domains::{code, size};
 pub use formulas::compile;
 pub use numbers::power;
+pub use updates::update;
 /// Memory ran out.
 pub use std::alloc::AllocError as OutOfMemory;
 

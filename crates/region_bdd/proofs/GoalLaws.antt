@@ -17,14 +17,16 @@ use Rattle.bdd_ops.specs.Functions.{joined, join_of}
 use Rattle.state_diagrams.specs.declared.moves.NextLevels.{NextLevels}
 use Rattle.state_diagrams.specs.StateBits.{Tells}
 use Rattle.state_diagrams.specs.Members.{functions_at}
+use Rattle.state_diagrams.specs.Goals.{TellsFormula, TellGoals}
 use Rattle.state_diagrams.proofs.SetLemmas.{told_at, tells_by}
+use Rattle.state_diagrams.proofs.ListLemmas.{times_here}
 use Rattle.region_bdd.specs.declared.slots.Slot.{Slot}
 use Rattle.region_bdd.specs.declared.own.Own.{Own}
 use Rattle.region_bdd.specs.declared.own.Refused.{Refused}
 use Rattle.region_bdd.specs.Goals.{goal_roots}
-use Rattle.region_bdd.specs.Object.{TellsFormula, TellGoals, IsObject}
+use Rattle.region_bdd.specs.Object.{IsObject}
 use Rattle.region_bdd.proofs.ObjectLaws.{own_root}
-use Rattle.region_bdd.proofs.SetCalls.{times_here, tells_all}
+use Rattle.region_bdd.proofs.SetCalls.{tells_all}
 
 -- a goal with its root
 pub record IsGoalAt (g : GameData) (c : Contents) (goals : List GoalData) (roots : List ℕ) (k : ℕ) : Type 0 where
@@ -63,8 +65,8 @@ module _ (g : GameData) (own : Own) (lists : NextLevels) (c : Contents) (slots :
   goal_there (Guarantee k) below = goal_at g c g.goals own.goals.items k object.sound.own_fits.goals below
 
   pub goal_root : (what : Recur) → number_of what < length (goals_like g what) → IsRoot c.state (slice_index (goal_roots own what) (number_of what))
-  goal_root (Assumption k) below = (let at = goal_there (Assumption k) below in let here = times_here g own lists c slots refused object own.assume.items k at.rooted in own_root g own c slots object.sound (slice_index own.assume.items k) (omega (arith, here)))
-  goal_root (Guarantee k) below = (let at = goal_there (Guarantee k) below in let here = times_here g own lists c slots refused object own.goals.items k at.rooted in own_root g own c slots object.sound (slice_index own.goals.items k) (omega (arith, here)))
+  goal_root (Assumption k) below = (let at = goal_there (Assumption k) below in let here = times_here own.assume.items k at.rooted in own_root g own c slots object.sound (slice_index own.assume.items k) (omega (arith, here)))
+  goal_root (Guarantee k) below = (let at = goal_there (Guarantee k) below in let here = times_here own.goals.items k at.rooted in own_root g own c slots object.sound (slice_index own.goals.items k) (omega (arith, here)))
 
   pub tells_goal : (what : Recur) → number_of what < length (goals_like g what) → Tells g Now (joined (join_of true) (function_at c (slice_index (goal_roots own what) (number_of what))) (function_at c own.step.proper)) (states_holding g what)
   tells_goal what below =

@@ -11,3 +11,4 @@ pub mod StartLaws
 pub mod LeadingLaws
 pub mod FindLaws
 pub mod FindCalls
+pub mod MakingLaws

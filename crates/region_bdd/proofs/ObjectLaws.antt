@@ -21,22 +21,24 @@ use Rattle.region_bdd.specs.declared.slots.BddRegion.{BddRegion}
 use Rattle.region_bdd.specs.declared.slots.BddMove.{BddMove}
 use Rattle.region_bdd.specs.declared.own.Own.{Own}
 use Rattle.region_bdd.specs.declared.own.Refused.{Refused}
-use Rattle.region_bdd.specs.Slots.{Shown, Nothing, Set, OutputsInto, InputsInto, shown_in, shown_of, shown_once, shown_meaning, set_of, shown_at, items_from, meanings_in, kept_in, HasContent, HasRegionRoot, TakesSlot, FreesSlot, MarksSpent, roots_within, roots_of_slots, times_in}
+use Rattle.state_diagrams.specs.Lists.{one_at, times_in}
+use Rattle.state_diagrams.proofs.ListLemmas.{one_itself}
+use Rattle.region_bdd.specs.Slots.{Shown, Nothing, Set, OutputsInto, InputsInto, shown_in, shown_of, shown_once, shown_meaning, set_of, shown_at, items_from, meanings_in, kept_in, HasContent, HasRegionRoot, TakesSlot, FreesSlot, MarksSpent, roots_within, roots_of_slots}
 use Rattle.region_bdd.specs.Held.{Weights, weight_is, takes, clears, slot_weighs, region_content}
 use Rattle.region_bdd.specs.Object.{own_functions, OwnFits, roots_of_own, roots_of_members, ShownFits, AllFit, NoneSpent, IsSound, call_of, argument_in, jam_in, kept_of}
-use Rattle.region_bdd.proofs.SlotLaws.{one_itself, map-get, place_of, get_here, takes_place, clears_place, marks_place, once_marked, once_open, roots_taken, roots_freed, roots_marked, roots_among, shown_same, once_same, fit_same, fit_taken, fit_freed, fit_marked, open_freed}
+use Rattle.region_bdd.proofs.SlotLaws.{map-get, place_of, get_here, takes_place, clears_place, marks_place, once_marked, once_open, roots_taken, roots_freed, roots_marked, roots_among, shown_same, once_same, fit_same, fit_taken, fit_freed, fit_marked, open_freed}
 
 -- ---- the same functions
 
 module _ (c c' : Contents) where
-  list_same : (roots : List ℕ) → ((n : ℕ) → 0 < times_in n roots → function_at c' n ≡ function_at c n) → functions_at c' roots ≡ functions_at c roots
+  pub list_same : (roots : List ℕ) → ((n : ℕ) → 0 < times_in n roots → function_at c' n ≡ function_at c n) → functions_at c' roots ≡ functions_at c roots
   list_same [] same = refl
   list_same (r ∷ roots) same =
       let first = same r (let one = one_itself r in omega (arith, one)) in
       let rest = list_same roots (λ n some. same n (omega (arith, some))) in
       ap (λ f. f ∷ functions_at c' roots) first ∙ ap (λ fs. function_at c r ∷ fs) rest
 
-  members_same : (m : Members) → ((n : ℕ) → 0 < roots_of_members n m → function_at c' n ≡ function_at c n) → move_functions c' m ≡ move_functions c m
+  pub members_same : (m : Members) → ((n : ℕ) → 0 < roots_of_members n m → function_at c' n ≡ function_at c n) → move_functions c' m ≡ move_functions c m
   members_same m same =
       let inputs = list_same m.inputs.items (λ n some. same n (omega (arith, some))) in
       let outputs = list_same m.outputs.items (λ n some. same n (omega (arith, some))) in

@@ -14,14 +14,15 @@ use Rattle.state_diagrams.proofs.StateLemmas.{system_told, environment_told}
 use Rattle.state_diagrams.specs.declared.moves.NextLevels.{NextLevels}
 use Rattle.state_diagrams.specs.StateBits.{Tells, TellsStates}
 use Rattle.state_diagrams.proofs.SetLemmas.{tells_none, tells_rest}
+use Rattle.state_diagrams.proofs.ListLemmas.{one_itself, times_here}
 use Rattle.region_bdd.specs.declared.slots.Content.TheVariants.{Region}
 use Rattle.region_bdd.specs.declared.slots.Slot.{Slot}
 use Rattle.region_bdd.specs.declared.slots.BddRegion.{BddRegion}
 use Rattle.region_bdd.specs.declared.own.Own.{Own}
 use Rattle.region_bdd.specs.declared.own.Refused.{Refused}
-use Rattle.region_bdd.specs.Slots.{times_in, HasContent, shown_of, shown_meaning, shown_at}
+use Rattle.region_bdd.specs.Slots.{HasContent, shown_of, shown_meaning, shown_at}
 use Rattle.region_bdd.specs.Object.{IsObject, kept_of, argument_in}
-use Rattle.region_bdd.proofs.SlotLaws.{one_itself, fit_here}
+use Rattle.region_bdd.proofs.SlotLaws.{fit_here}
 use Rattle.region_bdd.proofs.AlikeLaws.{has_moves}
 use Rattle.region_bdd.proofs.ObjectLaws.{own_root, within_root, region_shows, region_set}
 
@@ -63,11 +64,6 @@ module _ (g : GameData) (own : Own) (lists : NextLevels) (c : Contents) (slots :
       (tells_rest g Now (function_at c root) (function_at c own.step.proper) ((kept_of g c slots refused).set r) (region_tells r root here) tells_all)
 
   -- ---- moves
-
-  pub times_here : (roots : List ℕ) (i : ℕ) → i < length roots → 0 < times_in (slice_index roots i) roots
-  times_here [] i below = absurd (omega arith)
-  times_here (r ∷ roots) zero below = let one = one_itself r in omega (arith, one)
-  times_here (r ∷ roots) (suc i) below = let more = times_here roots i (omega arith) in omega (arith, more)
 
   pub later_roots : AreMembers c own.step.later
   later_roots =

@@ -1,17 +1,15 @@
 -- Slots and their roots, as slots are taken, freed and marked.
-use Rattle.std.proofs.Common.{◌≡◌, ℕ, zero, suc, ◌+◌, ◌<◌, ◌≤◌, cond, List, [], ◌∷◌, ◌++◌, length, map, Some, get_or, slice_get, slice_set, refl, sym, ◌∙◌, ap, subst, arith, inl, inr}
-use borrow.Author.Tests.{eq-eqb}
+use Rattle.std.proofs.Common.{◌≡◌, ℕ, zero, suc, ◌+◌, ◌<◌, ◌≤◌, List, [], ◌∷◌, ◌++◌, length, map, Some, get_or, slice_get, slice_set, refl, sym, ◌∙◌, ap, subst, arith, inl, inr}
 use Rattle.spec_model.specs.Games.{GameData}
+use Rattle.bdd_store.specs.State.{State, roots_at}
 use Rattle.bdd_ops.specs.Contents.{Contents, function_at}
 use Rattle.region_bdd.specs.declared.slots.Content.{Content}
 use Rattle.region_bdd.specs.declared.slots.Content.TheVariants.{Region, Outputs, Inputs}
 use Rattle.region_bdd.specs.declared.slots.Slot.{Slot}
 use Rattle.region_bdd.specs.declared.slots.Slot.TheVariants.{Free, Taken, Spent}
-use Rattle.region_bdd.specs.Slots.{Nothing, Set, OutputsInto, InputsInto, shown_in, shown_of, shown_once, HasContent, TakesSlot, FreesSlot, MarksSpent, TakesPlace, ClearsPlace, one_at, roots_within, roots_of_slot, roots_of_slots}
+use Rattle.state_diagrams.proofs.ListLemmas.{one_itself}
+use Rattle.region_bdd.specs.Slots.{Nothing, Set, OutputsInto, InputsInto, shown_in, shown_of, shown_once, HasContent, TakesSlot, FreesSlot, MarksSpent, TakesPlace, ClearsPlace, roots_within, roots_of_slot, roots_of_slots}
 use Rattle.region_bdd.specs.Object.{ShownFits, AllFit, NoneSpent}
-
-pub one_itself : (n : ℕ) → one_at n n ≡ 1
-one_itself n = ap (λ b. cond b 1 0) (eq-eqb n n refl)
 
 -- ---- lists
 
@@ -199,3 +197,25 @@ open_taken old new i content (inr last) unspent = subst NoneSpent (sym last.1) (
 
 pub open_freed : (old new : List Slot) (i : ℕ) → FreesSlot old new i → NoneSpent old → NoneSpent new
 open_freed old new i freed unspent = subst NoneSpent (sym freed.1) (open-set old i (Free freed.0) unspent tt)
+
+-- ---- slots that are given back, one after the other
+
+module _ (first l : State) (all held rest : List Slot) (slot : Slot) (left : (n : ℕ) → roots_at l n + roots_of_slots n all ≡ roots_at first n + roots_of_slots n held) (popped : held ≡ rest ++ slot ∷ []) where
+  pub slot_counted : ((n : ℕ) → roots_of_slots n all ≤ roots_at first n) → (n : ℕ) → roots_of_slot n slot ≤ roots_at l n
+  slot_counted counted n =
+      let here = left n in
+      let enough = counted n in
+      let push = roots-push n rest slot in
+      let same = ap (roots_of_slots n) popped in
+      omega (arith, here, enough, push, same)
+
+  pub slot_popped : (new : State) → ((n : ℕ) → roots_at l n ≡ roots_at new n + roots_of_slot n slot) → (n : ℕ) → roots_at new n + roots_of_slots n all ≡ roots_at first n + roots_of_slots n rest
+  slot_popped new back n =
+      let here = left n in
+      let one = back n in
+      let push = roots-push n rest slot in
+      let same = ap (roots_of_slots n) popped in
+      omega (arith, here, one, push, same)
+
+pub all_given : (first l : State) (all held : List Slot) → ((n : ℕ) → roots_at l n + roots_of_slots n all ≡ roots_at first n + roots_of_slots n held) → held ≡ [] → (n : ℕ) → roots_at first n ≡ roots_at l n + roots_of_slots n all
+all_given first l all held left none n = let here = left n in let same = ap (roots_of_slots n) none in omega (arith, here, same)

@@ -23,16 +23,17 @@ use Rattle.region_bdd.specs.Slots.{HasContent}
 use Rattle.region_bdd.specs.Object.{IsObject, kept_of}
 use Rattle.region_bdd.proofs.AlikeLaws.{has_moves}
 use Rattle.region_bdd.proofs.ObjectLaws.{own_root}
-use Rattle.region_bdd.proofs.SetCalls.{region_tells, times_here}
+use Rattle.state_diagrams.proofs.ListLemmas.{times_here}
+use Rattle.region_bdd.proofs.SetCalls.{region_tells}
 use Rattle.region_bdd.proofs.AskLaws.{first_empty, first_not_empty}
 
 module _ (g : GameData) (own : Own) (lists : NextLevels) (c : Contents) (slots : List Slot) (refused : Option Refused) (object : IsObject g c own lists slots refused) where
   pub first_roots : AreMembers c own.first
   first_roots =
       record {
-        inputs = λ i below. own_root g own c slots object.sound (slice_index own.first.inputs.items i) (let here = times_here g own lists c slots refused object own.first.inputs.items i below in omega (arith, here));
-        outputs = λ i below. own_root g own c slots object.sound (slice_index own.first.outputs.items i) (let here = times_here g own lists c slots refused object own.first.outputs.items i below in omega (arith, here));
-        update = λ i below. own_root g own c slots object.sound (slice_index own.first.update.items i) (let here = times_here g own lists c slots refused object own.first.update.items i below in omega (arith, here));
+        inputs = λ i below. own_root g own c slots object.sound (slice_index own.first.inputs.items i) (let here = times_here own.first.inputs.items i below in omega (arith, here));
+        outputs = λ i below. own_root g own c slots object.sound (slice_index own.first.outputs.items i) (let here = times_here own.first.outputs.items i below in omega (arith, here));
+        update = λ i below. own_root g own c slots object.sound (slice_index own.first.update.items i) (let here = times_here own.first.update.items i below in omega (arith, here));
       }
 
   module _ (r : BddRegion) (root : ℕ) (here : HasContent slots r.slot (Region root)) where

@@ -17,7 +17,8 @@ use Rattle.region_bdd.specs.declared.slots.Slot.TheVariants.{Taken}
 use Rattle.region_bdd.specs.declared.slots.BddMove.{BddMove}
 use Rattle.region_bdd.specs.declared.own.Own.{Own}
 use Rattle.region_bdd.specs.declared.own.Refused.{Refused}
-use Rattle.region_bdd.specs.Slots.{one_at, TakesSlot}
+use Rattle.state_diagrams.specs.Lists.{one_at}
+use Rattle.region_bdd.specs.Slots.{TakesSlot}
 
 -- the lines of the first moves, or of later ones
 abbrev pub members_at : Own → When → Members

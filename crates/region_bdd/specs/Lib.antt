@@ -10,3 +10,5 @@ pub mod Asking
 pub mod Room
 pub mod Leading
 pub mod Finding
+pub mod Making
+pub mod Examples

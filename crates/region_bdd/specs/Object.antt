@@ -1,10 +1,7 @@
 -- What an object of regions as diagrams keeps true, and what it is seen as.
 use Rattle.std.specs.Prelude.{◌≡◌, ℕ, ◌+◌, false, true, not, List, [], ◌∷◌, ◌++◌, map, Option, Some, None}
-use Rattle.spec_model.specs.Diagrams.{Function, Bits}
-use Rattle.spec_model.specs.Syntax.{Formula}
-use Rattle.spec_model.specs.Meaning.{holds_at}
-use Rattle.spec_model.specs.Games.{GameData, GoalData, State, step_reading}
-use Rattle.spec_model.specs.Steps.{is_state}
+use Rattle.spec_model.specs.Diagrams.{Function}
+use Rattle.spec_model.specs.Games.{GameData}
 use Rattle.spec_model.specs.Sets.{all_states}
 use Rattle.spec_model.specs.WellMade.{WellMade}
 use Rattle.game_values.specs.declared.seen.At.TheVariants.{Now, Next}
@@ -15,11 +12,13 @@ use Rattle.bdd_store.specs.State.{roots_at}
 use Rattle.bdd_ops.specs.Contents.{Contents, function_at}
 use Rattle.bit_compile.specs.Domains.{state_domains, level_count}
 use Rattle.state_diagrams.specs.declared.moves.Members.{Members}
-use Rattle.state_diagrams.specs.StateBits.{HasState, TellsStates, Tells, set_at}
+use Rattle.state_diagrams.specs.StateBits.{TellsStates, Tells, set_at}
 use Rattle.state_diagrams.specs.MoveBits.{TellsMoves, some_leads}
 use Rattle.state_diagrams.specs.Forcing.{FitMoves, AreLevelsOf}
 use Rattle.state_diagrams.specs.declared.moves.NextLevels.{NextLevels}
 use Rattle.state_diagrams.specs.Members.{MoveFunctions, move_functions, functions_at}
+use Rattle.state_diagrams.specs.Lists.{one_at, times_in}
+use Rattle.state_diagrams.specs.Goals.{TellGoals}
 use Rattle.region_bdd.specs.declared.slots.Slot.{Slot}
 use Rattle.region_bdd.specs.declared.slots.Slot.TheVariants.{Free, Taken, Spent}
 use Rattle.region_bdd.specs.declared.slots.BddRegion.{BddRegion}
@@ -28,19 +27,9 @@ use Rattle.region_bdd.specs.declared.own.Own.{Own}
 use Rattle.region_bdd.specs.declared.own.Asked.{Asked}
 use Rattle.region_bdd.specs.declared.own.Asked.TheVariants as asked
 use Rattle.region_bdd.specs.declared.own.Refused.{Refused}
-use Rattle.region_bdd.specs.Slots.{Shown, Nothing, Set, OutputsInto, InputsInto, shown_of, shown_once, shown_meaning, shown_at, meanings_in, kept_in, one_at, roots_of_slots, times_in}
+use Rattle.region_bdd.specs.Slots.{Shown, Nothing, Set, OutputsInto, InputsInto, shown_of, shown_once, shown_meaning, shown_at, meanings_in, kept_in, roots_of_slots}
 
 -- ---- what the object keeps for itself
-
--- the function says of each state whether the formula holds there
-abbrev pub TellsFormula : GameData → Formula → Function → Type 0
-TellsFormula g e f = (s : State) (b : Bits) → is_state g s ≡ true → HasState g Now s b → f b ≡ holds_at (step_reading g s s) e 0
-
--- each goal has its function
-abbrev pub TellGoals : GameData → List GoalData → List Function → Type 0
-TellGoals g [] [] = Unit {0}
-TellGoals g (goal ∷ goals) (f ∷ fs) = TellsFormula g goal.holds f × TellGoals g goals fs
-TellGoals g _ _ = ⊥
 
 pub record OwnFunctions : Type 0 where
   pub nothing : Function

@@ -32,7 +32,8 @@ use Rattle.region_bdd.specs.declared.own.Refused.{Refused}
 use Rattle.region_bdd.specs.declared.search.Search.{Search}
 use Rattle.region_bdd.specs.Room.{IsRoom}
 use Rattle.region_bdd.specs.Slots.{Shown, Nothing, Set, OutputsInto, InputsInto, shown_of}
-use Rattle.region_bdd.specs.Object.{TellGoals, OwnFunctions, OwnFits, ShownFits, AllFit, NoneSpent, IsSound, IsOpen, IsObject}
+use Rattle.state_diagrams.specs.Goals.{TellGoals}
+use Rattle.region_bdd.specs.Object.{OwnFunctions, OwnFits, ShownFits, AllFit, NoneSpent, IsSound, IsOpen, IsObject}
 
 -- ---- a state is known by its values
 

@@ -1,5 +1,5 @@
 -- What is held in slots, by the functions of its diagrams.
-use Rattle.std.specs.Prelude.{◌≡◌, ℕ, suc, ◌+◌, ◌==◌, ◌++◌, ◌⊎◌, if◌then◌else◌, List, [], ◌∷◌, length, Option, Some, slice_get, slice_set, get_or}
+use Rattle.std.specs.Prelude.{◌≡◌, ℕ, suc, ◌+◌, ◌++◌, ◌⊎◌, List, [], ◌∷◌, length, Option, Some, slice_get, slice_set, get_or}
 use Rattle.spec_model.specs.Diagrams.{Function}
 use Rattle.spec_model.specs.Games.{GameData}
 use Rattle.spec_model.specs.Sets.{StateSet, no_states}
@@ -8,6 +8,7 @@ use Rattle.regions.specs.Kept.{Kept, Item, Region as RegionItem, Move, Meaning, 
 use Rattle.regions.specs.declared.types.When.{When}
 use Rattle.bdd_ops.specs.Contents.{Contents, function_at}
 use Rattle.state_diagrams.specs.StateBits.{set_at}
+use Rattle.state_diagrams.specs.Lists.{one_at}
 use Rattle.region_bdd.specs.declared.slots.Content.{Content}
 use Rattle.region_bdd.specs.declared.slots.Content.TheVariants.{Region, Outputs, Inputs}
 use Rattle.region_bdd.specs.declared.slots.Slot.{Slot}
@@ -109,10 +110,6 @@ ClearsPlace old new i = new ≡ slice_set old i Nothing
 
 -- ---- roots
 
--- whether it is the root, as a number
-abbrev pub one_at : ℕ → ℕ → ℕ
-one_at n root = if n == root then 1 else 0
-
 -- how often the slot has the root
 abbrev pub roots_within : ℕ → Content → ℕ
 roots_within n (Region root) = one_at n root
@@ -124,11 +121,7 @@ roots_of_slot n (Free next) = 0
 roots_of_slot n (Taken content) = roots_within n content
 roots_of_slot n (Spent content) = roots_within n content
 
--- how often the slots have it, and a list
+-- how often the slots have it
 abbrev pub roots_of_slots : ℕ → List Slot → ℕ
 roots_of_slots n [] = 0
 roots_of_slots n (slot ∷ slots) = roots_of_slot n slot + roots_of_slots n slots
-
-abbrev pub times_in : ℕ → List ℕ → ℕ
-times_in n [] = 0
-times_in n (root ∷ roots) = one_at n root + times_in n roots

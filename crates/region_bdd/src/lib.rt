@@ -4,12 +4,13 @@
 //! own formulas. Where a call of the store is refused at its second try, the call of the object answers `Budget` and the
 //! object tells from then on which call it was and all that was held.
 //!
-//! Contract: `RegionBdd` meets the trait `Regions` whole. Each call that may answer `Budget` does so only where the store
-//! then holds exactly its budget of nodes (`cause`).
+//! Contract: `RegionBdd::make` gives an object that holds nothing, and `RegionBdd` meets the trait `Regions` whole. Each
+//! call that may answer `Budget` does so only where the store then holds exactly its budget of nodes (`cause`).
 //! Path: game → sets as diagrams → **regions as diagrams** → layers.
 #![tactic(auto)]
 
 mod asking;
+mod ending;
 mod finding;
 mod first_moves;
 mod forcing;
@@ -17,6 +18,7 @@ mod giving_back;
 mod impls;
 mod keeping;
 mod leading;
+mod making;
 mod moves;
 mod object;
 mod own;
@@ -28,3 +30,6 @@ mod starting;
 
 pub use object::RegionBdd;
 pub use slots::{BddMove, BddRegion};
+
+#[cfg(test)]
+mod tests;

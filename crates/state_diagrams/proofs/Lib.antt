@@ -7,3 +7,10 @@ pub mod ForceLemmas
 pub mod SpentLemmas
 pub mod ShiftLemmas
 pub mod StateLemmas
+pub mod ListLemmas
+pub mod LineLemmas
+pub mod MadeLemmas
+pub mod ProperLemmas
+pub mod LevelLemmas
+pub mod GoalLemmas
+pub mod UpdateLemmas

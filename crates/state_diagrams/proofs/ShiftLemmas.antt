@@ -1,8 +1,7 @@
 -- A function that tells states at the present bits tells them at the next ones when its levels are moved there.
-use Rattle.std.proofs.Common.{◌≡◌, ℕ, zero, suc, ◌+◌, ◌-◌, ◌*◌, ◌^◌, ◌<◌, ◌≤◌, Bool, true, false, List, length, take, refl, sym, ◌∙◌, ap, subst, arith, ◌⊎◌, inl, inr, slice_index_or}
+use Rattle.std.proofs.Common.{◌≡◌, ℕ, zero, suc, ◌+◌, ◌-◌, ◌^◌, ◌<◌, ◌≤◌, Bool, true, List, length, refl, sym, ◌∙◌, ap, subst, arith, ◌⊎◌, inl, inr, slice_index_or}
 use Rattle.spec_model.specs.Diagrams.{Bits, Function, with_bit, shifted}
 use Rattle.spec_model.specs.Games.{GameData, State, listed}
-use Rattle.spec_model.specs.Steps.{is_state}
 use Rattle.spec_model.specs.Sets.{StateSet}
 use Rattle.game_values.specs.declared.seen.At.TheVariants.{Now, Next}
 use Rattle.bdd_ops.specs.Functions.{Ignores, DependsOn}
@@ -66,27 +65,18 @@ module _ (g : GameData) where
       has_number-same (level_at (state_domains g) Now k) (width_at (state_domains g) k) (code_at (state_domains g) (listed s) k) (with_bit b m v) b
       (λ x low high. with_bit-other b m x v (λ same. outside k known (subst (λ (y : ℕ). IsLevelOf g Now k y) same (low, high)))) ∙ has k known
 
-  module _ (f : Function) (states : TellsStates g Now f) where
-    -- no level is read but present ones
-    pub ignores_others : (m : ℕ) → ((k : ℕ) → k < length (state_domains g) → IsLevelOf g Now k m → ⊥) → Ignores m f
-    ignores_others m outside b v = same_truth (f (with_bit b m v)) (f b) there back
-      where
-        there : f (with_bit b m v) ≡ true → f b ≡ true
-        there e = let s = states.elsewhere (with_bit b m v) e in states.settled s.0 b s.1 (other_bit s.0 b m v outside s.2) ∙ (sym (states.settled s.0 (with_bit b m v) s.1 s.2) ∙ e)
-
-        back : f b ≡ true → f (with_bit b m v) ≡ true
-        back e = let s = states.elsewhere b e in states.settled s.0 (with_bit b m v) s.1 (back_bit s.0 b m v outside s.2) ∙ (sym (states.settled s.0 b s.1 s.2) ∙ e)
-
-    pub is_present : (m : ℕ) → DependsOn m f → IsPresent m
+  -- a function that reads present levels alone
+  module _ (f : Function) (others : (m : ℕ) → ((k : ℕ) → k < length (state_domains g) → IsLevelOf g Now k m → ⊥) → Ignores m f) where
+    is_present : (m : ℕ) → DependsOn m f → IsPresent m
     is_present m depends = from (present_below m (length (state_domains g)) (omega arith))
       where
         from : IsPresent m ⊎ ((k : ℕ) → k < length (state_domains g) → IsLevelOf g Now k m → ⊥) → IsPresent m
         from (inl found) = found
-        from (inr none) = absurd (depends (ignores_others m none))
+        from (inr none) = absurd (depends (others m none))
 
     -- the levels of the next bits rise with those of the present ones
-    pub rises_to_next : (levels : ℕ) (to : List ℕ) → levels ≡ level_count (state_domains g) → LeadsToNext g to → RisesOver levels to f
-    rises_to_next levels to many leads =
+    pub rises_over : (levels : ℕ) (to : List ℕ) → levels ≡ level_count (state_domains g) → LeadsToNext g to → RisesOver levels to f
+    rises_over levels to many leads =
         record {
           known = λ x below depends. (let long = leads.long in omega (arith, long, many, below));
           below = λ x below depends.
@@ -114,6 +104,20 @@ module _ (g : GameData) where
             let low = lx.0 in
             let high = ly.1 in
             absurd (omega (arith, apart, high, low, less))
+
+  module _ (f : Function) (states : TellsStates g Now f) where
+    -- no level is read but present ones
+    pub ignores_others : (m : ℕ) → ((k : ℕ) → k < length (state_domains g) → IsLevelOf g Now k m → ⊥) → Ignores m f
+    ignores_others m outside b v = same_truth (f (with_bit b m v)) (f b) there back
+      where
+        there : f (with_bit b m v) ≡ true → f b ≡ true
+        there e = let s = states.elsewhere (with_bit b m v) e in states.settled s.0 b s.1 (other_bit s.0 b m v outside s.2) ∙ (sym (states.settled s.0 (with_bit b m v) s.1 s.2) ∙ e)
+
+        back : f b ≡ true → f (with_bit b m v) ≡ true
+        back e = let s = states.elsewhere b e in states.settled s.0 (with_bit b m v) s.1 (back_bit s.0 b m v outside s.2) ∙ (sym (states.settled s.0 b s.1 s.2) ∙ e)
+
+    pub rises_to_next : (levels : ℕ) (to : List ℕ) → levels ≡ level_count (state_domains g) → LeadsToNext g to → RisesOver levels to f
+    rises_to_next = rises_over f ignores_others
 
   module _ (to : List ℕ) (leads : LeadsToNext g to) (b : Bits) where
     abbrev pub moved_bits : Bits

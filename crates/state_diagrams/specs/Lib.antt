@@ -3,3 +3,8 @@ pub mod StateBits
 pub mod MoveBits
 pub mod Members
 pub mod Forcing
+pub mod Lists
+pub mod Lines
+pub mod Levels
+pub mod Goals
+pub mod Updates

@@ -3,8 +3,10 @@
 ghost use Rattle.std.specs.Prelude.{ℕ, List};
 ghost use Rattle.spec_model.specs.Diagrams.{Function};
 ghost use Rattle.spec_model.specs.Games.{GameData};
-ghost use Rattle.spec_model.specs.Sets.{StateSet};
+ghost use Rattle.spec_model.specs.Sets.{StateSet, all_states};
 ghost use Rattle.game_values.specs.declared.seen.At.{At};
+ghost use Rattle.bit_compile.specs.Domains.{state_domains};
+ghost use Rattle.bit_compile.specs.Proper.{proper};
 ghost use Rattle.state_diagrams.specs.StateBits.{Tells};
 ghost use Rattle.state_diagrams.specs.Laws.{OperationsTell, AreOneTogether, MovesToNext};
 
@@ -22,4 +24,9 @@ pub fn are_one_together()
 /// A set that is told at the present bits is told at the next ones by the function with its levels moved.
 pub fn moves_to_next()
     ensures { (g : GameData) (to : List ℕ) (f : Function) (t : StateSet) → MovesToNext g to f t }
+{}
+
+/// The bits that have the code of a value in each slot are those of the states, of all and of no other.
+pub fn proper_bits_are_states()
+    ensures { (g : GameData) (at : At) → Tells g at (proper (state_domains g) at) (all_states g) }
 {}

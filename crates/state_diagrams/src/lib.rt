@@ -7,7 +7,13 @@
 #![tactic(auto)]
 
 pub mod forcing;
+pub mod goals;
 pub mod laws;
+pub mod levels;
+pub mod lines;
+pub mod lists;
+pub mod members;
 pub mod moves;
 pub mod spent;
 pub mod steps;
+pub mod updates;

@@ -4,15 +4,15 @@
 //! new, and after a refusal nothing is.
 
 ghost use Rattle.std.specs.Prelude.{◌≡◌, ◌<◌, ℕ, true, Ok, Err, IfOk, IfErr};
-ghost use Rattle.spec_model.specs.Diagrams.{Function, ite, and_exists_over};
+ghost use Rattle.spec_model.specs.Diagrams.{Function, ite, and_exists_over, shifted};
 ghost use Rattle.bdd_store.specs.State.{IsRoot, roots_at};
 ghost use Rattle.bdd_ops.specs.Functions.{joined, join_of};
 ghost use Rattle.bdd_ops.specs.Contents.{Contents, function_at};
-ghost use Rattle.bdd_ops.specs.Calls.{negated};
+ghost use Rattle.bdd_ops.specs.Calls.{negated, RisesOver};
 ghost use Rattle.bit_compile.specs.Making.{Makes};
 ghost use Rattle.state_diagrams.specs.Members.{AreRoots, all_true, functions_at};
 
-use crate::steps::{and_exists, ite};
+use crate::steps::{and_exists, ite, shift};
 use bdd_ops::{Diagrams, Root};
 use bit_compile::steps::{and, not, told};
 use regions::Halt;
@@ -74,6 +74,17 @@ pub fn ite_spent(diagrams: &mut Diagrams, a: Root, b: &Root, c: &Root) -> Result
     let whole = ite(diagrams, &a, b, c);
     diagrams.release(a);
     whole
+}
+
+/// The diagram that reads at level `to[k]` what `a` reads at level `k`. The latter is given back.
+pub fn shift_spent(diagrams: &mut Diagrams, a: Root, to: &[u32]) -> Result<Root, Halt>
+    requires kept { IsRoot diagrams.old.state a }
+    requires rising { RisesOver diagrams.old.state.table.levels to.now (function_at diagrams.old a) }
+    ensures { (base : Contents) (f : Function) → Makes base diagrams.old (Ok a) f → Makes base diagrams.new result (shifted to.now f) }
+{
+    let moved = shift(diagrams, &a, to);
+    diagrams.release(a);
+    moved
 }
 
 /// The conjunction of several diagrams, joined in their order.

@@ -23,7 +23,8 @@ use Rattle.region_bdd.specs.declared.slots.Content.TheVariants.{Outputs}
 use Rattle.region_bdd.specs.Slots.{HasContent}
 use Rattle.region_bdd.specs.Leading.{members_at}
 use Rattle.region_bdd.specs.Finding.{outputs_asked}
-use Rattle.region_bdd.proofs.SlotLaws.{fit_here, one_itself}
+use Rattle.region_bdd.proofs.SlotLaws.{fit_here}
+use Rattle.state_diagrams.proofs.ListLemmas.{one_itself}
 use Rattle.region_bdd.proofs.ObjectLaws.{within_root}
 use Rattle.region_bdd.proofs.MoveLaws.{moves_held}
 use Rattle.region_bdd.proofs.LeadingLaws.{members_kept}

@@ -1,0 +1,61 @@
+-- What making a part of the object's own diagrams gives and leaves.
+use Rattle.std.specs.Prelude.{◌≡◌, ℕ, ◌+◌, false, Result, Err, List, Vec, IfOk, OnErr}
+use Rattle.std.specs.declared.alloc.Global.{Global}
+use Rattle.spec_model.specs.Values.{DomainData}
+use Rattle.spec_model.specs.Games.{GameData, GoalData}
+use Rattle.game_values.specs.declared.seen.At.TheVariants.{Now}
+use Rattle.regions.specs.declared.types.Halt.{Halt}
+use Rattle.regions.specs.declared.types.Halt.TheVariants as halt
+use Rattle.regions.specs.declared.types.When.{When}
+use Rattle.bdd_store.specs.State.{roots_at, SameRoots, IsFull}
+use Rattle.bdd_ops.specs.Contents.{Contents, function_at}
+use Rattle.bdd_ops.specs.Calls.{KeepsRoots}
+use Rattle.bit_compile.specs.Proper.{proper}
+use Rattle.state_diagrams.specs.declared.moves.Members.{Members}
+use Rattle.state_diagrams.specs.Members.{functions_at, move_functions}
+use Rattle.state_diagrams.specs.Lists.{one_at, times_in}
+use Rattle.state_diagrams.specs.Lines.{roots_of_members}
+use Rattle.state_diagrams.specs.Goals.{TellGoals}
+use Rattle.state_diagrams.specs.Forcing.{FitMoves}
+use Rattle.region_bdd.specs.declared.own.Own.{Own}
+use Rattle.region_bdd.specs.Object.{OwnFits, own_functions}
+
+-- the result has these roots, which are kept besides, and fits; or it is a refusal that leaves what is kept, and `Budget`
+-- comes only where the store holds exactly its budget of nodes
+pub record MakesPart {V : Type 0} (times : ℕ → V → ℕ) (Fits : Contents → V → Type 0) (old new : Contents) (result : Result V Halt) : Type 0 where
+  pub fit : IfOk result (λ v. Fits new v)
+  pub added : IfOk result (λ v. (n : ℕ) → roots_at new.state n ≡ roots_at old.state n + times n v)
+  pub refused : OnErr result (SameRoots old.state new.state)
+  pub keeps : KeepsRoots old new
+  pub full : result ≡ Err halt.Budget → IsFull new.state
+
+-- the roots of two parts, and what fits both
+abbrev pub in_both : {V W : Type 0} → (ℕ → V → ℕ) → (ℕ → W → ℕ) → ℕ → V × W → ℕ
+in_both first second n p = first n p.0 + second n p.1
+
+abbrev pub FitBoth : {V W : Type 0} → (Contents → V → Type 0) → (Contents → W → Type 0) → Contents → V × W → Type 0
+FitBoth First Second c p = First c p.0 × Second c p.1
+
+-- ---- the parts
+
+-- no state, and all states
+abbrev pub FitNothing : Contents → ℕ → Type 0
+FitNothing c root = function_at c root ≡ (λ b. false)
+
+abbrev pub FitProper : List DomainData → Contents → ℕ → Type 0
+FitProper ds c root = function_at c root ≡ proper ds Now
+
+-- the roots of a list, which tell goals
+abbrev pub listed_times : ℕ → Vec ℕ Global → ℕ
+listed_times n roots = times_in n roots.items
+
+abbrev pub FitGoals : GameData → List GoalData → Contents → Vec ℕ Global → Type 0
+FitGoals g goals c roots = TellGoals g goals (functions_at c roots.items)
+
+-- members of moves
+abbrev pub FitLines : GameData → When → Contents → Members → Type 0
+FitLines g when c m = FitMoves g when (move_functions c m)
+
+-- the object's own diagrams
+abbrev pub FitOwn : GameData → Contents → Own → Type 0
+FitOwn g c own = OwnFits g (own_functions c own)

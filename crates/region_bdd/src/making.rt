@@ -1,0 +1,214 @@
+//! Making the object: its own diagrams, part by part. Where a part is refused, those before it are given back.
+
+ghost use Rattle.std.specs.Prelude.{◌≡◌, ◌<◌, ◌≤◌, [], None, IfOk, IfSome};
+ghost use Rattle.spec_model.specs.GameViews.{game_data};
+ghost use Rattle.spec_model.specs.WellMade.{WellMade};
+ghost use Rattle.bit_compile.specs.Domains.{state_domains, level_count};
+ghost use Rattle.state_diagrams.specs.Lists.{one_at};
+ghost use Rattle.state_diagrams.specs.Lines.{roots_of_members};
+ghost use Rattle.state_diagrams.specs.Forcing.{AreLevelsOf};
+ghost use Rattle.region_bdd.specs.Slots.{kept_in};
+ghost use Rattle.region_bdd.specs.Object.{roots_of_own};
+ghost use Rattle.region_bdd.specs.Making.{MakesPart, in_both, FitBoth, FitNothing, FitProper, listed_times, FitGoals, FitLines, FitOwn};
+ghost use Rattle.region_bdd.specs.Room.{IsRoom, member_count};
+ghost use Rattle.region_bdd.specs.Seen.{seen};
+
+use crate::ending::{release_members, release_own};
+use crate::object::RegionBdd;
+use crate::own::Own;
+use crate::search::Search;
+use crate::slots::Slots;
+use bdd_ops::{Diagrams, Root};
+use bit_compile::proper::proper;
+use bit_compile::steps::constant;
+use bit_compile::{Codes, OutOfMemory};
+use game_values::seen::At;
+use regions::{Halt, When};
+use spec_model::game::Game;
+use state_diagrams::forcing::StepRoots;
+use state_diagrams::goals::goal_roots;
+use state_diagrams::levels::next_levels;
+use state_diagrams::lists::release_list;
+use state_diagrams::members::{first_members, later_members};
+use state_diagrams::moves::{Members, NextLevels};
+use std::alloc::{AllocError, Global};
+
+/// No state and all states, at the present bits.
+fn sets(diagrams: &mut Diagrams, codes: &Codes) -> Result<(Root, Root), Halt>
+    requires { level_count codes.now ≤ diagrams.old.state.table.levels }
+    ensures { MakesPart (in_both one_at one_at) (FitBoth FitNothing (FitProper codes.now)) diagrams.old diagrams.new result }
+{
+    let nothing = constant(diagrams, false)?;
+    match proper(diagrams, codes, At::Now) {
+        Ok(all) => Ok((nothing, all)),
+        Err(halt) => {
+            diagrams.release(nothing);
+            Err(halt)
+        }
+    }
+}
+
+/// The recurring assumptions and the recurring guarantees.
+fn goals(
+    diagrams: &mut Diagrams,
+    codes: &Codes,
+    game: &Game,
+) -> Result<(Vec<Root>, Vec<Root>), Halt>
+    requires made { WellMade (game_data game.now) }
+    requires codes { codes.now ≡ state_domains (game_data game.now) }
+    requires levels { level_count codes.now ≤ diagrams.old.state.table.levels }
+    ensures { let g = game_data game.now in
+        MakesPart (in_both listed_times listed_times) (FitBoth (FitGoals g g.assume) (FitGoals g g.goals)) diagrams.old diagrams.new result }
+{
+    let assume = goal_roots(diagrams, codes, game, &game.assume)?;
+    match goal_roots(diagrams, codes, game, &game.goals) {
+        Ok(guaranteed) => Ok((assume, guaranteed)),
+        Err(halt) => {
+            release_list(diagrams, assume);
+            Err(halt)
+        }
+    }
+}
+
+/// The lines of first moves and those of later ones.
+fn lines(
+    diagrams: &mut Diagrams,
+    codes: &Codes,
+    game: &Game,
+    levels: &NextLevels,
+) -> Result<(Members, Members), Halt>
+    requires made { WellMade (game_data game.now) }
+    requires codes { codes.now ≡ state_domains (game_data game.now) }
+    requires levels { diagrams.old.state.table.levels ≡ level_count (state_domains (game_data game.now)) }
+    requires lists { AreLevelsOf (game_data game.now) levels.now }
+    ensures { let g = game_data game.now in
+        MakesPart (in_both roots_of_members roots_of_members) (FitBoth (FitLines g When.First) (FitLines g When.Later)) diagrams.old diagrams.new result }
+{
+    let first = first_members(diagrams, codes, game, levels)?;
+    match later_members(diagrams, codes, game, levels) {
+        Ok(later) => Ok((first, later)),
+        Err(halt) => {
+            release_members(diagrams, first);
+            Err(halt)
+        }
+    }
+}
+
+/// The goals, and the lines.
+fn formulas(
+    diagrams: &mut Diagrams,
+    codes: &Codes,
+    game: &Game,
+    levels: &NextLevels,
+) -> Result<((Vec<Root>, Vec<Root>), (Members, Members)), Halt>
+    requires made { WellMade (game_data game.now) }
+    requires codes { codes.now ≡ state_domains (game_data game.now) }
+    requires levels { diagrams.old.state.table.levels ≡ level_count (state_domains (game_data game.now)) }
+    requires lists { AreLevelsOf (game_data game.now) levels.now }
+    ensures { let g = game_data game.now in
+        MakesPart (in_both (in_both listed_times listed_times) (in_both roots_of_members roots_of_members)) (FitBoth (FitBoth (FitGoals g g.assume) (FitGoals g g.goals)) (FitBoth (FitLines g When.First) (FitLines g When.Later))) diagrams.old diagrams.new result }
+{
+    let (assume, guaranteed) = goals(diagrams, codes, game)?;
+    match lines(diagrams, codes, game, levels) {
+        Ok(both) => Ok(((assume, guaranteed), both)),
+        Err(halt) => {
+            release_list(diagrams, assume);
+            release_list(diagrams, guaranteed);
+            Err(halt)
+        }
+    }
+}
+
+/// The diagrams that an object keeps for itself. `Budget`: at the second try of an operation, after the store was
+/// reclaimed, it held its budget of nodes. `Memory`: none was given. Neither changes what is kept.
+fn own(
+    diagrams: &mut Diagrams,
+    codes: &Codes,
+    game: &Game,
+    levels: &NextLevels,
+) -> Result<Own, Halt>
+    requires made { WellMade (game_data game.now) }
+    requires codes { codes.now ≡ state_domains (game_data game.now) }
+    requires levels { diagrams.old.state.table.levels ≡ level_count (state_domains (game_data game.now)) }
+    requires lists { AreLevelsOf (game_data game.now) levels.now }
+    ensures { MakesPart roots_of_own (FitOwn (game_data game.now)) diagrams.old diagrams.new result }
+{
+    let (nothing, all) = sets(diagrams, codes)?;
+    match formulas(diagrams, codes, game, levels) {
+        Ok(parts) => {
+            let ((assume, guaranteed), (first, later)) = parts;
+            Ok(Own {
+                step: StepRoots {
+                    nothing,
+                    proper: all,
+                    later,
+                },
+                assume,
+                goals: guaranteed,
+                first,
+            })
+        }
+        Err(halt) => {
+            diagrams.release(nothing);
+            diagrams.release(all);
+            Err(halt)
+        }
+    }
+}
+
+/// Place for the lines of a move and one diagram more, if there is a number for it.
+fn place_for(members: &Members) -> Option<u32>
+    ensures { IfSome result (λ most. member_count members.now < most) }
+{
+    let outputs = members.outputs.len().checked_add(members.update.len())?;
+    let all = members.inputs.len().checked_add(outputs)?;
+    u32::try_from(all.checked_add(1)?).ok()
+}
+
+/// Room for searches among the lines of moves. Want of a number for it is want of memory.
+fn room(alloc: Global, levels: u32, own: &Own) -> Result<Search, OutOfMemory>
+    ensures { IfOk result (λ search. IsRoom levels own.now search) }
+{
+    let first = place_for(&own.first).ok_or(AllocError)?;
+    let later = place_for(&own.step.later).ok_or(AllocError)?;
+    Search::make(alloc, levels, first.max(later))
+}
+
+impl RegionBdd {
+    /// The regions of a game, in a store of at most `budget` nodes, the two constants among them. `Budget`: the game's own
+    /// diagrams and unfinished results fill it. `Memory`: none was given.
+    pub fn make(alloc: Global, game: Game, budget: u32) -> Result<RegionBdd, Halt>
+        requires made { WellMade (game_data game) }
+        requires budget { 2 ≤ budget }
+        ensures { IfOk result (λ r. seen r ≡ kept_in (game_data game) budget None []) }
+    {
+        let Ok(codes) = Codes::make(alloc, &game) else {
+            return Err(Halt::Memory);
+        };
+        let Ok(mut diagrams) = Diagrams::make(alloc, codes.levels(), budget) else {
+            return Err(Halt::Memory);
+        };
+        let Ok(levels) = next_levels(alloc, &codes, &game) else {
+            return Err(Halt::Memory);
+        };
+        let own = own(&mut diagrams, &codes, &game, &levels)?;
+        let Ok(search) = room(alloc, codes.levels(), &own) else {
+            release_own(&mut diagrams, own);
+            return Err(Halt::Memory);
+        };
+        let slots = Slots {
+            slots: Vec::new(alloc),
+            free: 0,
+        };
+        Ok(RegionBdd {
+            game,
+            diagrams,
+            own,
+            levels,
+            slots,
+            refused: None,
+            codes,
+            search,
+        })
+    }
+}

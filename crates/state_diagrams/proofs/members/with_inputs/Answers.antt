@@ -1,0 +1,31 @@
+use Rattle.std.proofs.Common.{ℕ, ◌++◌, ◌∷◌, [], Ok, List, sym, subst}
+use Rattle.spec_model.specs.Diagrams.{Function}
+use Rattle.game_values.specs.declared.seen.At.TheVariants.{Next}
+use Rattle.bit_compile.specs.Domains.{state_domains}
+use Rattle.bit_compile.specs.Proper.{proper}
+use Rattle.state_diagrams.specs.declared.lines.Side.TheVariants.{Assumptions, Guarantees}
+use Rattle.state_diagrams.specs.Members.{AreRoots}
+use Rattle.state_diagrams.specs.Lists.{MakesList}
+use Rattle.state_diagrams.specs.Lines.{game_seen, functions_judged}
+use Rattle.state_diagrams.proofs.ProperLemmas.{proper_tells}
+use Rattle.state_diagrams.proofs.MadeLemmas.{first_stays, first_is, members_fit, members_made}
+use Rattle.state_diagrams.proofs.members.with_inputs.Goals as goal
+
+pub input_roots-requires-clause-update : goal.input_roots-requires-clause-update
+input_roots-requires-clause-update c =
+    let r = c.requires.lists in
+    subst (λ (ms : List ℕ). AreRoots c.args.diagrams.now ms) (sym c.deref.ensures.value) (first_stays r.0 r.1 c.args.diagrams.now c.args.update c.args.outputs r.2 r.3 r.4 r.5)
+
+pub returns-in-Ok : goal.returns-in-Ok
+returns-in-Ok c = λ base mid us first second told.
+    let g = game_seen c.args.scene.now in
+    let to = c.args.scene.now.to.now in
+    let when = c.args.when in
+    let p = proper (state_domains g) Next in
+    let old = c.args.diagrams.now in
+    let new = c.input_roots.new.diagrams in
+    let asm = functions_judged g to Assumptions when ++ p ∷ [] in
+    let gar = functions_judged g to Guarantees when ++ p ∷ [] in
+    let same = first_is base mid old c.args.update c.args.outputs us gar first second in
+    let third = subst (λ (hs : List Function). MakesList old new (Ok c.in-Ok.inputs) (asm ++ hs)) same (rw c.deref.ensures.value at c.in-Ok.ensures) in
+    members_made base mid old new c.args.update c.args.outputs c.in-Ok.inputs us gar (asm ++ us) first second third g when (members_fit g to when c.requires.scene.made c.requires.scene.to (proper_tells g Next) us told)
