@@ -16,4 +16,6 @@ pub mod members;
 pub mod moves;
 pub mod spent;
 pub mod steps;
+#[cfg(test)]
+mod tests;
 pub mod updates;
