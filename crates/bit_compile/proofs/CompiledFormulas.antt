@@ -2,6 +2,7 @@
 use Rattle.std.proofs.Common.{◌≡◌, ℕ, true, Result, Ok, Err, IfOk, sym, subst}
 use Rattle.spec_model.specs.Syntax.{Formula}
 use Rattle.spec_model.specs.Games.{GameData}
+use Rattle.spec_model.specs.Diagrams.{Function}
 use Rattle.spec_model.specs.WellMade.{WellMade, scope_of, is_step_formula}
 use Rattle.bdd_ops.specs.Contents.{Contents, function_at}
 use Rattle.regions.specs.declared.types.Halt.{Halt}
@@ -14,6 +15,7 @@ use Rattle.bit_compile.proofs.ReadLevels.{compiled_reads}
 pub formula_compiled : (g : GameData) → WellMade g → (e : Formula) → is_step_formula (scope_of g) e ≡ true → IsFormulaOf g e (compiled g e)
 formula_compiled g well e made = record { meaning = compiled_means g well e made; reads = compiled_reads g well e made }
 
-pub root_compiled : (old new : Contents) (r : Result ℕ Halt) (g : GameData) (e : Formula) → IsFormulaOf g e (compiled g e) → Makes old new r (compiled g e) → IfOk r (λ n. IsFormulaOf g e (function_at new n))
-root_compiled old new (Ok n) g e is makes = subst (IsFormulaOf g e) (sym makes.meaning) is
-root_compiled old new (Err h) g e is makes = tt
+-- what holds of a function holds of a root's that was made of it
+pub root_is : (P : Function → Type 0) (old new : Contents) (r : Result ℕ Halt) (f : Function) → P f → Makes old new r f → IfOk r (λ n. P (function_at new n))
+root_is P old new (Ok n) f is makes = subst P (sym makes.meaning) is
+root_is P old new (Err h) f is makes = tt

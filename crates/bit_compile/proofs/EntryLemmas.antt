@@ -2,17 +2,16 @@
 use Rattle.std.proofs.Common.{◌≡◌, ℕ, zero, suc, ◌+◌, ◌<◌, ◌≤◌, Bool, List, [], ◌∷◌, ◌++◌, map, length, length-append, take, get_or, refl, sym, ◌∙◌, ap, arith}
 use Rattle.std.proofs.lemmas.List.{length-map}
 use Rattle.spec_model.specs.declared.game.Hidden.{Hidden}
-use Rattle.spec_model.specs.declared.value.Value.TheVariants as value
 use Rattle.spec_model.specs.Syntax.{Formula, formulas}
 use Rattle.spec_model.specs.GameViews.{hidden_data}
-use Rattle.spec_model.specs.Games.{GameData, HiddenData}
+use Rattle.spec_model.specs.Games.{GameData}
 use Rattle.spec_model.specs.Diagrams.{Function}
 use Rattle.game_values.specs.declared.seen.At.{At}
 use Rattle.game_values.specs.declared.seen.At.TheVariants.{Now}
 use Rattle.bdd_ops.specs.Contents.{Contents, function_at}
 use Rattle.bit_compile.specs.declared.cases.CaseRoot.{CaseRoot}
 use Rattle.bit_compile.specs.Domains.{state_domains}
-use Rattle.bit_compile.specs.Compiled.{Case, Entries, entries_after, entries_of, entry_of, never, table_entries, table_truth, truth_in, truths_in}
+use Rattle.bit_compile.specs.Compiled.{Case, Entries, entries_after, entries_of, entry_of, never, table_entries, table_truth, table_update, truth_in, truths_in, updates_after}
 use Rattle.bit_compile.specs.CaseRoots.{cases_at, true_cases}
 use Rattle.bit_compile.proofs.Places.{get-after, get-before}
 
@@ -91,6 +90,20 @@ module _ (g : GameData) where
       let f = table_truth (state_domains g) (length before) (hidden_data x) (map (truth_in g before Now) (hidden_data x).atoms) in
       ap (λ (fs : List Function). get_or fs n never) (entry_at [] hs k k x h e (omega arith))
       ∙ get-past (map f (hidden_data x).tables) n never (let long = length-map (hidden_data x).tables f in omega (arith, long, past))
+
+  update_at : (es : Entries) (hs : List Hidden) (k j : ℕ) (x : Hidden) → k < length hs → x ≡ get_or hs k x → j ≡ length es + k →
+      get_or (updates_after g es (map hidden_data hs)) k never ≡ table_update (state_domains g) j (hidden_data x) (map (truth_in g (entries_after g es (map hidden_data (take k hs))) Now) (hidden_data x).atoms)
+  update_at es [] k j x h e there = absurd (omega arith)
+  update_at es (y ∷ hs) zero j x h e there =
+      let same : length es ≡ j = omega (arith, there) in
+      ap (λ (z : Hidden). table_update (state_domains g) (length es) (hidden_data z) (map (truth_in g es Now) (hidden_data z).atoms)) (sym e)
+      ∙ ap (λ i. table_update (state_domains g) i (hidden_data x) (map (truth_in g es Now) (hidden_data x).atoms)) same
+  update_at es (y ∷ hs) (suc k) j x h e there = let more = longer es y in update_at (one_table es y) hs k j x (omega arith) e (omega (arith, more, there))
+
+  -- the update of a table that is there
+  pub update_there : (hs : List Hidden) (k : ℕ) (x : Hidden) → k < length hs → x ≡ get_or hs k x →
+      get_or (updates_after g [] (map hidden_data hs)) k never ≡ table_update (state_domains g) k (hidden_data x) (map (truth_in g (entries_of g (map hidden_data (take k hs))) Now) (hidden_data x).atoms)
+  update_there hs k x h e = update_at [] hs k k x h e (omega arith)
 
   pub truths-listed : (entries : Entries) (at : At) (es : List Formula) → truths_in g entries at (formulas es) ≡ map (truth_in g entries at) es
   truths-listed entries at [] = refl

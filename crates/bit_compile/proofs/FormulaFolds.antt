@@ -1,6 +1,6 @@
 -- The formulas that the variants of an expression stand for.
 use Rattle.std.proofs.Common.{◌≡◌, map, sym, ap, ◌∙◌}
-use Rattle.spec_model.specs.declared.expr.Expr.{Expr, fold-roll-Expr}
+use Rattle.spec_model.specs.declared.expr.Expr.{fold-roll-Expr}
 use Rattle.spec_model.specs.declared.expr.Expr.TheOpen.{Expr-F}
 use Rattle.spec_model.specs.declared.expr.Expr.TheVariants as variants
 use Rattle.spec_model.specs.declared.expr.Expr.TheVariants.{rolls-Not, rolls-And, rolls-Or, rolls-Implies, rolls-Iff, rolls-Cmp, rolls-Add, rolls-Sub, rolls-Mul, rolls-Mod, rolls-Past, rolls-Table}

@@ -58,12 +58,12 @@ module _ (g : GameData) (s : State) (made : is_state g s ≡ true) (bits : Bits)
   pub variable_described : (at : At) (k : ℕ) → k < length g.variables → is_code ds at (place_of g k) (code_at ds (listed s) (place_of g k)) bits ≡ true → Describes (coded ds at (place_of g k) (variable_domain g k)) (value_among g.variables s.position k) bits
   variable_described at k h has = let p = placed g k h in described_at at (place_of g k) (variable_domain g k) (value_among g.variables s.position k) p.within p.domain (p.value s made) has
 
-  table_described : HasValues ds Now (listed s) bits → (i v : ℕ) (h : HiddenData) → i < length g.hidden → h ≡ get_or g.hidden i h → v ≡ get_or s.hidden i v → Describes (coded ds Now i (table_domain h)) (value.Int (pos v)) bits
-  table_described has i v h less is_h is_v =
+  table_described : (at : At) → HasValues ds at (listed s) bits → (i v : ℕ) (h : HiddenData) → i < length g.hidden → h ≡ get_or g.hidden i h → v ≡ get_or s.hidden i v → Describes (coded ds at i (table_domain h)) (value.Int (pos v)) bits
+  table_described at has i v h less is_h is_v =
       let long = hidden_long g.hidden s.hidden (and_parts (are_hidden_values g.hidden s.hidden) _ made).0 in
       let numbers = length-map s.hidden (λ (n : ℕ). value.Int (pos n)) in
       let within : i < length ds = places_before i less in
-      described_at Now i (table_domain h) (value.Int (pos v)) within (table_placed g.hidden _ i h h less is_h)
+      described_at at i (table_domain h) (value.Int (pos v)) within (table_placed g.hidden _ i h h less is_h)
       (get-before (map (λ (n : ℕ). value.Int (pos n)) s.hidden) _ i (value.Bool false) (omega (arith, long, numbers, less)) ∙ get-numbers s.hidden i v (omega (arith, long, less)) is_v) (has i within)
     where
       places_before : (i : ℕ) → i < length g.hidden → i < length ds
@@ -71,6 +71,20 @@ module _ (g : GameData) (s : State) (made : is_state g s ≡ true) (bits : Bits)
           let all = length-append (map table_domain g.hidden) (domains_of is_env g.variables ++ domains_of (λ o. not (is_env o)) g.variables) in
           let tables = length-map g.hidden table_domain in
           omega (arith, all, tables, less)
+
+  have_from : (at : At) (j : ℕ) (hs : List HiddenData) (vs : List ℕ) → length vs ≡ length hs → ((i v : ℕ) (h : HiddenData) → i < length hs → h ≡ get_or hs i h → v ≡ get_or vs i v → Describes (coded ds at (j + i) (table_domain h)) (value.Int (pos v)) bits) → HaveValues g bits at j hs vs
+  have_from at j [] vs long each = tt
+  have_from at j (h ∷ hs) [] long each = absurd (omega (arith, long))
+  have_from at j (h ∷ hs) (v ∷ vs) long each = (
+    (let here : j + 0 ≡ j = omega arith in subst (λ (k : ℕ). Describes (coded ds at k (table_domain h)) (value.Int (pos v)) bits) here (each 0 v h (omega arith) refl refl)),
+    have_from at (suc j) hs vs (omega (arith, long)) (λ i w k less is_k is_w. (let there : j + suc i ≡ suc j + i = omega arith in subst (λ (m : ℕ). Describes (coded ds at m (table_domain k)) (value.Int (pos w)) bits) there (each (suc i) w k (omega arith) is_k is_w))),
+  )
+
+  -- the slots of all tables have the codes of their values
+  pub tables_had : (at : At) → HasValues ds at (listed s) bits → HaveValues g bits at 0 g.hidden s.hidden
+  tables_had at has =
+      have_from at 0 g.hidden s.hidden (hidden_long g.hidden s.hidden (and_parts (are_hidden_values g.hidden s.hidden) _ made).0)
+      (λ i v h less is_h is_v. (let same : 0 + i ≡ i = omega arith in subst (λ (m : ℕ). Describes (coded ds at m (table_domain h)) (value.Int (pos v)) bits) (sym same) (table_described at has i v h less is_h is_v)))
 
   moves_made : (is_input g s.position.input ≡ true) × (is_output g s.position.output ≡ true)
   moves_made = and_parts (is_input g s.position.input) (is_output g s.position.output) (and_parts (are_hidden_values g.hidden s.hidden) _ made).1
@@ -82,20 +96,10 @@ module _ (g : GameData) (s : State) (made : is_state g s ≡ true) (bits : Bits)
     pub had_now : (k : ℕ) → k < length g.variables → Describes (coded ds Now (place_of g k) (variable_domain g k)) (value_among g.variables s.position k) bits
     had_now k h = variable_described Now k h (has (place_of g k) (placed g k h).within)
 
-    have_from : (j : ℕ) (hs : List HiddenData) (vs : List ℕ) → length vs ≡ length hs → ((i v : ℕ) (h : HiddenData) → i < length hs → h ≡ get_or hs i h → v ≡ get_or vs i v → Describes (coded ds Now (j + i) (table_domain h)) (value.Int (pos v)) bits) → HaveValues g s.position bits typed_state had_now j hs vs
-    have_from j [] vs long each = tt
-    have_from j (h ∷ hs) [] long each = absurd (omega (arith, long))
-    have_from j (h ∷ hs) (v ∷ vs) long each = (
-      (let here : j + 0 ≡ j = omega arith in subst (λ (k : ℕ). Describes (coded ds Now k (table_domain h)) (value.Int (pos v)) bits) here (each 0 v h (omega arith) refl refl)),
-      have_from (suc j) hs vs (omega (arith, long)) (λ i w k less is_k is_w. (let there : j + suc i ≡ suc j + i = omega arith in subst (λ (m : ℕ). Describes (coded ds Now m (table_domain k)) (value.Int (pos w)) bits) there (each (suc i) w k (omega arith) is_k is_w))),
-    )
-
     pub entries_had : WellMade g → AreRead (entries_of g g.hidden) (readout_of g s).entries bits
     entries_had well =
-        let long = hidden_long g.hidden s.hidden (and_parts (are_hidden_values g.hidden s.hidden) _ made).0 in
         all_read g s.position bits typed_state had_now g.hidden s.hidden (record { domains = map (λ v. v.domain) g.variables; tables = [] }) refl (domains_made g.variables well.domains) well.hidden [] nothing_read
-        (have_from 0 g.hidden s.hidden long (λ i v h less is_h is_v. (let same : 0 + i ≡ i = omega arith in subst (λ (m : ℕ). Describes (coded ds Now m (table_domain h)) (value.Int (pos v)) bits) (sym same) (table_described has i v h less is_h is_v))))
-        (record { many = refl; same = λ h n. refl })
+        (tables_had Now has) (record { many = refl; same = λ h n. refl })
 
 pub compiled_means : (g : GameData) → WellMade g → (e : Formula) → is_step_formula (scope_of g) e ≡ true → (s s' : State) (bits : Bits) → IsTrue (is_state g s) → IsTrue (is_state g s') → HasValues (state_domains g) Now (listed s) bits → HasAwaited g e s' bits → compiled g e bits ≡ holds_at (step_reading g s s') e 0
 compiled_means g well e made s s' bits is_s is_s' has awaited =

@@ -23,3 +23,4 @@ pub mod CyclesLemmas
 pub mod SceneLemmas
 pub mod CompiledFormulas
 pub mod Readiness
+pub mod UpdateMeanings

@@ -10,7 +10,7 @@ use Rattle.bdd_ops.specs.Calls.{KeepsRoots}
 use Rattle.bit_compile.specs.declared.cases.Source.{Source}
 use Rattle.bit_compile.specs.declared.cases.Source.TheVariants as source
 use Rattle.bit_compile.specs.Domains.{level_count}
-use Rattle.bit_compile.specs.Compiled.{Case, some_pair, gives, is_letter}
+use Rattle.bit_compile.specs.Compiled.{Case, some_pair, gives, is_letter, leads}
 use Rattle.bit_compile.specs.CaseRoots.{IsReady, had_by, truth_had, cases_at}
 use Rattle.bit_compile.proofs.Between.{still_kept, function_stays, cases_stay, functions_stay}
 
@@ -20,6 +20,7 @@ module _ (first l : Contents) (keeps : KeepsRoots first l) where
   ready_stays roots (source.Truth root) v ready = roots root.now ready
   ready_stays roots (source.Coded codes at k domain) v ready = (ready.0, subst (λ n. level_count codes.now ≤ n) (sym keeps.levels) ready.1, ready.2, ready.3)
   ready_stays roots (source.Pairs op a b) v ready = (still_kept first.state l.state a.now roots ready.0, still_kept first.state l.state b.now roots ready.1)
+  ready_stays roots (source.Leads next letters a b) v ready = (still_kept first.state l.state a.now roots ready.0, still_kept first.state l.state b.now roots ready.1)
   ready_stays roots (source.Letters atoms) v ready = still_kept first.state l.state atoms.now roots ready
 
   pub had_stays : (s : Source) (v : Value) → IsReady first s v → had_by l s v ≡ had_by first s v
@@ -29,6 +30,9 @@ module _ (first l : Contents) (keeps : KeepsRoots first l) where
   had_stays (source.Pairs op a b) v ready =
       ap (λ (cs : List Case). some_pair (gives op v) cs (cases_at l b.now)) (cases_stay first l a.now keeps ready.0)
       ∙ ap (λ (cs : List Case). some_pair (gives op v) (cases_at first a.now) cs) (cases_stay first l b.now keeps ready.1)
+  had_stays (source.Leads next letters a b) v ready =
+      ap (λ (cs : List Case). some_pair (leads next.now letters v) cs (cases_at l b.now)) (cases_stay first l a.now keeps ready.0)
+      ∙ ap (λ (cs : List Case). some_pair (leads next.now letters v) (cases_at first a.now) cs) (cases_stay first l b.now keeps ready.1)
   had_stays (source.Letters atoms) v ready = ap (λ (fs : List Function). is_letter fs (nat_abs (number_of v))) (functions_stay first l atoms.now keeps ready)
 
 -- ---- whole lists

@@ -1,13 +1,12 @@
 -- What may be read before a hidden table, and what that table's entries are.
-use Rattle.std.proofs.Common.{◌≡◌, ℕ, zero, suc, ◌+◌, ◌<◌, ◌≤◌, Bool, true, not, List, [], ◌∷◌, ◌++◌, map, length, length-append, take, get_or, refl, sym, ◌∙◌, ap, subst, arith}
+use Rattle.std.proofs.Common.{◌≡◌, ℕ, zero, suc, ◌<◌, ◌≤◌, Bool, true, not, List, [], ◌∷◌, ◌++◌, map, length, length-append, take, get_or, refl, sym, ◌∙◌, ap, subst, arith}
 use Rattle.std.specs.List.{list_all, AllByRecursion}
 use Rattle.std.proofs.lemmas.List.{length-map}
 use Rattle.spec_model.specs.declared.game.Hidden.{Hidden}
-use Rattle.spec_model.specs.declared.expr.Expr.{Expr}
 use Rattle.spec_model.specs.Values.{DomainData}
 use Rattle.spec_model.specs.Views.{formula}
 use Rattle.spec_model.specs.Moves.{is_env, domains_of}
-use Rattle.spec_model.specs.WellMade.{is_domain}
+use Rattle.spec_model.specs.WellMade.{WellMade, is_domain}
 use Rattle.spec_model.specs.GameViews.{hidden_data}
 use Rattle.spec_model.specs.Games.{GameData}
 use Rattle.spec_model.specs.Diagrams.{Function}
@@ -18,17 +17,32 @@ use Rattle.bit_compile.specs.declared.cases.CaseRoot.{CaseRoot}
 use Rattle.bit_compile.specs.declared.scenes.Scene.{Scene}
 use Rattle.bit_compile.specs.Domains.{state_domains, table_domain}
 use Rattle.bit_compile.specs.Known.{IsReadable}
-use Rattle.bit_compile.specs.Compiled.{Entries, entries_of, entry_of, table_truth, truth_in, truths_in}
+use Rattle.bit_compile.specs.Compiled.{entries_of, entry_of, never, table_truth, table_update, truth_in, truths_in, updates_after, updates_of}
 use Rattle.bit_compile.specs.CaseRoots.{cases_at, true_cases}
 use Rattle.bit_compile.specs.Scenes.{IsScene, codes_seen, entries_seen, game_seen}
-use Rattle.bit_compile.proofs.Knowing.{readable_before}
-use Rattle.bit_compile.proofs.EntryLemmas.{entry_there, functions_of, truths-listed}
+use Rattle.bit_compile.proofs.Knowing.{domains_made, readable_before, tables_readable}
+use Rattle.bit_compile.proofs.EntryLemmas.{entry_there, functions_of, truths-listed, update_there}
 
 length-take : {X : Type 0} (xs : List X) (k : ℕ) → length (take k xs) ≤ length xs
 length-take [] zero = omega arith
 length-take [] (suc k) = omega arith
 length-take (x ∷ xs) zero = omega arith
 length-take (x ∷ xs) (suc k) = let rest = length-take xs k in omega (arith, rest)
+
+-- all tables of a well-made game may be read
+pub whole_scene : (s : Scene) → WellMade (game_seen s) → codes_seen s ≡ state_domains (game_seen s) → s.hidden.now ≡ s.game.now.hidden.items → IsScene s
+whole_scene s made codes all =
+    let g = game_seen s in
+    let hs = s.game.now.hidden.items in
+    let long = length-map hs hidden_data in
+    let same = ap length all in
+    record {
+      codes = codes;
+      domains = made.domains;
+      few = made.few_variables;
+      within = omega (arith, long, same);
+      tables = subst (λ (ts : List Hidden). AllByRecursion (IsReadable g) ts) (sym all) (tables_readable g (record { domains = map (λ v. v.domain) g.variables; tables = [] }) refl (domains_made g.variables made.domains) hs made.hidden);
+    }
 
 -- what may be read before a table is a part of what may be read
 pub scene_before : (s b : Scene) (k : ℕ) → IsScene s → codes_seen b ≡ codes_seen s → game_seen b ≡ game_seen s → b.hidden.now ≡ take k s.hidden.now → IsScene b
@@ -87,3 +101,12 @@ module _ (s b : Scene) (k : ℕ) (x : Hidden) (is : IsScene s) (less : k < lengt
       ap (λ (ds : List DomainData). table_truth ds k (hidden_data x) (map (λ (y : CaseRoot). function_at c y.root) xs) t) is.codes
       ∙ (ap (λ (fs : List Function). table_truth (state_domains (game_seen s)) k (hidden_data x) fs t) (functions_of c xs atoms_seen e ∙ atoms_are)
       ∙ sym (entry_there (game_seen s) s.hidden.now k n x t d less here there at))
+
+  -- the update over the roots of its atoms is the table's
+  pub update_made : (c : Contents) (xs : List CaseRoot) → cases_at c xs ≡ true_cases atoms_seen → s.hidden.now ≡ s.game.now.hidden.items →
+      table_update (codes_seen s) k (hidden_data x) (map (λ (y : CaseRoot). function_at c y.root) xs) ≡ get_or (updates_of (game_seen s)) k never
+  update_made c xs e all =
+      ap (λ (ds : List DomainData). table_update ds k (hidden_data x) (map (λ (y : CaseRoot). function_at c y.root) xs)) is.codes
+      ∙ (ap (λ (fs : List Function). table_update (state_domains (game_seen s)) k (hidden_data x) fs) (functions_of c xs atoms_seen e ∙ atoms_are)
+      ∙ (sym (update_there (game_seen s) s.hidden.now k x less here)
+      ∙ ap (λ (hs : List Hidden). get_or (updates_after (game_seen s) [] (map hidden_data hs)) k never) all))

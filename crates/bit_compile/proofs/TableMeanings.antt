@@ -22,6 +22,7 @@ use Rattle.spec_model.specs.Games.{GameData, HiddenData, Readout, letter_of, pre
 use Rattle.spec_model.specs.WellMade.{is_domain, is_table, are_tables, is_state_formula, is_step_formula, is_stepwise}
 use Rattle.spec_model.specs.Diagrams.{Bits, Function}
 use Rattle.spec_model.proofs.Domains.{in_range}
+use Rattle.game_values.specs.declared.seen.At.{At}
 use Rattle.game_values.specs.declared.seen.At.TheVariants.{Now}
 use Rattle.game_values.proofs.Safe.{IsTyped}
 use Rattle.game_values.proofs.TableSteps.{table_atoms}
@@ -42,16 +43,10 @@ letter_small (b ∷ bs) = let rest = letter_small bs in let double = pow-suc 2 (
     bit true h = omega (arith, h)
     bit false h = omega (arith, h)
 
-letters_described : (fs : List Function) (l : ℕ) (s : Bits) → letter_of (map (λ a. a s) fs) ≡ l → (z : ℤ) (n : ℕ) → pos 0 ≤ℤ z →
-    AllByRecursion (λ (c : Case). c.holds s ≡ same_value c.value (value.Int (pos l))) (map (λ v. record { value = v; holds = is_letter fs (nat_abs (number_of v)) }) (rising_from z n))
-letters_described fs l s e z zero low = tt
-letters_described fs l s e z (suc n) low =
-    (ap (λ k. k == nat_abs z) e ∙ same_number z low, letters_described fs l s e (z +ℤ pos 1) n (omega (arith, ints)))
-  where
-    same_number : (z : ℤ) → pos 0 ≤ℤ z → (l == nat_abs z) ≡ int_eq z (pos l)
-    same_number z low = same_bools _ _
-        (λ h. (let same = eqb-true l (nat_abs z) h in (Decides-int_eq z (pos l)).1 (omega (arith, ints, same))))
-        (λ h. (let same = (Decides-int_eq z (pos l)).0 h in eq-eqb l (nat_abs z) (omega (arith, ints, same))))
+same_number : (l : ℕ) (z : ℤ) → pos 0 ≤ℤ z → (l == nat_abs z) ≡ int_eq z (pos l)
+same_number l z low = same_bools _ _
+    (λ h. (let same = eqb-true l (nat_abs z) h in (Decides-int_eq z (pos l)).1 (omega (arith, ints, same))))
+    (λ h. (let same = (Decides-int_eq z (pos l)).0 h in eq-eqb l (nat_abs z) (omega (arith, ints, same))))
 
 among_turned : (w : Value) (f : Value → Function) (vs : List Value) → list_any (same_value w) vs ≡ true → list_any (λ (c : Case). same_value c.value w) (map (λ v. record { value = v; holds = f v }) vs) ≡ true
 among_turned w f vs e = turned vs ∙ e
@@ -60,20 +55,30 @@ among_turned w f vs e = turned vs ∙ e
     turned [] = refl
     turned (v ∷ vs) = ap (λ (b : Bool). b || list_any (λ (c : Case). same_value c.value w) (map (λ u. record { value = u; holds = f u }) vs)) (same_value-sym v w) ∙ ap (λ (b : Bool). same_value w v || b) (turned vs)
 
-describes_letter : (fs : List Function) (l : ℕ) (s : Bits) → letter_of (map (λ a. a s) fs) ≡ l → Describes (lettered fs) (value.Int (pos l)) s
+-- the numbers below a limit, each had where it is this one
+module _ (f : Value → Function) (n l : ℕ) (s : Bits) (small : l < n) (had : (z : ℤ) → f (value.Int z) s ≡ (l == nat_abs z)) where
+  numbers_described : (z : ℤ) (count : ℕ) → pos 0 ≤ℤ z → AllByRecursion (λ (c : Case). c.holds s ≡ same_value c.value (value.Int (pos l))) (map (λ v. record { value = v; holds = f v }) (rising_from z count))
+  numbers_described z zero low = tt
+  numbers_described z (suc count) low = (had z ∙ same_number l z low, numbers_described (z +ℤ pos 1) count (omega (arith, ints, low)))
+
+  pub describes_number : Describes (map (λ v. record { value = v; holds = f v }) (values_of (numbers_below n))) (value.Int (pos l)) s
+  describes_number =
+      let low : pos 0 ≤ℤ pos l = omega (arith, ints) in
+      let high : pos l ≤ℤ (pos n -ℤ pos 1) = omega (arith, ints, small) in
+      record {
+        among = among_turned (value.Int (pos l)) f (values_of (numbers_below n)) ((in_range (pos l) (pos 0) (pos n -ℤ pos 1)).1 (low, high));
+        exact = within (int_le (pos 0) (pos n -ℤ pos 1));
+      }
+    where
+      within : (b : Bool) → AllByRecursion (λ (c : Case). c.holds s ≡ same_value c.value (value.Int (pos l))) (map (λ v. record { value = v; holds = f v }) (cond b (rising_from (pos 0) (nat_abs ((pos n -ℤ pos 1) -ℤ pos 0) + 1)) []))
+      within true = numbers_described (pos 0) _ (omega (arith, ints))
+      within false = tt
+
+pub describes_letter : (fs : List Function) (l : ℕ) (s : Bits) → letter_of (map (λ a. a s) fs) ≡ l → Describes (lettered fs) (value.Int (pos l)) s
 describes_letter fs l s e =
     let small = subst (λ (n : ℕ). n < 2 ^ length (map (λ (a : Function). a s) fs)) e (letter_small (map (λ (a : Function). a s) fs)) in
     let below : l < 2 ^ length fs = subst (λ (n : ℕ). l < 2 ^ n) (length-map fs (λ (a : Function). a s)) small in
-    let low : pos 0 ≤ℤ pos l = omega (arith, ints) in
-    let high : pos l ≤ℤ (pos (2 ^ length fs) -ℤ pos 1) = omega (arith, ints, below) in
-    record {
-      among = among_turned (value.Int (pos l)) (λ v. is_letter fs (nat_abs (number_of v))) (values_of (numbers_below (2 ^ length fs))) ((in_range (pos l) (pos 0) (pos (2 ^ length fs) -ℤ pos 1)).1 (low, high));
-      exact = within (int_le (pos 0) (pos (2 ^ length fs) -ℤ pos 1));
-    }
-  where
-    within : (b : Bool) → AllByRecursion (λ (c : Case). c.holds s ≡ same_value c.value (value.Int (pos l))) (map (λ v. record { value = v; holds = is_letter fs (nat_abs (number_of v)) }) (cond b (rising_from (pos 0) (nat_abs ((pos (2 ^ length fs) -ℤ pos 1) -ℤ pos 0) + 1)) []))
-    within true = letters_described fs l s e (pos 0) _ (omega (arith, ints))
-    within false = tt
+    describes_number (λ v. is_letter fs (nat_abs (number_of v))) (2 ^ length fs) l s below (λ z. ap (λ k. k == nat_abs z) e)
 
 -- ---- one table
 
@@ -103,7 +108,7 @@ get-pushed (y ∷ xs) x d (suc k) = get-pushed xs x d k ∙ ap (λ b. if b then 
     suc-same : (m n : ℕ) → (m == n) ≡ (suc m == suc n)
     suc-same m n = grind (arith, nat_tests)
 
-read_one : (entries : Entries) (read : List (List Bool)) (fs : List Function) (bs : List Bool) (s : Bits) → AreRead entries read s → ((n : ℕ) → get_or fs n never s ≡ get_or bs n false) → AreRead (entries ++ fs ∷ []) (read ++ bs ∷ []) s
+pub read_one : (entries : Entries) (read : List (List Bool)) (fs : List Function) (bs : List Bool) (s : Bits) → AreRead entries read s → ((n : ℕ) → get_or fs n never s ≡ get_or bs n false) → AreRead (entries ++ fs ∷ []) (read ++ bs ∷ []) s
 read_one entries read fs bs s are same =
     record {
       many = length-append entries (fs ∷ []) ∙ (ap (λ n. n + 1) are.many ∙ sym (length-append read (bs ∷ [])));
@@ -122,13 +127,13 @@ read_one entries read fs bs s are same =
 
 -- ---- all tables
 
-module _ (g : GameData) (p : Position) (s : Bits) (typed : (k : ℕ) → IsWithin (option_map kind_of_domain (slice_get (map (λ v. v.domain) g.variables) k)) (value_among g.variables p k)) (had : (k : ℕ) → k < length g.variables → Describes (coded (state_domains g) Now (place_of g k) (variable_domain g k)) (value_among g.variables p k) s) where
-  -- the slots from this one on have the codes of these values of the tables
-  abbrev pub HaveValues : ℕ → List HiddenData → List ℕ → Type 0
-  HaveValues k [] vs = Unit {0}
-  HaveValues k (h ∷ hs) [] = ⊥
-  HaveValues k (h ∷ hs) (v ∷ vs) = Describes (coded (state_domains g) Now k (table_domain h)) (value.Int (pos v)) s × HaveValues (suc k) hs vs
+-- the slots from this one on have the codes of these values of the tables
+abbrev pub HaveValues : GameData → Bits → At → ℕ → List HiddenData → List ℕ → Type 0
+HaveValues g s at k [] vs = Unit {0}
+HaveValues g s at k (h ∷ hs) [] = ⊥
+HaveValues g s at k (h ∷ hs) (v ∷ vs) = Describes (coded (state_domains g) at k (table_domain h)) (value.Int (pos v)) s × HaveValues g s at (suc k) hs vs
 
+module _ (g : GameData) (p : Position) (s : Bits) (typed : (k : ℕ) → IsWithin (option_map kind_of_domain (slice_get (map (λ v. v.domain) g.variables) k)) (value_among g.variables p k)) (had : (k : ℕ) → k < length g.variables → Describes (coded (state_domains g) Now (place_of g k) (variable_domain g k)) (value_among g.variables p k) s) where
   module _ (sc : Scope) (domains : sc.domains ≡ map (λ v. v.domain) g.variables) (made : list_all is_domain sc.domains ≡ true) (entries : Entries) (read : List (List Bool)) (are : AreRead entries read s) where
     typed_here : IsTyped sc (present_reading g.variables p read)
     typed_here k t = subst (λ (ds : List DomainData). IsWithin (option_map kind_of_domain (slice_get ds k)) (value_among g.variables p k)) (sym domains) (typed k)
@@ -141,14 +146,14 @@ module _ (g : GameData) (p : Position) (s : Bits) (typed : (k : ℕ) → IsWithi
         let reads = reads_now g sc domains (IsHad g entries sc domains made r typed_here s) e (some_truth (kind_of sc e) step.0) step.1 state.1 had in
         (means g entries sc domains made r typed_here s are.same e Now (some_truth (kind_of sc e) step.0) step.1 reads).truth step.0
 
-    atoms_are : (es : List Formula) → list_all (is_state_formula sc) es ≡ true → map (λ (a : Function). a s) (map (truth_in g entries Now) es) ≡ map (λ e. holds_at (present_reading g.variables p read) e 0) es
+    pub atoms_are : (es : List Formula) → list_all (is_state_formula sc) es ≡ true → map (λ (a : Function). a s) (map (truth_in g entries Now) es) ≡ map (λ e. holds_at (present_reading g.variables p read) e 0) es
     atoms_are [] all = refl
     atoms_are (e ∷ es) all =
         let parts = and_parts (is_state_formula sc e) (list_all (is_state_formula sc) es) all in
         ap (λ (b : Bool). b ∷ map (λ (a : Function). a s) (map (truth_in g entries Now) es)) (atom_is e parts.0)
         ∙ ap (λ (bs : List Bool). holds_at (present_reading g.variables p read) e 0 ∷ bs) (atoms_are es parts.1)
 
-    table_read : (h : HiddenData) (v : ℕ) → is_table sc h ≡ true → Describes (coded (state_domains g) Now (length entries) (table_domain h)) (value.Int (pos v)) s →
+    pub table_read : (h : HiddenData) (v : ℕ) → is_table sc h ≡ true → Describes (coded (state_domains g) Now (length entries) (table_domain h)) (value.Int (pos v)) s →
         (n : ℕ) → get_or (table_entries g entries h) n never s ≡ get_or (entries_in h (cell_of g.variables p read h v)) n false
     table_read h v table is_value n =
         let fs : List Function = map (truth_in g entries Now) h.atoms in
@@ -159,7 +164,7 @@ module _ (g : GameData) (p : Position) (s : Bits) (typed : (k : ℕ) → IsWithi
 
   -- the entries of all tables are those that are read at the state
   pub all_read : (hs : List HiddenData) (vs : List ℕ) (sc : Scope) → sc.domains ≡ map (λ v. v.domain) g.variables → list_all is_domain sc.domains ≡ true → are_tables sc hs ≡ true →
-      (entries : Entries) (r : Readout) → HaveValues (length entries) hs vs → AreRead entries r.entries s → AreRead (entries_after g entries hs) (read_tables g.variables p r hs vs).entries s
+      (entries : Entries) (r : Readout) → HaveValues g s Now (length entries) hs vs → AreRead entries r.entries s → AreRead (entries_after g entries hs) (read_tables g.variables p r hs vs).entries s
   all_read [] vs sc domains made tables entries r have are = are
   all_read (h ∷ hs) [] sc domains made tables entries r have are = absurd have
   all_read (h ∷ hs) (v ∷ vs) sc domains made tables entries r have are =
@@ -168,4 +173,4 @@ module _ (g : GameData) (p : Position) (s : Bits) (typed : (k : ℕ) → IsWithi
       let one = read_one entries r.entries (table_entries g entries h) (entries_in h cell) s are (table_read sc domains made entries r.entries are h v parts.0 have.0) in
       let longer : length (entries ++ table_entries g entries h ∷ []) ≡ suc (length entries) = length-append entries (table_entries g entries h ∷ []) ∙ omega arith in
       all_read hs vs (record sc { tables = sc.tables ++ length h.tables ∷ [] }) domains made parts.1 (entries ++ table_entries g entries h ∷ []) (read_table r h cell)
-      (subst (λ (k : ℕ). HaveValues k hs vs) (sym longer) have.1) one
+      (subst (λ (k : ℕ). HaveValues g s Now k hs vs) (sym longer) have.1) one

@@ -20,7 +20,7 @@ use Rattle.bit_compile.specs.declared.pairs.Test.TheVariants as test
 use Rattle.bit_compile.specs.declared.folds.Fold.{Fold}
 use Rattle.bit_compile.specs.declared.folds.Fold.TheVariants.{All, Some}
 use Rattle.bit_compile.specs.Domains.{level_count, IsCountable}
-use Rattle.bit_compile.specs.Compiled.{Case, is_code, is_not, some_pair, gives, is_letter, in_table, all_of, some_of}
+use Rattle.bit_compile.specs.Compiled.{Case, is_code, is_not, some_pair, gives, is_letter, in_table, leads, all_of, some_of}
 
 -- the value of a root, and where it is had
 abbrev pub case_at : Contents → CaseRoot → Case
@@ -57,6 +57,7 @@ abbrev pub passes : Test → Value → Value → Bool
 passes (test.Compared c) x y = compare_values c x y
 passes (test.Gives op v) x y = gives op v x y
 passes (test.InTable table letters) x y = in_table table.now letters x y
+passes (test.Leads next letters to) x y = leads next.now letters to x y
 
 -- ---- where a value is had
 
@@ -69,6 +70,7 @@ had_by c source.Everywhere v = λ s. true
 had_by c (source.Truth root) v = truth_had (function_at c root.now) v
 had_by c (source.Coded codes at k domain) v = is_code codes.now at k (rank_of (domain_data domain.now) v)
 had_by c (source.Pairs op a b) v = some_pair (gives op v) (cases_at c a.now) (cases_at c b.now)
+had_by c (source.Leads next letters a b) v = some_pair (leads next.now letters v) (cases_at c a.now) (cases_at c b.now)
 had_by c (source.Letters atoms) v = is_letter (map (λ a. function_at c a.root) atoms.now) (nat_abs (number_of v))
 
 -- the roots are kept, and the value has a code
@@ -78,6 +80,7 @@ IsReady c (source.Truth root) v = IsRoot c.state root.now
 IsReady c (source.Coded codes at k domain) v =
     (k < length codes.now) × (level_count codes.now ≤ c.state.table.levels) × IsCountable (domain_data domain.now) × (list_any (same_value v) (values_of (domain_data domain.now)) ≡ true)
 IsReady c (source.Pairs op a b) v = AreKept c.state a.now × AreKept c.state b.now
+IsReady c (source.Leads next letters a b) v = AreKept c.state a.now × AreKept c.state b.now
 IsReady c (source.Letters atoms) v = AreKept c.state atoms.now
 
 -- the case of each value

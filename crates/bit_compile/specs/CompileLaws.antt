@@ -1,10 +1,10 @@
 -- What a compiled formula means at the bits of states, and which levels it reads.
-use Rattle.std.specs.Prelude.{◌≡◌, ◌<◌, ◌≤◌, ◌+◌, ◌⊎◌, ℕ, List, true, false, IsTrue, length, count_by}
+use Rattle.std.specs.Prelude.{◌≡◌, ◌<◌, ◌≤◌, ◌+◌, ◌⊎◌, ℕ, List, true, false, IsTrue, length, count_by, slice_index, ◌==◌}
 use Rattle.spec_model.specs.Diagrams.{Bits, Function}
 use Rattle.spec_model.specs.Syntax.{Formula}
 use Rattle.spec_model.specs.Meaning.{holds_at}
 use Rattle.spec_model.specs.Moves.{is_env, has_next}
-use Rattle.spec_model.specs.Games.{GameData, State, listed, step_reading}
+use Rattle.spec_model.specs.Games.{GameData, State, listed, next_hidden, step_reading}
 use Rattle.spec_model.specs.Steps.{is_state}
 use Rattle.spec_model.specs.WellMade.{awaits_output}
 use Rattle.game_values.specs.declared.seen.At.{At}
@@ -43,3 +43,7 @@ HasAwaited g e s bits = (k : ℕ) → k < length (state_domains g) → IsAwaited
 pub record IsFormulaOf (g : GameData) (e : Formula) (f : Function) : Type 0 where
   pub meaning : (s s' : State) (bits : Bits) → IsTrue (is_state g s) → IsTrue (is_state g s') → HasValues (state_domains g) Now (listed s) bits → HasAwaited g e s' bits → f bits ≡ holds_at (step_reading g s s') e 0
   pub reads : (m : ℕ) → (IsReadLevel g e m → ⊥) → Ignores m f
+
+-- At the bits of a state and of the next one the function says whether the table's next value is the one that follows.
+abbrev pub IsUpdateOf : GameData → ℕ → Function → Type 0
+IsUpdateOf g k f = (s s' : State) (bits : Bits) → IsTrue (is_state g s) → IsTrue (is_state g s') → HasValues (state_domains g) Now (listed s) bits → HasValues (state_domains g) Next (listed s') bits → f bits ≡ (slice_index s'.hidden k == slice_index (next_hidden g s) k)

@@ -1,10 +1,11 @@
 -- The function of the bits that a formula of a game stands for: what it reads is compared with the codes of the values.
-use Rattle.std.specs.Prelude.{ℕ, ◌+◌, ◌*◌, ◌^◌, ℤ, pos, ◌+ℤ◌, ◌-ℤ◌, ◌*ℤ◌, Bool, true, false, not, ◌&&◌, ◌||◌, List, [], ◌∷◌, ◌++◌, Option, None, Some, option_map, slice_get, get_or, map, length, take, count_by, ◌-◌, ◌==◌, nat_abs, int_lt, if◌then◌else◌}
+use Rattle.std.specs.Prelude.{ℕ, ◌+◌, ◌*◌, ◌^◌, ℤ, pos, ◌+ℤ◌, ◌-ℤ◌, ◌*ℤ◌, Bool, true, false, not, ◌&&◌, ◌||◌, List, [], ◌∷◌, ◌++◌, Option, None, Some, option_map, slice_get, slice_index, get_or, map, length, take, count_by, ◌-◌, ◌==◌, nat_abs, int_lt, if◌then◌else◌}
 use Rattle.std.specs.List.{list_any, list_all}
 use Rattle.std.specs.Int.{int_rem_euclid, int_min, int_max}
 use Rattle.std.specs.Bool.{beq}
 use Rattle.spec_model.specs.declared.value.Value.{Value}
 use Rattle.spec_model.specs.declared.value.Value.TheVariants as value
+use Rattle.spec_model.specs.declared.expr.Compare.TheVariants.{Eq}
 use Rattle.spec_model.specs.declared.value.Owner.{Owner}
 use Rattle.spec_model.specs.declared.value.Owner.TheVariants.{Env, Sys}
 use Rattle.spec_model.specs.Values.{DomainData, TruthValues, WholeNumbers, same_value, truth_of, number_of, values_of, rank_of}
@@ -208,3 +209,30 @@ entries_of g hs = entries_after g [] hs
 -- where a formula over a state and the next one is true
 abbrev pub compiled : GameData → Formula → Function
 compiled g e = truth_in g (entries_of g g.hidden) Now e
+
+-- ---- next values of hidden tables
+
+-- whether a table's next value at a value and a letter is this one
+abbrev pub leads : List ℕ → ℕ → Value → Value → Value → Bool
+leads next letters to v letter = slice_index next (nat_abs (number_of v) * letters + nat_abs (number_of letter)) == nat_abs (number_of to)
+
+-- each of these values, where the table leads to it from one of the first by one of the letters
+abbrev pub led_to : List ℕ → ℕ → List Case → List Case → List Value → List Case
+led_to next letters vs ls tos = map (λ to. record { value = to; holds = some_pair (leads next letters to) vs ls }) tos
+
+-- the values of the table numbered k, where its present value and the letter of its atoms lead to them
+abbrev pub following : List DomainData → ℕ → HiddenData → List Function → List Case
+following ds k h atoms = led_to h.next (2 ^ length atoms) (coded ds Now k (table_domain h)) (lettered atoms) (values_of (table_domain h))
+
+-- its next value is the one that follows
+abbrev pub table_update : List DomainData → ℕ → HiddenData → List Function → Function
+table_update ds k h atoms = some_pair (compare_values Eq) (coded ds Next k (table_domain h)) (following ds k h atoms)
+
+-- that of each table in order, after the entries so far
+abbrev pub updates_after : GameData → Entries → List HiddenData → List Function
+updates_after g entries [] = []
+updates_after g entries (h ∷ hs) = table_update (state_domains g) (length entries) h (map (truth_in g entries Now) h.atoms) ∷ updates_after g (entries ++ table_entries g entries h ∷ []) hs
+
+-- where the next value of each hidden table is the one that follows
+abbrev pub updates_of : GameData → List Function
+updates_of g = updates_after g [] g.hidden

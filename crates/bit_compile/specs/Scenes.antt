@@ -1,20 +1,12 @@
 -- What formulas are compiled in, and which of them can be.
-use Rattle.std.specs.Prelude.{◌≡◌, ◌<◌, ◌≤◌, ℕ, pos, true, List, [], ◌∷◌, map, length}
+use Rattle.std.specs.Prelude.{◌≡◌, ◌≤◌, true, List, map, length}
 use Rattle.std.specs.List.{list_all, AllByRecursion}
-use Rattle.spec_model.specs.declared.game.Hidden.{Hidden}
-use Rattle.spec_model.specs.declared.value.Value.TheVariants as value
-use Rattle.spec_model.specs.Values.{DomainData, values_of}
-use Rattle.spec_model.specs.Syntax.{Formula, Constant, Variable, NextOf, Negation, Conjunction, Disjunction, Implication, Equivalence, Comparison, Sum, Difference, Product, Remainder, PastOf, Entry, Formulas}
+use Rattle.spec_model.specs.Values.{DomainData}
 use Rattle.spec_model.specs.GameViews.{game_data, hidden_data}
 use Rattle.spec_model.specs.Games.{GameData}
 use Rattle.spec_model.specs.WellMade.{is_domain}
-use Rattle.game_values.specs.Safety.{formulas_in}
-use Rattle.game_values.specs.Whole.{IsWhole}
-use Rattle.game_values.specs.declared.seen.At.{At}
-use Rattle.bit_compile.specs.declared.operation.Operation.{Operation}
-use Rattle.bit_compile.specs.declared.operation.Operation.TheVariants.{Add, Sub, Mul, Mod}
 use Rattle.bit_compile.specs.declared.scenes.Scene.{Scene}
-use Rattle.bit_compile.specs.Domains.{IsCountable, state_domains}
+use Rattle.bit_compile.specs.Domains.{state_domains}
 use Rattle.bit_compile.specs.Compiled.{Entries, entries_of}
 use Rattle.bit_compile.specs.Known.{IsReadable}
 

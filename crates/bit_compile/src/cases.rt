@@ -39,6 +39,9 @@ pub enum Source<'a> {
     Coded(&'a Codes, At, usize, &'a Domain),
     /// The operation on a value of the first and one of the second gives it.
     Pairs(Operation, &'a [CaseRoot], &'a [CaseRoot]),
+    /// The hidden table with these next values and so many letters leads to it from a value of the first by a letter of
+    /// the second.
+    Leads(&'a [u16], usize, &'a [CaseRoot], &'a [CaseRoot]),
     /// These atoms have this letter.
     Letters(&'a [CaseRoot]),
 }
@@ -80,6 +83,9 @@ fn case_root(diagrams: &mut Diagrams, source: &Source, value: Value) -> Result<R
             codes.has_code(diagrams, *at, *k, code(domain, value))
         }
         Source::Pairs(op, xs, ys) => pair_root(diagrams, &Test::Gives(*op, value), xs, ys),
+        Source::Leads(next, letters, values, had) => {
+            pair_root(diagrams, &Test::Leads(next, *letters, value), values, had)
+        }
         Source::Letters(atoms) => letter_root(diagrams, atoms, number(value).unsigned_abs()),
     }
 }

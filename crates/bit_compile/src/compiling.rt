@@ -156,7 +156,7 @@ fn same_as_truth(
 
 /// Where each of several formulas is true.
 #[cycle(compile)]
-fn truth_cases(
+pub fn truth_cases(
     diagrams: &mut Diagrams,
     scene: &Scene,
     at: At,

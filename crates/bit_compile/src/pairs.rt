@@ -1,19 +1,19 @@
 //! Where some value of one list and some of another pass a test. Each set on the way is that of the first several pairs.
 
-ghost use Rattle.std.specs.Prelude.{◌≡◌, ◌&&◌, ◌||◌, ◌+◌, ◌*◌, pos, nat_abs, true, false, get_or};
+ghost use Rattle.std.specs.Prelude.{◌≡◌, ◌<◌, ◌&&◌, ◌||◌, ◌+◌, ◌*◌, ◌^◌, pos, nat_abs, true, false, get_or, SomeIff};
 ghost use Rattle.std.specs.List.{list_any};
 ghost use Rattle.spec_model.specs.Values.{number_of};
 ghost use Rattle.bdd_store.specs.State.{IsRoot};
 ghost use Rattle.bdd_ops.specs.Contents.{function_at};
 ghost use Rattle.bit_compile.specs.Making.{Makes};
-ghost use Rattle.bit_compile.specs.Compiled.{some_pair, gives as gives_lem, in_table as in_table_lem};
+ghost use Rattle.bit_compile.specs.Compiled.{some_pair, gives as gives_lem, in_table as in_table_lem, leads as leads_lem};
 ghost use Rattle.bit_compile.specs.CaseRoots.{AreKept, cases_at, passes as passes_lem};
 
 use crate::cases::CaseRoot;
 use crate::operation::{Operation, gives};
 use crate::steps::{and, constant, keep, or};
 use bdd_ops::{Diagrams, Root};
-use game_values::cells::bit_in;
+use game_values::cells::{bit_in, number_in};
 use game_values::values::{compares, number};
 use regions::Halt;
 use spec_model::expr::Compare;
@@ -28,21 +28,42 @@ pub enum Test<'a> {
     Gives(Operation, Value),
     /// The truth table, with so many letters, is true at the hidden value and the letter.
     InTable(&'a [bool], usize),
+    /// The hidden table with these next values and so many letters leads from the first, its value, by the second, its
+    /// letter, to this value.
+    Leads(&'a [u16], usize, Value),
 }
 
-/// The cell of a value and a letter, as far as there is one.
-fn in_table(table: &[bool], letters: usize, value: Value, letter: Value) -> bool
-    ensures { result ≡ in_table_lem table.now letters value letter }
+/// The cell of a value and a letter, where it has a number.
+fn cell(letters: usize, value: Value, letter: Value) -> Option<usize>
+    ensures { let cell = nat_abs (number_of value) * letters + nat_abs (number_of letter) in SomeIff result (cell < 2 ^ 64) cell }
 {
     let value = number(value).unsigned_abs() as usize;
     let letter = number(letter).unsigned_abs() as usize;
     match value.checked_mul(letters) {
-        None => false,
-        Some(first) => match first.checked_add(letter) {
-            None => false,
-            Some(cell) => bit_in(table, cell),
-        },
+        None => None,
+        Some(first) => first.checked_add(letter),
     }
+}
+
+/// The entry of a value and a letter, false where there is none.
+fn in_table(table: &[bool], letters: usize, value: Value, letter: Value) -> bool
+    ensures { result ≡ in_table_lem table.now letters value letter }
+{
+    match cell(letters, value, letter) {
+        None => false,
+        Some(cell) => bit_in(table, cell),
+    }
+}
+
+/// Whether the next value of a value and a letter is this one.
+fn leads(next: &[u16], letters: usize, to: Value, value: Value, letter: Value) -> bool
+    ensures { result ≡ leads_lem next.now letters to value letter }
+{
+    let reached = match cell(letters, value, letter) {
+        None => 0,
+        Some(cell) => number_in(next, cell),
+    };
+    u64::from(reached) == number(to).unsigned_abs()
 }
 
 fn passes(test: &Test, x: Value, y: Value) -> bool
@@ -52,6 +73,7 @@ fn passes(test: &Test, x: Value, y: Value) -> bool
         Test::Compared(c) => compares(*c, x, y),
         Test::Gives(op, v) => gives(*op, *v, x, y),
         Test::InTable(table, letters) => in_table(table, *letters, x, y),
+        Test::Leads(next, letters, to) => leads(next, *letters, *to, x, y),
     }
 }
 

@@ -252,7 +252,7 @@ fn first_numbers(count: usize) -> Domain
 }
 
 /// Each letter, with where the atoms have it. Want of numbers for the letters is want of memory.
-fn letter_cases(
+pub fn letter_cases(
     diagrams: &mut Diagrams,
     alloc: Global,
     h: &Hidden,

@@ -13,3 +13,4 @@ pub mod MadeLemmas
 pub mod ProperLemmas
 pub mod LevelLemmas
 pub mod GoalLemmas
+pub mod UpdateLemmas

@@ -1,4 +1,4 @@
-use Rattle.std.proofs.Common.{◌≡◌, ℕ, ◌+◌, ◌<◌, ◌≤◌, ◌++◌, [], ◌∷◌, List, Ok, map, length, get_or, refl, sym, ◌∙◌, ap, subst, arith, rules, take, drop, ◌||◌, Bool, Vec, ℤ, true, false, w64}
+use Rattle.std.proofs.Common.{◌≡◌, ℕ, ◌+◌, ◌<◌, ◌≤◌, ◌++◌, [], ◌∷◌, List, map, length, get_or, refl, sym, ◌∙◌, ap, subst, arith, rules, take, ◌||◌, Bool, Vec, ℤ, true, false, w64}
 use Rattle.std.specs.declared.alloc.Global.{Global}
 use Rattle.spec_model.specs.declared.expr.Expr.{Expr}
 use Rattle.spec_model.specs.declared.value.Value.{Value}
@@ -8,18 +8,18 @@ use Rattle.spec_model.specs.Values.{DomainData, values_of}
 use Rattle.spec_model.specs.Games.{GameData}
 use Rattle.spec_model.specs.FormulaSizes.{nodes_in_each}
 use Rattle.spec_model.specs.Syntax.{Formula, Comparison, Equivalence, Implication}
-use Rattle.spec_model.specs.Diagrams.{Bits, Function}
+use Rattle.spec_model.specs.Diagrams.{Function}
 use Rattle.spec_model.specs.GameViews.{hidden_data}
 use Rattle.game_values.specs.Safety.{formulas_in}
 use Rattle.game_values.specs.declared.seen.At.TheVariants.{Now}
-use Rattle.bdd_ops.specs.Functions.{joined, join_of}
+use Rattle.bdd_ops.specs.Functions.{join_of}
 use Rattle.bdd_ops.specs.Contents.{function_at}
 use Rattle.bit_compile.specs.declared.cases.CaseRoot.{CaseRoot}
 use Rattle.bit_compile.specs.declared.operation.Operation.TheVariants.{Mod}
 use Rattle.bit_compile.specs.declared.pairs.Test.TheVariants as test
 use Rattle.bit_compile.specs.Domains.{IsCountable, level_count}
 use Rattle.bit_compile.specs.Making.{Makes}
-use Rattle.bit_compile.specs.Compiled.{Case, cases_in, truth_in, truths_in, values_in, entry_of, implied, is_not, same_truth, both_truths, only, some_pair, results, span_of}
+use Rattle.bit_compile.specs.Compiled.{Case, cases_in, truth_in, truths_in, values_in, is_not, same_truth, both_truths, only, some_pair, results, span_of}
 use Rattle.bit_compile.specs.CaseRoots.{AddsCases, cases_at, folded, passes, true_cases}
 use Rattle.bit_compile.specs.Known.{AreKnown}
 use Rattle.bit_compile.specs.Scenes.{IsScene, entries_seen, game_seen, codes_seen}
@@ -32,7 +32,7 @@ use Rattle.bit_compile.proofs.CyclesLemmas.{atoms_before, atoms_left, both_made,
 use Rattle.bit_compile.proofs.FormulaFolds.{not_folded, and_folded, or_folded, implies_folded, iff_folded, cmp_folded, add_folded, sub_folded, mul_folded, mod_folded, past_folded, table_folded}
 use Rattle.bit_compile.proofs.EntryLemmas.{functions_of, get-mapped, no_entry, no_table}
 use Rattle.bit_compile.proofs.SceneLemmas.{atoms_counted, entry_made, readable_at, scene_before, table_slot}
-use Rattle.bit_compile.proofs.Pairing.{cases_with, made_leaves, made_left, made_through, made_together, others_kept, other_kept, pairs_with, results_with, seen_are, seen_kept, seen_values}
+use Rattle.bit_compile.proofs.Pairing.{cases_with, made_leaves, made_left, made_through, made_together, others_kept, pairs_with, results_with, seen_are, seen_kept, seen_values}
 use Rattle.bit_compile.proofs.compiling.+compile.Goals as goal
 
 -- ---- one root on the way

@@ -1,8 +1,7 @@
-use Rattle.std.proofs.Common.{◌≡◌, ◌+◌, ◌≤◌, ◌&&◌, ◌∷◌, [], ℕ, List, Ok, ap, arith, length, map, refl, rules, subst, suc, sym, ◌∙◌}
+use Rattle.std.proofs.Common.{◌≡◌, ◌+◌, ◌≤◌, ◌&&◌, ◌∷◌, [], ℕ, Ok, ap, arith, length, map, refl, rules, subst, suc, sym, ◌∙◌}
 use Rattle.std.proofs.lemmas.List.{map-append}
 use Rattle.spec_model.specs.Steps.{below}
 use Rattle.spec_model.specs.Diagrams.{Bits, Function}
-use Rattle.bdd_ops.specs.Contents.{function_at}
 use Rattle.bit_compile.specs.Domains.{level_count}
 use Rattle.bit_compile.specs.Making.{Makes}
 use Rattle.bit_compile.specs.Compiled.{all_of}

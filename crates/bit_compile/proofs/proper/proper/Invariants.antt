@@ -1,6 +1,5 @@
-use Rattle.std.proofs.Common.{◌≡◌, Ok, map}
+use Rattle.std.proofs.Common.{Ok, map}
 use Rattle.spec_model.specs.Steps.{below}
-use Rattle.bdd_ops.specs.Contents.{function_at}
 use Rattle.bit_compile.specs.Making.{Makes}
 use Rattle.bit_compile.specs.Compiled.{all_of}
 use Rattle.bit_compile.specs.Proper.{has_some_value}

@@ -1,6 +1,5 @@
-use Rattle.std.proofs.Common.{List, ap, map, subst, sym, ◌∙◌}
+use Rattle.std.proofs.Common.{ap, map, subst, sym, ◌∙◌}
 use Rattle.spec_model.specs.Values.{DomainData}
-use Rattle.spec_model.specs.Diagrams.{Function}
 use Rattle.bit_compile.specs.CaseRoots.{AddsCases}
 use Rattle.bit_compile.specs.Compiled.{Case, coded, some_of}
 use Rattle.bit_compile.specs.Codes.{domain_in}

@@ -1,11 +1,11 @@
-use Rattle.std.proofs.Common.{◌<◌, ◌∙◌, ℕ, IfOk, List, arith, length, subst}
+use Rattle.std.proofs.Common.{◌<◌, ℕ, IfOk, List, arith, length, subst}
 use Rattle.std.proofs.lemmas.List.{length-map}
 use Rattle.spec_model.specs.Values.{DomainData}
 use Rattle.spec_model.specs.Views.{domain_data, variable_data}
-use Rattle.bit_compile.specs.Compiled.{coded, place_of, variable_domain}
+use Rattle.bit_compile.specs.Compiled.{coded, place_of}
 use Rattle.bit_compile.specs.CaseRoots.{AddsCases}
 use Rattle.bit_compile.specs.Domains.{state_domains}
-use Rattle.bit_compile.specs.Scenes.{codes_seen, game_seen}
+use Rattle.bit_compile.specs.Scenes.{game_seen}
 use Rattle.bit_compile.proofs.DomainLemmas.{domain_countable}
 use Rattle.bit_compile.proofs.Places.{domain_read, domain_well}
 use Rattle.bit_compile.proofs.reading.variable_cases.Goals as goal

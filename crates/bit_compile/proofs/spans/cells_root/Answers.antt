@@ -1,4 +1,4 @@
-use Rattle.std.proofs.Common.{◌≡◌, ◌^◌, ℕ, length, map, sym, subst, ap, ◌∙◌}
+use Rattle.std.proofs.Common.{◌^◌, ℕ, length, map, sym, subst, ap, ◌∙◌}
 use Rattle.bdd_ops.specs.Contents.{function_at}
 use Rattle.bit_compile.specs.declared.cases.CaseRoot.{CaseRoot}
 use Rattle.bit_compile.specs.Making.{Makes}

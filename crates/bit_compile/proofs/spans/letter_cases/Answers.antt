@@ -1,4 +1,4 @@
-use Rattle.std.proofs.Common.{◌^◌, ◌∙◌, ℕ, IfOk, List, ap, arith, length, map, subst, sym}
+use Rattle.std.proofs.Common.{◌^◌, ◌∙◌, ℕ, IfOk, List, ap, arith, length, subst, sym}
 use Rattle.std.proofs.lemmas.List.{length-map}
 use Rattle.std.proofs.lemmas.Nat.{pow_pos}
 use Rattle.spec_model.specs.declared.value.Value.{Value}

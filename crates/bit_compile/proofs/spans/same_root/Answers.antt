@@ -1,10 +1,8 @@
-use Rattle.std.proofs.Common.{◌≡◌, Bool, true, false, List, refl, ap, ◌∙◌}
-use Rattle.std.specs.Bool.{beq}
+use Rattle.std.proofs.Common.{List, ap, ◌∙◌}
 use Rattle.spec_model.specs.Values.{same_value}
 use Rattle.spec_model.specs.Diagrams.{Function}
 use Rattle.bdd_ops.specs.Contents.{function_at}
 use Rattle.bit_compile.specs.Compiled.{Case, both_truths, same_truth, some_pair}
-use Rattle.bit_compile.specs.CaseRoots.{cases_at}
 use Rattle.bit_compile.proofs.Between.{function_stays}
 use Rattle.bit_compile.proofs.Pairing.{made_together, made_through, other_kept, seen_are, seen_kept, both_same}
 use Rattle.bit_compile.proofs.spans.same_root.Goals as goal

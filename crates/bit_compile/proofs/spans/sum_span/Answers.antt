@@ -1,6 +1,5 @@
-use Rattle.std.proofs.Common.{◌≡◌, ◌+ℤ◌, ◌-ℤ◌, ◌*ℤ◌, ℤ, w64, to_z, of_z, arith, refl}
+use Rattle.std.proofs.Common.{◌≡◌, ◌+ℤ◌, w64, to_z, of_z, arith, refl}
 use Rattle.std.proofs.lemmas.Int.{ints}
-use Rattle.spec_model.specs.Values.{WholeNumbers}
 use Rattle.bit_compile.proofs.spans.sum_span.Goals as goal
 
 pub returns : goal.returns

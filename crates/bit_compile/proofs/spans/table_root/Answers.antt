@@ -1,4 +1,4 @@
-use Rattle.std.proofs.Common.{◌≡◌, ◌^◌, ℕ, length, map, List, sym, subst, ap, ◌∙◌}
+use Rattle.std.proofs.Common.{◌^◌, ℕ, length, map, List, sym, subst, ap, ◌∙◌}
 use Rattle.std.proofs.lemmas.List.{length-map}
 use Rattle.spec_model.specs.GameViews.{hidden_data}
 use Rattle.spec_model.specs.Values.{DomainData}

@@ -1,0 +1,25 @@
+use Rattle.std.proofs.Common.{◌∙◌, List, ap, get_or, subst, sym}
+use Rattle.spec_model.specs.GameViews.{game_data, hidden_data}
+use Rattle.spec_model.specs.Values.{DomainData}
+use Rattle.spec_model.specs.Diagrams.{Function}
+use Rattle.regions.specs.declared.types.When.{When}
+use Rattle.game_values.specs.declared.seen.At.TheVariants.{Next}
+use Rattle.bit_compile.specs.Compiled.{is_code, never}
+use Rattle.bit_compile.specs.Making.{Makes}
+use Rattle.bit_compile.proofs.EntryLemmas.{get-mapped}
+use Rattle.state_diagrams.specs.Updates.{update_functions}
+use Rattle.state_diagrams.proofs.UpdateLemmas.{hidden_slot, start_there}
+use Rattle.state_diagrams.proofs.updates.update_member.Goals as goal
+
+pub has_code-requires-clause-known : goal.has_code-requires-clause-known
+has_code-requires-clause-known c = hidden_slot (game_data c.args.game.now) c.args.codes.now c.args.k c.requires.codes c.requires.known
+
+pub returns-in-First : goal.returns-in-First
+returns-in-First c =
+    let g = game_data c.args.game.now in
+    let k = c.args.k in
+    let x = c.index.result.now in
+    let here = ap hidden_data c.index.ensures ∙ sym (get-mapped hidden_data c.args.game.now.hidden.items k x) in
+    let is = ap (λ (ds : List DomainData). is_code ds Next k x.first) c.requires.codes ∙ sym (start_there g k (hidden_data x) c.requires.known here) in
+    subst (λ (w : When). Makes c.args.diagrams.now c.has_code.new.diagrams c.has_code.result (get_or (update_functions g w) k never)) (sym c.in-First.is)
+    (subst (λ (f : Function). Makes c.args.diagrams.now c.has_code.new.diagrams c.has_code.result f) is c.has_code.ensures)
