@@ -7,8 +7,9 @@
 //! A formula's function of these bits is made value by value: each value that a part may have, with where it has it.
 //!
 //! Contract: `Codes::write` gives the bits of a state, `Codes::has_code` the diagram of one value, `compile` that of a formula
-//! over a state and the next one, and `proper::proper` that of the bits that are a state's. A compiled formula is its value
-//! by a clause of `compile`, which rests on the law `laws::compiled_is_the_formula`.
+//! over a state and the next one, `update` that of the next value of a hidden table, and `proper::proper` that of the bits
+//! that are a state's. A compiled formula is its value by a clause of `compile`, which rests on the law
+//! `laws::compiled_is_the_formula`.
 //! Path: game, operations → **codes** → regions as diagrams.
 #![tactic(auto)]
 

@@ -23,7 +23,7 @@ use Rattle.state_diagrams.specs.declared.moves.Members.{Members}
 use Rattle.state_diagrams.specs.declared.lines.Side.TheVariants.{Assumptions, Guarantees}
 use Rattle.state_diagrams.specs.StateBits.{Tells}
 use Rattle.state_diagrams.specs.MoveBits.{TellsMoves, IsOfNext, LeadsToNext, follows}
-use Rattle.state_diagrams.specs.Members.{AreRoots, AreMembers, all_true, functions_at, MoveFunctions, move_functions}
+use Rattle.state_diagrams.specs.Members.{AreRoots, AreMembers, all_true, functions_at, MoveFunctions}
 use Rattle.state_diagrams.specs.Forcing.{FitMoves}
 use Rattle.state_diagrams.specs.Lists.{MakesList}
 use Rattle.state_diagrams.specs.Lines.{functions_judged, MakesMembers}
@@ -147,8 +147,6 @@ pub members_refused_by : (g : GameData) (when : When) (old new : Contents) (r : 
 members_refused_by g when old new (Ok m) h fs is list = absurd is
 members_refused_by g when old new (Err y) h fs is list = members_fail g when old new y fs (subst (λ (k : Halt). MakesList old new (Err k) fs) (sym is) list)
 
--- ---- what is kept of members
-
 -- members that were made are kept
 pub members_kept : (g : GameData) (when : When) (old new : Contents) (m : Members) → MakesMembers g when old new (Ok m) → AreMembers new m
 members_kept g when old new m makes =
@@ -157,11 +155,3 @@ members_kept g when old new m makes =
       outputs = λ i below. (let here = times_here m.outputs.items i below in let all = makes.added (slice_index m.outputs.items i) in omega (arith, here, all));
       update = λ i below. (let here = times_here m.update.items i below in let all = makes.added (slice_index m.update.items i) in omega (arith, here, all));
     }
-
--- and keep their functions
-pub functions_stay : (old new : Contents) → KeepsRoots old new → (m : Members) → AreMembers old m → move_functions new m ≡ move_functions old m
-functions_stay old new keeps m are =
-    let inputs = functions_kept old new keeps m.inputs.items are.inputs in
-    let outputs = functions_kept old new keeps m.outputs.items are.outputs in
-    let update = functions_kept old new keeps m.update.items are.update in
-    λ i. record { inputs = all_true (inputs i); outputs = all_true (outputs i); update = all_true (update i) }

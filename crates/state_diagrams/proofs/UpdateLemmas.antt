@@ -1,5 +1,5 @@
 -- The updates of hidden tables tell whether the next hidden values are the ones that follow.
-use Rattle.std.proofs.Common.{◌≡◌, ℕ, zero, suc, ◌+◌, ◌<◌, pos, ◌-ℤ◌, ◌≤ℤ◌, nat_abs, Bool, true, not, ◌==◌, ◌&&◌, nat_lt, Option, Some, None, List, [], ◌∷◌, ◌++◌, map, length, length-append, get_or, inl, inr, refl, sym, ◌∙◌, ap, subst, arith}
+use Rattle.std.proofs.Common.{◌≡◌, ℕ, zero, suc, ◌+◌, ◌<◌, pos, ◌-ℤ◌, ◌≤ℤ◌, Bool, true, not, ◌==◌, ◌&&◌, nat_lt, Some, None, List, [], ◌∷◌, ◌++◌, map, length, length-append, get_or, inl, inr, refl, sym, ◌∙◌, ap, subst, arith}
 use Rattle.std.specs.List.{list_all, list_any, AllByRecursion}
 use Rattle.std.proofs.lemmas.Bool.{and_parts, or_cases, false≢true}
 use Rattle.std.proofs.lemmas.Int.{ints}
@@ -19,7 +19,7 @@ use Rattle.spec_model.proofs.Domains.{in_range}
 use Rattle.regions.specs.declared.types.When.{When}
 use Rattle.regions.specs.declared.types.When.TheVariants.{First, Later}
 use Rattle.regions.specs.Rules.{is_time}
-use Rattle.game_values.specs.declared.seen.At.TheVariants.{Now, Next}
+use Rattle.game_values.specs.declared.seen.At.TheVariants.{Next}
 use Rattle.bit_compile.specs.Domains.{state_domains, table_domain}
 use Rattle.bit_compile.specs.Compiled.{Case, coded, is_code, never, updates_of}
 use Rattle.bit_compile.proofs.Describing.{Describes, same_value-sym}

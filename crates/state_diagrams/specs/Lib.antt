@@ -8,3 +8,4 @@ pub mod Lines
 pub mod Levels
 pub mod Goals
 pub mod Updates
+pub mod Examples

@@ -1,6 +1,7 @@
 -- The lines of a game: when each is judged, and which functions of bits tell whether it holds.
-use Rattle.std.specs.Prelude.{◌≡◌, ℕ, ◌+◌, Bool, true, false, not, if◌then◌else◌, List, [], ◌∷◌, ◌++◌, map, Result, Err, IfOk, OnErr}
-use Rattle.std.specs.List.{flat_map}
+use Rattle.std.specs.Prelude.{◌≡◌, ℕ, ◌+◌, Bool, true, false, not, if◌then◌else◌, List, [], ◌∷◌, ◌++◌, map, Vec, Result, Ok, Err, IfOk, OnErr}
+use Rattle.std.specs.List.{flat_map, list_all}
+use Rattle.std.specs.declared.alloc.Global.{Global}
 use Rattle.spec_model.specs.Syntax.{Formula}
 use Rattle.spec_model.specs.declared.expr.Expr.{Expr}
 use Rattle.spec_model.specs.Views.{formula}
@@ -8,7 +9,7 @@ use Rattle.spec_model.specs.Moves.{has_next}
 use Rattle.spec_model.specs.Games.{GameData, State}
 use Rattle.spec_model.specs.GameViews.{game_data}
 use Rattle.spec_model.specs.Steps.{Before, waits_for_output, assumptions_hold, guarantees_hold}
-use Rattle.spec_model.specs.WellMade.{WellMade}
+use Rattle.spec_model.specs.WellMade.{WellMade, scope_of, is_step_formula}
 use Rattle.spec_model.specs.Diagrams.{Function, shifted}
 use Rattle.regions.specs.declared.types.When.{When}
 use Rattle.regions.specs.declared.types.When.TheVariants.{First, Later}
@@ -17,8 +18,10 @@ use Rattle.regions.specs.declared.types.Halt.TheVariants as halt
 use Rattle.bdd_store.specs.State.{roots_at, SameRoots, IsFull}
 use Rattle.bdd_ops.specs.Contents.{Contents}
 use Rattle.bdd_ops.specs.Calls.{KeepsRoots}
-use Rattle.bit_compile.specs.Domains.{state_domains}
+use Rattle.bit_compile.specs.Domains.{state_domains, level_count}
 use Rattle.bit_compile.specs.Compiled.{compiled}
+use Rattle.bit_compile.specs.Proper.{proper}
+use Rattle.game_values.specs.declared.seen.At.TheVariants.{Next}
 use Rattle.state_diagrams.specs.declared.lines.Side.{Side}
 use Rattle.state_diagrams.specs.declared.lines.Side.TheVariants.{Assumptions, Guarantees}
 use Rattle.state_diagrams.specs.declared.lines.LineScene.{LineScene}
@@ -26,12 +29,16 @@ use Rattle.state_diagrams.specs.declared.moves.Members.{Members}
 use Rattle.state_diagrams.specs.MoveBits.{LeadsToNext}
 use Rattle.state_diagrams.specs.Members.{move_functions}
 use Rattle.state_diagrams.specs.Forcing.{FitMoves}
-use Rattle.state_diagrams.specs.Lists.{times_in}
+use Rattle.state_diagrams.specs.Lists.{times_in, MakesList}
 
 -- ---- what lines are compiled in
 
 abbrev pub game_seen : LineScene → GameData
 game_seen s = game_data s.game.now
+
+-- how many levels the bits of its states and of the next ones have
+abbrev pub scene_levels : LineScene → ℕ
+scene_levels s = level_count (state_domains (game_seen s))
 
 -- the game is well made, and the bits and the levels are its own
 pub record IsLineScene (s : LineScene) : Type 0 where
@@ -52,6 +59,10 @@ first_lines g Guarantees = g.initial_gar
 abbrev pub safety_lines : GameData → Side → List (ℕ × Formula)
 safety_lines g Assumptions = g.safe_asm
 safety_lines g Guarantees = g.safe_gar
+
+-- each is a Boolean formula over a state and the next one
+abbrev pub AreStepLines : GameData → List (ℕ × Formula) → Type 0
+AreStepLines g lines = list_all (λ l. is_step_formula (scope_of g) l.1) lines ≡ true
 
 -- whether a line is judged one move later
 abbrev pub is_late : GameData → Side → Formula → Bool
@@ -92,7 +103,21 @@ first_functions g to side Later = []
 abbrev pub functions_judged : GameData → (to : List ℕ) → Side → When → List Function
 functions_judged g to side when = first_functions g to side when ++ functions_of g to when (is_late g side) (safety_lines g side)
 
+-- ---- lists of roots that grow
+
+-- the list was made since some time
+abbrev pub IsMade : Contents → Vec ℕ Global → Type 0
+IsMade c roots = (base : Contents) × (fs : List Function) × MakesList base c (Ok roots) fs
+
+-- since whatever time the list was made, it has these functions more, or nothing is left of it
+abbrev pub Appends : (old new : Contents) → Vec ℕ Global → Result (Vec ℕ Global) Halt → List Function → Type 0
+Appends old new so_far result more = (base : Contents) (fs : List Function) → MakesList base old (Ok so_far) fs → MakesList base new result (fs ++ more)
+
 -- ---- the members of moves
+
+-- the functions of a side's lines, and that of the next states
+abbrev pub side_functions : GameData → (to : List ℕ) → Side → When → List Function
+side_functions g to side when = functions_judged g to side when ++ proper (state_domains g) Next ∷ []
 
 -- how often they have the root
 abbrev pub roots_of_members : ℕ → Members → ℕ

@@ -3,6 +3,8 @@
 //! A diagram stands for a set at the present or at the next bits where it is true of the bits of its states and of no
 //! other bits. So two diagrams stand for one set exactly where they are one function.
 //!
+//! Contract: `members` makes the lines of a game's first and later moves, and `forcing` gives the states from which a player
+//! forces a set by them.
 //! Path: codes, operations → **sets as diagrams** → regions as diagrams.
 #![tactic(auto)]
 
@@ -16,4 +18,6 @@ pub mod members;
 pub mod moves;
 pub mod spent;
 pub mod steps;
+#[cfg(test)]
+mod tests;
 pub mod updates;

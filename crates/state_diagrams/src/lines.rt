@@ -3,18 +3,15 @@
 //! A late line is a formula over the state before and the next one, and its diagram is that of the formula. Any other
 //! line is a formula over the next state alone: its diagram reads the next bits where the formula's reads present ones.
 
-ghost use Rattle.std.specs.Prelude.{◌≡◌, ◌++◌, ℕ, List, map, true, false, Ok, IfOk};
-ghost use Rattle.std.specs.List.{list_all};
-ghost use Rattle.spec_model.specs.Diagrams.{Function};
+ghost use Rattle.std.specs.Prelude.{◌≡◌, map, true, false, IfOk};
 ghost use Rattle.spec_model.specs.Moves.{has_next};
 ghost use Rattle.spec_model.specs.Views.{formula};
 ghost use Rattle.spec_model.specs.GameViews.{game_data};
 ghost use Rattle.spec_model.specs.WellMade.{WellMade, scope_of, is_step_formula};
-ghost use Rattle.bdd_ops.specs.Contents.{Contents};
-ghost use Rattle.bit_compile.specs.Domains.{state_domains, level_count};
 ghost use Rattle.bit_compile.specs.Making.{Makes};
 ghost use Rattle.state_diagrams.specs.Lists.{MakesList};
-ghost use Rattle.state_diagrams.specs.Lines.{IsLineScene, game_seen, line_data, first_lines, safety_lines, is_late, is_judged_at, line_function, line_functions, functions_of, first_functions, functions_judged};
+ghost use Rattle.state_diagrams.specs.Lines.{IsLineScene, game_seen, scene_levels, line_data, first_lines, safety_lines, AreStepLines, is_late, is_judged_at};
+ghost use Rattle.state_diagrams.specs.Lines.{line_function, line_functions, functions_of, first_functions, functions_judged, IsMade, Appends};
 
 use crate::lists::{push_made, release_list};
 use crate::spent::shift_spent;
@@ -51,10 +48,11 @@ impl<'a> LineScene<'a> {
 /// The diagram of one line. Refusals are those of `compile`.
 fn line_root(diagrams: &mut Diagrams, scene: &LineScene, late: bool, e: &Expr) -> Result<Root, Halt>
     requires scene { IsLineScene scene.now }
-    requires levels { diagrams.old.state.table.levels ≡ level_count (state_domains (game_seen scene.now)) }
+    requires levels { diagrams.old.state.table.levels ≡ scene_levels scene.now }
     requires formula { is_step_formula (scope_of (game_seen scene.now)) (formula e.now) ≡ true }
     requires late { late ≡ false → has_next (formula e.now) ≡ false }
-    ensures { Makes diagrams.old diagrams.new result (line_function (game_seen scene.now) scene.now.to.now late (formula e.now)) }
+    ensures { let g = game_seen scene.now in
+        Makes diagrams.old diagrams.new result (line_function g scene.now.to.now late (formula e.now)) }
 {
     let whole = compile(diagrams, scene.codes, scene.game, e)?;
     if late {
@@ -84,11 +82,13 @@ fn with_line(
     so_far: Vec<Root>,
 ) -> Result<Vec<Root>, Halt>
     requires scene { IsLineScene scene.now }
-    requires levels { diagrams.old.state.table.levels ≡ level_count (state_domains (game_seen scene.now)) }
+    requires levels { diagrams.old.state.table.levels ≡ scene_levels scene.now }
     requires formula { is_step_formula (scope_of (game_seen scene.now)) (formula e.now) ≡ true }
     requires late { late ≡ false → has_next (formula e.now) ≡ false }
-    requires so_far { (base : Contents) × (fs : List Function) × MakesList base diagrams.old (Ok so_far) fs }
-    ensures { (base : Contents) (fs : List Function) → MakesList base diagrams.old (Ok so_far) fs → MakesList base diagrams.new result (fs ++ line_functions (game_seen scene.now) scene.now.to.now when late (formula e.now)) }
+    requires so_far { IsMade diagrams.old so_far }
+    ensures { let g = game_seen scene.now in
+        Appends diagrams.old diagrams.new so_far result
+        (line_functions g scene.now.to.now when late (formula e.now)) }
 {
     if !is_judged(when, late) {
         return Ok(so_far);
@@ -100,7 +100,8 @@ fn with_line(
 /// Which of a side's lines are late.
 fn marks(game: &Game, side: Side, lines: &[(u32, Expr)]) -> Result<Vec<bool>, OutOfMemory>
     requires { WellMade (game_data game.now) }
-    ensures { IfOk result (λ late. late.items ≡ map (λ l. is_late (game_data game.now) side l.1) (line_data lines.now)) }
+    ensures { let g = game_data game.now in
+        IfOk result (λ late. late.items ≡ map (λ l. is_late g side l.1) (line_data lines.now)) }
 {
     let alloc = *game.vars.allocator();
     match side {
@@ -119,10 +120,12 @@ fn with_lines(
     so_far: Vec<Root>,
 ) -> Result<Vec<Root>, Halt>
     requires scene { IsLineScene scene.now }
-    requires levels { diagrams.old.state.table.levels ≡ level_count (state_domains (game_seen scene.now)) }
-    requires formulas { list_all (λ l. is_step_formula (scope_of (game_seen scene.now)) l.1) (line_data lines.now) ≡ true }
-    requires so_far { (base : Contents) × (fs : List Function) × MakesList base diagrams.old (Ok so_far) fs }
-    ensures { (base : Contents) (fs : List Function) → MakesList base diagrams.old (Ok so_far) fs → MakesList base diagrams.new result (fs ++ functions_of (game_seen scene.now) scene.now.to.now when (is_late (game_seen scene.now) side) (line_data lines.now)) }
+    requires levels { diagrams.old.state.table.levels ≡ scene_levels scene.now }
+    requires formulas { AreStepLines (game_seen scene.now) (line_data lines.now) }
+    requires so_far { IsMade diagrams.old so_far }
+    ensures { let g = game_seen scene.now in
+        Appends diagrams.old diagrams.new so_far result
+        (functions_of g scene.now.to.now when (is_late g side) (line_data lines.now)) }
 {
     let Ok(late) = marks(scene.game, side, lines) else {
         release_list(diagrams, so_far);
@@ -163,8 +166,9 @@ fn first_roots(
     side: Side,
 ) -> Result<Vec<Root>, Halt>
     requires scene { IsLineScene scene.now }
-    requires levels { diagrams.old.state.table.levels ≡ level_count (state_domains (game_seen scene.now)) }
-    ensures { MakesList diagrams.old diagrams.new result (first_functions (game_seen scene.now) scene.now.to.now side when) }
+    requires levels { diagrams.old.state.table.levels ≡ scene_levels scene.now }
+    ensures { let g = game_seen scene.now in
+        MakesList diagrams.old diagrams.new result (first_functions g scene.now.to.now side when) }
 {
     let none = Vec::new(scene.alloc());
     match when {
@@ -176,7 +180,8 @@ fn first_roots(
     }
 }
 
-/// The diagrams of a side's lines that are judged at the first move, or at a later one. Refusals are those of `compile`.
+/// The diagrams of a side's lines that are judged at the first move, or at a later one. Refusals are those of
+/// `compile`.
 pub fn line_roots(
     diagrams: &mut Diagrams,
     scene: &LineScene,
@@ -184,8 +189,9 @@ pub fn line_roots(
     side: Side,
 ) -> Result<Vec<Root>, Halt>
     requires scene { IsLineScene scene.now }
-    requires levels { diagrams.old.state.table.levels ≡ level_count (state_domains (game_seen scene.now)) }
-    ensures { MakesList diagrams.old diagrams.new result (functions_judged (game_seen scene.now) scene.now.to.now side when) }
+    requires levels { diagrams.old.state.table.levels ≡ scene_levels scene.now }
+    ensures { let g = game_seen scene.now in
+        MakesList diagrams.old diagrams.new result (functions_judged g scene.now.to.now side when) }
 {
     let first = first_roots(diagrams, scene, when, side)?;
     let lines = safety_of(scene.game, side);

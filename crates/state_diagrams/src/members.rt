@@ -1,18 +1,16 @@
 //! The members of a game's moves: the diagrams of its lines, of the next states, and of what the hidden tables become.
 
-ghost use Rattle.std.specs.Prelude.{◌≡◌, ◌++◌, ◌∷◌, [], ℕ, List, Ok};
+ghost use Rattle.std.specs.Prelude.{◌≡◌, ◌++◌, List, Ok};
 ghost use Rattle.spec_model.specs.Diagrams.{Function};
 ghost use Rattle.spec_model.specs.GameViews.{game_data};
 ghost use Rattle.spec_model.specs.WellMade.{WellMade};
-ghost use Rattle.game_values.specs.declared.seen.At.TheVariants.{Next};
 ghost use Rattle.bdd_ops.specs.Contents.{Contents};
 ghost use Rattle.bit_compile.specs.Domains.{state_domains, level_count};
-ghost use Rattle.bit_compile.specs.Proper.{proper as proper_lem};
 ghost use Rattle.state_diagrams.specs.MoveBits.{TellsMoves, follows};
 ghost use Rattle.state_diagrams.specs.Members.{AreRoots, all_true, functions_at};
 ghost use Rattle.state_diagrams.specs.Forcing.{AreLevelsOf};
 ghost use Rattle.state_diagrams.specs.Lists.{MakesList};
-ghost use Rattle.state_diagrams.specs.Lines.{IsLineScene, game_seen, functions_judged, MakesMembers};
+ghost use Rattle.state_diagrams.specs.Lines.{IsLineScene, game_seen, scene_levels, side_functions, IsMade, MakesMembers};
 
 use crate::lines::{LineScene, Side, line_roots};
 use crate::lists::{push_made, release_list};
@@ -34,9 +32,9 @@ fn side_roots(
     side: Side,
 ) -> Result<Vec<Root>, Halt>
     requires scene { IsLineScene scene.now }
-    requires levels { diagrams.old.state.table.levels ≡ level_count (state_domains (game_seen scene.now)) }
+    requires levels { diagrams.old.state.table.levels ≡ scene_levels scene.now }
     ensures { let g = game_seen scene.now in
-        MakesList diagrams.old diagrams.new result (functions_judged g scene.now.to.now side when ++ proper_lem (state_domains g) Next ∷ []) }
+        MakesList diagrams.old diagrams.new result (side_functions g scene.now.to.now side when) }
 {
     let lines = line_roots(diagrams, scene, when, side)?;
     let next = proper(diagrams, scene.codes, At::Next);
@@ -45,8 +43,11 @@ fn side_roots(
 
 /// The list with a second root of each of several diagrams, which were kept before the list was begun.
 fn with_kept(diagrams: &mut Diagrams, so_far: Vec<Root>, roots: &[Root]) -> Result<Vec<Root>, Halt>
-    requires { (base : Contents) × (fs : List Function) × MakesList base diagrams.old (Ok so_far) fs × AreRoots base roots.now }
-    ensures { (base : Contents) (fs : List Function) → MakesList base diagrams.old (Ok so_far) fs → AreRoots base roots.now → MakesList base diagrams.new result (fs ++ functions_at base roots.now) }
+    requires { (base : Contents) × (fs : List Function) ×
+        MakesList base diagrams.old (Ok so_far) fs × AreRoots base roots.now }
+    ensures { (base : Contents) (fs : List Function) →
+        MakesList base diagrams.old (Ok so_far) fs → AreRoots base roots.now →
+        MakesList base diagrams.new result (fs ++ functions_at base roots.now) }
 {
     let mut list = so_far;
     for root in roots {
@@ -65,10 +66,11 @@ fn input_roots(
     update: &[Root],
 ) -> Result<Vec<Root>, Halt>
     requires scene { IsLineScene scene.now }
-    requires levels { diagrams.old.state.table.levels ≡ level_count (state_domains (game_seen scene.now)) }
+    requires levels { diagrams.old.state.table.levels ≡ scene_levels scene.now }
     requires update { AreRoots diagrams.old update.now }
     ensures { let g = game_seen scene.now in
-        MakesList diagrams.old diagrams.new result ((functions_judged g scene.now.to.now Side.Assumptions when ++ proper_lem (state_domains g) Next ∷ []) ++ functions_at diagrams.old update.now) }
+        MakesList diagrams.old diagrams.new result
+        (side_functions g scene.now.to.now Side.Assumptions when ++ functions_at diagrams.old update.now) }
 {
     let lines = side_roots(diagrams, scene, when, Side::Assumptions)?;
     with_kept(diagrams, lines, update)
@@ -83,10 +85,13 @@ fn with_inputs(
     outputs: Vec<Root>,
 ) -> Result<Members, Halt>
     requires scene { IsLineScene scene.now }
-    requires levels { diagrams.old.state.table.levels ≡ level_count (state_domains (game_seen scene.now)) }
-    requires lists { (base mid : Contents) × (us os : List Function) × MakesList base mid (Ok update) us × MakesList mid diagrams.old (Ok outputs) os }
+    requires levels { diagrams.old.state.table.levels ≡ scene_levels scene.now }
+    requires lists { (base mid : Contents) × (us os : List Function) ×
+        MakesList base mid (Ok update) us × MakesList mid diagrams.old (Ok outputs) os }
     ensures { let g = game_seen scene.now in
-        (base mid : Contents) (us : List Function) → MakesList base mid (Ok update) us → MakesList mid diagrams.old (Ok outputs) (functions_judged g scene.now.to.now Side.Guarantees when ++ proper_lem (state_domains g) Next ∷ []) → TellsMoves g when (all_true us) (follows g) → MakesMembers g when base diagrams.new result }
+        (base mid : Contents) (us : List Function) → MakesList base mid (Ok update) us →
+        MakesList mid diagrams.old (Ok outputs) (side_functions g scene.now.to.now Side.Guarantees when) →
+        TellsMoves g when (all_true us) (follows g) → MakesMembers g when base diagrams.new result }
 {
     match input_roots(diagrams, scene, when, &update) {
         Ok(inputs) => Ok(Members {
@@ -102,7 +107,7 @@ fn with_inputs(
     }
 }
 
-/// The members with an update that was made.
+/// The members with an update that was made: the lines and the next states come to it.
 fn with_lines_of(
     diagrams: &mut Diagrams,
     scene: &LineScene,
@@ -110,10 +115,11 @@ fn with_lines_of(
     update: Vec<Root>,
 ) -> Result<Members, Halt>
     requires scene { IsLineScene scene.now }
-    requires levels { diagrams.old.state.table.levels ≡ level_count (state_domains (game_seen scene.now)) }
-    requires list { (base : Contents) × (us : List Function) × MakesList base diagrams.old (Ok update) us }
+    requires levels { diagrams.old.state.table.levels ≡ scene_levels scene.now }
+    requires list { IsMade diagrams.old update }
     ensures { let g = game_seen scene.now in
-        (base : Contents) (us : List Function) → MakesList base diagrams.old (Ok update) us → TellsMoves g when (all_true us) (follows g) → MakesMembers g when base diagrams.new result }
+        (base : Contents) (us : List Function) → MakesList base diagrams.old (Ok update) us →
+        TellsMoves g when (all_true us) (follows g) → MakesMembers g when base diagrams.new result }
 {
     match side_roots(diagrams, scene, when, Side::Guarantees) {
         Ok(outputs) => with_inputs(diagrams, scene, when, update, outputs),

@@ -1,4 +1,4 @@
-use Rattle.std.proofs.Common.{◌≡◌, ℕ, List, sym, ◌∙◌, subst}
+use Rattle.std.proofs.Common.{ℕ, List, sym, ◌∙◌, subst}
 use Rattle.spec_model.specs.Diagrams.{Function}
 use Rattle.spec_model.specs.GameViews.{game_data}
 use Rattle.state_diagrams.specs.MoveBits.{TellsMoves, LeadsToNext, follows}

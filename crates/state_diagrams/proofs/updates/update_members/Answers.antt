@@ -1,4 +1,4 @@
-use Rattle.std.proofs.Common.{◌≡◌, ◌≤◌, ◌<◌, ◌++◌, ◌∷◌, [], Ok, List, arith, get_or, length, take, ap, subst, sym, ◌∙◌}
+use Rattle.std.proofs.Common.{◌≤◌, ◌<◌, ◌++◌, ◌∷◌, [], Ok, List, arith, get_or, length, take, subst, sym}
 use Rattle.std.proofs.lemmas.List.{length-map}
 use Rattle.spec_model.specs.Diagrams.{Function}
 use Rattle.spec_model.specs.GameViews.{game_data, hidden_data}
