@@ -1,8 +1,9 @@
 //! A game of four states, worked out by hand: the output y of a position is the input x of the one before. So the states
 //! from which the system forces y next are those of x, and so are those from which the environment does.
 
-ghost use Rattle.std.specs.Prelude.{◌≡◌, ◌≤◌, ◌+◌, ℕ, IfOk};
+ghost use Rattle.std.specs.Prelude.{◌≡◌, ◌<◌, ◌≤◌, ◌+◌, ℕ, length, IfOk};
 ghost use Rattle.spec_model.specs.GameViews.{game_data};
+ghost use Rattle.regions.specs.Rules.{goals_like, number_of};
 ghost use Rattle.regions.specs.Kept.{Item, Region, HasRegion, weight};
 ghost use Rattle.region_bdd.specs.declared.slots.BddRegion.{BddRegion};
 ghost use Rattle.region_bdd.specs.declared.slots.BddMove.{BddMove};
@@ -59,38 +60,48 @@ fn made(rt: &impl Abort, alloc: Global, budget: u32) -> Result<RegionBdd, Halt>
     RegionBdd::make(alloc, follower(alloc).expect(rt, "memory"), budget)
 }
 
-/// Where x holds, and y.
-#[derive(Clone, Copy)]
-enum Set {
-    X,
-    Y,
-}
-
-fn region(rt: &impl Abort, o: &mut RegionBdd, set: Set) -> BddRegion
+/// Where a goal holds.
+fn region(rt: &impl Abort, o: &mut RegionBdd, what: Recur) -> BddRegion
     requires follower { IsFollower (seen o.old) }
+    requires there { number_of what < length (goals_like follower_lem what) }
     ensures made { (w : Item BddRegion BddMove → ℕ) → weight (seen o.new) (λ i m. w i) ≡ w (Region result) + weight (seen o.old) (λ i m. w i) }
     ensures follower { IsFollower (seen o.new) }
 {
-    let made = match set {
-        Set::X => o.holding(Recur::Assumption(0)),
-        Set::Y => o.holding(Recur::Guarantee(0)),
-    };
-    made.expect(rt, "nodes and memory")
+    o.holding(what).expect(rt, "nodes and memory")
 }
 
-/// Whether the states from which a player forces y are those of the other set.
-fn forces_y(rt: &impl Abort, o: &mut RegionBdd, system: bool, other: Set) -> bool
-    requires { IsFollower (seen o.old) }
+#[derive(Clone, Copy)]
+enum Player {
+    System,
+    Environment,
+}
+
+/// From where a player forces a region next.
+fn forced(rt: &impl Abort, o: &mut RegionBdd, player: Player, y: &BddRegion) -> BddRegion
+    requires follower { IsFollower (seen o.old) }
+    requires held { HasRegion (seen o.old) y.now }
+    ensures made { (w : Item BddRegion BddMove → ℕ) → weight (seen o.new) (λ i m. w i) ≡ w (Region result) + weight (seen o.old) (λ i m. w i) }
+    ensures follower { IsFollower (seen o.new) }
+{
+    match player {
+        Player::System => o.pre_sys(y).expect(rt, "nodes and memory"),
+        Player::Environment => o.pre_env(y).expect(rt, "nodes and memory"),
+    }
+}
+
+/// Whether a player forces y from where the other goal holds, and from nowhere else.
+fn forces_y(rt: &impl Abort, o: &mut RegionBdd, player: Player, other: Recur) -> bool
+    requires follower { IsFollower (seen o.old) }
+    requires there { number_of other < length (goals_like follower_lem other) }
     ensures { IsFollower (seen o.new) }
 {
-    let y = region(rt, o, Set::Y);
-    let forced = if system { o.pre_sys(&y) } else { o.pre_env(&y) };
-    let forced = forced.expect(rt, "nodes and memory");
-    let other = region(rt, o, other);
-    let same = o.same(&forced, &other);
+    let y = region(rt, o, Recur::Guarantee(0));
+    let from = forced(rt, o, player, &y);
+    let there = region(rt, o, other);
+    let same = o.same(&from, &there);
     o.spend(y);
-    o.spend(forced);
-    o.spend(other);
+    o.spend(from);
+    o.spend(there);
     same
 }
 
@@ -100,10 +111,15 @@ fn y_is_forced_from_the_states_of_x(rt: HostRuntime) {
         assert!(rt; false, "a hundred nodes are enough");
         return;
     };
-    assert!(rt; forces_y(&rt, &mut o, true, Set::X), "by the system");
-    assert!(rt; forces_y(&rt, &mut o, false, Set::X), "by the environment");
+    let x = Recur::Assumption(0);
+    let y = Recur::Guarantee(0);
+    assert!(rt; forces_y(&rt, &mut o, Player::System, x), "by the system");
     assert!(rt;
-        !forces_y(&rt, &mut o, true, Set::Y),
+        forces_y(&rt, &mut o, Player::Environment, x),
+        "by the environment"
+    );
+    assert!(rt;
+        !forces_y(&rt, &mut o, Player::System, y),
         "from other states than y's"
     );
 }
