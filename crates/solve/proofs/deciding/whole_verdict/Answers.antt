@@ -1,7 +1,4 @@
-use Rattle.std.proofs.Common.{ap, ◌∙◌}
-use Rattle.regions.specs.Kept.{Kept}
-use Rattle.region_rows.specs.declared.slots.RowRegion.{RowRegion}
-use Rattle.region_rows.specs.declared.slots.RowMove.{RowMove}
+use Rattle.std.proofs.Common.{◌∙◌}
 use Rattle.spec_model.specs.Views.{spec_data}
 use Rattle.hidden_game.proofs.MadeGames.{lines_rise}
 use Rattle.solve.proofs.Served.{agrees_with, won_by, lost_by}
@@ -9,14 +6,14 @@ use Rattle.solve.proofs.deciding.whole_verdict.Goals as goal
 
 pub returns-in_ok-k-in-BySystem-clause-verdict : goal.returns-in_ok-k-in-BySystem-clause-verdict
 returns-in_ok-k-in-BySystem-clause-verdict c =
-    let game = c.in_ok-layers.ensures.same.game ∙ ap (λ (k : Kept RowRegion RowMove). k.game) c.in_ok-g.ensures.made in
+    let game = c.in_ok-layers.ensures.same.game ∙ c.in_ok-g.ensures.game in
     let s = spec_data c.args.spec.now in
     let p = c.in_ok-k-in-BySystem.ensures in
     (won_by s c.requires.typed _ game _ p.won, p.plays s (agrees_with s c.requires.typed _ game))
 
 pub returns-in_ok-n-in-ByEnvironment-clause-verdict : goal.returns-in_ok-n-in-ByEnvironment-clause-verdict
 returns-in_ok-n-in-ByEnvironment-clause-verdict c =
-    let game = c.in_ok-layers.ensures.same.game ∙ ap (λ (k : Kept RowRegion RowMove). k.game) c.in_ok-g.ensures.made in
+    let game = c.in_ok-layers.ensures.same.game ∙ c.in_ok-g.ensures.game in
     let s = spec_data c.args.spec.now in
     let p = c.in_ok-n-in-ByEnvironment.ensures in
     (lost_by s c.requires.typed _ game _ _ p.lost, p.plays s (agrees_with s c.requires.typed _ game) (lines_rise s c.requires.typed))
