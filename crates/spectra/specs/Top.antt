@@ -101,9 +101,9 @@ module _ (words : List (List ℕ)) (files : Option Files) (shelf_failed : Type 0
       (command : Command) (name : List ℕ) (nodes : ℕ) (text : List ℕ) (s : Specification) → Asks words command name nodes → told_file files name ≡ Some (Some text) → Reads text s → ¬ shelf_failed →
       Decides command nodes s before after status
 
-  -- and so is an arbiter whose text reads
-  abbrev pub DecidesArbiters : Status → Type 0
-  DecidesArbiters status = (clients nodes : ℕ) (s : Specification) → AsksArbiter words clients nodes → Reads (arbiter_text clients) s → DecidesArbiter clients nodes s before after status
+-- an arbiter whose text reads is decided below its line
+abbrev pub DecidesArbiters : List (List ℕ) → (before after : Moment) → Status → Type 0
+DecidesArbiters words before after status = (clients nodes : ℕ) (s : Specification) → AsksArbiter words clients nodes → Reads (arbiter_text clients) s → DecidesArbiter clients nodes s before after status
 
 -- Words that are no command get their status, and so do names of no file and texts that are refused.
 module _ (words : List (List ℕ)) (files : Option Files) where
