@@ -8,7 +8,7 @@ ghost use Rattle.solve.specs.Verdicts.{AreNumbersOf, IsVerdictOn};
 
 use crate::answers::{Numbers, Verdict};
 use crate::playing::{environment_play, system_play};
-use crate::solving::{Solved, counted, solve_game};
+use crate::solving::{Solved, game_numbers, solve_game};
 use crate::space::space_of;
 use regions::Halt;
 use spec_model::spec::Spec;
@@ -22,8 +22,7 @@ pub fn whole_numbers(alloc: Global, spec: &Spec, budget: u32) -> Result<Numbers,
     ensures numbers { IfOk result (AreNumbersOf (spec_data spec.now)) }
 {
     let mut g = space_of(alloc, spec, budget)?;
-    let layers = solve_game(alloc, &mut g)?;
-    Ok(counted(&mut g, layers))
+    game_numbers(alloc, &mut g)
 }
 
 /// Who wins a specification, with the numbers and a strategy, which must be closed. `Budget`: the nodes ran out. `Memory`: none

@@ -24,6 +24,7 @@ pub use cores::{core_of, core_of_lost};
 pub use deciding::{numbers, verdict, whole_numbers, whole_verdict};
 pub use laws::{no_specification_is_won_by_both, one_of_both_wins};
 pub use separation::{Separation, separated};
+pub use solving::game_numbers;
 pub use space::Space;
 
 #[cfg(test)]

@@ -22,6 +22,7 @@ mod forms;
 mod kinds;
 mod limits;
 mod names;
+mod rows;
 mod sessions;
 mod verdicts;
 
