@@ -16,13 +16,14 @@ use Rattle.solve.specs.Winners.{IsWonBySystem, IsWonByEnvironment}
 use Rattle.spectra_words.specs.declared.words.Command.{Command}
 use Rattle.spectra_words.specs.declared.words.Command.TheVariants.{Synth, Run, Core, Separate, Counter, Audit}
 use Rattle.spectra_words.specs.Commands.{AskNothing}
+use Rattle.spec_gen.specs.Arbiter.{arbiter_text}
 use Rattle.spectra.specs.declared.status.Status.{Status}
 use Rattle.spectra.specs.declared.status.Status.TheVariants.{Memory}
-use Rattle.spectra.specs.Endings.{usage, no_file, shelf_fault, refused, realizable, unrealizable, realizable_instead, with_core, separated, not_separated}
-use Rattle.spectra.specs.Streams.{Moment, moment, Ends, WantsMemory, SaysNoVerdict}
+use Rattle.spectra.specs.Endings.{usage, no_file, shelf_fault, refused, realizable, unrealizable, realizable_instead, with_core, separated, not_separated, arbiter_line}
+use Rattle.spectra.specs.Streams.{Moment, moment, Ends, WantsMemory, SaysNoVerdict, Heads}
 use Rattle.spectra.specs.Sessions.{Holds, Counters, Audits}
 use Rattle.spectra.specs.Reading.{HasTypeFault}
-use Rattle.spectra.specs.Top.{won, held, lost, won_instead, countered, has_core, separates, separates_not, audits, IsSaidOfSyntax, Decides, ServesText, ServesFile, ServesWords}
+use Rattle.spectra.specs.Top.{won, held, lost, won_instead, countered, has_core, separates, separates_not, audits, IsSaidOfSyntax, Decides, ServesText, ServesFile, ServesWords, ServesArbiter, arbiter_name}
 use Rattle.spectra.specs.Top as top
 
 -- nothing was done: no memory was given
@@ -143,3 +144,10 @@ module _ (command : Command) (nodes : ℕ) (name : List ℕ) (before after : Mom
 pub usage_said : (words : List (List ℕ)) (files : Option Files) (failed : Type 0) (before after : Moment) (status : Status) → AskNothing words → Ends usage before after status ⊎ WantsMemory before after status → ServesWords words files failed before after status
 usage_said words files failed before after status nothing (inl writes) = top.no_command nothing writes
 usage_said words files failed before after status nothing (inr wants) = top.no_memory wants
+
+-- the line of an arbiter, and what is written below it for its text
+pub below_its_line : (clients nodes : ℕ) (line text : List ℕ) (before after : Moment) (status : Status) → line ≡ arbiter_line clients → text ≡ arbiter_text clients →
+    Heads line (λ (b a : Moment). ServesText Synth nodes arbiter_name b a text) before after status → ServesArbiter clients nodes before after status
+below_its_line clients nodes line text before after status is same serves =
+    subst (λ (l : List ℕ). Heads l (λ (b a : Moment). ServesText Synth nodes arbiter_name b a (arbiter_text clients)) before after status) is
+    (subst (λ (t : List ℕ). Heads line (λ (b a : Moment). ServesText Synth nodes arbiter_name b a t) before after status) same serves)

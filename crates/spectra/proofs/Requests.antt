@@ -1,5 +1,5 @@
 -- Words ask for one thing alone.
-use Rattle.std.proofs.Common.{◌≡◌, ℕ, List, Option, Some, None, sum, refl, sym, ap, arith, ◌∙◌}
+use Rattle.std.proofs.Common.{◌≡◌, ◌≤◌, ℕ, List, Option, Some, None, sum, refl, sym, ap, arith, ◌∙◌}
 use Rattle.std.specs.Str.Parse.{digits_value}
 use Rattle.spectra_words.specs.declared.words.Command.{Command}
 use Rattle.spectra_words.specs.declared.words.Command.TheVariants.{Synth, Run, Core, Separate, Counter, Audit}
@@ -37,6 +37,11 @@ one_word command other same = one_sum command other (sym (summed command) ∙ ap
 one_number : (word : Option (List ℕ)) (n m : ℕ) → IsBudget word n → IsBudget word m → n ≡ m
 one_number None n m is also = is ∙ sym also
 one_number (Some digits) n m is also = is.1 ∙ sym also.1
+
+-- a budget is of two nodes at least
+pub two_nodes : (word : Option (List ℕ)) (nodes : ℕ) → IsBudget word nodes → 2 ≤ nodes
+two_nodes None nodes is = omega (arith, is)
+two_nodes (Some digits) nodes is = is.2
 
 module _ (words : List (List ℕ)) (command other : Command) (name name' : List ℕ) (nodes nodes' : ℕ) (asks : Asks words command name nodes) (also : Asks words other name' nodes') where
   pub one_file : name' ≡ name

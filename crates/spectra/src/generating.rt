@@ -2,8 +2,9 @@
 
 ghost use Rattle.std.specs.Prelude.{◌≡◌, ◌≤◌};
 ghost use Rattle.spec_gen.specs.Arbiter.{arbiter_text};
-ghost use Rattle.spectra.specs.Streams.{moments};
-ghost use Rattle.spectra.specs.Top.{ServesArbiter};
+ghost use Rattle.spectra_words.specs.declared.words.Command.TheVariants as commands;
+ghost use Rattle.spectra.specs.Streams.{moments, Heads};
+ghost use Rattle.spectra.specs.Top.{ServesText, ServesArbiter, arbiter_name};
 
 use crate::saying::arbiter_line;
 use crate::serving::serve_text;
@@ -13,7 +14,31 @@ use spec_gen::arbiter;
 use spectra_words::{Command, Request};
 use std::alloc::Global;
 
-// Writes the line of an arbiter, and below it the verdict on its text.
+// Writes a line, and below it what `synth` writes for the text of an arbiter.
+fn serve_below<I: Source, O: Sink>(
+    alloc: Global,
+    nodes: u32,
+    line: &[u8],
+    text: &[u8],
+    input: &mut I,
+    output: &mut O,
+) -> Status
+    requires budget { 2 ≤ nodes }
+    ensures { let at = moments I.left O.written I.faults O.faults in
+        Heads line.now (λ before after. ServesText commands.Synth nodes arbiter_name before after text.now) (at input.old output.old) (at input.new output.new) result }
+{
+    let request = Request {
+        command: Command::Synth,
+        file: "arbiter",
+        nodes,
+    };
+    match write_line(output, line) {
+        Ok(()) => serve_text(alloc, request, text, input, output),
+        Err(_) => Status::OutputFault,
+    }
+}
+
+// Does what is asked for with the text of an arbiter.
 fn serve_arbiter_text<I: Source, O: Sink>(
     alloc: Global,
     clients: u32,
@@ -27,17 +52,9 @@ fn serve_arbiter_text<I: Source, O: Sink>(
     ensures { let at = moments I.left O.written I.faults O.faults in
         ServesArbiter clients nodes (at input.old output.old) (at input.new output.new) result }
 {
-    let Ok(line) = arbiter_line(alloc, clients) else {
-        return Status::Memory;
-    };
-    let request = Request {
-        command: Command::Synth,
-        file: "arbiter",
-        nodes,
-    };
-    match write_line(output, line.as_bytes()) {
-        Ok(()) => serve_text(alloc, request, text, input, output),
-        Err(_) => Status::OutputFault,
+    match arbiter_line(alloc, clients) {
+        Ok(line) => serve_below(alloc, nodes, line.as_bytes(), text, input, output),
+        Err(_) => Status::Memory,
     }
 }
 
