@@ -5,11 +5,11 @@ import time
 
 
 def seconds(command, expected, rounds):
-    """The least seconds of some runs, each of which is to write the expected line."""
+    """The least seconds of some runs, each of which is to write the expected line; the input is empty."""
     least = None
     for _ in range(rounds):
         before = time.perf_counter()
-        run = subprocess.run(command, stdout=subprocess.PIPE, text=True, check=False)
+        run = subprocess.run(command, stdin=subprocess.DEVNULL, stdout=subprocess.PIPE, text=True, check=False)
         took = time.perf_counter() - before
         if run.stdout != expected:
             sys.exit(f"{command}: {run.stdout!r}")

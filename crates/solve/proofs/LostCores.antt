@@ -1,17 +1,13 @@
 -- What the judge's places say of the line numbers of a specification that is unrealizable.
-use Rattle.std.proofs.Common.{◌≡◌, ℕ, ◌<◌, List, length, sym, ap, subst, inr}
+use Rattle.std.proofs.Common.{◌≡◌, ℕ, ◌<◌, List, length, subst}
 use Rattle.std.specs.List.{All}
 use Rattle.spec_model.specs.Syntax.{Specification}
 use Rattle.spec_model.specs.WellTyped.{WellTyped}
 use Rattle.spec_model.specs.Cores.{Realizable, Unrealizable, guarantees_of, IsLeft}
-use Rattle.spec_model.specs.Needs.{Tried}
 use Rattle.core_min.specs.Sets as sets
 use Rattle.core_min.proofs.Turns.{left_is_set}
-use Rattle.solve.specs.declared.fault.SolveFault.{SolveFault}
-use Rattle.solve.specs.declared.fault.SolveFault.TheVariants.{TooManyStates}
-use Rattle.solve.specs.States.{HasManyStates}
-use Rattle.solve.specs.Places.{at_places, part_at, IsFaultOf}
-use Rattle.solve.proofs.Places.{left_at, asked_at, all_lose}
+use Rattle.solve.specs.Places.{at_places, part_at}
+use Rattle.solve.proofs.Places.{left_at, all_lose}
 
 -- t is the specification that is judged, which is s
 module _ (s t : Specification) (is : t ≡ s) (n : ℕ) (count : n ≡ length (guarantees_of s)) where
@@ -30,12 +26,3 @@ module _ (s t : Specification) (is : t ≡ s) (n : ℕ) (count : n ≡ length (g
 
   pub left_numbers : WellTyped s → (places : List ℕ) → sets.IsLeft IsWon n places → IsLeft s (at_places (guarantees_of s) places)
   left_numbers typed places left = left_at s typed places (on_whole (λ u k. sets.IsLeft (λ set. Realizable (part_at u set)) k places) left)
-
-  pub many_tried : WellTyped s → (set : List ℕ) (fault : SolveFault) → sets.IsAsked IsWon n set → IsFaultOf (part_at t set) fault → fault ≡ TooManyStates →
-      (tried : Specification) × Tried s tried × HasManyStates tried
-  many_tried typed set fault asked allowed is_many =
-      let many : HasManyStates (part_at t set) = subst (IsFaultOf (part_at t set)) is_many allowed in (
-        part_at s set,
-        inr (asked_at s typed set (on_whole (λ u k. sets.IsAsked (λ set. Realizable (part_at u set)) k set) asked)),
-        subst (λ (u : Specification). HasManyStates (part_at u set)) is many,
-      )

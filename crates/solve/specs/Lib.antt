@@ -1,4 +1,4 @@
-pub mod States
+pub mod Spaces
 pub mod Winners
 pub mod Solved
 pub mod Verdicts

@@ -2,14 +2,9 @@
 use Rattle.std.specs.Prelude.{◌≡◌, ℕ, [], length}
 use Rattle.spec_model.specs.Syntax.{Specification}
 use Rattle.spec_model.specs.Games.{GameData}
-use Rattle.spec_model.specs.GameViews.{game_data}
 use Rattle.spec_model.specs.Agreement.{Agrees}
 use Rattle.spec_model.specs.Laws.{NumbersRise}
 use Rattle.regions.specs.Kept.{Kept}
-use Rattle.region_rows.specs.declared.rows.RegionRows.{RegionRows}
-use Rattle.region_rows.specs.declared.slots.RowRegion.{RowRegion}
-use Rattle.region_rows.specs.declared.slots.RowMove.{RowMove}
-use Rattle.region_rows.specs.Slots.{kept_in}
 use Rattle.gr1_law.specs.Layers.{round_count}
 use Rattle.gr1_law.specs.EnvLayers.{denial_count}
 use Rattle.gr1_sys.specs.Held.{ranks_of}
@@ -22,11 +17,8 @@ use Rattle.solve.specs.declared.answers.Numbers.{Numbers}
 use Rattle.solve.specs.declared.answers.Numbers.TheVariants as numbers
 use Rattle.solve.specs.declared.answers.Verdict.{Verdict}
 use Rattle.solve.specs.declared.answers.Verdict.TheVariants.{Realizable, Unrealizable}
+use Rattle.solve.specs.Spaces.{space_kept}
 use Rattle.solve.specs.Winners.{IsWonGame, IsLostGame, IsWonBySystem, IsWonByEnvironment}
-
--- what rows keep
-abbrev pub rows_kept : RegionRows → Kept RowRegion RowMove
-rows_kept r = kept_in (game_data r.numbered.game) r.slots.slots.items
 
 -- The strategy has made no move, it stands for the empty play, its game is the specification's, and k is its number of rounds.
 pub record IsPlayFor {G R M : Type 0} (kept : G → Kept R M) (s : Specification) (k : ℕ) (c : Controller G R M) : Type 0 where
@@ -57,5 +49,5 @@ AreNumbersOf s (numbers.Unrealizable n m) = IsWonByEnvironment s n m
 
 -- the winner, with the numbers and the strategy
 abbrev pub IsVerdictOn : Specification → Verdict → Type 0
-IsVerdictOn s (Realizable k play) = IsWonBySystem s k × IsPlayFor rows_kept s k play
-IsVerdictOn s (Unrealizable n m play) = IsWonByEnvironment s n m × IsCounterplayFor rows_kept s n m play
+IsVerdictOn s (Realizable k play) = IsWonBySystem s k × IsPlayFor space_kept s k play
+IsVerdictOn s (Unrealizable n m play) = IsWonByEnvironment s n m × IsCounterplayFor space_kept s n m play

@@ -35,12 +35,6 @@ pub record IsLostGame (g : GameData) (n m : ℕ) : Type 0 where
 abbrev pub EnvironmentForces : GameData → Type 0
 EnvironmentForces g = (e : EnvLayerSets) (n : ℕ) → AreEnvLayers g e → IsLayerCount e n → environment_forces g (e.z n) None ≡ true
 
--- ---- the budget of nodes
-
--- rows take no nodes, so that no budget of nodes is too small for them
-abbrev pub FillsRows : Type 0
-FillsRows = ⊥
-
 -- ---- specifications
 
 -- The system wins the specification with K, the number of its game.

@@ -1,8 +1,8 @@
 //! Who wins, as it is answered.
 
+use crate::space::Space;
 use controller::Controller;
 use counterstrategy::Counterstrategy;
-use region_rows::RegionRows;
 
 /// Who wins, with the numbers.
 #[derive(Clone, Copy, Debug, PartialEq, Eq)]
@@ -18,12 +18,12 @@ pub enum Verdict {
     /// The system, with K rounds. The play must be closed.
     Realizable {
         k: u64,
-        play: Controller<RegionRows>,
+        play: Controller<Space>,
     },
     /// The environment, with N shifts and M denials in a row. The play must be closed.
     Unrealizable {
         n: u64,
         m: u64,
-        play: Counterstrategy<RegionRows>,
+        play: Counterstrategy<Space>,
     },
 }

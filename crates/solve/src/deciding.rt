@@ -1,42 +1,38 @@
 //! The verdict on a specification, and on one with a part of its guarantees.
 
-ghost use Rattle.std.specs.Prelude.{◌≡◌, IfOk, OnOk, IsErrOf};
+ghost use Rattle.std.specs.Prelude.{◌≤◌, IfOk};
 ghost use Rattle.spec_model.specs.Views.{spec_data};
 ghost use Rattle.spec_model.specs.WellTyped.{WellTyped};
 ghost use Rattle.spec_model.specs.Cores.{with_guarantees};
-ghost use Rattle.solve.specs.States.{HasFewStates, HasManyStates};
 ghost use Rattle.solve.specs.Verdicts.{AreNumbersOf, IsVerdictOn};
 
 use crate::answers::{Numbers, Verdict};
-use crate::fault::SolveFault;
 use crate::playing::{environment_play, system_play};
-use crate::rows::rows_of;
-use crate::solving::{Solved, counted, solve_game};
+use crate::solving::{Solved, game_numbers, solve_game};
+use crate::space::space_of;
+use regions::Halt;
 use spec_model::spec::Spec;
 use spec_parts::without;
 use std::alloc::Global;
 
-/// Who wins a specification, with the numbers. `TooManyStates`: there are more than 1,024. `Memory`: none was given.
-pub fn whole_numbers(alloc: Global, spec: &Spec) -> Result<Numbers, SolveFault>
+/// Who wins a specification, with the numbers. `Budget`: the nodes ran out. `Memory`: none was given.
+pub fn whole_numbers(alloc: Global, spec: &Spec, budget: u32) -> Result<Numbers, Halt>
     requires typed { WellTyped (spec_data spec.now) }
+    requires budget { 2 ≤ budget }
     ensures numbers { IfOk result (AreNumbersOf (spec_data spec.now)) }
-    ensures few { OnOk result (HasFewStates (spec_data spec.now)) }
-    ensures too_many_states { IsErrOf result SolveFault.TooManyStates → HasManyStates (spec_data spec.now) }
 {
-    let mut g = rows_of(alloc, spec)?;
-    let layers = solve_game(alloc, &mut g)?;
-    Ok(counted(&mut g, layers))
+    let mut g = space_of(alloc, spec, budget)?;
+    game_numbers(alloc, &mut g)
 }
 
-/// Who wins a specification, with the numbers and a strategy, which must be closed. `TooManyStates`: there are more than
-/// 1,024. `Memory`: none was given.
-pub fn whole_verdict(alloc: Global, spec: &Spec) -> Result<Verdict, SolveFault>
+/// Who wins a specification, with the numbers and a strategy, which must be closed. `Budget`: the nodes ran out. `Memory`: none
+/// was given.
+pub fn whole_verdict(alloc: Global, spec: &Spec, budget: u32) -> Result<Verdict, Halt>
     requires typed { WellTyped (spec_data spec.now) }
+    requires budget { 2 ≤ budget }
     ensures verdict { IfOk result (IsVerdictOn (spec_data spec.now)) }
-    ensures few { OnOk result (HasFewStates (spec_data spec.now)) }
-    ensures too_many_states { IsErrOf result SolveFault.TooManyStates → HasManyStates (spec_data spec.now) }
 {
-    let mut g = rows_of(alloc, spec)?;
+    let mut g = space_of(alloc, spec, budget)?;
     match solve_game(alloc, &mut g)? {
         Solved::BySystem(layers) => {
             let (k, play) = system_play(alloc, g, layers)?;
@@ -50,25 +46,27 @@ pub fn whole_verdict(alloc: Global, spec: &Spec) -> Result<Verdict, SolveFault>
 }
 
 /// Who wins the specification that keeps of the guarantees only those whose line numbers are in `kept`, with the numbers.
-/// `TooManyStates`: it has more than 1,024. `Memory`: none was given.
-pub fn numbers(alloc: Global, spec: &Spec, kept: &[u32]) -> Result<Numbers, SolveFault>
+/// `Budget`: the nodes ran out. `Memory`: none was given.
+pub fn numbers(alloc: Global, spec: &Spec, kept: &[u32], budget: u32) -> Result<Numbers, Halt>
     requires typed { WellTyped (spec_data spec.now) }
+    requires budget { 2 ≤ budget }
     ensures numbers { IfOk result (AreNumbersOf (with_guarantees (spec_data spec.now) kept.now)) }
-    ensures few { OnOk result (HasFewStates (with_guarantees (spec_data spec.now) kept.now)) }
-    ensures too_many_states { IsErrOf result SolveFault.TooManyStates → HasManyStates (with_guarantees (spec_data spec.now) kept.now) }
 {
-    let part = without(alloc, spec, kept)?;
-    whole_numbers(alloc, &part)
+    let Ok(part) = without(alloc, spec, kept) else {
+        return Err(Halt::Memory);
+    };
+    whole_numbers(alloc, &part, budget)
 }
 
-/// Who wins that specification, with the numbers and a strategy, which must be closed. `TooManyStates`: it has more than
-/// 1,024. `Memory`: none was given.
-pub fn verdict(alloc: Global, spec: &Spec, kept: &[u32]) -> Result<Verdict, SolveFault>
+/// Who wins that specification, with the numbers and a strategy, which must be closed. `Budget`: the nodes ran out. `Memory`:
+/// none was given.
+pub fn verdict(alloc: Global, spec: &Spec, kept: &[u32], budget: u32) -> Result<Verdict, Halt>
     requires typed { WellTyped (spec_data spec.now) }
+    requires budget { 2 ≤ budget }
     ensures verdict { IfOk result (IsVerdictOn (with_guarantees (spec_data spec.now) kept.now)) }
-    ensures few { OnOk result (HasFewStates (with_guarantees (spec_data spec.now) kept.now)) }
-    ensures too_many_states { IsErrOf result SolveFault.TooManyStates → HasManyStates (with_guarantees (spec_data spec.now) kept.now) }
 {
-    let part = without(alloc, spec, kept)?;
-    whole_verdict(alloc, &part)
+    let Ok(part) = without(alloc, spec, kept) else {
+        return Err(Halt::Memory);
+    };
+    whole_verdict(alloc, &part, budget)
 }

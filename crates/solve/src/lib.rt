@@ -1,7 +1,7 @@
 //! Who wins a specification, with which numbers, and by which strategy.
 //!
-//! The game of a specification is solved over sets of its states, as rows: first for the system, and where it doesn't win, for
-//! the environment. One of the two wins each game (Bloem et al. 2012, solving GR(1) games).
+//! The game of a specification is solved over sets of its states, first for the system, and where it doesn't win, for the
+//! environment. One of the two wins each game (Bloem et al. 2012, solving GR(1) games). Each call has a budget of nodes.
 //!
 //! Contract: `verdict`, whose numbers are true of all plays, and whose strategy is fresh and of that specification; `numbers`
 //! says the same and makes no strategy. `core_of` gives what is left of the guarantees of an unrealizable specification, tried
@@ -12,20 +12,20 @@
 mod answers;
 mod cores;
 mod deciding;
-mod fault;
 mod laws;
 mod parts;
 mod playing;
-mod rows;
 mod separation;
 mod solving;
+mod space;
 
 pub use answers::{Numbers, Verdict};
 pub use cores::{core_of, core_of_lost};
 pub use deciding::{numbers, verdict, whole_numbers, whole_verdict};
-pub use fault::SolveFault;
 pub use laws::{no_specification_is_won_by_both, one_of_both_wins};
 pub use separation::{Separation, separated};
+pub use solving::game_numbers;
+pub use space::Space;
 
 #[cfg(test)]
 mod tests;

@@ -11,8 +11,8 @@ ghost use Rattle.solve.specs.OneSpelling.{IsName-prop};
 
 use crate::answers::Numbers;
 use crate::deciding::numbers;
-use crate::fault::SolveFault;
 use core_min::Judge;
+use regions::Halt;
 use spec_model::spec::{Line, Role, Spec};
 use std::alloc::{AllocError, Global};
 
@@ -26,11 +26,14 @@ pub struct Parts<'a> {
     numbers: &'a [u32],
     /// The line numbers of the part that is judged.
     part: Vec<u32>,
+    /// The budget of each part.
+    budget: u32,
     faults: u64,
-    fault: Option<SolveFault>,
+    fault: Option<Halt>,
     /// The part that the last fault was answered for.
     asked: Vec<usize>,
     ghost typed: { WellTyped (spec_data spec.now) } by { Prim.hlevel (props, IsName-prop) },
+    ghost enough: { 2 ≤ budget },
     ghost numbered: { numbers.now ≡ guarantees_of (spec_data spec.now) },
     ghost part_room: { length numbers.now ≤ vec_capacity part },
     ghost asked_room: { length numbers.now ≤ vec_capacity asked },
@@ -40,8 +43,14 @@ impl<'a> Parts<'a> {
     ghost use Rattle.solve.specs.Judged.{whole_of};
 
     /// Takes all the room that judging parts wants for itself.
-    pub fn make(alloc: Global, spec: &'a Spec, numbers: &'a [u32]) -> Result<Parts<'a>, AllocError>
+    pub fn make(
+        alloc: Global,
+        spec: &'a Spec,
+        numbers: &'a [u32],
+        budget: u32,
+    ) -> Result<Parts<'a>, AllocError>
         requires typed { WellTyped (spec_data spec.now) }
+        requires budget { 2 ≤ budget }
         requires numbers { numbers.now ≡ guarantees_of (spec_data spec.now) }
         ensures { IfOk result (λ p. whole_of p ≡ spec_data spec.now) }
     {
@@ -50,6 +59,7 @@ impl<'a> Parts<'a> {
             spec,
             numbers,
             part: Vec::with_capacity(alloc, numbers.len())?,
+            budget,
             faults: 0,
             fault: None,
             asked: Vec::with_capacity(alloc, numbers.len())?,
@@ -60,31 +70,31 @@ impl<'a> Parts<'a> {
 impl Judge for Parts<'_> {
     ghost use Rattle.spec_model.specs.Cores.{Realizable};
     ghost use Rattle.solve.specs.Judged.{whole_of, last_of};
-    ghost use Rattle.solve.specs.Places.{part_at, parts_win, IsFaultOf};
+    ghost use Rattle.solve.specs.Places.{part_at, parts_win, MayHalt};
 
-    type Fault = SolveFault;
+    type Fault = Halt;
 
     ghost size = { λ p. length (guarantees_of (whole_of p)) };
 
     ghost IsWinning = { λ p places. Realizable (part_at (whole_of p) places) };
 
-    ghost MayFail = { λ p places fault. IsFaultOf (part_at (whole_of p) places) fault };
+    ghost MayFail = { λ p places halt. MayHalt (part_at (whole_of p) places) halt };
 
     ghost faults = { λ p. p.faults };
 
     ghost last = { last_of };
 
-    fn wins(&mut self, kept: &[usize]) -> Result<bool, SolveFault> {
+    fn wins(&mut self, kept: &[usize]) -> Result<bool, Halt> {
         pick(self.numbers, kept, &mut self.part);
-        match numbers(self.alloc, self.spec, &self.part) {
+        match numbers(self.alloc, self.spec, &self.part, self.budget) {
             Ok(Numbers::Realizable { .. }) => Ok(true),
             Ok(Numbers::Unrealizable { .. }) => Ok(false),
-            Err(fault) => {
+            Err(halt) => {
                 self.faults = self.faults.saturating_add(1);
-                self.fault = Some(fault);
+                self.fault = Some(halt);
                 self.asked.clear();
                 self.asked.extend_from_slice(kept).unwrap();
-                Err(fault)
+                Err(halt)
             }
         }
     }

@@ -1,15 +1,14 @@
 //! Whether the environment can meet its assumptions whatever the system does.
 
-ghost use Rattle.std.specs.Prelude.{◌≡◌, IfOk, OnOk, IsErrOf};
+ghost use Rattle.std.specs.Prelude.{◌≤◌, IfOk};
 ghost use Rattle.spec_model.specs.Views.{spec_data};
 ghost use Rattle.spec_model.specs.WellTyped.{WellTyped};
-ghost use Rattle.spec_model.specs.Cores.{HasRoomForOne, forced as forced_lem};
-ghost use Rattle.solve.specs.States.{HasFewStates, HasManyStates};
+ghost use Rattle.spec_model.specs.Cores.{HasRoomForOne};
 ghost use Rattle.solve.specs.Separations.{IsSeparationOf};
 
 use crate::answers::Numbers;
 use crate::deciding::whole_numbers;
-use crate::fault::SolveFault;
+use regions::Halt;
 use spec_model::spec::Spec;
 use spec_parts::forced;
 use std::alloc::Global;
@@ -24,17 +23,17 @@ pub enum Separation {
     Forced { k: u64 },
 }
 
-/// Whether a specification is separated. `TooManyStates`: with the one guarantee it has more than 1,024. `Memory`: none was
-/// given.
-pub fn separated(alloc: Global, spec: &Spec) -> Result<Separation, SolveFault>
+/// Whether a specification is separated. `Budget`: the nodes ran out. `Memory`: none was given.
+pub fn separated(alloc: Global, spec: &Spec, budget: u32) -> Result<Separation, Halt>
     requires typed { WellTyped (spec_data spec.now) }
+    requires budget { 2 ≤ budget }
     requires room { HasRoomForOne (spec_data spec.now) }
     ensures separation { IfOk result (IsSeparationOf (spec_data spec.now)) }
-    ensures few { OnOk result (HasFewStates (forced_lem (spec_data spec.now))) }
-    ensures too_many_states { IsErrOf result SolveFault.TooManyStates → HasManyStates (forced_lem (spec_data spec.now)) }
 {
-    let forced_spec = forced(alloc, spec)?;
-    match whole_numbers(alloc, &forced_spec)? {
+    let Ok(forced_spec) = forced(alloc, spec) else {
+        return Err(Halt::Memory);
+    };
+    match whole_numbers(alloc, &forced_spec, budget)? {
         Numbers::Realizable { k } => Ok(Separation::Forced { k }),
         Numbers::Unrealizable { n, m } => Ok(Separation::Separated { n, m }),
     }

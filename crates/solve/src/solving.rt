@@ -71,3 +71,13 @@ pub fn counted<G: Regions>(g: &mut G, solved: Solved<G>) -> Numbers
         }
     }
 }
+
+/// The winner's numbers of the game of these regions. `Budget`: the nodes ran out. `Memory`: none was given.
+pub fn game_numbers<G: Regions>(alloc: Global, g: &mut G) -> Result<Numbers, Halt>
+    requires free { (G.kept g.old).jam ≡ None }
+    requires made { WellMade (G.kept g.old).game }
+    ensures numbers { IfOk result (AreNumbersOfGame (G.kept g.old).game) }
+{
+    let solved = solve_game(alloc, g)?;
+    Ok(counted(g, solved))
+}

@@ -5,27 +5,30 @@ mod samples;
 ghost use Rattle.spec_model.specs.Views.{spec_data};
 ghost use Rattle.solve.specs.Samples.{IsSample};
 
-use crate::{Numbers, Separation, SolveFault, Verdict, core_of, separated, verdict};
+use crate::{Numbers, Separation, Verdict, core_of, separated, verdict};
+use regions::Halt;
 use samples::{blocked, cornered, free, hoping, stuck};
 use spec_model::spec::Spec;
 use std::alloc::Global;
 use std::test::Fail;
 
+const BUDGET: u32 = 4_194_304;
+
 type Answers = (Separation, Option<Vec<u32>>);
 
-fn answers(alloc: Global, spec: Spec) -> Result<Answers, SolveFault>
+fn answers(alloc: Global, spec: Spec) -> Result<Answers, Halt>
     requires { IsSample (spec_data spec) }
 {
-    let separation = separated(alloc, &spec)?;
-    let core = core_of(alloc, &spec)?;
+    let separation = separated(alloc, &spec, BUDGET)?;
+    let core = core_of(alloc, &spec, BUDGET)?;
     Ok((separation, core))
 }
 
 // Who wins with a part of the guarantees; the strategy is closed.
-fn winner(alloc: Global, spec: &Spec, kept: &[u32]) -> Result<Numbers, SolveFault>
+fn winner(alloc: Global, spec: &Spec, kept: &[u32]) -> Result<Numbers, Halt>
     requires { IsSample (spec_data spec.now) }
 {
-    match verdict(alloc, spec, kept)? {
+    match verdict(alloc, spec, kept, BUDGET)? {
         Verdict::Realizable { k, play } => {
             let _g = play.close();
             Ok(Numbers::Realizable { k })
@@ -38,7 +41,7 @@ fn winner(alloc: Global, spec: &Spec, kept: &[u32]) -> Result<Numbers, SolveFaul
 }
 
 // Who wins with a part of the guarantees of which 2 and 3 can't be kept together.
-fn blocked_winner(alloc: Global, kept: &[u32]) -> Result<Numbers, SolveFault> {
+fn blocked_winner(alloc: Global, kept: &[u32]) -> Result<Numbers, Halt> {
     let spec = blocked(alloc)?;
     winner(alloc, &spec, kept)
 }

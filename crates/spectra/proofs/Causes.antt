@@ -1,5 +1,5 @@
 -- What causes the statuses that tell of a failure.
-use Rattle.std.proofs.Common.{ℕ, List, Option, sym, subst}
+use Rattle.std.proofs.Common.{◌⊎◌, ℕ, List, Option, inl, inr, sym, subst, arith}
 use Rattle.sp_outside.specs.Causes.{Rose}
 use Rattle.sp_outside.specs.Files.{Files}
 use Rattle.spec_model.specs.Syntax.{Specification}
@@ -9,25 +9,29 @@ use Rattle.session.specs.declared.auditing.AuditEnd.{AuditEnd}
 use Rattle.session.specs.declared.auditing.AuditEnd.TheVariants as audits
 use Rattle.session.specs.AuditTalks.{AuditTalk}
 use Rattle.spectra_words.specs.declared.words.Command.{Command}
+use Rattle.spectra_words.specs.declared.words.Command.TheVariants.{Synth}
+use Rattle.spectra_words.specs.Commands.{AsksArbiter}
+use Rattle.spec_gen.specs.Arbiter.{arbiter_text}
 use Rattle.spectra.specs.declared.status.Status.{Status}
-use Rattle.spectra.specs.declared.status.Status.TheVariants.{Done, Other, Words, Refused, ShelfFault, NoFile}
+use Rattle.spectra.specs.declared.status.Status.TheVariants.{Done, Other, Words, Refused, Assumption, Budget, BadLine, ShelfFault, InputFault, OutputFault, Memory, NoFile, Limit}
 use Rattle.spectra.specs.Endings.{Ending, status_of, realizable, unrealizable}
-use Rattle.spectra.specs.Streams.{Moment, Writes, whole, cut, WantsMemory}
+use Rattle.spectra.specs.Streams.{Moment, Writes, whole, cut, WantsMemory, headed, no_room}
+use Rattle.spectra.specs.Streams as headings
 use Rattle.spectra.specs.Sessions as sessions
 use Rattle.spectra.specs.Sessions.{Talk, Closes, HoldsSession, session, cut_at_once, ending_after, RunTalks, counter_ending_after, CounterTalks, most_positions, audit_ending_after}
-use Rattle.spectra.specs.Top.{Decides, ServesSpecification, ServesText, ServesFile, ServesWords, IsCaused}
+use Rattle.spectra.specs.Top.{Decides, ServesText, ServesFile, ServesWords, ServesArbiter, arbiter_name, HasCause, StopsBelowLine, IsCaused}
 use Rattle.spectra.specs.Top as top
 
 module _ (failed : Type 0) (before after : Moment) where
   abbrev Caused : Status → Type 0
-  Caused status = IsCaused failed before after status
+  Caused status = HasCause failed (WantsMemory before after Memory) before after status
 
   by_writing : (line : List ℕ) (expected status : Status) → Caused expected → Writes line expected before after status → Caused status
   by_writing line expected _ given (whole unread is) = given
   by_writing line expected _ given (cut unread part rose) = rose
 
   by_wanting : (status : Status) → WantsMemory before after status → Caused status
-  by_wanting status wants = subst (IsCaused failed before after) (sym wants.is) (subst (WantsMemory before after) wants.is wants)
+  by_wanting status wants = subst Caused (sym wants.is) (subst (WantsMemory before after) wants.is wants)
 
   by_closing : (last : Ending) (talked : Option (List ℕ)) (status : Status) → Caused (status_of last) → Closes last talked after.written (Rose before.write_faults after.write_faults) status → Caused status
   by_closing last talked _ given (sessions.whole is) = given
@@ -75,22 +79,17 @@ module _ (failed : Type 0) (before after : Moment) where
     by_deciding s status (top.separates n m is loses writes) = by_writing _ Done status tt writes
     by_deciding s status (top.separates_not k is wins writes) = by_writing _ Other status tt writes
     by_deciding s status (top.audits is audit) = by_closing (audit_ending_after audit.end) before.written status (by_audit s audit.end audit.talk) audit.closes
-    by_deciding s status (top.budget filled writes) = absurd filled
+    by_deciding s status (top.budget decides writes) = by_writing _ Budget status tt writes
     by_deciding s status (top.no_memory wants) = by_wanting status wants
 
     module _ (name : List ℕ) where
-      of_specification : (s : Specification) (status : Status) → ServesSpecification command nodes name before after s status → Caused status
-      of_specification s status (top.too_many more writes) = by_writing _ Refused status tt writes
-      of_specification s status (top.few few decides) = by_deciding s status decides
-      of_specification s status (top.no_memory wants) = by_wanting status wants
-
       of_text : (text : List ℕ) (status : Status) → ServesText command nodes name before after text status → Caused status
       of_text text status (top.not_utf8 line column is writes) = by_writing _ Refused status tt writes
       of_text text status (top.bad_character line column is writes) = by_writing _ Refused status tt writes
       of_text text status (top.too_long is writes) = by_writing _ Refused status tt writes
       of_text text status (top.ungrammatical tokens fault lexed explains refuses) = by_writing _ Refused status tt refuses.3
       of_text text status (top.mistyped number line column is writes) = by_writing _ Refused status tt writes
-      of_text text status (top.means s reads serves) = of_specification s status serves
+      of_text text status (top.means s reads decides) = by_deciding s status decides
       of_text text status (top.no_memory wants) = by_wanting status wants
 
       of_file : (file : Option (Option (List ℕ))) (status : Status) → ServesFile command nodes name before after file failed status → Caused status
@@ -99,7 +98,40 @@ module _ (failed : Type 0) (before after : Moment) where
       of_file file status (top.of_text text has serves) = of_text text status serves
       of_file file status (top.no_memory wants) = by_wanting status wants
 
-  pub is_caused : (words : List (List ℕ)) (files : Option Files) (status : Status) → ServesWords words files failed before after status → IsCaused failed before after status
-  is_caused words files status (top.no_command nothing writes) = by_writing _ Words status tt writes
-  is_caused words files status (top.asked command name nodes asks serves) = of_file command nodes name _ status serves
-  is_caused words files status (top.no_memory wants) = by_wanting status wants
+-- a cause between two moments is one between earlier and later ones
+module _ (failed wanted wanted' : Type 0) (before between after : Moment) (of_reads : Rose between.read_faults after.read_faults → Rose before.read_faults after.read_faults)
+    (of_writes : Rose between.write_faults after.write_faults → Rose before.write_faults after.write_faults) (of_memory : wanted → wanted') where
+  caused_before : (status : Status) → HasCause failed wanted between after status → HasCause failed wanted' before after status
+  caused_before Done cause = tt
+  caused_before Other cause = tt
+  caused_before Words cause = tt
+  caused_before Refused cause = tt
+  caused_before Assumption cause = tt
+  caused_before Budget cause = tt
+  caused_before BadLine cause = tt
+  caused_before ShelfFault cause = cause
+  caused_before InputFault cause = of_reads cause
+  caused_before OutputFault cause = of_writes cause
+  caused_before Memory cause = of_memory cause
+  caused_before NoFile cause = tt
+  caused_before Limit cause = tt
+
+module _ (words : List (List ℕ)) (failed : Type 0) (before after : Moment) where
+  at_once : (status : Status) → HasCause failed (WantsMemory before after Memory) before after status → IsCaused words failed before after status
+  at_once status cause = caused_before failed (WantsMemory before after Memory) (WantsMemory before after Memory ⊎ StopsBelowLine words before after) before before after (λ rose. rose) (λ rose. rose) inl status cause
+
+  -- below the line of an arbiter
+  of_arbiter : (clients nodes : ℕ) → AsksArbiter words clients nodes → (status : Status) → ServesArbiter clients nodes before after status → IsCaused words failed before after status
+  of_arbiter clients nodes asks status (headed between line serves) =
+      caused_before failed (WantsMemory between after Memory) (WantsMemory before after Memory ⊎ StopsBelowLine words before after) before between after
+      (λ rose. subst (λ (n : ℕ). Rose n after.read_faults) line.reads rose) (λ rose. let later = line.later in omega (arith, later, rose))
+      (λ wants. inr (record { clients = clients; nodes = nodes; between = between; asks = asks; headed = line; wants = wants })) status
+      (of_text failed between after Synth nodes arbiter_name (arbiter_text clients) status serves)
+  of_arbiter clients nodes asks _ (headings.cut_at_once unread part rose) = rose
+  of_arbiter clients nodes asks status (no_room wants) = at_once status (by_wanting failed before after status wants)
+
+  pub is_caused : (files : Option Files) (status : Status) → ServesWords words files failed before after status → IsCaused words failed before after status
+  is_caused files status (top.no_command nothing writes) = at_once status (by_writing failed before after _ Words status tt writes)
+  is_caused files status (top.asked command name nodes asks serves) = at_once status (of_file failed before after command nodes name _ status serves)
+  is_caused files status (top.arbiter clients nodes asks serves) = of_arbiter clients nodes asks status serves
+  is_caused files status (top.no_memory wants) = at_once status (by_wanting failed before after status wants)

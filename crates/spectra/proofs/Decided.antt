@@ -10,19 +10,20 @@ use Rattle.spectra_trees.specs.Lexemes.{lexemes}
 use Rattle.spectra_exprs.specs.declared.fault.SyntaxFault.{SyntaxFault}
 use Rattle.spectra_parser.specs.Texts.{Explains}
 use Rattle.spectra_lexer.specs.Faults.{IsNotUtf8At, IsBadAt, IsTooLong}
-use Rattle.solve.specs.declared.fault.SolveFault.{SolveFault}
-use Rattle.solve.specs.declared.fault.SolveFault.TheVariants.{TooManyStates, Memory as NoMemory}
+use Rattle.regions.specs.declared.types.Halt.{Halt}
+use Rattle.regions.specs.declared.types.Halt.TheVariants.{Budget, Memory as NoMemory}
 use Rattle.solve.specs.Winners.{IsWonBySystem, IsWonByEnvironment}
 use Rattle.spectra_words.specs.declared.words.Command.{Command}
 use Rattle.spectra_words.specs.declared.words.Command.TheVariants.{Synth, Run, Core, Separate, Counter, Audit}
 use Rattle.spectra_words.specs.Commands.{AskNothing}
+use Rattle.spec_gen.specs.Arbiter.{arbiter_text}
 use Rattle.spectra.specs.declared.status.Status.{Status}
 use Rattle.spectra.specs.declared.status.Status.TheVariants.{Memory}
-use Rattle.spectra.specs.Endings.{usage, no_file, shelf_fault, refused, realizable, unrealizable, realizable_instead, with_core, separated, not_separated}
-use Rattle.spectra.specs.Streams.{Moment, moment, Ends, WantsMemory, SaysNoVerdict}
+use Rattle.spectra.specs.Endings.{usage, no_file, shelf_fault, refused, realizable, unrealizable, realizable_instead, with_core, separated, not_separated, arbiter_line}
+use Rattle.spectra.specs.Streams.{Moment, moment, Ends, WantsMemory, SaysNoVerdict, Heads}
 use Rattle.spectra.specs.Sessions.{Holds, Counters, Audits}
 use Rattle.spectra.specs.Reading.{HasTypeFault}
-use Rattle.spectra.specs.Top.{won, held, lost, won_instead, countered, has_core, separates, separates_not, audits, IsSmall, IsLarge, IsSaidOfSyntax, ServesSpecification, ServesText, ServesFile, ServesWords}
+use Rattle.spectra.specs.Top.{won, held, lost, won_instead, countered, has_core, separates, separates_not, audits, IsSaidOfSyntax, Decides, ServesText, ServesFile, ServesWords, ServesArbiter, arbiter_name}
 use Rattle.spectra.specs.Top as top
 
 -- nothing was done: no memory was given
@@ -30,58 +31,74 @@ pub nothing_done : (m : Moment) → WantsMemory m m Memory
 nothing_done m = record { is = refl; nothing_written = Appends-nil m.written; unread = refl }
 
 -- what is said where there is no verdict
-pub no_verdict_said : (fault is : SolveFault) → fault ≡ is → (name : List ℕ) (before after : Moment) (status : Status) → SaysNoVerdict is name before after status → SaysNoVerdict fault name before after status
-no_verdict_said fault is same name before after status said = subst (λ (f : SolveFault). SaysNoVerdict f name before after status) (sym same) said
+pub no_verdict_said : (halt is : Halt) → halt ≡ is → (nodes : ℕ) (before after : Moment) (status : Status) → SaysNoVerdict is nodes before after status → SaysNoVerdict halt nodes before after status
+no_verdict_said halt is same nodes before after status said = subst (λ (h : Halt). SaysNoVerdict h nodes before after status) (sym same) said
 
 -- ---- for a specification
 
-module _ (command : Command) (nodes : ℕ) (name : List ℕ) (s : Specification) (before after : Moment) (status : Status) where
-  pub synth_won : (k : ℕ) → command ≡ Synth → IsWonBySystem s k → IsSmall command s → Ends (realizable k) before after status ⊎ WantsMemory before after status → ServesSpecification command nodes name before after s status
-  synth_won k is wins few (inl writes) = top.few few (won k is wins writes)
-  synth_won k is wins few (inr wants) = top.no_memory wants
+module _ (command : Command) (nodes : ℕ) (s : Specification) (before after : Moment) (status : Status) where
+  pub synth_won : (k : ℕ) → command ≡ Synth → IsWonBySystem s k → Ends (realizable k) before after status ⊎ WantsMemory before after status → Decides command nodes s before after status
+  synth_won k is wins (inl writes) = won k is wins writes
+  synth_won k is wins (inr wants) = top.no_memory wants
 
-  pub run_held : (k : ℕ) → command ≡ Run → IsWonBySystem s k → IsSmall command s → Holds s k before after status ⊎ WantsMemory before after status → ServesSpecification command nodes name before after s status
-  run_held k is wins few (inl holds) = top.few few (held k is wins holds)
-  run_held k is wins few (inr wants) = top.no_memory wants
+  pub run_held : (k : ℕ) → command ≡ Run → IsWonBySystem s k → Holds s k before after status ⊎ WantsMemory before after status → Decides command nodes s before after status
+  run_held k is wins (inl holds) = held k is wins holds
+  run_held k is wins (inr wants) = top.no_memory wants
 
-  pub is_lost : (n m : ℕ) → (command ≡ Synth) ⊎ (command ≡ Run) → IsWonByEnvironment s n m → IsSmall command s → Ends (unrealizable n m) before after status ⊎ WantsMemory before after status → ServesSpecification command nodes name before after s status
-  is_lost n m is wins few (inl writes) = top.few few (lost n m is wins writes)
-  is_lost n m is wins few (inr wants) = top.no_memory wants
+  pub is_lost : (n m : ℕ) → (command ≡ Synth) ⊎ (command ≡ Run) → IsWonByEnvironment s n m → Ends (unrealizable n m) before after status ⊎ WantsMemory before after status → Decides command nodes s before after status
+  is_lost n m is wins (inl writes) = lost n m is wins writes
+  is_lost n m is wins (inr wants) = top.no_memory wants
 
-  pub is_kept : (k : ℕ) → (command ≡ Core) ⊎ (command ≡ Counter) → IsWonBySystem s k → IsSmall command s → Ends (realizable_instead k) before after status ⊎ WantsMemory before after status → ServesSpecification command nodes name before after s status
-  is_kept k is wins few (inl writes) = top.few few (won_instead k is wins writes)
-  is_kept k is wins few (inr wants) = top.no_memory wants
+  pub is_kept : (k : ℕ) → (command ≡ Core) ⊎ (command ≡ Counter) → IsWonBySystem s k → Ends (realizable_instead k) before after status ⊎ WantsMemory before after status → Decides command nodes s before after status
+  is_kept k is wins (inl writes) = won_instead k is wins writes
+  is_kept k is wins (inr wants) = top.no_memory wants
 
-  pub core_found : (n m : ℕ) (core : List ℕ) → command ≡ Core → IsWonByEnvironment s n m → IsLeft s core → IsCore s core → IsSmall command s → Ends (with_core n m core) before after status ⊎ WantsMemory before after status →
-      ServesSpecification command nodes name before after s status
-  core_found n m core is wins left is_core few (inl writes) = top.few few (has_core n m core is wins left is_core writes)
-  core_found n m core is wins left is_core few (inr wants) = top.no_memory wants
+  pub core_found : (n m : ℕ) (core : List ℕ) → command ≡ Core → IsWonByEnvironment s n m → IsLeft s core → IsCore s core → Ends (with_core n m core) before after status ⊎ WantsMemory before after status →
+      Decides command nodes s before after status
+  core_found n m core is wins left is_core (inl writes) = has_core n m core is wins left is_core writes
+  core_found n m core is wins left is_core (inr wants) = top.no_memory wants
 
-  pub is_countered : (n m : ℕ) → command ≡ Counter → IsWonByEnvironment s n m → IsSmall command s → Counters s n m before after status ⊎ WantsMemory before after status → ServesSpecification command nodes name before after s status
-  is_countered n m is wins few (inl holds) = top.few few (countered n m is wins holds)
-  is_countered n m is wins few (inr wants) = top.no_memory wants
+  pub is_countered : (n m : ℕ) → command ≡ Counter → IsWonByEnvironment s n m → Counters s n m before after status ⊎ WantsMemory before after status → Decides command nodes s before after status
+  is_countered n m is wins (inl holds) = countered n m is wins holds
+  is_countered n m is wins (inr wants) = top.no_memory wants
 
-  pub is_separated : (n m : ℕ) → command ≡ Separate → IsWonByEnvironment (forced s) n m → IsSmall command s → Ends (separated n m) before after status ⊎ WantsMemory before after status → ServesSpecification command nodes name before after s status
-  is_separated n m is wins few (inl writes) = top.few few (separates n m is wins writes)
-  is_separated n m is wins few (inr wants) = top.no_memory wants
+  pub is_separated : (n m : ℕ) → command ≡ Separate → IsWonByEnvironment (forced s) n m → Ends (separated n m) before after status ⊎ WantsMemory before after status → Decides command nodes s before after status
+  is_separated n m is wins (inl writes) = separates n m is wins writes
+  is_separated n m is wins (inr wants) = top.no_memory wants
 
-  pub is_not_separated : (k : ℕ) → command ≡ Separate → IsWonBySystem (forced s) k → IsSmall command s → Ends (not_separated k) before after status ⊎ WantsMemory before after status → ServesSpecification command nodes name before after s status
-  is_not_separated k is wins few (inl writes) = top.few few (separates_not k is wins writes)
-  is_not_separated k is wins few (inr wants) = top.no_memory wants
+  pub is_not_separated : (k : ℕ) → command ≡ Separate → IsWonBySystem (forced s) k → Ends (not_separated k) before after status ⊎ WantsMemory before after status → Decides command nodes s before after status
+  is_not_separated k is wins (inl writes) = separates_not k is wins writes
+  is_not_separated k is wins (inr wants) = top.no_memory wants
 
-  pub is_audited : command ≡ Audit → Audits s before after status ⊎ WantsMemory before after status → ServesSpecification command nodes name before after s status
-  is_audited is (inl audit) = top.few (subst (λ (c : Command). IsSmall c s) (sym is) tt) (audits is audit)
+  pub is_audited : command ≡ Audit → Audits s before after status ⊎ WantsMemory before after status → Decides command nodes s before after status
+  is_audited is (inl audit) = audits is audit
   is_audited is (inr wants) = top.no_memory wants
 
   -- there is no verdict
-  pub not_decided : (fault : SolveFault) → (fault ≡ TooManyStates → IsLarge command s) → SaysNoVerdict fault name before after status → ServesSpecification command nodes name before after s status
-  not_decided TooManyStates many (inl writes) = top.too_many (many refl) writes
-  not_decided TooManyStates many (inr wants) = top.no_memory wants
-  not_decided NoMemory many wants = top.no_memory wants
+  pub not_decided : (halt : Halt) → ¬ (command ≡ Audit) → SaysNoVerdict halt nodes before after status → Decides command nodes s before after status
+  not_decided Budget decides (inl writes) = top.budget decides writes
+  not_decided Budget decides (inr wants) = top.no_memory wants
+  not_decided NoMemory decides wants = top.no_memory wants
+
+-- the commands other than `audit`
+pub synth_decides : ¬ (Synth ≡ Audit)
+synth_decides is = absurd (cc)
+
+pub run_decides : ¬ (Run ≡ Audit)
+run_decides is = absurd (cc)
+
+pub counter_decides : ¬ (Counter ≡ Audit)
+counter_decides is = absurd (cc)
+
+pub core_decides : ¬ (Core ≡ Audit)
+core_decides is = absurd (cc)
+
+pub separate_decides : ¬ (Separate ≡ Audit)
+separate_decides is = absurd (cc)
 
 -- what is served for the command that it is
-pub served_as : (command is : Command) → command ≡ is → (nodes : ℕ) (name : List ℕ) (s : Specification) (before after : Moment) (status : Status) → ServesSpecification is nodes name before after s status → ServesSpecification command nodes name before after s status
-served_as command is same nodes name s before after status serves = subst (λ (c : Command). ServesSpecification c nodes name before after s status) (sym same) serves
+pub served_as : (command is : Command) → command ≡ is → (nodes : ℕ) (s : Specification) (before after : Moment) (status : Status) → Decides is nodes s before after status → Decides command nodes s before after status
+served_as command is same nodes s before after status serves = subst (λ (c : Command). Decides c nodes s before after status) (sym same) serves
 
 -- ---- for a text
 
@@ -127,3 +144,10 @@ module _ (command : Command) (nodes : ℕ) (name : List ℕ) (before after : Mom
 pub usage_said : (words : List (List ℕ)) (files : Option Files) (failed : Type 0) (before after : Moment) (status : Status) → AskNothing words → Ends usage before after status ⊎ WantsMemory before after status → ServesWords words files failed before after status
 usage_said words files failed before after status nothing (inl writes) = top.no_command nothing writes
 usage_said words files failed before after status nothing (inr wants) = top.no_memory wants
+
+-- the line of an arbiter, and what is written below it for its text
+pub below_its_line : (clients nodes : ℕ) (line text : List ℕ) (before after : Moment) (status : Status) → line ≡ arbiter_line clients → text ≡ arbiter_text clients →
+    Heads line (λ (b a : Moment). ServesText Synth nodes arbiter_name b a text) before after status → ServesArbiter clients nodes before after status
+below_its_line clients nodes line text before after status is same serves =
+    subst (λ (l : List ℕ). Heads l (λ (b a : Moment). ServesText Synth nodes arbiter_name b a (arbiter_text clients)) before after status) is
+    (subst (λ (t : List ℕ). Heads line (λ (b a : Moment). ServesText Synth nodes arbiter_name b a t) before after status) same serves)

@@ -3,7 +3,6 @@ mod BuiltExpressions
 mod TextTokens
 mod SpelledTokens
 mod BuiltTexts
-mod SameStates
 mod Placed
 mod Readings
 mod Requests

@@ -1,8 +1,9 @@
 -- Words ask for one thing alone.
-use Rattle.std.proofs.Common.{◌≡◌, ℕ, List, Option, Some, None, sum, refl, sym, ap, arith, ◌∙◌}
+use Rattle.std.proofs.Common.{◌≡◌, ◌≤◌, ℕ, List, Option, Some, None, sum, refl, sym, ap, arith, ◌∙◌}
+use Rattle.std.specs.Str.Parse.{digits_value}
 use Rattle.spectra_words.specs.declared.words.Command.{Command}
 use Rattle.spectra_words.specs.declared.words.Command.TheVariants.{Synth, Run, Core, Separate, Counter, Audit}
-use Rattle.spectra_words.specs.Commands.{Asks, IsBudget, word_of}
+use Rattle.spectra_words.specs.Commands.{Asks, AsksArbiter, IsBudget, word_of, arbiter_word}
 
 -- the codes of each word have another sum
 abbrev sum_of : Command → ℕ
@@ -37,6 +38,11 @@ one_number : (word : Option (List ℕ)) (n m : ℕ) → IsBudget word n → IsBu
 one_number None n m is also = is ∙ sym also
 one_number (Some digits) n m is also = is.1 ∙ sym also.1
 
+-- a budget is of two nodes at least
+pub two_nodes : (word : Option (List ℕ)) (nodes : ℕ) → IsBudget word nodes → 2 ≤ nodes
+two_nodes None nodes is = omega (arith, is)
+two_nodes (Some digits) nodes is = is.2
+
 module _ (words : List (List ℕ)) (command other : Command) (name name' : List ℕ) (nodes nodes' : ℕ) (asks : Asks words command name nodes) (also : Asks words other name' nodes') where
   pub one_file : name' ≡ name
   one_file = let a = asks.file_is in let b = also.file_is in cc
@@ -46,3 +52,26 @@ module _ (words : List (List ℕ)) (command other : Command) (name name' : List 
 
   pub one_budget : nodes' ≡ nodes
   one_budget = one_number _ nodes' nodes also.budget_is asks.budget_is
+
+-- ---- arbiters
+
+-- the codes of the word of an arbiter have yet another sum
+no_arbiter_word : (command : Command) → word_of command ≡ arbiter_word → ⊥
+no_arbiter_word command same = no_sum command (sym (summed command) ∙ ap sum same)
+  where
+    no_sum : (command : Command) → sum_of command ≡ 314 → ⊥
+    no_sum Synth is = absurd (omega arith)
+    no_sum Run is = absurd (omega arith)
+    no_sum Core is = absurd (omega arith)
+    no_sum Separate is = absurd (omega arith)
+    no_sum Counter is = absurd (omega arith)
+    no_sum Audit is = absurd (omega arith)
+
+module _ (words : List (List ℕ)) where
+  pub one_arbiter : (clients clients' nodes nodes' : ℕ) → AsksArbiter words clients nodes → AsksArbiter words clients' nodes' → (clients ≡ clients') × (nodes ≡ nodes')
+  one_arbiter clients clients' nodes nodes' asks also =
+      let digits : asks.digits ≡ also.digits = let a = asks.file_is in let b = also.file_is in cc in
+      (asks.clients_are.1 ∙ (ap (digits_value 10) digits ∙ sym also.clients_are.1), one_number _ nodes nodes' asks.budget_is also.budget_is)
+
+  pub file_or_arbiter : (command : Command) (name : List ℕ) (nodes clients nodes' : ℕ) → Asks words command name nodes → AsksArbiter words clients nodes' → ⊥
+  file_or_arbiter command name nodes clients nodes' asks also = no_arbiter_word command (let a = asks.command_is in let b = also.command_is in cc)

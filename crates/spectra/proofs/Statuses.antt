@@ -8,10 +8,9 @@ use Rattle.spectra.specs.declared.status.Status.TheVariants.{Words, Refused, She
 use Rattle.spectra.specs.Endings.{IsCutShort, IsUnlessCut, IsUnlessFault}
 use Rattle.spectra_words.specs.Commands.{Asks, AskNothing}
 use Rattle.spectra.specs.Streams.{Moment, Writes, whole, cut, WantsMemory}
-use Rattle.spectra.proofs.Readings.{one_meaning}
-use Rattle.spectra.proofs.SameStates.{small_or_large}
-use Rattle.spectra.proofs.Requests.{one_file, one_command}
-use Rattle.spectra.specs.Top.{ServesSpecification, ServesText, ServesFile, ServesWords, Refuses, IsRefused, IsLarge}
+use Rattle.spectra.proofs.Requests.{one_file, file_or_arbiter}
+use Rattle.spectra.specs.Top.{ServesText, ServesFile, ServesWords, Refuses}
+use Rattle.spectra.specs.Reading.{MeansNothing}
 use Rattle.spectra.specs.Top as top
 
 module _ (before after : Moment) where
@@ -30,11 +29,12 @@ module _ (before after : Moment) where
   -- words that are no command get their status
   words_status : (words : List (List ℕ)) (files : Option Files) (failed : Type 0) (status : Status) → ServesWords words files failed before after status → AskNothing words → IsUnlessCut Words status
   words_status words files failed status (top.no_command nothing writes) none = written _ Words status writes
-  words_status words files failed status (top.asked command name nodes asks serves) none = absurd (none command name nodes asks)
+  words_status words files failed status (top.asked command name nodes asks serves) none = absurd (none.no_file command name nodes asks)
+  words_status words files failed status (top.arbiter clients nodes asks serves) none = absurd (none.no_arbiter clients nodes asks)
   words_status words files failed status (top.no_memory wants) none = wanted Words status wants
 
-  -- a text that is refused is refused, unless something failed
-  module _ (command : Command) (nodes : ℕ) (name text : List ℕ) (refuses : IsRefused command text) where
+  -- a text that means nothing is refused, unless something failed
+  module _ (command : Command) (nodes : ℕ) (name text : List ℕ) (nothing : MeansNothing text) where
     of_text : (status : Status) → ServesText command nodes name before after text status → IsUnlessFault Refused status
     of_text status (top.not_utf8 line column is writes) = or_fault Refused status (written _ Refused status writes)
     of_text status (top.bad_character line column is writes) = or_fault Refused status (written _ Refused status writes)
@@ -42,13 +42,7 @@ module _ (before after : Moment) where
     of_text status (top.ungrammatical tokens fault lexed explains refuses) = or_fault Refused status (written _ Refused status refuses.3)
     of_text status (top.mistyped number line column is writes) = or_fault Refused status (written _ Refused status writes)
     of_text status (top.no_memory wants) = or_fault Refused status (wanted Refused status wants)
-    of_text status (top.means s reads serves) = by refuses serves
-      where
-        by : IsRefused command text → ServesSpecification command nodes name before after s status → IsUnlessFault Refused status
-        by (inl none) serves = absurd (none s reads)
-        by (inr many) (top.too_many more writes) = or_fault Refused status (written _ Refused status writes)
-        by (inr many) (top.no_memory wants) = or_fault Refused status (wanted Refused status wants)
-        by (inr many) (top.few few decides) = absurd (small_or_large command s few (subst (IsLarge command) (one_meaning text many.0 s many.1 reads) many.2))
+    of_text status (top.means s reads decides) = absurd (nothing s reads)
 
     of_told : (told : Option (Option (List ℕ))) → told ≡ Some (Some text) → (failed : Type 0) (status : Status) → ServesFile command nodes name before after told failed status → IsUnlessFault Refused status
     of_told told is failed status (top.missing none writes) = absurd (let none = subst HasNoFile is none in cc)
@@ -75,16 +69,17 @@ module _ (before after : Moment) where
 
   -- what was asked is served for the file that is asked for
   module _ (words : List (List ℕ)) (files : Option Files) (failed : Type 0) (command : Command) (name : List ℕ) (nodes : ℕ) (asks : Asks words command name nodes) where
-    refused_status : (text : List ℕ) → told_file files name ≡ Some (Some text) → IsRefused command text → (status : Status) → ServesWords words files failed before after status → IsUnlessFault Refused status
-    refused_status text told refuses status (top.no_command nothing writes) = absurd (nothing command name nodes asks)
+    refused_status : (text : List ℕ) → told_file files name ≡ Some (Some text) → MeansNothing text → (status : Status) → ServesWords words files failed before after status → IsUnlessFault Refused status
+    refused_status text told refuses status (top.no_command nothing writes) = absurd (nothing.no_file command name nodes asks)
+    refused_status text told refuses status (top.arbiter clients nodes' asks' serves) = absurd (file_or_arbiter words command name nodes clients nodes' asks asks')
     refused_status text told refuses status (top.asked command' name' nodes' asks' serves) =
         let same = one_file words command command' name name' nodes nodes' asks asks' in
-        let same_command = one_command words command command' name name' nodes nodes' asks asks' in
-        of_told command' nodes' name' text (subst (λ (c : Command). IsRefused c text) (sym same_command) refuses) (told_file files name') (ap (told_file files) same ∙ told) failed status serves
+        of_told command' nodes' name' text refuses (told_file files name') (ap (told_file files) same ∙ told) failed status serves
     refused_status text told refuses status (top.no_memory wants) = or_fault Refused status (wanted Refused status wants)
 
     no_file_status : told_file files name ≡ Some None → (status : Status) → ServesWords words files failed before after status → IsUnlessFault NoFile status
-    no_file_status told status (top.no_command nothing writes) = absurd (nothing command name nodes asks)
+    no_file_status told status (top.no_command nothing writes) = absurd (nothing.no_file command name nodes asks)
+    no_file_status told status (top.arbiter clients nodes' asks' serves) = absurd (file_or_arbiter words command name nodes clients nodes' asks asks')
     no_file_status told status (top.asked command' name' nodes' asks' serves) =
         let same = one_file words command command' name name' nodes nodes' asks asks' in
         of_none command' nodes' name' (told_file files name') (ap (told_file files) same ∙ told) failed status serves

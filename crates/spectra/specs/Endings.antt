@@ -59,8 +59,7 @@ fault_text n =
     else if n == 16 then codes "16 Arity"
     else if n == 18 then codes "18 TooMany"
     else if n == 19 then codes "19 TooLarge"
-    else if n == 23 then codes "23 Unsupported"
-    else codes "24 TooManyStates"
+    else codes "23 Unsupported"
 
 -- ---- verdicts and cores
 
@@ -78,6 +77,10 @@ numbers_text (n ∷ ns) = 35 ∷ (decimal n ++ (10 ∷ numbers_text ns))
 -- how many lines a core has, and their numbers
 abbrev pub core_text : List ℕ → List ℕ
 core_text core = codes "core " ++ (decimal (length core) ++ (10 ∷ numbers_text core))
+
+-- what stands above the verdict on an arbiter
+abbrev pub arbiter_line : ℕ → List ℕ
+arbiter_line clients = codes "arbiter " ++ (decimal clients ++ 10 ∷ [])
 
 -- ---- endings
 

@@ -1,13 +1,13 @@
 -- What the program did to its input and its output, seen as one value before and one after.
-use Rattle.std.specs.Prelude.{◌≡◌, ◌⊎◌, ℕ, List, [], Option}
+use Rattle.std.specs.Prelude.{◌≡◌, ◌⊎◌, ℕ, ◌≤◌, List, [], Option}
 use Rattle.std.specs.Io.KnownBytes.{Appends}
 use Rattle.sp_outside.specs.Causes.{Rose}
 use Rattle.sp_outside.specs.Written.{AppendsFront}
-use Rattle.solve.specs.declared.fault.SolveFault.{SolveFault}
-use Rattle.solve.specs.declared.fault.SolveFault.TheVariants.{TooManyStates, Memory as NoMemory}
+use Rattle.regions.specs.declared.types.Halt.{Halt}
+use Rattle.regions.specs.declared.types.Halt.TheVariants.{Budget, Memory as NoMemory}
 use Rattle.spectra.specs.declared.status.Status.{Status}
 use Rattle.spectra.specs.declared.status.Status.TheVariants.{OutputFault, Memory}
-use Rattle.spectra.specs.Endings.{Ending, line_of, status_of, refused}
+use Rattle.spectra.specs.Endings.{Ending, line_of, status_of, node_budget}
 
 -- What is told of the input and the output: the bytes to come, the bytes written, and how often each of them failed.
 pub record Moment : Type 0 where
@@ -47,7 +47,22 @@ OverOutput written faults old new Does = (left : Option (List ℕ)) (read_faults
 abbrev pub IsSaid : {O : Type 0} → (O → Option (List ℕ)) → (O → ℕ) → Ending → (old new : O) → Status → Type 0
 IsSaid written faults e old new status = OverOutput written faults old new (λ before after. Ends e before after status ⊎ WantsMemory before after status)
 
--- where there is no verdict on the specification in the file of this name: it has too many states, or no memory was given
-abbrev pub SaysNoVerdict : SolveFault → (name : List ℕ) → (before after : Moment) → Status → Type 0
-SaysNoVerdict TooManyStates name before after status = Ends (refused name 1 1 24) before after status ⊎ WantsMemory before after status
-SaysNoVerdict NoMemory name before after status = WantsMemory before after status
+-- where there is no verdict: the nodes ran out, of which there are so many, or no memory was given
+abbrev pub SaysNoVerdict : Halt → (nodes : ℕ) → (before after : Moment) → Status → Type 0
+SaysNoVerdict Budget nodes before after status = Ends (node_budget nodes) before after status ⊎ WantsMemory before after status
+SaysNoVerdict NoMemory nodes before after status = WantsMemory before after status
+
+-- the line was written, and nothing else was done
+pub record IsHeaded (line : List ℕ) (before after : Moment) : Type 0 where
+  pub unread : after.left ≡ before.left
+  pub reads : after.read_faults ≡ before.read_faults
+  pub written : Appends before.written after.written line
+  pub later : before.write_faults ≤ after.write_faults
+
+module _ (line : List ℕ) (Does : (before after : Moment) → Status → Type 0) (before after : Moment) where
+  -- Below the line something was done; or the output failed at the line, or no memory was given for it. Then the input was not
+  -- read.
+  pub data Heads : Status → Type 0 where
+    headed : {status : Status} (between : Moment) → IsHeaded line before between → Does between after status → Heads status
+    cut_at_once : after.left ≡ before.left → AppendsFront before.written after.written line → Rose before.write_faults after.write_faults → Heads OutputFault
+    no_room : {status : Status} → WantsMemory before after status → Heads status

@@ -2,7 +2,7 @@
 
 ghost use Rattle.std.specs.Prelude.{◌≡◌, ◌++◌, [], ◌∷◌, IfOk, codes, string_bytes};
 ghost use Rattle.std.specs.Fmt.{decimal};
-ghost use Rattle.spectra.specs.Endings.{line_of, fault_text as fault_text_lem, usage, no_file, shelf_fault, refused, realizable, unrealizable, realizable_instead, with_core, separated, not_separated};
+ghost use Rattle.spectra.specs.Endings.{line_of, fault_text as fault_text_lem, usage, no_file, shelf_fault, refused, realizable, unrealizable, realizable_instead, with_core, separated, not_separated, node_budget, arbiter_line as arbiter_line_lem};
 ghost use Rattle.spectra.specs.Streams.{Writes, IsSaid, OverOutput};
 
 use crate::status::Status;
@@ -94,12 +94,28 @@ fn fault_text(number: u8) -> &'static str
         16 => "16 Arity",
         18 => "18 TooMany",
         19 => "19 TooLarge",
-        23 => "23 Unsupported",
-        _ => "24 TooManyStates",
+        _ => "23 Unsupported",
+    }
+}
+
+/// Says that the nodes ran out, of which there are so many.
+pub fn say_node_budget<O: Sink>(alloc: Global, nodes: u32, output: &mut O) -> Status
+    ensures { IsSaid O.written O.faults (node_budget nodes) output.old output.new result }
+{
+    match format!(in alloc; "node budget {nodes} reached\n") {
+        Ok(line) => say(output, line.as_bytes(), Status::Budget),
+        Err(_) => Status::Memory,
     }
 }
 
 // ---- verdicts
+
+/// The line above the verdict on an arbiter of so many clients.
+pub fn arbiter_line(alloc: Global, clients: u32) -> Result<String, OutOfMemory>
+    ensures { IfOk result (λ line. string_bytes line ≡ arbiter_line_lem clients) }
+{
+    format!(in alloc; "arbiter {clients}\n")
+}
 
 /// The line of a specification that the system wins with K.
 pub fn realizable_line(alloc: Global, k: u64) -> Result<String, OutOfMemory>

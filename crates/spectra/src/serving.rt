@@ -1,6 +1,6 @@
 //! What is done for a command and a file.
 
-ghost use Rattle.std.specs.Prelude.{◌≡◌};
+ghost use Rattle.std.specs.Prelude.{◌≡◌, ◌≤◌};
 ghost use Rattle.sp_outside.specs.Causes.{Rose};
 ghost use Rattle.sp_outside.specs.Files.{told_file};
 ghost use Rattle.spectra_lexer.specs.Tokens.{AreTokens};
@@ -27,6 +27,7 @@ fn serve_tokens<I: Source, O: Sink>(
     output: &mut O,
 ) -> Status
     requires lexed { AreTokens text.now tokens.now }
+    requires budget { 2 ≤ request.nodes }
     ensures { let at = moments I.left O.written I.faults O.faults in
         ServesText request.entry.command request.entry.nodes request.entry.file.now (at input.old output.old) (at input.new output.new) text.now result }
 {
@@ -44,14 +45,15 @@ fn serve_tokens<I: Source, O: Sink>(
     }
 }
 
-// Does what is asked for with a text.
-fn serve_text<I: Source, O: Sink>(
+/// Does what is asked for with a text.
+pub fn serve_text<I: Source, O: Sink>(
     alloc: Global,
     request: Request<'_>,
     text: &[u8],
     input: &mut I,
     output: &mut O,
 ) -> Status
+    requires budget { 2 ≤ request.nodes }
     ensures { let at = moments I.left O.written I.faults O.faults in
         ServesText request.entry.command request.entry.nodes request.entry.file.now (at input.old output.old) (at input.new output.new) text.now result }
 {
@@ -76,6 +78,7 @@ pub fn serve_file<F: Shelf, I: Source, O: Sink>(
     input: &mut I,
     output: &mut O,
 ) -> Status
+    requires budget { 2 ≤ request.nodes }
     ensures serves { let at = moments I.left O.written I.faults O.faults in
         ServesFile request.entry.command request.entry.nodes request.entry.file.now (at input.old output.old) (at input.new output.new)
         (told_file (F.holds shelf.old) request.entry.file.now) (Rose (F.faults shelf.old) (F.faults shelf.new)) result }

@@ -12,7 +12,9 @@ use std::alloc::Global;
 use std::process::Abort;
 use std::test::Fail;
 
+mod arbiters;
 mod audits;
+mod budgets;
 mod chains;
 mod cores;
 mod counters;
@@ -20,6 +22,7 @@ mod forms;
 mod kinds;
 mod limits;
 mod names;
+mod rows;
 mod sessions;
 mod verdicts;
 
@@ -61,14 +64,8 @@ impl<'r> Run<'r> {
         }
     }
 
-    /// This is written, and the status has this number.
-    pub fn writes(
-        self,
-        rt: &impl Abort,
-        alloc: Global,
-        written: &str,
-        number: u8,
-    ) -> Result<(), Fail> {
+    /// What is written, and the number of the status.
+    pub fn outcome(self, alloc: Global) -> Result<(String, u8), Fail> {
         let words = words_of(alloc, self.words)?;
         let [shelf_fails, reads, writes] = self.fails;
         let mut shelf = MemoryShelf::make(alloc, shelf_fails)?;
@@ -77,8 +74,26 @@ impl<'r> Run<'r> {
         let mut output = MemorySink::make(alloc, 256, writes)?;
         let status = spectra(alloc, &words, &mut shelf, &mut input, &mut output);
         let got = str::from_utf8(output.written()).unwrap_or("no text");
-        assert_eq!(rt; got, written, "{:?} with {:?}", self.words, self.input);
-        assert_eq!(rt; status.number(), number, "{:?} at {written}", self.words);
+        Ok((String::from_str(alloc, got)?, status.number()))
+    }
+
+    /// This is written, and the status has this number.
+    pub fn writes(
+        self,
+        rt: &impl Abort,
+        alloc: Global,
+        written: &str,
+        number: u8,
+    ) -> Result<(), Fail> {
+        let (got, status) = self.outcome(alloc)?;
+        assert_eq!(rt;
+            got.as_str(),
+            written,
+            "{:?} with {:?}",
+            self.words,
+            self.input
+        );
+        assert_eq!(rt; status, number, "{:?} at {written}", self.words);
         Ok(())
     }
 }

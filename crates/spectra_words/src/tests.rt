@@ -53,18 +53,34 @@ const ASKED: [(&str, Command, &str, u32); 19] = [
 fn words_ask_for_a_command_a_file_and_a_budget(rt: HostRuntime) -> Result<(), Fail> {
     for (line, command, file, nodes) in ASKED {
         let words = words_of(rt.alloc(), line)?;
-        let expected = Request {
+        let expected = Task::OfFile(Request {
             command,
             file,
             nodes,
-        };
+        });
+        assert_eq!(rt; asked(rt.alloc(), &words)?, Some(expected), "{line:?}");
+    }
+    Ok(())
+}
+
+#[test]
+fn gen_asks_for_an_arbiter_of_1_to_64_clients(rt: HostRuntime) -> Result<(), Fail> {
+    // A command line, and the clients and the budget that it asks for.
+    let cases = [
+        ("spectra gen 1", 1, USUAL),
+        ("spectra gen 64 --nodes 5", 64, 5),
+        ("spectra gen 02", 2, USUAL),
+    ];
+    for (line, clients, nodes) in cases {
+        let words = words_of(rt.alloc(), line)?;
+        let expected = Task::OfArbiter { clients, nodes };
         assert_eq!(rt; asked(rt.alloc(), &words)?, Some(expected), "{line:?}");
     }
     Ok(())
 }
 
 /// No commands.
-const REFUSED: [&str; 32] = [
+const REFUSED: [&str; 39] = [
     // Too few words, too many, and other commands.
     "",
     "spectra",
@@ -77,6 +93,14 @@ const REFUSED: [&str; 32] = [
     "spectra Run a",
     "spectra runs a",
     "spectra  a",
+    // Clients are digits, from 1 to 64.
+    "spectra gen 0",
+    "spectra gen 65",
+    "spectra gen a",
+    "spectra gen +2",
+    "spectra gen ",
+    "spectra gen 2 --nodes 1",
+    "spectra gen",
     // 2 more than 2^32, and 2 more than 2^64; a digit, but none of the ten.
     "spectra run a --nodes 1",
     "spectra run a --nodes 134217729",

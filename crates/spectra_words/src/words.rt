@@ -1,12 +1,12 @@
 //! What the words ask for.
 
-ghost use Rattle.std.specs.Prelude.{◌≡◌, ℕ, List, map, string_bytes, IfOk, IfSome, IfNone, MatchOption};
-ghost use Rattle.spectra_words.specs.Commands.{Asks, AskNothing, word_of};
+ghost use Rattle.std.specs.Prelude.{◌≡◌, ℕ, List, map, string_bytes, IfOk, IfSome, IfNone, MatchOption, Some, option_map};
+ghost use Rattle.spectra_words.specs.Commands.{Asks, AsksArbiter, AskNothing, AskFor, arbiter_word, word_of};
 ghost use Rattle.spectra_words.specs.Matching.{AreMatched};
 
 use crate::OutOfMemory;
-use crate::budget::budget_of;
 use crate::matching::{Matched, matched_words};
+use crate::numbers::{budget_of, clients_of};
 use std::alloc::Global;
 
 /// What the program is asked to do with a specification.
@@ -34,6 +34,15 @@ pub struct Request<'w> {
     pub nodes: u32,
 }
 
+/// What the program is asked to do.
+#[derive(Clone, Copy, Debug, PartialEq, Eq)]
+pub enum Task<'w> {
+    /// A command for a file.
+    OfFile(Request<'w>),
+    /// `gen`: to write the verdict on an arbiter of so many clients.
+    OfArbiter { clients: u32, nodes: u32 },
+}
+
 // The command of a word.
 fn command_of(word: &str) -> Option<Command>
     ensures { MatchOption result ((command : Command) → ¬ (word.now ≡ word_of command)) (λ command. word.now ≡ word_of command) }
@@ -49,9 +58,10 @@ fn command_of(word: &str) -> Option<Command>
     }
 }
 
-// What the matched words ask for.
+// The request of the matched words, if their command is for a file.
 fn request_of<'w>(matched: Matched<'w>) -> Option<Request<'w>>
-    ensures { (words : List (List ℕ)) → AreMatched words matched.entry → MatchOption result (AskNothing words)
+    ensures { (words : List (List ℕ)) → AreMatched words matched.entry → MatchOption result
+        ((command : Command) (file : List ℕ) (nodes : ℕ) → ¬ (Asks words command file nodes))
         (λ r. Asks words r.command r.file.now r.nodes) }
 {
     let command = command_of(matched.command?)?;
@@ -64,16 +74,38 @@ fn request_of<'w>(matched: Matched<'w>) -> Option<Request<'w>>
     })
 }
 
+// The task of the matched words, whose command is `gen`.
+fn arbiter_of<'w>(matched: Matched<'w>) -> Option<Task<'w>>
+    requires { option_map (λ w. w.now) matched.command ≡ Some arbiter_word }
+    ensures { (words : List (List ℕ)) → AreMatched words matched.entry → MatchOption result
+        ((clients nodes : ℕ) → ¬ (AsksArbiter words clients nodes))
+        (AskFor words) }
+{
+    let clients = clients_of(matched.file?)?;
+    let nodes = budget_of(matched.nodes)?;
+    Some(Task::OfArbiter { clients, nodes })
+}
+
+// What the matched words ask for.
+fn task_of<'w>(matched: Matched<'w>) -> Option<Task<'w>>
+    ensures { (words : List (List ℕ)) → AreMatched words matched.entry → MatchOption result (AskNothing words) (AskFor words) }
+{
+    match matched.command {
+        Some("gen") => arbiter_of(matched),
+        _ => Some(Task::OfFile(request_of(matched)?)),
+    }
+}
+
 /// What the words ask for, or none where they are no command. `OutOfMemory`: none was given.
-pub fn asked<'w>(alloc: Global, words: &'w [String]) -> Result<Option<Request<'w>>, OutOfMemory>
-    // What a request holds is what the words ask for.
-    ensures asks { IfOk result (λ answer. IfSome answer (λ r. Asks (map string_bytes words.entry.now) r.command r.file.now r.nodes)) }
+pub fn asked<'w>(alloc: Global, words: &'w [String]) -> Result<Option<Task<'w>>, OutOfMemory>
+    // What a task holds is what the words ask for.
+    ensures asks { IfOk result (λ answer. IfSome answer (AskFor (map string_bytes words.entry.now))) }
 
     // And there is none only where the words are no command.
     ensures nothing { IfOk result (λ answer. IfNone answer (AskNothing (map string_bytes words.entry.now))) }
 {
     match matched_words(alloc, words)? {
-        Some(matched) => Ok(request_of(matched)),
+        Some(matched) => Ok(task_of(matched)),
         None => Ok(None),
     }
 }

@@ -1,8 +1,7 @@
-//! Texts with faults of tokens, of the grammar and of states, worked out by hand.
+//! Texts with faults of tokens and of the grammar, worked out by hand.
 
 // The statements after `spec X`, and the place and the fault.
-pub const FORMS: [&str; 12] = [
-    "sys boolean a; sys boolean b; sys boolean c; sys boolean d; sys boolean e; env boolean f; env boolean h; env boolean i; env boolean j; env boolean k; env boolean l; => 1:1 24 TooManyStates",
+pub const FORMS: [&str; 10] = [
     // The file ends behind its line feed, where a semicolon is wanted.
     "sys boolean g; gar ini g => 3:1 4 Unexpected",
     "env boolean g; sys boolean g; => 2:28 8 Twice",
@@ -17,6 +16,4 @@ pub const FORMS: [&str; 12] = [
     "sys boolean g; monitor boolean m { } => 2:16 23 Unsupported",
     // Lines may have names, and no two the same one.
     "sys boolean g; asm g: alw true; gar h: alwEv g; gar i: alw g; gar h: alw g; gar g: alw g; => 2:67 8 Twice",
-    // More states than rows may have.
-    "sys Int(0..1024) x; => 1:1 24 TooManyStates",
 ];

@@ -1,7 +1,7 @@
 //! Texts with their verdicts, worked out by hand from the rules of reading, of first moves and of layers.
 
 // The statements after `spec X`, and the line.
-pub const VERDICTS: [&str; 53] = [
+pub const VERDICTS: [&str; 56] = [
     "env boolean a; sys boolean g; gar ini a & g; => unrealizable N=0 M=1",
     "env boolean a; sys boolean g; gar ini g; => realizable K=2",
     "env boolean a; asm ini a & !a; gar ini false; => realizable K=2",
@@ -17,6 +17,10 @@ pub const VERDICTS: [&str; 53] = [
     // A variable may be declared after its use.
     "gar ini g; sys boolean g; => realizable K=2",
     "sys boolean a; sys boolean b; sys boolean c; sys boolean d; sys boolean e; env boolean f; env boolean h; env boolean i; env boolean j; env boolean k; gar ini a & b; => realizable K=2",
+    // More states than could be listed one by one.
+    "sys boolean a; sys boolean b; sys boolean c; sys boolean d; sys boolean e; env boolean f; env boolean h; env boolean i; env boolean j; env boolean k; env boolean l; => realizable K=2",
+    "sys Int(0..1024) x; => realizable K=2",
+    "sys Int(0..4095) x; => realizable K=2",
     "sys boolean g; // a comment => realizable K=2",
     "sys boolean né; gar ini né; -- c => realizable K=2",
     "sys boolean g; gar ini !!(g); => realizable K=2",

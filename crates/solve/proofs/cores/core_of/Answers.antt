@@ -1,16 +1,8 @@
-use Rattle.std.proofs.Common.{◌≡◌, ap, Err, subst, refl, inl}
-use Rattle.std.proofs.lemmas.Result.{err_from_is_err_and}
+use Rattle.std.proofs.Common.{subst}
 use Rattle.spec_model.specs.Views.{spec_data}
-use Rattle.solve.specs.declared.fault.SolveFault.TheVariants.{TooManyStates}
 use Rattle.solve.specs.Verdicts.{AreNumbersOf}
 use Rattle.solve.proofs.Wholly.{won_within, lost_within}
 use Rattle.solve.proofs.cores.core_of.Goals as goal
-
-pub returns-in_err-whole_numbers-clause-too_many_states : goal.returns-in_err-whole_numbers-clause-too_many_states
-returns-in_err-whole_numbers-clause-too_many_states c = λ is_many.
-    let p = err_from_is_err_and c.from_residual.result c.from_residual.ensures.1 in
-    let is : c.in_err-whole_numbers.field-0.0 ≡ TooManyStates = cc (p.1, p.2, is_many) in
-    (spec_data c.args.spec.now, inl refl, c.in_err-whole_numbers.ensures.too_many_states (ap Err is))
 
 pub core_of_lost-requires-clause-lost : goal.core_of_lost-requires-clause-lost
 core_of_lost-requires-clause-lost c =

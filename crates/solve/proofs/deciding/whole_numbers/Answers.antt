@@ -1,12 +1,10 @@
-use Rattle.std.proofs.Common.{ap, ◌∙◌}
-use Rattle.regions.specs.Kept.{Kept}
-use Rattle.region_rows.specs.declared.slots.RowRegion.{RowRegion}
-use Rattle.region_rows.specs.declared.slots.RowMove.{RowMove}
+use Rattle.std.proofs.lemmas.Result.{IfOk-weaker}
 use Rattle.spec_model.specs.Views.{spec_data}
+use Rattle.solve.specs.Verdicts.{AreNumbersOf}
 use Rattle.solve.proofs.Served.{numbers_of}
 use Rattle.solve.proofs.deciding.whole_numbers.Goals as goal
 
-pub returns-clause-numbers : goal.returns-clause-numbers
-returns-clause-numbers c =
-    let game = c.in_ok-layers.ensures.same.game ∙ ap (λ (k : Kept RowRegion RowMove). k.game) c.in_ok-g.ensures.made in
-    numbers_of (spec_data c.args.spec.now) c.requires.typed _ game _ c.counted.ensures
+pub returns : goal.returns
+returns c =
+    let s = spec_data c.args.spec.now in
+    record { numbers = IfOk-weaker c.game_numbers.result _ (AreNumbersOf s) (numbers_of s c.requires.typed _ c.in_ok-g.ensures.made.game) c.game_numbers.ensures.numbers }

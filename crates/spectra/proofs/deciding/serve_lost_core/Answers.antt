@@ -1,7 +1,6 @@
-use Rattle.std.proofs.Common.{Err, refl, ap}
+use Rattle.std.proofs.Common.{refl}
 use Rattle.solve.proofs.Wholly.{lost_within}
-use Rattle.spectra.proofs.Decided.{core_found, not_decided}
-use Rattle.spectra.proofs.SameStates.{many_of_tried}
+use Rattle.spectra.proofs.Decided.{core_found, not_decided, core_decides}
 use Rattle.spectra.proofs.deciding.serve_lost_core.Goals as goal
 
 pub core_of_lost-requires-clause-lost : goal.core_of_lost-requires-clause-lost
@@ -9,8 +8,8 @@ core_of_lost-requires-clause-lost g c = lost_within _ _ _ c.requires.lost
 
 pub returns-in-Ok : goal.returns-in-Ok
 returns-in-Ok g c = λ left faults.
-    core_found _ _ _ _ _ _ _ _ _ _ refl c.requires.lost c.in-Ok.ensures.left c.in-Ok.ensures.core c.requires.few (rw c.deref.ensures.value at (c.say_core.ensures left faults))
+    core_found _ _ _ _ _ _ _ _ _ refl c.requires.lost c.in-Ok.ensures.left c.in-Ok.ensures.core (rw c.deref.ensures.value at (c.say_core.ensures left faults))
 
 pub returns-in-Err : goal.returns-in-Err
 returns-in-Err g c = λ left faults.
-    not_decided _ _ _ _ _ _ _ _ (λ is. let tried = c.in-Err.ensures.too_many_states (ap (λ e. Err e) is) in many_of_tried _ c.requires.typed tried.0 tried.1 tried.2) (c.say_no_verdict.ensures left faults)
+    not_decided _ _ _ _ _ _ _ core_decides (c.say_no_verdict.ensures left faults)

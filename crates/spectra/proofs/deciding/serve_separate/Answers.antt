@@ -1,16 +1,16 @@
-use Rattle.std.proofs.Common.{Err, refl, ap}
-use Rattle.spectra.proofs.Decided.{is_separated, is_not_separated, not_decided}
+use Rattle.std.proofs.Common.{refl}
+use Rattle.spectra.proofs.Decided.{is_separated, is_not_separated, not_decided, separate_decides}
 use Rattle.spectra.proofs.deciding.serve_separate.Goals as goal
 
 pub returns-in-Ok-Separated : goal.returns-in-Ok-Separated
 returns-in-Ok-Separated g c =
     let h = rw c.in-Ok-Separated.field-0-is at c.in-Ok-Separated.ensures in
-    λ left faults. is_separated _ _ _ _ _ _ _ _ _ refl h.separation h.few (c.say_separated.ensures left faults)
+    λ left faults. is_separated _ _ _ _ _ _ _ _ refl h.separation (c.say_separated.ensures left faults)
 
 pub returns-in-Ok-Forced : goal.returns-in-Ok-Forced
 returns-in-Ok-Forced g c =
     let h = rw c.in-Ok-Forced.field-0-is at c.in-Ok-Forced.ensures in
-    λ left faults. is_not_separated _ _ _ _ _ _ _ _ refl h.separation h.few (c.say_not_separated.ensures left faults)
+    λ left faults. is_not_separated _ _ _ _ _ _ _ refl h.separation (c.say_not_separated.ensures left faults)
 
 pub returns-in-Err : goal.returns-in-Err
-returns-in-Err g c = λ left faults. not_decided _ _ _ _ _ _ _ _ (λ is. c.in-Err.ensures.too_many_states (ap (λ e. Err e) is)) (c.say_no_verdict.ensures left faults)
+returns-in-Err g c = λ left faults. not_decided _ _ _ _ _ _ _ separate_decides (c.say_no_verdict.ensures left faults)

@@ -1,16 +1,16 @@
-use Rattle.std.proofs.Common.{Err, inl, refl, ap}
-use Rattle.spectra.proofs.Decided.{synth_won, is_lost, not_decided}
+use Rattle.std.proofs.Common.{inl, refl}
+use Rattle.spectra.proofs.Decided.{synth_won, is_lost, not_decided, synth_decides}
 use Rattle.spectra.proofs.deciding.serve_synth.Goals as goal
 
 pub returns-in-Ok-Realizable : goal.returns-in-Ok-Realizable
 returns-in-Ok-Realizable g c =
     let h = rw c.in-Ok-Realizable.field-0-is at c.in-Ok-Realizable.ensures in
-    λ left faults. synth_won _ _ _ _ _ _ _ _ refl h.numbers h.few (c.say_realizable.ensures left faults)
+    λ left faults. synth_won _ _ _ _ _ _ _ refl h.numbers (c.say_realizable.ensures left faults)
 
 pub returns-in-Ok-Unrealizable : goal.returns-in-Ok-Unrealizable
 returns-in-Ok-Unrealizable g c =
     let h = rw c.in-Ok-Unrealizable.field-0-is at c.in-Ok-Unrealizable.ensures in
-    λ left faults. is_lost _ _ _ _ _ _ _ _ _ (inl refl) h.numbers h.few (c.say_unrealizable.ensures left faults)
+    λ left faults. is_lost _ _ _ _ _ _ _ _ (inl refl) h.numbers (c.say_unrealizable.ensures left faults)
 
 pub returns-in-Err : goal.returns-in-Err
-returns-in-Err g c = λ left faults. not_decided _ _ _ _ _ _ _ _ (λ is. c.in-Err.ensures.too_many_states (ap (λ e. Err e) is)) (c.say_no_verdict.ensures left faults)
+returns-in-Err g c = λ left faults. not_decided _ _ _ _ _ _ _ synth_decides (c.say_no_verdict.ensures left faults)

@@ -5,11 +5,7 @@ use Rattle.core_min.proofs.Few.{few}
 use Rattle.solve.specs.Winners.{IsWonBySystem, IsWonByEnvironment}
 use Rattle.solve.specs.Verdicts.{AreNumbersOf}
 use Rattle.solve.specs.Judged.{whole_of}
-use Rattle.spec_model.specs.Syntax.{Specification}
-use Rattle.solve.specs.declared.fault.SolveFault.{SolveFault}
-use Rattle.solve.specs.declared.fault.SolveFault.TheVariants.{TooManyStates, Memory}
-use Rattle.solve.specs.States.{HasManyStates}
-use Rattle.solve.specs.Places.{at_places, part_at, IsFaultOf}
+use Rattle.solve.specs.Places.{at_places, part_at}
 use Rattle.solve.proofs.Wholly.{won_within, lost_within, not_both}
 use Rattle.solve.proofs.parts.PartsJudge.wins.Goals as goal
 
@@ -50,10 +46,6 @@ returns-in-Ok-Unrealizable-clause-answer c =
     let lost = lost_within (part_at s c.args.kept.now) n m (subst (λ ns. IsWonByEnvironment (with_guarantees s ns) n m) part found) in
     (λ yes. absurd (false≢true yes), λ wins. absurd (not_both (part_at s c.args.kept.now) lost wins))
 
-fault_of : (t : Specification) (fault : SolveFault) → (fault ≡ TooManyStates → HasManyStates t) → IsFaultOf t fault
-fault_of t TooManyStates many = many refl
-fault_of t Memory many = tt
-
 -- what a cleared list has once the places were added
 kept_now : {X Y : Type 0} (result : Result X Y) (new old kept : List ℕ) → IsOk result → new ≡ (if is_ok result then old ++ kept else old) → old ≡ [] → new ≡ kept
 kept_now (Ok done) new old kept ok added none = added ∙ ap (λ xs. xs ++ kept) none
@@ -62,8 +54,6 @@ kept_now (Err e) new old kept ok added none = absurd (false≢true ok)
 pub returns-in-Err-clause-cause : goal.returns-in-Err-clause-cause
 returns-in-Err-clause-cause c =
     let s = whole_of c.args.self.now in
-    let part : c.deref.result.now ≡ at_places (guarantees_of s) c.args.kept.now =
-    c.deref.ensures.value ∙ (c.pick.ensures.picked ∙ ap (λ ns. at_places ns c.args.kept.now) c.args.self.now.numbered) in
     let short = few (length (guarantees_of s)) c.args.kept.now c.requires.set in
     let same = ap length c.args.self.now.numbered in
     let room = c.args.self.now.asked_room in
@@ -72,8 +62,8 @@ returns-in-Err-clause-cause c =
     record {
       rose = omega (arith, c.saturating_add-self.ensures);
       latest =
-          ap (λ (items : List ℕ). Some (c.in-Err.fault, items))
+          ap (λ (items : List ℕ). Some (c.in-Err.halt, items))
           (kept_now c.extend_from_slice.result c.extend_from_slice.new.self.items c.clear.new.self.items c.args.kept.now
           (c.extend_from_slice.ensures.succeeds (omega (arith, short, same, room, capacity, none))) c.extend_from_slice.ensures.items c.clear.ensures.items);
-      allowed = fault_of (part_at s c.args.kept.now) c.in-Err.fault (λ is. subst (λ ns. HasManyStates (with_guarantees s ns)) part (c.in-Err.ensures.too_many_states (ap (λ e. Err e) is)));
+      allowed = tt;
     }

@@ -5,11 +5,10 @@ use Rattle.spec_model.specs.Moves.{is_guarantee}
 use Rattle.spec_model.specs.Views.{line_data, spec_data}
 use Rattle.spec_model.specs.Cores.{guarantees_of, IsLeft, IsCore}
 use Rattle.gr1_law.proofs.CoreTrials.{left_is_core}
-use Rattle.solve.specs.declared.fault.SolveFault.TheVariants.{TooManyStates}
 use Rattle.solve.specs.Judged.{whole_of}
 use Rattle.solve.specs.Places.{at_places, solvable}
-use Rattle.solve.proofs.LostCores.{lost_first, left_below, left_numbers, many_tried}
-use Rattle.solve.proofs.cores.core_of_lost.Goals as goal
+use Rattle.solve.proofs.LostCores.{lost_first, left_below, left_numbers}
+use Rattle.solve.proofs.cores.tried_core.Goals as goal
 
 pub core-requires-clause-size : goal.core-requires-clause-size
 core-requires-clause-size c =
@@ -65,14 +64,3 @@ returns-in-Ok-clause-core c =
     c.in_ok-numbers_at-in-Ok.ensures ∙ (ap (λ ns. at_places ns c.deref-in-Ok-2.result.now) there ∙ ap (at_places (guarantees_of s)) c.deref-in-Ok-2.ensures.value) in
     let left = left_numbers s (whole_of c.in_ok-parts.parts) is c.len.result count c.requires.typed c.in-Ok.places.items c.in-Ok.ensures.left in
     subst (IsCore s) (sym items) (left_is_core s (solvable s c.requires.typed) _ c.requires.lost left)
-
-pub returns-clause-too_many_states : goal.returns-clause-too_many_states
-returns-clause-too_many_states c = λ is_many.
-    let s = spec_data c.args.spec.now in
-    let numbers : c.in_ok-numbers.numbers.items ≡ guarantees_of s = c.in_ok-numbers.ensures ∙ ap (λ (ls : List Line). map (λ l. l.number) (filter (λ l. is_guarantee l.role) (map line_data ls))) c.deref.ensures.value in
-    let long : vec_len c.in_ok-numbers.numbers ≡ length c.in_ok-numbers.numbers.items = search rules in
-    let count : c.len.result ≡ length (guarantees_of s) = c.len.ensures ∙ (long ∙ ap length numbers) in
-    let is : whole_of c.in_ok-parts.parts ≡ s = c.in_ok-parts.ensures in
-    let cause = rw c.in-Err-Judge.field-0-is at c.in-Err-Judge.ensures.cause in
-    let same : c.in-Err-Judge.fault ≡ TooManyStates = cc is_many in
-    many_tried s (whole_of c.in_ok-parts.parts) is c.len.result count c.requires.typed cause.set c.in-Err-Judge.fault cause.asked cause.answered.allowed same

@@ -1,0 +1,31 @@
+//! The sets of states that specifications are solved over.
+
+ghost use Rattle.std.specs.Prelude.{◌≡◌, ◌≤◌, IfOk};
+ghost use Rattle.spec_model.specs.Views.{spec_data};
+ghost use Rattle.spec_model.specs.WellTyped.{WellTyped};
+ghost use Rattle.hidden_game.specs.GameOf.{game_of};
+ghost use Rattle.solve.specs.Spaces.{space_kept, IsNewOf};
+
+use hidden_game::expand;
+use region_rows::RegionRows;
+use regions::Halt;
+use spec_model::spec::Spec;
+use std::alloc::Global;
+
+/// Sets of states of one game.
+pub type Space = RegionRows;
+
+/// The space of the game of a specification, with at most so many nodes at a time. Nothing is held at first.
+pub fn space_of(alloc: Global, spec: &Spec, budget: u32) -> Result<Space, Halt>
+    requires typed { WellTyped (spec_data spec.now) }
+    requires budget { 2 ≤ budget }
+    ensures made { IfOk result (λ r. IsNewOf (game_of (spec_data spec.now)) (space_kept r)) }
+{
+    let Ok(game) = expand(alloc, spec) else {
+        return Err(Halt::Memory);
+    };
+    match RegionRows::make(alloc, game) {
+        Ok(rows) => Ok(rows),
+        Err(_) => Err(Halt::Memory),
+    }
+}

@@ -1,0 +1,6 @@
+use Rattle.spectra.specs.Streams.{no_room}
+use Rattle.spectra.proofs.Decided.{nothing_done}
+use Rattle.spectra.proofs.generating.serve_arbiter.Goals as goal
+
+pub returns-in-Err : goal.returns-in-Err
+returns-in-Err g c = no_room (nothing_done _)
