@@ -7,13 +7,13 @@ ghost use Rattle.hidden_game.specs.GameOf.{game_of};
 ghost use Rattle.solve.specs.Spaces.{space_kept, IsNewOf};
 
 use hidden_game::expand;
-use region_rows::RegionRows;
+use region_bdd::RegionBdd;
 use regions::Halt;
 use spec_model::spec::Spec;
 use std::alloc::Global;
 
 /// Sets of states of one game.
-pub type Space = RegionRows;
+pub type Space = RegionBdd;
 
 /// The space of the game of a specification, with at most so many nodes at a time. Nothing is held at first.
 pub fn space_of(alloc: Global, spec: &Spec, budget: u32) -> Result<Space, Halt>
@@ -24,8 +24,5 @@ pub fn space_of(alloc: Global, spec: &Spec, budget: u32) -> Result<Space, Halt>
     let Ok(game) = expand(alloc, spec) else {
         return Err(Halt::Memory);
     };
-    match RegionRows::make(alloc, game) {
-        Ok(rows) => Ok(rows),
-        Err(_) => Err(Halt::Memory),
-    }
+    RegionBdd::make(alloc, game, budget)
 }
