@@ -35,32 +35,32 @@ numbers_at-requires c =
     let long : vec_len c.in_ok-numbers.numbers ≡ length c.in_ok-numbers.numbers.items = search rules in
     let count : c.len.result ≡ length (guarantees_of s) = c.len.ensures ∙ (long ∙ ap length numbers) in
     let is : whole_of c.in_ok-parts.parts ≡ s = c.in_ok-parts.ensures in
-    let below = left_below s (whole_of c.in_ok-parts.parts) is c.len.result count c.in-Ok.places.items c.in-Ok.ensures.left in
-    let there : c.deref-in-Ok.result.now ≡ guarantees_of s = c.deref-in-Ok.ensures.value ∙ numbers in
-    subst (λ places. All (λ place. place < length c.deref-in-Ok.result.now) places) (sym c.deref-in-Ok-2.ensures.value)
-    (subst (λ ns. All (λ place. place < length ns) c.in-Ok.places.items) (sym there) below)
+    let below = left_below s (whole_of c.in_ok-parts.parts) is c.len.result count c.in_ok-places.places.items c.in_ok-places.ensures.left in
+    let there : c.deref-3.result.now ≡ guarantees_of s = c.deref-3.ensures.value ∙ numbers in
+    subst (λ places. All (λ place. place < length c.deref-3.result.now) places) (sym c.deref-4.ensures.value)
+    (subst (λ ns. All (λ place. place < length ns) c.in_ok-places.places.items) (sym there) below)
 
-pub returns-in-Ok-clause-left : goal.returns-in-Ok-clause-left
-returns-in-Ok-clause-left c =
+pub returns-clause-left : goal.returns-clause-left
+returns-clause-left c =
     let s = spec_data c.args.spec.now in
     let numbers : c.in_ok-numbers.numbers.items ≡ guarantees_of s = c.in_ok-numbers.ensures ∙ ap (λ (ls : List Line). map (λ l. l.number) (filter (λ l. is_guarantee l.role) (map line_data ls))) c.deref.ensures.value in
     let long : vec_len c.in_ok-numbers.numbers ≡ length c.in_ok-numbers.numbers.items = search rules in
     let count : c.len.result ≡ length (guarantees_of s) = c.len.ensures ∙ (long ∙ ap length numbers) in
     let is : whole_of c.in_ok-parts.parts ≡ s = c.in_ok-parts.ensures in
-    let there : c.deref-in-Ok.result.now ≡ guarantees_of s = c.deref-in-Ok.ensures.value ∙ numbers in
-    let items : c.in_ok-numbers_at-in-Ok.field-0.items ≡ at_places (guarantees_of s) c.in-Ok.places.items =
-    c.in_ok-numbers_at-in-Ok.ensures ∙ (ap (λ ns. at_places ns c.deref-in-Ok-2.result.now) there ∙ ap (at_places (guarantees_of s)) c.deref-in-Ok-2.ensures.value) in
-    subst (IsLeft s) (sym items) (left_numbers s (whole_of c.in_ok-parts.parts) is c.len.result count c.requires.typed c.in-Ok.places.items c.in-Ok.ensures.left)
+    let there : c.deref-3.result.now ≡ guarantees_of s = c.deref-3.ensures.value ∙ numbers in
+    let items : c.in_ok-numbers_at.field-0.items ≡ at_places (guarantees_of s) c.in_ok-places.places.items =
+    c.in_ok-numbers_at.ensures ∙ (ap (λ ns. at_places ns c.deref-4.result.now) there ∙ ap (at_places (guarantees_of s)) c.deref-4.ensures.value) in
+    subst (IsLeft s) (sym items) (left_numbers s (whole_of c.in_ok-parts.parts) is c.len.result count c.requires.typed c.in_ok-places.places.items c.in_ok-places.ensures.left)
 
-pub returns-in-Ok-clause-core : goal.returns-in-Ok-clause-core
-returns-in-Ok-clause-core c =
+pub returns-clause-core : goal.returns-clause-core
+returns-clause-core c =
     let s = spec_data c.args.spec.now in
     let numbers : c.in_ok-numbers.numbers.items ≡ guarantees_of s = c.in_ok-numbers.ensures ∙ ap (λ (ls : List Line). map (λ l. l.number) (filter (λ l. is_guarantee l.role) (map line_data ls))) c.deref.ensures.value in
     let long : vec_len c.in_ok-numbers.numbers ≡ length c.in_ok-numbers.numbers.items = search rules in
     let count : c.len.result ≡ length (guarantees_of s) = c.len.ensures ∙ (long ∙ ap length numbers) in
     let is : whole_of c.in_ok-parts.parts ≡ s = c.in_ok-parts.ensures in
-    let there : c.deref-in-Ok.result.now ≡ guarantees_of s = c.deref-in-Ok.ensures.value ∙ numbers in
-    let items : c.in_ok-numbers_at-in-Ok.field-0.items ≡ at_places (guarantees_of s) c.in-Ok.places.items =
-    c.in_ok-numbers_at-in-Ok.ensures ∙ (ap (λ ns. at_places ns c.deref-in-Ok-2.result.now) there ∙ ap (at_places (guarantees_of s)) c.deref-in-Ok-2.ensures.value) in
-    let left = left_numbers s (whole_of c.in_ok-parts.parts) is c.len.result count c.requires.typed c.in-Ok.places.items c.in-Ok.ensures.left in
+    let there : c.deref-3.result.now ≡ guarantees_of s = c.deref-3.ensures.value ∙ numbers in
+    let items : c.in_ok-numbers_at.field-0.items ≡ at_places (guarantees_of s) c.in_ok-places.places.items =
+    c.in_ok-numbers_at.ensures ∙ (ap (λ ns. at_places ns c.deref-4.result.now) there ∙ ap (at_places (guarantees_of s)) c.deref-4.ensures.value) in
+    let left = left_numbers s (whole_of c.in_ok-parts.parts) is c.len.result count c.requires.typed c.in_ok-places.places.items c.in_ok-places.ensures.left in
     subst (IsCore s) (sym items) (left_is_core s (solvable s c.requires.typed) _ c.requires.lost left)
