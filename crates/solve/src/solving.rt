@@ -28,6 +28,7 @@ fn environment_layers<G: Regions>(alloc: Global, g: &mut G) -> Result<EnvLayers<
     requires made { WellMade (G.kept g.old).game }
     requires forces { EnvironmentForces (G.kept g.old).game }
     ensures solved { IfOk result (λ l. (e : EnvLayerSets) × AreEnvLayersOf (G.kept g.new) l.layers.items e) }
+    ensures free { OnOk result ((G.kept g.new).jam ≡ None) }
     ensures same { IsSameGame (G.kept g.old) (G.kept g.new) }
 {
     match solve_env(alloc, g) {
@@ -43,6 +44,7 @@ pub fn solve_game<G: Regions>(alloc: Global, g: &mut G) -> Result<Solved<G>, Hal
     requires free { (G.kept g.old).jam ≡ None }
     requires made { WellMade (G.kept g.old).game }
     ensures holds { IfOk result (HoldsLayers (G.kept g.new)) }
+    ensures free { OnOk result ((G.kept g.new).jam ≡ None) }
     ensures same { IsSameGame (G.kept g.old) (G.kept g.new) }
 {
     match solve_sys(alloc, g) {

@@ -7,6 +7,11 @@ returns-in-Ok-Some-clause-solved g c =
     let h = rw c.in-Ok-Some.field-0-is at c.in-Ok-Some.ensures in
     (h.solved.0, solved_env_layers _ _ _ _ c.requires.made h.same h.solved.1)
 
+pub returns-in-Ok-Some-clause-free : goal.returns-in-Ok-Some-clause-free
+returns-in-Ok-Some-clause-free g c =
+    let h = rw c.in-Ok-Some.field-0-is at c.in-Ok-Some.ensures in
+    h.solved.1.jam
+
 pub unreachable-requires : goal.unreachable-requires
 unreachable-requires g c =
     let h = rw c.in-Ok-None.field-0-is at c.in-Ok-None.ensures in

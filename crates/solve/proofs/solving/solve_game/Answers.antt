@@ -9,6 +9,11 @@ returns-in-Ok-Some-clause-holds g c =
     let h = rw c.in-Ok-Some.field-0-is at c.in-Ok-Some.ensures in
     (h.solved.0, solved_layers _ _ _ _ _ c.requires.made h.same h.solved.1)
 
+pub returns-in-Ok-Some-clause-free : goal.returns-in-Ok-Some-clause-free
+returns-in-Ok-Some-clause-free g c =
+    let h = rw c.in-Ok-Some.field-0-is at c.in-Ok-Some.ensures in
+    h.solved.1.jam
+
 pub environment_layers-requires-clause-forces : goal.environment_layers-requires-clause-forces
 environment_layers-requires-clause-forces g c =
     let h = rw c.in-Ok-None.field-0-is at c.in-Ok-None.ensures in
