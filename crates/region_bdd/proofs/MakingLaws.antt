@@ -9,7 +9,6 @@ use Rattle.spec_model.specs.Games.{GameData, GoalData}
 use Rattle.regions.specs.declared.types.Halt.{Halt}
 use Rattle.regions.specs.declared.types.Halt.TheVariants as halt
 use Rattle.regions.specs.declared.types.When.{When}
-use Rattle.regions.specs.declared.types.When.TheVariants.{First, Later}
 use Rattle.game_values.specs.declared.seen.At.TheVariants.{Now}
 use Rattle.spec_model.specs.Sets.{all_states}
 use Rattle.spec_model.specs.WellMade.{WellMade}
@@ -32,7 +31,7 @@ use Rattle.state_diagrams.proofs.ListLemmas.{one_itself}
 use Rattle.region_bdd.specs.declared.own.Own.{Own}
 use Rattle.region_bdd.specs.declared.slots.Slot.{Slot}
 use Rattle.region_bdd.specs.Object.{roots_of_own, IsObject}
-use Rattle.region_bdd.specs.Making.{MakesPart, in_both, FitBoth, FitNothing, FitProper, listed_times, FitGoals, FitLines, FitOwn}
+use Rattle.region_bdd.specs.Making.{MakesPart, in_both, FitBoth, FitNothing, FitProper, times_in_sets, FitSets, listed_times, FitGoals, FitLines, times_in_formulas, FitFormulas, FitOwn}
 use Rattle.region_bdd.proofs.ObjectLaws.{list_same, members_same}
 
 -- ---- parts that are one root, a list of goals, or members
@@ -99,18 +98,12 @@ module _ {V : Type 0} (tv : ℕ → V → ℕ) (FV : Contents → V → Type 0) 
 
 -- ---- the object
 
-abbrev pub formula_times : ℕ → (Vec ℕ Global × Vec ℕ Global) × (Members × Members) → ℕ
-formula_times = in_both (in_both listed_times listed_times) (in_both roots_of_members roots_of_members)
-
-abbrev pub FitFormulas : GameData → Contents → (Vec ℕ Global × Vec ℕ Global) × (Members × Members) → Type 0
-FitFormulas g = FitBoth (FitBoth (FitGoals g g.assume) (FitGoals g g.goals)) (FitBoth (FitLines g First) (FitLines g Later))
-
 pub own_made : (g : GameData) (ds : List DomainData) (old mid new : Contents) (nothing all : ℕ) (p : (Vec ℕ Global × Vec ℕ Global) × (Members × Members)) → ds ≡ state_domains g →
-    MakesPart (in_both one_at one_at) (FitBoth FitNothing (FitProper ds)) old mid (Ok (nothing, all)) → MakesPart formula_times (FitFormulas g) mid new (Ok p) →
+    MakesPart times_in_sets (FitSets ds) old mid (Ok (nothing, all)) → MakesPart times_in_formulas (FitFormulas g) mid new (Ok p) →
     MakesPart roots_of_own (FitOwn g) old new (Ok (record { step = record { nothing = nothing; proper = all; later = p.1.1 }; assume = p.0.0; goals = p.0.1; first = p.1.0 }))
 own_made g ds old mid new nothing all p same first second =
     let stays = both_stay one_at one_at FitNothing (FitProper ds) (root_stays (λ b. false)) (root_stays (proper ds Now)) in
-    let both = both_made (in_both one_at one_at) (FitBoth FitNothing (FitProper ds)) old mid (nothing, all) first formula_times (FitFormulas g) new p second stays in
+    let both = both_made times_in_sets (FitSets ds) old mid (nothing, all) first times_in_formulas (FitFormulas g) new p second stays in
     let fit = both.fit in
     let is = fit.0.1 ∙ ap (λ es. proper es Now) same in
     record {

@@ -7,6 +7,7 @@ use Rattle.game_values.specs.declared.seen.At.TheVariants.{Now}
 use Rattle.regions.specs.declared.types.Halt.{Halt}
 use Rattle.regions.specs.declared.types.Halt.TheVariants as halt
 use Rattle.regions.specs.declared.types.When.{When}
+use Rattle.regions.specs.declared.types.When.TheVariants.{First, Later}
 use Rattle.bdd_store.specs.State.{roots_at, SameRoots, IsFull}
 use Rattle.bdd_ops.specs.Contents.{Contents, function_at}
 use Rattle.bdd_ops.specs.Calls.{KeepsRoots}
@@ -34,7 +35,7 @@ abbrev pub in_both : {V W : Type 0} → (ℕ → V → ℕ) → (ℕ → W → �
 in_both first second n p = first n p.0 + second n p.1
 
 abbrev pub FitBoth : {V W : Type 0} → (Contents → V → Type 0) → (Contents → W → Type 0) → Contents → V × W → Type 0
-FitBoth First Second c p = First c p.0 × Second c p.1
+FitBoth FitFirst FitSecond c p = FitFirst c p.0 × FitSecond c p.1
 
 -- ---- the parts
 
@@ -45,16 +46,41 @@ FitNothing c root = function_at c root ≡ (λ b. false)
 abbrev pub FitProper : List DomainData → Contents → ℕ → Type 0
 FitProper ds c root = function_at c root ≡ proper ds Now
 
--- the roots of a list, which tell goals
+abbrev pub times_in_sets : ℕ → ℕ × ℕ → ℕ
+times_in_sets = in_both one_at one_at
+
+abbrev pub FitSets : List DomainData → Contents → ℕ × ℕ → Type 0
+FitSets ds = FitBoth FitNothing (FitProper ds)
+
+-- the recurring assumptions, and the recurring guarantees
 abbrev pub listed_times : ℕ → Vec ℕ Global → ℕ
 listed_times n roots = times_in n roots.items
 
 abbrev pub FitGoals : GameData → List GoalData → Contents → Vec ℕ Global → Type 0
 FitGoals g goals c roots = TellGoals g goals (functions_at c roots.items)
 
--- members of moves
+abbrev pub times_in_goals : ℕ → Vec ℕ Global × Vec ℕ Global → ℕ
+times_in_goals = in_both listed_times listed_times
+
+abbrev pub FitAllGoals : GameData → Contents → Vec ℕ Global × Vec ℕ Global → Type 0
+FitAllGoals g = FitBoth (FitGoals g g.assume) (FitGoals g g.goals)
+
+-- the lines of first moves, and those of later ones
 abbrev pub FitLines : GameData → When → Contents → Members → Type 0
 FitLines g when c m = FitMoves g when (move_functions c m)
+
+abbrev pub times_in_lines : ℕ → Members × Members → ℕ
+times_in_lines = in_both roots_of_members roots_of_members
+
+abbrev pub FitAllLines : GameData → Contents → Members × Members → Type 0
+FitAllLines g = FitBoth (FitLines g First) (FitLines g Later)
+
+-- the goals, and the lines
+abbrev pub times_in_formulas : ℕ → (Vec ℕ Global × Vec ℕ Global) × (Members × Members) → ℕ
+times_in_formulas = in_both times_in_goals times_in_lines
+
+abbrev pub FitFormulas : GameData → Contents → (Vec ℕ Global × Vec ℕ Global) × (Members × Members) → Type 0
+FitFormulas g = FitBoth (FitAllGoals g) (FitAllLines g)
 
 -- the object's own diagrams
 abbrev pub FitOwn : GameData → Contents → Own → Type 0

@@ -4,12 +4,11 @@ ghost use Rattle.std.specs.Prelude.{◌≡◌, ◌<◌, ◌≤◌, [], None, IfO
 ghost use Rattle.spec_model.specs.GameViews.{game_data};
 ghost use Rattle.spec_model.specs.WellMade.{WellMade};
 ghost use Rattle.bit_compile.specs.Domains.{state_domains, level_count};
-ghost use Rattle.state_diagrams.specs.Lists.{one_at};
-ghost use Rattle.state_diagrams.specs.Lines.{roots_of_members};
 ghost use Rattle.state_diagrams.specs.Forcing.{AreLevelsOf};
 ghost use Rattle.region_bdd.specs.Slots.{kept_in};
 ghost use Rattle.region_bdd.specs.Object.{roots_of_own};
-ghost use Rattle.region_bdd.specs.Making.{MakesPart, in_both, FitBoth, FitNothing, FitProper, listed_times, FitGoals, FitLines, FitOwn};
+ghost use Rattle.region_bdd.specs.Making.{MakesPart, times_in_sets, FitSets, times_in_goals, FitAllGoals};
+ghost use Rattle.region_bdd.specs.Making.{times_in_lines, FitAllLines, times_in_formulas, FitFormulas, FitOwn};
 ghost use Rattle.region_bdd.specs.Room.{IsRoom, member_count};
 ghost use Rattle.region_bdd.specs.Seen.{seen};
 
@@ -36,7 +35,7 @@ use std::alloc::{AllocError, Global};
 /// No state and all states, at the present bits.
 fn sets(diagrams: &mut Diagrams, codes: &Codes) -> Result<(Root, Root), Halt>
     requires { level_count codes.now ≤ diagrams.old.state.table.levels }
-    ensures { MakesPart (in_both one_at one_at) (FitBoth FitNothing (FitProper codes.now)) diagrams.old diagrams.new result }
+    ensures { MakesPart times_in_sets (FitSets codes.now) diagrams.old diagrams.new result }
 {
     let nothing = constant(diagrams, false)?;
     match proper(diagrams, codes, At::Now) {
@@ -58,7 +57,7 @@ fn goals(
     requires codes { codes.now ≡ state_domains (game_data game.now) }
     requires levels { level_count codes.now ≤ diagrams.old.state.table.levels }
     ensures { let g = game_data game.now in
-        MakesPart (in_both listed_times listed_times) (FitBoth (FitGoals g g.assume) (FitGoals g g.goals)) diagrams.old diagrams.new result }
+        MakesPart times_in_goals (FitAllGoals g) diagrams.old diagrams.new result }
 {
     let assume = goal_roots(diagrams, codes, game, &game.assume)?;
     match goal_roots(diagrams, codes, game, &game.goals) {
@@ -82,7 +81,7 @@ fn lines(
     requires levels { diagrams.old.state.table.levels ≡ level_count (state_domains (game_data game.now)) }
     requires lists { AreLevelsOf (game_data game.now) levels.now }
     ensures { let g = game_data game.now in
-        MakesPart (in_both roots_of_members roots_of_members) (FitBoth (FitLines g When.First) (FitLines g When.Later)) diagrams.old diagrams.new result }
+        MakesPart times_in_lines (FitAllLines g) diagrams.old diagrams.new result }
 {
     let first = first_members(diagrams, codes, game, levels)?;
     match later_members(diagrams, codes, game, levels) {
@@ -106,7 +105,7 @@ fn formulas(
     requires levels { diagrams.old.state.table.levels ≡ level_count (state_domains (game_data game.now)) }
     requires lists { AreLevelsOf (game_data game.now) levels.now }
     ensures { let g = game_data game.now in
-        MakesPart (in_both (in_both listed_times listed_times) (in_both roots_of_members roots_of_members)) (FitBoth (FitBoth (FitGoals g g.assume) (FitGoals g g.goals)) (FitBoth (FitLines g When.First) (FitLines g When.Later))) diagrams.old diagrams.new result }
+        MakesPart times_in_formulas (FitFormulas g) diagrams.old diagrams.new result }
 {
     let (assume, guaranteed) = goals(diagrams, codes, game)?;
     match lines(diagrams, codes, game, levels) {
