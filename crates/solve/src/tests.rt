@@ -41,9 +41,9 @@ fn winner(alloc: Global, spec: &Spec, kept: &[u32]) -> Result<Numbers, Halt>
 }
 
 // Who wins with a part of the guarantees of which 2 and 3 can't be kept together.
-fn blocked_winner(alloc: Global, kept: &[u32]) -> Result<Numbers, Halt> {
+fn blocked_winner(alloc: Global, kept: &[u32]) -> Result<Numbers, Fail> {
     let spec = blocked(alloc)?;
-    winner(alloc, &spec, kept)
+    Ok(winner(alloc, &spec, kept)?)
 }
 
 #[test]
