@@ -1,0 +1,5 @@
+pub mod LevelLemmas
+pub mod QuantLemmas
+pub mod KeepingLemmas
+pub mod PartLemmas
+pub mod ProductLemmas
