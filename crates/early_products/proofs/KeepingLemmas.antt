@@ -1,7 +1,7 @@
 -- What is left where roots are added and given back.
-use Rattle.std.proofs.Common.{◌≡◌, ℕ, zero, suc, ◌+◌, ◌<◌, ◌≤◌, ◌==◌, Bool, true, false, Result, Ok, Err, IsErrAnd, List, [], ◌∷◌, ◌++◌, length, map, slice_index, count_by, cond, refl, sym, ◌∙◌, ap, subst, arith, ◌&&◌, get_or, take, drop}
+use Rattle.std.proofs.Common.{◌≡◌, ℕ, zero, suc, ◌+◌, ◌<◌, ◌≤◌, ◌==◌, Bool, true, false, Result, Ok, Err, IsErrAnd, IfErr, OnOk, List, [], ◌∷◌, ◌++◌, length, map, slice_index, count_by, cond, refl, sym, ◌∙◌, ap, subst, arith, ◌&&◌, get_or, take, drop}
 use Rattle.std.proofs.lemmas.Bool.{eq-eqb, false≢true}
-use Rattle.std.proofs.lemmas.List.{sum_by-cons}
+use Rattle.std.proofs.lemmas.List.Sums.{sum_by-cons}
 use Rattle.std.proofs.lemmas.Bool.Decides.{nat_tests}
 use Rattle.spec_model.specs.Diagrams.{Diagram, Function, value}
 use Rattle.bdd_store.specs.declared.fault.StoreFault.{StoreFault}
@@ -11,10 +11,11 @@ use Rattle.bdd_ops.specs.Contents.{Contents, function_at}
 use Rattle.bdd_ops.specs.Calls.{KeepsRoots, GivesRoot}
 use Rattle.bdd_ops.specs.Functions.{joined, join_of}
 use Rattle.regions.specs.declared.types.Halt.{Halt}
+use Rattle.regions.specs.declared.types.Halt.TheVariants as halt
 use Rattle.bit_compile.specs.Making.{halted, Makes, MakesOnce}
 use Rattle.bit_compile.proofs.MakingLemmas.{Reclaims, again, keeps_freed, given_back, root_added, root_stays, fails}
 use Rattle.early_products.specs.Members.{AreRoots, all_true, functions_at}
-use Rattle.early_products.specs.Parts.{AddsRoots, HasTogether, roots_in}
+use Rattle.early_products.specs.Parts.{AddsRoots, HasTogether, LeavesRoots, roots_in}
 
 -- an operation on one root, tried again on what is left
 pub again_of : (F : Diagram → Function) (M : Diagram → Diagram → Type 0) (old mid freed new : Contents) (a : ℕ) (r : Result ℕ StoreFault) → IsRoot old.state a → GivesRoot old mid (Err fault.Full) (F (diagram_of old.state a)) (M (diagram_of old.state a)) → Reclaims mid freed → GivesRoot freed new r (F (diagram_of freed.state a)) (M (diagram_of freed.state a)) → MakesOnce old new (halted r) (F (diagram_of old.state a)) (M (diagram_of old.state a))
@@ -38,6 +39,41 @@ one_spent F base old mid new a f r first makes back table =
 pub refused_by : (base new : Contents) (r : Result ℕ Halt) (halt : Halt) (f g : Function) → IsErrAnd r (λ y. y ≡ halt) → Makes base new (Err halt) f → Makes base new r g
 refused_by base new (Ok x) halt f g is makes = absurd is
 refused_by base new (Err y) halt f g is makes = fails base new y f g (subst (λ (h : Halt). Makes base new (Err h) f) (sym is) makes)
+
+pub keeps_added : (a b c : Contents) → KeepsRoots a b → ((n : ℕ) → IsRoot a.state n → IsRoot b.state n) → KeepsRoots b c → KeepsRoots a c
+keeps_added a b c first stays second =
+    record {
+      levels = second.levels ∙ first.levels;
+      budget = second.budget ∙ first.budget;
+      meaning = λ n root. second.meaning n (stays n root) ∙ first.meaning n root;
+    }
+
+pub err_by : {V : Type 0} (base new : Contents) (r : Result V Halt) (halt : Halt) (f g : Function) → IsErrAnd r (λ y. y ≡ halt) → Makes base new (Err halt) f → IfErr r (λ h. Makes base new (Err h) g)
+err_by base new (Ok x) halt f g is makes = absurd is
+err_by base new (Err y) halt f g is makes = fails base new y f g (subst (λ (h : Halt). Makes base new (Err h) f) (sym is) makes)
+
+-- a result that says more
+pub on_ok : {V : Type 0} (r : Result V Halt) (P Q : Type 0) → (P → Q) → OnOk r P → OnOk r Q
+on_ok (Ok v) P Q more is = more is
+on_ok (Err h) P Q more is = tt
+
+-- ---- refusals for want of memory
+
+abbrev halt_or : {V : Type 0} → Halt → Result V Halt → Halt
+halt_or a (Ok v) = a
+halt_or a (Err h) = h
+
+pub keeps_itself : (c : Contents) → KeepsRoots c c
+keeps_itself c = record { levels = refl; budget = refl; meaning = λ n root. refl }
+
+pub no_memory_left : {V W : Type 0} (old new : Contents) (made : Result V Halt) (h : Halt) (r : Result W Halt) → (made ≡ Err halt.Budget → ⊥) → made ≡ Err h → IsErrAnd r (λ y. y ≡ h) → SameRoots old.state new.state → KeepsRoots old new → LeavesRoots old new r
+no_memory_left old new made h (Ok w) never is handed roots keeps = absurd handed
+no_memory_left old new made h (Err y) never is handed roots keeps =
+    record {
+      roots = roots;
+      keeps = keeps;
+      full = λ e. absurd (never (is ∙ ap (λ (k : Halt). Err k) (sym handed ∙ ap (halt_or h) e)));
+    }
 
 -- ---- several roots
 
@@ -70,15 +106,15 @@ kept_back c [] (suc i) are = are
 kept_back c (m ∷ ms) zero are = are
 kept_back c (m ∷ ms) (suc i) are = kept_back c ms i (λ k below. are (suc k) (omega arith))
 
+pub more_kept : (c : Contents) (m : ℕ) (ms : List ℕ) → IsRoot c.state m → AreRoots c ms → AreRoots c (m ∷ ms)
+more_kept c m ms root are zero below = root
+more_kept c m ms root are (suc k) below = are k (omega arith)
+
 pub kept_front : (c : Contents) (ms : List ℕ) (i : ℕ) → AreRoots c ms → AreRoots c (take i ms)
 kept_front c [] zero are = are
 kept_front c [] (suc i) are = are
 kept_front c (m ∷ ms) zero are = λ k below. absurd (omega arith)
-kept_front c (m ∷ ms) (suc i) are = λ k below. at k below
-  where
-    at : (k : ℕ) → k < length (m ∷ take i ms) → IsRoot c.state (slice_index (m ∷ take i ms) k)
-    at zero below = are 0 (omega arith)
-    at (suc k) below = kept_front c ms i (λ j less. are (suc j) (omega arith)) k (omega arith)
+kept_front c (m ∷ ms) (suc i) are = more_kept c m (take i ms) (are 0 (omega arith)) (kept_front c ms i (λ k below. are (suc k) (omega arith)))
 
 -- ---- how many roots are at a node
 
@@ -93,17 +129,20 @@ roots_in-push (y ∷ xs) x n =
     let rest = roots_in-push xs x n in
     omega (arith, whole, before, rest)
 
+own_in : (x : ℕ) (xs : List ℕ) → 0 < roots_in (x ∷ xs) x
+own_in x xs = at (x == x) (eq-eqb x x refl) (roots_in-cons x xs x)
+  where
+    at : (b : Bool) → b ≡ true → roots_in (x ∷ xs) x ≡ cond b 1 0 + roots_in xs x → 0 < roots_in (x ∷ xs) x
+    at true e cons = omega (arith, cons)
+    at false e cons = absurd (false≢true e)
+
 -- roots that are there together are each kept
 pub each_kept : (c : Contents) (roots : List ℕ) → HasTogether c.state roots → AreRoots c roots
 each_kept c [] has = λ i below. absurd (omega arith)
-each_kept c (x ∷ xs) has = λ i below. at i below
-  where
-    rest : HasTogether c.state xs
-    rest n = let all = has n in let cons = roots_in-cons x xs n in grind (arith, all, cons, nat_tests)
-
-    at : (i : ℕ) → i < length (x ∷ xs) → IsRoot c.state (slice_index (x ∷ xs) i)
-    at zero below = let one = has x in let cons = roots_in-cons x xs x in grind (arith, one, cons, nat_tests)
-    at (suc i) below = each_kept c xs rest i (omega arith)
+each_kept c (x ∷ xs) has =
+    let own = own_in x xs in
+    let here = has x in
+    more_kept c x xs (omega (arith, own, here)) (each_kept c xs (λ n. (let all = has n in let cons = roots_in-cons x xs n in omega (arith, all, cons))))
 
 pub added_together : (old new : Contents) (roots : List ℕ) → AddsRoots old.state new.state roots → HasTogether new.state roots
 added_together old new roots adds n = let more = adds n in omega (arith, more)

@@ -1,9 +1,11 @@
 -- Lists of levels.
-use Rattle.std.proofs.Common.{◌≡◌, ◌≢◌, ◌⊎◌, inl, inr, ℕ, zero, suc, ◌+◌, ◌<◌, ◌==◌, Bool, true, false, not, ◌&&◌, ◌||◌, List, [], ◌∷◌, ◌++◌, length, take, drop, get_or, refl, sym, ◌∙◌, ap}
+use Rattle.std.proofs.Common.{◌≡◌, ◌≢◌, ◌⊎◌, inl, inr, ℕ, zero, suc, ◌+◌, ◌<◌, ◌==◌, Bool, true, false, not, ◌&&◌, ◌||◌, List, [], ◌∷◌, ◌++◌, length, take, drop, get_or, if◌then◌else◌, refl, sym, ◌∙◌, ap, subst}
 use Rattle.std.proofs.lemmas.Bool.{false≢true, or_cases}
 use Rattle.std.proofs.lemmas.Bool.Decides.{eqb_tells}
-use Rattle.bdd_ops.specs.Functions.{is_among}
+use Rattle.spec_model.specs.Diagrams.{Function}
+use Rattle.bdd_ops.specs.Functions.{Ignores, is_among}
 use Rattle.bdd_ops.proofs.ListLemmas.{is_among-append, among_more}
+use Rattle.early_products.specs.Parts.{IgnoresAll}
 
 or_assoc : (a b c : Bool) → (a || (b || c)) ≡ ((a || b) || c)
 or_assoc true b c = refl
@@ -43,6 +45,34 @@ among_back zero m [] e = e
 among_back zero m (x ∷ xs) e = e
 among_back (suc k) m [] e = e
 among_back (suc k) m (x ∷ xs) e = or_right (m == x) (is_among m xs) (among_back k m xs e)
+
+-- ---- levels gathered
+
+pub gathered_all : (before levels : List ℕ) (f : Function) → IgnoresAll levels f → (m : ℕ) → is_among m (before ++ levels) ≡ true → (is_among m before ≡ true) ⊎ ((is_among m levels ≡ true) × Ignores m f)
+gathered_all before levels f ignores m among =
+    elim (or_cases (is_among m before) (is_among m levels) (sym (is_among-both m before levels) ∙ among)) [
+      | inl was ↦ inl was
+      | inr is ↦ inr (is, ignores m is)
+    ]
+
+pub gathered_halves : (before mid after levels front back : List ℕ) (k : ℕ) (f f' g : Function) → front ≡ take k levels → back ≡ drop k levels → f' ≡ f → g ≡ f →
+    ((m : ℕ) → is_among m mid ≡ true → (is_among m before ≡ true) ⊎ ((is_among m front ≡ true) × Ignores m f')) →
+    ((m : ℕ) → is_among m after ≡ true → (is_among m mid ≡ true) ⊎ ((is_among m back ≡ true) × Ignores m g)) → (m : ℕ) → is_among m after ≡ true → (is_among m before ≡ true) ⊎ ((is_among m levels ≡ true) × Ignores m f)
+gathered_halves before mid after levels front back k f f' g front_is back_is same' same first second m among =
+    elim (second m among) [
+      | inl was ↦ elim (first m was) [
+        | inl earlier ↦ inl earlier
+        | inr is ↦ inr (among_front k m levels (sym (ap (is_among m) front_is) ∙ is.0), subst (λ (h : Function). Ignores m h) same' is.1)
+      ]
+      | inr is ↦ inr (among_back k m levels (sym (ap (is_among m) back_is) ∙ is.0), subst (λ (h : Function). Ignores m h) same is.1)
+    ]
+
+-- one that hasn't come yet
+pub not_yet : (levels : List ℕ) (i level : ℕ) → i < length levels → is_among level (take i levels) ≡ false → level ≢ get_or levels i 0 → is_among level (take (i + 1) levels) ≡ false
+not_yet levels i level within before other =
+    among_more levels i level within
+    ∙ (ap (λ b. b || (level == get_or levels i 0)) before
+    ∙ (elim (eqb_tells level (get_or levels i 0)) [ inl same ↦ absurd (other same.1) | inr apart ↦ apart.0 ]))
 
 -- ---- the levels that aren't among others
 
@@ -85,3 +115,10 @@ module _ (levels left others : List ℕ) (i : ℕ) (within : i < length levels) 
       ∙ (ap (λ b. b || (m == get_or levels i 0)) (so_far m)
       ∙ (one_out m (is_among m (take i levels)) (is_among m others) (eqb_tells m (get_or levels i 0)) (λ same. ap (λ k. is_among k others) same ∙ among)
       ∙ ap (λ b. b && not (is_among m others)) (sym (among_more levels i m within))))
+
+  pub next_left : (m : ℕ) → is_among m (if is_among (get_or levels i 0) others then left else left ++ get_or levels i 0 ∷ []) ≡ (is_among m (take (i + 1) levels) && not (is_among m others))
+  next_left m = at (is_among (get_or levels i 0) others) refl
+    where
+      at : (b : Bool) → is_among (get_or levels i 0) others ≡ b → is_among m (if b then left else left ++ get_or levels i 0 ∷ []) ≡ (is_among m (take (i + 1) levels) && not (is_among m others))
+      at true e = left_out e m
+      at false e = put_in e m

@@ -1,6 +1,6 @@
 -- Parts that are added, filled, and kept.
 use Rattle.std.proofs.Common.{◌≡◌, ℕ, zero, suc, ◌+◌, ◌<◌, ◌==◌, Bool, true, false, not, ◌&&◌, ◌||◌, Ok, List, [], ◌∷◌, ◌++◌, length, map, take, drop, get_or, set, refl, sym, ◌∙◌, ap, subst, arith}
-use Rattle.std.proofs.lemmas.List.{map-append}
+use Rattle.std.proofs.lemmas.List.{map-append, take_all, drop-set}
 use Rattle.std.proofs.lemmas.Bool.{false≢true}
 use Rattle.spec_model.specs.Diagrams.{Function}
 use Rattle.bdd_store.specs.State.{IsRoot}
@@ -12,7 +12,7 @@ use Rattle.early_products.specs.declared.parts.Part.{Part}
 use Rattle.early_products.specs.Members.{AreRoots, all_true, functions_at}
 use Rattle.early_products.specs.Parts.{lines_of, AddsRoots, IgnoresAll, out_of, NoneReads, AreInOrder, IsProductOf, IsSpread}
 use Rattle.early_products.proofs.LevelLemmas.{is_among-both}
-use Rattle.early_products.proofs.KeepingLemmas.{function_kept, functions_kept, added_kept, roots_in-push}
+use Rattle.early_products.proofs.KeepingLemmas.{function_kept, functions_kept, kept_item, added_kept, roots_in-push}
 
 -- ---- conjunctions
 
@@ -46,14 +46,18 @@ all_true-next F (x ∷ ms) (suc i) m below is =
     let rest = all_true-next F ms i m (omega arith) is in
     rw next (λ j s. (sym (and_assoc (F x s) (all_true (map F (take i ms)) s) (F m s)) ∙ ap (λ (k : Function). F x s && k s) rest) j)
 
+-- one member more of a run
+pub run_step : (first l new : Contents) (ms : List ℕ) (i j m next : ℕ) → j ≡ i → i < length ms → m ≡ get_or ms i m → AreRoots first ms → KeepsRoots first l →
+    Makes first new (Ok next) (joined (join_of true) (all_true (functions_at first (take j ms))) (function_at l m)) → Makes first new (Ok next) (all_true (functions_at first (take (j + 1) ms)))
+run_step first l new ms i j m next same below is are keeps makes =
+    let so_far = all_true (functions_at first (take i ms)) in
+    let kept = function_kept first l keeps m (kept_item first ms i m below is are) in
+    let whole = ap (λ (k : Function). joined (join_of true) so_far k) kept ∙ all_true-next (function_at first) ms i m below is in
+    rw same (subst (λ (k : Function). Makes first new (Ok next) k) whole (rw same at makes))
+
 take_further : (ms : List ℕ) (i n : ℕ) → take i ms ++ take n (drop i ms) ≡ take (i + n) ms
-take_further [] zero zero = refl
-take_further [] zero (suc n) = refl
-take_further [] (suc i) n = let next : suc i + n ≡ suc (i + n) = omega arith in rw next (none n)
-  where
-    none : (k : ℕ) → take k (drop (suc i) ([] {A = ℕ})) ≡ []
-    none zero = refl
-    none (suc k) = refl
+take_further [] zero n = let same : 0 + n ≡ n = omega arith in rw same refl
+take_further [] (suc i) n = let next : suc i + n ≡ suc (i + n) = omega arith in rw next (take_all n [] (omega arith))
 take_further (x ∷ ms) zero n = let same : 0 + n ≡ n = omega arith in rw same refl
 take_further (x ∷ ms) (suc i) n = let next : suc i + n ≡ suc (i + n) = omega arith in rw next (ap (λ xs. x ∷ xs) (take_further ms i n))
 
@@ -105,8 +109,8 @@ module _ (c : Contents) (out left next : List ℕ) (p : Part) (rest : List Part)
         in_order = (none_fewer c p.out.items left rest (λ m among. kept_left (is_among m left) (is_among m next) (sym (own m) ∙ among)) so_far.unread, so_far.in_order);
         unread = (λ m among. (ignored m among).1, none_fewer c next left rest (λ m among. (ignored m among).0) so_far.unread);
         levels = λ m.
-          ap (λ b. b || is_among m next) (is_among-both m p.out.items (out_of rest) ∙ ap (λ b. b || is_among m (out_of rest)) (own m))
-          ∙ (spread_bits (is_among m left) (is_among m next) (is_among m (out_of rest)) (λ among. (ignored m among).0) ∙ so_far.levels m);
+            ap (λ b. b || is_among m next) (is_among-both m p.out.items (out_of rest) ∙ ap (λ b. b || is_among m (out_of rest)) (own m))
+            ∙ (spread_bits (is_among m left) (is_among m next) (is_among m (out_of rest)) (λ among. (ignored m among).0) ∙ so_far.levels m);
       }
 
 pub spread_none : (c : Contents) (out : List ℕ) → IsSpread c out out []
@@ -119,7 +123,39 @@ lines_of-set [] (suc i) p d same = refl
 lines_of-set (q ∷ ps) zero p d same = ap (λ n. n ∷ lines_of ps) same
 lines_of-set (q ∷ ps) (suc i) p d same = ap (λ ns. q.lines ∷ ns) (lines_of-set ps i p d same)
 
+pub part_kept : (c : Contents) (ps : List Part) (i : ℕ) (p : Part) → i < length ps → p ≡ get_or ps i p → AreRoots c (lines_of ps) → IsRoot c.state p.lines
+part_kept c [] i p below is are = absurd (omega arith)
+part_kept c (q ∷ ps) zero p below is are = subst (λ (r : Part). IsRoot c.state r.lines) (sym is) (are 0 (omega arith))
+part_kept c (q ∷ ps) (suc i) p below is are = part_kept c ps i p (omega arith) is (λ k less. are (suc k) (omega arith))
+
+got : (ps : List Part) (i : ℕ) (d d' : Part) → i < length ps → get_or ps i d ≡ get_or ps i d'
+got [] i d d' below = absurd (omega arith)
+got (p ∷ ps) zero d d' below = refl
+got (p ∷ ps) (suc i) d d' below = got ps i d d' (omega arith)
+
+-- the levels of one part more, which replaces one with the same lines
+module _ (first l : Contents) (out left next : List ℕ) (ps : List Part) (i place : ℕ) (p q r : Part) (keeps : KeepsRoots first l) (are : AreRoots first (lines_of ps)) (below : i < length ps) (after : i + 1 ≡ place) (p_is : p ≡ get_or ps i p) (q_is : q ≡ get_or ps i q) (lines : r.lines ≡ q.lines) where
+  pub one_spread : IsSpread first out left (drop place ps) → ((m : ℕ) → is_among m next ≡ true → (is_among m left ≡ true) × Ignores m (function_at l p.lines)) → ((m : ℕ) → is_among m r.out.items ≡ (is_among m left && not (is_among m next))) → IsSpread first out next (drop i (set ps i r))
+  one_spread so_far ignored own =
+      let same : p ≡ q = p_is ∙ (got ps i p q below ∙ sym q_is) in
+      let kept = function_kept first l keeps p.lines (part_kept first ps i p below p_is are) in
+      let function : function_at l p.lines ≡ function_at first r.lines = kept ∙ ap (function_at first) (ap (λ (x : Part). x.lines) same ∙ sym lines) in
+      let more = spread_more first out left next r (drop place ps) so_far (λ m among. ((ignored m among).0, subst (λ (g : Function). Ignores m g) function (ignored m among).1)) own in
+      subst (λ (qs : List Part). IsSpread first out next qs) (sym (drop-set ps i r below ∙ ap (λ k. r ∷ drop k ps) after)) more
+
+or_false : (a : Bool) → (a || false) ≡ a
+or_false true = refl
+or_false false = refl
+
 -- ---- products of kept parts
+
+pub spread_product : (c : Contents) (members : List Function) (out : List ℕ) (ps : List Part) → IsSpread c out [] ps → all_true (functions_at c (lines_of ps)) ≡ all_true members → IsProductOf c members out ps
+spread_product c members out ps is conjunction =
+    record {
+      conjunction = conjunction;
+      in_order = is.in_order;
+      levels = λ m. sym (or_false (is_among m (out_of ps))) ∙ is.levels m;
+    }
 
 none_stays : (old new : Contents) → KeepsRoots old new → (levels : List ℕ) (ps : List Part) → AreRoots old (lines_of ps) → NoneReads old levels ps → NoneReads new levels ps
 none_stays old new keeps levels [] are none = tt

@@ -6,6 +6,7 @@ ghost use Rattle.bdd_ops.specs.Functions.{Ignores, is_among};
 ghost use Rattle.bdd_ops.specs.Contents.{function_at};
 ghost use Rattle.early_products.specs.Parts.{LeavesRoots, IgnoresAll};
 
+use crate::levels::add_all;
 use crate::steps::exists;
 use bdd_ops::{Diagrams, Root};
 use regions::Halt;
@@ -34,11 +35,9 @@ pub fn add_ignored(
     ensures added { OnOk result ((m : ℕ) → is_among m ignored.new.items ≡ true → (is_among m ignored.old.items ≡ true) ⊎ ((is_among m levels.now ≡ true) × Ignores m (function_at diagrams.old lines.now))) }
     ensures leaves { LeavesRoots diagrams.old diagrams.new result }
 {
-    if ignores(diagrams, lines, levels)? {
-        return match ignored.extend_from_slice(levels) {
-            Ok(()) => Ok(()),
-            Err(_) => Err(Halt::Memory),
-        };
+    let free = ignores(diagrams, lines, levels)?;
+    if free {
+        return add_all(ignored, levels);
     }
     if levels.len() < 2 {
         return Ok(());

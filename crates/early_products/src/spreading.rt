@@ -7,7 +7,7 @@ ghost use Rattle.bdd_ops.specs.Contents.{function_at};
 ghost use Rattle.early_products.specs.Members.{AreRoots};
 ghost use Rattle.early_products.specs.Parts.{LeavesRoots, IsSpread, lines_of};
 
-use crate::levels::without;
+use crate::levels::{copied, without};
 use crate::parts::Part;
 use crate::reading::add_ignored;
 use bdd_ops::{Diagrams, Root};
@@ -38,16 +38,6 @@ fn earlier(
     }
     add_ignored(diagrams, lines, levels, &mut ignored)?;
     Ok(ignored)
-}
-
-/// A second list of the same levels.
-fn copied(alloc: Global, levels: &[u32]) -> Result<Vec<u32>, Halt>
-    ensures { IfOk result (λ copy. copy.items ≡ levels.now) }
-{
-    match Vec::from_slice(alloc, levels) {
-        Ok(copy) => Ok(copy),
-        Err(_) => Err(Halt::Memory),
-    }
 }
 
 /// Gives each part those levels that it reads and no later part does, from the last part on. The first part has the
