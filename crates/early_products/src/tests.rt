@@ -11,17 +11,18 @@ use std::alloc::Global;
 use std::process::Abort;
 use std::test::Fail;
 
-/// True where an odd number of the present bits from this level on are.
-fn odd_from(rt: &impl Abort, diagrams: &mut Diagrams, level: u32) -> Root
+/// True where an odd number of these are: the present bits from a level on, and the last diagram.
+fn odd_from(rt: &impl Abort, diagrams: &mut Diagrams, level: u32, last: &Root) -> Root
+    requires kept { IsRoot diagrams.old.state last.now }
     requires levels { diagrams.old.state.table.levels ≡ 23 }
     requires within { level ≤ 20 }
     ensures added { AddsRoot diagrams.old.state diagrams.new.state result }
     ensures levels { diagrams.new.state.table.levels ≡ 23 }
 {
     if level == 20 {
-        return diagrams.constant(false).expect(rt, "a constant");
+        return diagrams.keep(last).expect(rt, "a second root");
     }
-    let odd = odd_from(rt, diagrams, level + 1);
+    let odd = odd_from(rt, diagrams, level + 1, last);
     let even = diagrams.not(&odd).expect(rt, "a negation");
     let whole = chosen(rt, diagrams, level, &even, &odd);
     diagrams.release(even);
@@ -103,19 +104,20 @@ fn through(
     made
 }
 
-/// Where some next bits are true at levels 20 and 22 if 20 and 21 have a value and 22 has the bit of 21.
-fn through_three(rt: &impl Abort, diagrams: &mut Diagrams, alloc: Global, value: &Root) -> Root
-    requires kept { IsRoot diagrams.old.state value.now }
+/// Where some next bits are true at levels 21 and 22, if 20 has the bit of 0, 21 the bit of 20, and 22 is true where an
+/// odd number of the present bits and of 21 are. The last line is too large to join the others.
+fn through_three(rt: &impl Abort, diagrams: &mut Diagrams, alloc: Global) -> Root
     requires levels { diagrams.old.state.table.levels ≡ 23 }
     ensures added { AddsRoot diagrams.old.state diagrams.new.state result }
     ensures levels { diagrams.new.state.table.levels ≡ 23 }
 {
-    let a = diagrams.var(20).expect(rt, "a bit");
+    let a = diagrams.var(21).expect(rt, "a bit");
     let b = diagrams.var(22).expect(rt, "a bit");
+    let odd = odd_from(rt, diagrams, 0, &a);
     let lines = [
-        line(rt, diagrams, 20, value),
-        line(rt, diagrams, 21, value),
-        same(rt, diagrams, 22, 21),
+        same(rt, diagrams, 20, 0),
+        same(rt, diagrams, 21, 20),
+        line(rt, diagrams, 22, &odd),
     ];
     let wanted: [&[u32]; 2] = [&[20], &[21, 22]];
     let made = through(rt, diagrams, alloc, &lines, &[20, 21, 22], &wanted, &a, &b);
@@ -123,19 +125,39 @@ fn through_three(rt: &impl Abort, diagrams: &mut Diagrams, alloc: Global, value:
     diagrams.release(third);
     diagrams.release(second);
     diagrams.release(first);
+    diagrams.release(odd);
     diagrams.release(b);
     diagrams.release(a);
     made
 }
 
+/// True where level 0 is, and an odd number of the other present bits.
+fn first_and_odd(rt: &impl Abort, diagrams: &mut Diagrams) -> Root
+    requires levels { diagrams.old.state.table.levels ≡ 23 }
+    ensures added { AddsRoot diagrams.old.state diagrams.new.state result }
+    ensures levels { diagrams.new.state.table.levels ≡ 23 }
+{
+    let none = diagrams.constant(false).expect(rt, "a constant");
+    let odd = odd_from(rt, diagrams, 1, &none);
+    let bit = diagrams.var(0).expect(rt, "a bit");
+    let both = diagrams.and(&bit, &odd).expect(rt, "both");
+    diagrams.release(bit);
+    diagrams.release(odd);
+    diagrams.release(none);
+    both
+}
+
 #[test]
 fn a_target_over_three_lines_in_two_parts(rt: HostRuntime) -> Result<(), Fail> {
     let mut diagrams = Diagrams::make(rt.alloc(), 23, 4096)?;
-    let odd = odd_from(&rt, &mut diagrams, 0);
-    let made = through_three(&rt, &mut diagrams, rt.alloc(), &odd);
-    assert!(rt; diagrams.equal(&made, &odd), "where 20 is true, and 22");
+    let made = through_three(&rt, &mut diagrams, rt.alloc());
+    let wanted = first_and_odd(&rt, &mut diagrams);
+    assert!(rt;
+        diagrams.equal(&made, &wanted),
+        "level 21 is level 0, and 22 the rest"
+    );
+    diagrams.release(wanted);
     diagrams.release(made);
-    diagrams.release(odd);
     Ok(())
 }
 
