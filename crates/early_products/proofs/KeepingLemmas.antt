@@ -1,20 +1,18 @@
 -- What is left where roots are added and given back.
-use Rattle.std.proofs.Common.{◌≡◌, ℕ, zero, suc, ◌+◌, ◌<◌, ◌≤◌, ◌==◌, Bool, true, false, Result, Ok, Err, IsErrAnd, IfErr, OnOk, List, [], ◌∷◌, ◌++◌, length, map, slice_index, count_by, cond, refl, sym, ◌∙◌, ap, subst, arith, ◌&&◌, get_or, take, drop}
+use Rattle.std.proofs.Common.{◌≡◌, ℕ, zero, suc, ◌+◌, ◌<◌, ◌==◌, Bool, true, false, Result, Ok, Err, IsErrAnd, IfErr, OnOk, List, [], ◌∷◌, ◌++◌, length, slice_index, cond, refl, sym, ◌∙◌, ap, subst, arith, get_or, take, drop}
 use Rattle.std.proofs.lemmas.Bool.{eq-eqb, false≢true}
 use Rattle.std.proofs.lemmas.List.Sums.{sum_by-cons}
-use Rattle.std.proofs.lemmas.Bool.Decides.{nat_tests}
 use Rattle.spec_model.specs.Diagrams.{Diagram, Function, value}
 use Rattle.bdd_store.specs.declared.fault.StoreFault.{StoreFault}
 use Rattle.bdd_store.specs.declared.fault.StoreFault.TheVariants as fault
 use Rattle.bdd_store.specs.State.{State, IsRoot, roots_at, diagram_of, AddsRoot, SameRoots}
 use Rattle.bdd_ops.specs.Contents.{Contents, function_at}
 use Rattle.bdd_ops.specs.Calls.{KeepsRoots, GivesRoot}
-use Rattle.bdd_ops.specs.Functions.{joined, join_of}
 use Rattle.regions.specs.declared.types.Halt.{Halt}
 use Rattle.regions.specs.declared.types.Halt.TheVariants as halt
 use Rattle.bit_compile.specs.Making.{halted, Makes, MakesOnce}
 use Rattle.bit_compile.proofs.MakingLemmas.{Reclaims, again, keeps_freed, given_back, root_added, root_stays, fails}
-use Rattle.early_products.specs.Members.{AreRoots, all_true, functions_at}
+use Rattle.early_products.specs.Members.{AreRoots, functions_at}
 use Rattle.early_products.specs.Parts.{AddsRoots, HasTogether, LeavesRoots, roots_in}
 
 -- an operation on one root, tried again on what is left
@@ -118,7 +116,7 @@ kept_front c (m ∷ ms) (suc i) are = more_kept c m (take i ms) (are 0 (omega ar
 
 -- ---- how many roots are at a node
 
-roots_in-cons : (x : ℕ) (xs : List ℕ) (n : ℕ) → roots_in (x ∷ xs) n ≡ cond (n == x) 1 0 + roots_in xs n
+pub roots_in-cons : (x : ℕ) (xs : List ℕ) (n : ℕ) → roots_in (x ∷ xs) n ≡ cond (n == x) 1 0 + roots_in xs n
 roots_in-cons x xs n = sum_by-cons (λ (y : ℕ). cond (n == y) 1 0) x xs
 
 pub roots_in-push : (xs : List ℕ) (x n : ℕ) → roots_in (xs ++ x ∷ []) n ≡ roots_in xs n + cond (n == x) 1 0

@@ -3,3 +3,4 @@ pub mod QuantLemmas
 pub mod KeepingLemmas
 pub mod PartLemmas
 pub mod ProductLemmas
+pub mod TestLemmas

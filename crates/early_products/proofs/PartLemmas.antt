@@ -1,5 +1,5 @@
 -- Parts that are added, filled, and kept.
-use Rattle.std.proofs.Common.{◌≡◌, ℕ, zero, suc, ◌+◌, ◌<◌, ◌==◌, Bool, true, false, not, ◌&&◌, ◌||◌, Ok, List, [], ◌∷◌, ◌++◌, length, map, take, drop, get_or, set, refl, sym, ◌∙◌, ap, subst, arith}
+use Rattle.std.proofs.Common.{◌≡◌, ℕ, zero, suc, ◌+◌, ◌<◌, Bool, true, false, not, ◌&&◌, ◌||◌, Ok, List, [], ◌∷◌, ◌++◌, length, map, take, drop, get_or, set, refl, sym, ◌∙◌, ap, subst, arith}
 use Rattle.std.proofs.lemmas.List.{map-append, take_all, drop-set}
 use Rattle.std.proofs.lemmas.Bool.{false≢true}
 use Rattle.spec_model.specs.Diagrams.{Function}
@@ -10,7 +10,7 @@ use Rattle.bdd_ops.specs.Calls.{KeepsRoots}
 use Rattle.bit_compile.specs.Making.{Makes}
 use Rattle.early_products.specs.declared.parts.Part.{Part}
 use Rattle.early_products.specs.Members.{AreRoots, all_true, functions_at}
-use Rattle.early_products.specs.Parts.{lines_of, AddsRoots, IgnoresAll, out_of, NoneReads, AreInOrder, IsProductOf, IsSpread}
+use Rattle.early_products.specs.Parts.{lines_of, AddsRoots, out_of, NoneReads, AreInOrder, IsProductOf, IsSpread}
 use Rattle.early_products.proofs.LevelLemmas.{is_among-both}
 use Rattle.early_products.proofs.KeepingLemmas.{function_kept, functions_kept, kept_item, added_kept, roots_in-push}
 

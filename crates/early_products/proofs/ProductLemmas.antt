@@ -1,6 +1,6 @@
 -- A target joined with one part after the other is the target joined with all, once all levels are out.
-use Rattle.std.proofs.Common.{◌≡◌, ℕ, zero, suc, ◌+◌, ◌<◌, Bool, true, false, ◌&&◌, Ok, List, [], ◌∷◌, ◌++◌, length, take, get_or, refl, sym, ◌∙◌, ap, arith}
-use Rattle.spec_model.specs.Diagrams.{Bits, Function, with_bit, exists_over, and_exists_over}
+use Rattle.std.proofs.Common.{◌≡◌, ℕ, zero, suc, ◌+◌, ◌<◌, Bool, true, false, ◌&&◌, List, [], ◌∷◌, ◌++◌, length, take, get_or, refl, sym, ◌∙◌, ap, arith}
+use Rattle.spec_model.specs.Diagrams.{Function, with_bit, exists_over, and_exists_over}
 use Rattle.bdd_ops.specs.Contents.{Contents, function_at}
 use Rattle.early_products.specs.declared.parts.Part.{Part}
 use Rattle.early_products.specs.Members.{all_true, functions_at}

@@ -1,18 +1,16 @@
-//! Operations that take their first argument: it is given back, whether or not the result is made.
+//! The step of a product, which takes its first argument: it is given back, whether or not the result is made.
 //!
-//! What a call leaves is told from the time before its argument was made: against that time the result is all that is
-//! new, and after a refusal nothing is.
+//! What it leaves is told from the time before its argument was made: against that time the result is all that is new,
+//! and after a refusal nothing is.
 
-ghost use Rattle.std.specs.Prelude.{◌≡◌, true, false, Bool, Ok, Err, IfOk, IfErr, if◌then◌else◌};
+ghost use Rattle.std.specs.Prelude.{◌≡◌, Ok};
 ghost use Rattle.spec_model.specs.Diagrams.{Function, and_exists_over};
 ghost use Rattle.bdd_store.specs.State.{IsRoot};
-ghost use Rattle.bdd_ops.specs.Functions.{joined, join_of};
 ghost use Rattle.bdd_ops.specs.Contents.{Contents, function_at};
 ghost use Rattle.bit_compile.specs.Making.{Makes};
 
 use crate::steps::and_exists;
 use bdd_ops::{Diagrams, Root};
-use bit_compile::steps::and;
 use regions::Halt;
 
 /// A diagram joined with lines, and levels taken out then. The diagram is given back.

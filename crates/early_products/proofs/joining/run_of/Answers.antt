@@ -1,5 +1,5 @@
 use Rattle.std.proofs.Common.{◌≡◌, true, false, Bool, Ok, sym, ◌∙◌, refl, subst, take, if◌then◌else◌}
-use Rattle.spec_model.specs.Diagrams.{Bits, Diagram, Function}
+use Rattle.spec_model.specs.Diagrams.{Bits, Diagram}
 use Rattle.bdd_ops.specs.Contents.{function_at}
 use Rattle.bdd_ops.specs.Functions.{joined, join_of}
 use Rattle.bit_compile.specs.Making.{Makes}

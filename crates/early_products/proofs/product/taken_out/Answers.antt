@@ -1,4 +1,4 @@
-use Rattle.std.proofs.Common.{◌≡◌, ◌<◌, ◌≤◌, ℕ, List, Ok, ap, sym, subst, ◌∙◌, arith, get_or, length, take}
+use Rattle.std.proofs.Common.{◌≡◌, ◌<◌, ◌≤◌, ℕ, List, Ok, ap, sym, subst, ◌∙◌, get_or, length, take}
 use Rattle.std.proofs.lemmas.List.{take_all}
 use Rattle.spec_model.specs.Diagrams.{Function, and_exists_over}
 use Rattle.bdd_ops.specs.Contents.{function_at}

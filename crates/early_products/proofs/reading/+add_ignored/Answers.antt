@@ -1,4 +1,4 @@
-use Rattle.std.proofs.Common.{◌++◌, ap, ◌∙◌, true, ◌≡◌, ℕ, sym}
+use Rattle.std.proofs.Common.{ap, ◌∙◌, sym}
 use Rattle.bdd_ops.specs.Contents.{function_at}
 use Rattle.bdd_ops.specs.Functions.{is_among}
 use Rattle.bit_compile.proofs.MakingLemmas.{root_stays}

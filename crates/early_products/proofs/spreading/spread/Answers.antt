@@ -1,11 +1,10 @@
-use Rattle.std.proofs.Common.{◌≡◌, ◌<◌, ◌-◌, ◌+◌, ◌&&◌, not, true, ℕ, List, ap, sym, subst, ◌∙◌, refl, arith, get_or, length}
+use Rattle.std.proofs.Common.{◌≡◌, ◌<◌, ◌-◌, ◌+◌, ◌&&◌, not, true, ℕ, List, ap, sym, subst, ◌∙◌, refl, arith, length}
 use Rattle.std.proofs.lemmas.List.{length-set}
 use Rattle.bdd_ops.specs.Functions.{Ignores, is_among}
 use Rattle.bdd_ops.specs.Contents.{function_at}
 use Rattle.bit_compile.proofs.MakingLemmas.{keeps_then, root_stays}
 use Rattle.early_products.specs.declared.parts.Part.{Part}
 use Rattle.early_products.specs.Members.{AreRoots}
-use Rattle.early_products.specs.Parts.{lines_of}
 use Rattle.early_products.proofs.KeepingLemmas.{keeps_itself, no_memory_left}
 use Rattle.early_products.proofs.PartLemmas.{part_kept, lines_of-set, one_spread}
 use Rattle.early_products.proofs.spreading.spread.Goals as goal
