@@ -7,13 +7,13 @@ use Rattle.spectra.proofs.Causes.{is_caused}
 use Rattle.spectra.proofs.top.spectra.Goals as goal
 
 pub serve_file-requires : goal.serve_file-requires
-serve_file-requires g c = let h = rw c.in-Ok-Some-OfFile.field-0-is at c.in-Ok-Some-OfFile.ensures in record { budget = two_nodes _ _ h.asks.budget_is }
+serve_file-requires g c = let h = rw c.in-Ok-Some-OfFile.field-0-is at c.in-Ok-Some-OfFile.ensures in let asks = rw c.in-Ok-Some-OfFile.field-0-0-is at h.asks in record { budget = two_nodes _ _ asks.budget_is }
 
 pub serve_arbiter-requires : goal.serve_arbiter-requires
-serve_arbiter-requires g c = let h = rw c.in-Ok-Some-OfArbiter.field-0-is at c.in-Ok-Some-OfArbiter.ensures in record { budget = two_nodes _ _ h.asks.budget_is }
+serve_arbiter-requires g c = let h = rw c.in-Ok-Some-OfArbiter.field-0-is at c.in-Ok-Some-OfArbiter.ensures in let asks = rw c.in-Ok-Some-OfArbiter.field-0-0-is at h.asks in record { budget = two_nodes _ _ asks.budget_is }
 
 pub returns-in-Ok-Some-OfFile-clause-serves : goal.returns-in-Ok-Some-OfFile-clause-serves
-returns-in-Ok-Some-OfFile-clause-serves g c = let h = rw c.in-Ok-Some-OfFile.field-0-is at c.in-Ok-Some-OfFile.ensures in top.asked _ _ _ h.asks c.serve_file.ensures.serves
+returns-in-Ok-Some-OfFile-clause-serves g c = let h = rw c.in-Ok-Some-OfFile.field-0-is at c.in-Ok-Some-OfFile.ensures in let asks = rw c.in-Ok-Some-OfFile.field-0-0-is at h.asks in top.asked _ _ _ asks c.serve_file.ensures.serves
 
 pub returns-in-Ok-Some-OfFile-clause-decides : goal.returns-in-Ok-Some-OfFile-clause-decides
 returns-in-Ok-Some-OfFile-clause-decides g c = decides_what_reads _ _ _ _ _ _ (returns-in-Ok-Some-OfFile-clause-serves g c)
@@ -28,7 +28,7 @@ pub returns-in-Ok-Some-OfFile-clause-causes : goal.returns-in-Ok-Some-OfFile-cla
 returns-in-Ok-Some-OfFile-clause-causes g c = is_caused _ _ _ _ _ _ (returns-in-Ok-Some-OfFile-clause-serves g c)
 
 pub returns-in-Ok-Some-OfArbiter-clause-serves : goal.returns-in-Ok-Some-OfArbiter-clause-serves
-returns-in-Ok-Some-OfArbiter-clause-serves g c = let h = rw c.in-Ok-Some-OfArbiter.field-0-is at c.in-Ok-Some-OfArbiter.ensures in top.arbiter _ _ h.asks c.serve_arbiter.ensures
+returns-in-Ok-Some-OfArbiter-clause-serves g c = let h = rw c.in-Ok-Some-OfArbiter.field-0-is at c.in-Ok-Some-OfArbiter.ensures in let asks = rw c.in-Ok-Some-OfArbiter.field-0-0-is at h.asks in top.arbiter _ _ asks c.serve_arbiter.ensures
 
 pub returns-in-Ok-Some-OfArbiter-clause-decides : goal.returns-in-Ok-Some-OfArbiter-clause-decides
 returns-in-Ok-Some-OfArbiter-clause-decides g c = decides_what_reads _ _ _ _ _ _ (returns-in-Ok-Some-OfArbiter-clause-serves g c)
