@@ -1,6 +1,6 @@
 //! Codes of values: a number for each value of a domain.
 
-ghost use Rattle.std.specs.Prelude.{◌≡◌, ◌≢◌, ◌==◌, ℕ, ◌<◌, ◌^◌, pos, ◌+ℤ◌, map, length, get_or, IfSome, None, true};
+ghost use Rattle.std.specs.Prelude.{◌≡◌, ◌≢◌, ◌==◌, ℕ, ◌<◌, ◌^◌, pos, ◌+ℤ◌, map, IfSome, None, true};
 ghost use Rattle.spec_model.specs.Values.{TruthValues, same_value};
 ghost use Rattle.spec_model.specs.Views.{domain_data, variable_data};
 ghost use Rattle.column_planes.specs.Columns.{value_of_code, HasNoCode, domain_in};
