@@ -1,11 +1,13 @@
 #!/usr/bin/env python3
 """compare.py PROGRAM [COUNT [SEED]]: random texts and inputs, each command of the program against the plain one (reference/).
 
-It stops at the first difference, and leaves the text and the input in compare.spectra and compare.in of the folder it runs in.
+It works in a temporary folder. At the first difference it stops, and says where the text and the input are left.
 """
 import random
+import shutil
 import subprocess
 import sys
+import tempfile
 from pathlib import Path
 
 sys.path.insert(0, str(Path(__file__).resolve().parent))
@@ -103,17 +105,28 @@ def main():
     program = Path(sys.argv[1]).resolve()
     count = int(sys.argv[2]) if len(sys.argv) > 2 else 200
     maker = Maker(int(sys.argv[3]) if len(sys.argv) > 3 else 1)
+    folder = Path(tempfile.mkdtemp(prefix="spectra-compare-"))
+    status = compare(program, maker, count, folder)
+    if status == 0:
+        shutil.rmtree(folder)
+    else:
+        print(f"The text and the input are in {folder}.")
+    return status
+
+
+def compare(program, maker, count, folder):
+    """1 at the first difference, whose text and input are left in the folder; else 0."""
     said = dict.fromkeys(COMMANDS, 0)
     for number in range(count):
         source = maker.text()
-        Path("compare.spectra").write_text(source)
+        (folder / "compare.spectra").write_text(source)
         text = Text(source)
         game = Game(text)
         for command in COMMANDS:
             given = maker.given(reads(command, game), 12)
             lines, status = answer(command, text, lines_of(given))
-            Path("compare.in").write_text(given)
-            done = subprocess.run([program, command, "compare.spectra"], input=given.encode(), capture_output=True)
+            (folder / "compare.in").write_text(given)
+            done = subprocess.run([program, command, "compare.spectra"], input=given.encode(), capture_output=True, cwd=folder)
             written = done.stdout.decode()
             if written != "\n".join(lines) + "\n" or done.returncode != status:
                 print(f"text {number}, {command}: wrote, with status {done.returncode}\n{written}wanted, with status {status}")

@@ -1,5 +1,5 @@
 -- Columns: the code of each variable at each of 4,096 positions, and which planes are those of an expression.
-use Rattle.std.specs.Prelude.{◌≡◌, ◌==◌, ℕ, suc, pos, ◌+◌, ◌*◌, ◌≤◌, ◌<◌, ◌+ℤ◌, Bool, false, if◌then◌else◌, List, [], length, map, get_or}
+use Rattle.std.specs.Prelude.{◌≡◌, ◌≢◌, ◌==◌, ℕ, suc, pos, ◌+◌, ◌*◌, ◌^◌, ◌≤◌, ◌<◌, ◌+ℤ◌, Bool, false, if◌then◌else◌, List, [], length, map, get_or}
 use Rattle.spec_model.specs.declared.value.Value.{Value}
 use Rattle.spec_model.specs.declared.value.Value.TheVariants as value
 use Rattle.spec_model.specs.Values.{DomainData, TruthValues, WholeNumbers, Enumeration}
@@ -18,6 +18,10 @@ abbrev pub value_of_code : DomainData → ℕ → Value
 value_of_code TruthValues c = value.Bool (c == 1)
 value_of_code (WholeNumbers lo hi) c = value.Int (lo +ℤ pos c)
 value_of_code (Enumeration names) c = value.Name c
+
+-- no code stands for the value
+abbrev pub HasNoCode : DomainData → Value → Type 0
+HasNoCode d v = (c : ℕ) → c < 2 ^ 16 → value_of_code d c ≢ v
 
 -- the variables with 4,096 codes for each, and the hidden tables with 4,096 cells for each
 pub record ColumnData : Type 0 where

@@ -1,15 +1,16 @@
 //! Codes of values: a number for each value of a domain.
 
-ghost use Rattle.std.specs.Prelude.{◌≡◌, ◌==◌, ℕ, ◌<◌, pos, ◌+ℤ◌, map, length, get_or, IfSome, true};
+ghost use Rattle.std.specs.Prelude.{◌≡◌, ◌≢◌, ◌==◌, ℕ, ◌<◌, ◌^◌, pos, ◌+ℤ◌, map, IfSome, None, true};
 ghost use Rattle.spec_model.specs.Values.{TruthValues, same_value};
 ghost use Rattle.spec_model.specs.Views.{domain_data, variable_data};
-ghost use Rattle.column_planes.specs.Columns.{value_of_code, domain_in};
+ghost use Rattle.column_planes.specs.Columns.{value_of_code, HasNoCode, domain_in};
 
 use spec_model::value::{Domain, Value, Var};
 
 /// How far a whole number is above the least of its domain, as far as codes go.
 fn steps_from(lo: i64, z: i64) -> Option<u16>
-    ensures { IfSome result (λ c. lo +ℤ pos c ≡ z) }
+    ensures steps { IfSome result (λ c. lo +ℤ pos c ≡ z) }
+    ensures none { result ≡ None → (c : ℕ) → c < 2 ^ 16 → lo +ℤ pos c ≢ z }
 {
     let steps = z.checked_sub(lo)?;
     if steps < 0 || 65_535 < steps {
@@ -20,7 +21,8 @@ fn steps_from(lo: i64, z: i64) -> Option<u16>
 
 /// The code of a value in a domain, if it has one.
 pub fn code_in(domain: &Domain, value: Value) -> Option<u16>
-    ensures { IfSome result (λ c. value_of_code (domain_data domain.now) c ≡ value) }
+    ensures code { IfSome result (λ c. value_of_code (domain_data domain.now) c ≡ value) }
+    ensures none { result ≡ None → HasNoCode (domain_data domain.now) value }
 {
     match (domain, value) {
         (Domain::Boolean, Value::Bool(b)) => Some(u16::from(b)),

@@ -1,9 +1,8 @@
 //! The planes of comparisons. A variable is compared with a value by its codes; other comparisons are worked out by the values of
 //! both sides, 64 positions at a time.
 
-ghost use Rattle.std.specs.Prelude.{◌≡◌, ◌==◌, ℕ, ◌<◌, ◌≤◌, ◌+◌, ◌*◌, Bool, true, false, not, List, length, get_or, IfSome, if◌then◌else◌, min, ◌-◌};
+ghost use Rattle.std.specs.Prelude.{◌≡◌, ℕ, ◌<◌, ◌≤◌, ◌+◌, ◌*◌, Bool, true, false, List, length, get_or, IfSome, if◌then◌else◌, min, ◌-◌};
 ghost use Rattle.spec_model.specs.declared.value.Value.{Value};
-ghost use Rattle.spec_model.specs.Values.{same_value};
 ghost use Rattle.spec_model.specs.Syntax.{Variable, Constant, Comparison};
 ghost use Rattle.spec_model.specs.Views.{formula};
 ghost use Rattle.spec_model.specs.Meaning.{compare_values, value_at};

@@ -1,6 +1,6 @@
 //! The values of expressions at up to 64 positions, worked out by the operations on columns.
 
-ghost use Rattle.std.specs.Prelude.{◌≡◌, ℕ, pos, ◌+◌, ◌*◌, ◌≤◌, ◌<◌, ◌<ℤ◌, true, false, length, map, get_or, IfSome};
+ghost use Rattle.std.specs.Prelude.{◌≡◌, ℕ, pos, ◌+◌, ◌*◌, ◌≤◌, ◌<◌, ◌<ℤ◌, true, false, length, get_or, IfSome};
 ghost use Rattle.std.specs.Int.{int_rem_euclid};
 ghost use Rattle.spec_model.specs.Values.{number_of};
 ghost use Rattle.spec_model.specs.Syntax.{Variable, NextOf, Remainder};

@@ -1,6 +1,6 @@
 //! Where expressions hold, worked out on planes: bit j is for the move from position j to the next one.
 
-ghost use Rattle.std.specs.Prelude.{◌≡◌, Bool, ◌==◌, ℕ, ◌*◌, ◌+◌, ◌<◌, ◌≤◌, ◌&&◌, ◌||◌, not, true, length};
+ghost use Rattle.std.specs.Prelude.{◌≡◌, Bool, ◌==◌, ℕ, ◌*◌, ◌+◌, ◌<◌, ◌||◌, true, length};
 ghost use Rattle.std.specs.Int.{bit_at};
 ghost use Rattle.std.specs.List.{list_all, list_any};
 ghost use Rattle.spec_model.specs.Syntax.{Variable, NextOf, Negation, Implication, Equivalence};

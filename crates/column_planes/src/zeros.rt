@@ -1,6 +1,6 @@
 //! The first 0 of a plane.
 
-ghost use Rattle.std.specs.Prelude.{◌≡◌, ◌==◌, ℕ, ◌+◌, ◌*◌, ◌≤◌, ◌<◌, not, length, slice_index};
+ghost use Rattle.std.specs.Prelude.{◌≡◌, ◌==◌, ◌+◌, ◌*◌, ◌≤◌, ◌<◌, not, length, slice_index};
 ghost use Rattle.std.specs.List.{prefix_len};
 ghost use Rattle.std.specs.Simd.Lanes.{chunk};
 ghost use Rattle.column_planes.specs.Planes.{IsFirstZero, IsFullUpTo, has_zero};

@@ -92,6 +92,12 @@ fn spans_have_at_most_4096_numbers(rt: HostRuntime) -> Result<(), Fail> {
         number(26, 0),
     )?;
     assert_eq!(rt; wrong(alloc, t)?, Some((14, 9)), "past 10^12");
+    Ok(())
+}
+
+#[test]
+fn remainders_by_at_most_4096_are_numbers(rt: HostRuntime) -> Result<(), Fail> {
+    let alloc = rt.alloc();
     let t = pair(
         alloc,
         remainder(alloc, 11, variable(9, 2), 4096)?,

@@ -42,52 +42,43 @@ fn next_and_past_operators_stand_apart(rt: HostRuntime) -> Result<(), Fail> {
     Ok(())
 }
 
+// An operator with its second operand, in a chain that begins at column 9.
+fn link(column: u32, word: BinaryWord, second: Resolved) -> Link {
+    Link {
+        first: at(9),
+        at: at(column),
+        word,
+        second,
+    }
+}
+
 #[test]
-fn a_past_operator_is_open_before_it_and_not_behind(rt: HostRuntime) -> Result<(), Fail> {
+fn a_past_operator_is_open_before_it(rt: HostRuntime) -> Result<(), Fail> {
     let alloc = rt.alloc();
-    let first = Link {
-        first: at(9),
-        at: at(16),
-        word: BinaryWord::Eq,
-        second: truth(18),
-    };
-    let second = Link {
-        first: at(9),
-        at: at(24),
-        word: BinaryWord::Since,
-        second: truth(30),
-    };
-    let third = Link {
-        first: at(9),
-        at: at(36),
-        word: BinaryWord::Eq,
-        second: next(alloc, 38, truth(43))?,
-    };
-    let links = vec![in alloc; first, second, third]?;
-    let t = Resolved::Chain(Box::new(alloc, truth(9))?, links);
-    assert_eq!(rt;
-        wrong(alloc, t)?,
-        None,
-        "((true = true) S true) = next(true)"
-    );
-    let first = Link {
-        first: at(9),
-        at: at(16),
-        word: BinaryWord::Eq,
-        second: next(alloc, 18, truth(23))?,
-    };
-    let second = Link {
-        first: at(9),
-        at: at(30),
-        word: BinaryWord::Since,
-        second: truth(32),
-    };
+    let first = link(16, BinaryWord::Eq, next(alloc, 18, truth(23))?);
+    let second = link(30, BinaryWord::Since, truth(32));
     let links = vec![in alloc; first, second]?;
     let t = Resolved::Chain(Box::new(alloc, truth(9))?, links);
     assert_eq!(rt;
         wrong(alloc, t)?,
         Some((11, 18)),
         "(true = next(true)) S true"
+    );
+    Ok(())
+}
+
+#[test]
+fn a_past_operator_is_closed_behind_its_second_operand(rt: HostRuntime) -> Result<(), Fail> {
+    let alloc = rt.alloc();
+    let first = link(16, BinaryWord::Eq, truth(18));
+    let second = link(24, BinaryWord::Since, truth(30));
+    let third = link(36, BinaryWord::Eq, next(alloc, 38, truth(43))?);
+    let links = vec![in alloc; first, second, third]?;
+    let t = Resolved::Chain(Box::new(alloc, truth(9))?, links);
+    assert_eq!(rt;
+        wrong(alloc, t)?,
+        None,
+        "((true = true) S true) = next(true)"
     );
     Ok(())
 }
@@ -135,9 +126,8 @@ fn what_may_stand_where(rt: HostRuntime) -> Result<(), Fail> {
 }
 
 #[test]
-fn bounds_patterns_and_definitions(rt: HostRuntime) -> Result<(), Fail> {
+fn bounds_are_numbers_and_predicates_truth_values(rt: HostRuntime) -> Result<(), Fail> {
     let alloc = rt.alloc();
-    let parameter = Leaf::Parameter(0);
     assert_eq!(rt; fault(alloc, Stand::Bound, number(9, 3))?, None, "a number");
     assert_eq!(rt;
         fault(alloc, Stand::Bound, variable(9, 2))?,
@@ -159,6 +149,13 @@ fn bounds_patterns_and_definitions(rt: HostRuntime) -> Result<(), Fail> {
         Some((9, 9)),
         "a predicate is a truth value"
     );
+    Ok(())
+}
+
+#[test]
+fn a_parameter_is_read_at_present_alone(rt: HostRuntime) -> Result<(), Fail> {
+    let alloc = rt.alloc();
+    let parameter = Leaf::Parameter(0);
     assert_eq!(rt;
         fault(alloc, Stand::PatternInitial, leaf(9, parameter))?,
         Some((9, 9)),
@@ -175,24 +172,25 @@ fn bounds_patterns_and_definitions(rt: HostRuntime) -> Result<(), Fail> {
         Some((10, 9)),
         "next of a parameter"
     );
-    let equal = pair(
-        alloc,
-        leaf(14, Leaf::Own(0)),
-        16,
-        BinaryWord::Eq,
-        number(18, 1),
-    )?;
-    let t = next(alloc, 9, equal)?;
-    assert_eq!(rt;
-        fault(alloc, Stand::PatternSafety, t)?,
-        None,
-        "next of an own variable"
-    );
     let t = before(alloc, 9, leaf(14, parameter))?;
     assert_eq!(rt;
         fault(alloc, Stand::PatternSafety, t)?,
         Some((9, 9)),
         "no past in a pattern"
+    );
+    Ok(())
+}
+
+#[test]
+fn a_pattern_reads_its_own_variables_next_but_in_goals(rt: HostRuntime) -> Result<(), Fail> {
+    let alloc = rt.alloc();
+    let own = leaf(14, Leaf::Own(0));
+    let equal = pair(alloc, own, 16, BinaryWord::Eq, number(18, 1))?;
+    let t = next(alloc, 9, equal)?;
+    assert_eq!(rt;
+        fault(alloc, Stand::PatternSafety, t)?,
+        None,
+        "next of an own variable"
     );
     let t = next(alloc, 9, truth(14))?;
     assert_eq!(rt;

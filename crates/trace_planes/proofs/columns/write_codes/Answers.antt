@@ -36,6 +36,6 @@ loop-k-preserved c =
       few = omega (arith, c.loop-k.invariant.few, c.inputs_in-ins.ensures.within);
       written = codes_more codes c.args.i k code inside c.requires.within
           (λ n d. value_of_code (domain_in (map variable_data vars) n) d ≡ value_among (map variable_data vars) p n) c.loop-k.invariant.written
-          (ap (λ d. value_of_code d code) (domain_of-variable vars k c.index-vars-k.result (omega (arith, c.loop-k-test.true)) ∙ ap (λ (v : Var). domain_data v.domain) (sym c.index-vars-k.is)) ∙ (c.in-Some.ensures ∙ c.value_of.ensures));
+          (ap (λ d. value_of_code d code) (domain_of-variable vars k c.index-vars-k.result (omega (arith, c.loop-k-test.true)) ∙ ap (λ (v : Var). domain_data v.domain) (sym c.index-vars-k.is)) ∙ (c.in-Some.ensures.code ∙ c.value_of.ensures));
       others = others_more codes c.args.i k code inside c.requires.within c.args.codes.now c.loop-k.invariant.others;
     }
