@@ -1,6 +1,6 @@
 //! Texts at the limits of how many things there are, and past them.
 
-use crate::tests::synth_writes;
+use crate::tests::{Run, synth_writes};
 use std::alloc::Global;
 use std::process::Abort;
 use std::test::Fail;
@@ -75,27 +75,17 @@ fn the_first_item_past_a_limit_is_named(rt: HostRuntime) -> Result<(), Fail> {
     each_is_answered(&rt, rt.alloc(), &cases)
 }
 
+// Of an accepted text a log without positions is audited: the text is read, and nothing is solved.
 #[test]
 fn an_enum_may_have_65535_names(rt: HostRuntime) -> Result<(), Fail> {
-    let cases: [Case; 2] = [
-        (
-            "spec X\nsys {A",
-            1,
-            65_535,
-            (", A", ""),
-            "} x;\n",
-            REALIZABLE,
-        ),
-        (
-            "spec X\nsys {A",
-            1,
-            65_536,
-            (", A", ""),
-            "} x;\n",
-            "t.spectra:2:1: fault 18 TooMany\n",
-        ),
-    ];
-    each_is_answered(&rt, rt.alloc(), &cases)
+    let alloc = rt.alloc();
+    let head = "spec X\nsys {A";
+    let most = repeated(alloc, head, 1, 65_535, (", A", ""), "} x;\n")?;
+    let audit = "spectra audit t.spectra";
+    Run::of(audit, most.as_bytes(), "").writes(&rt, alloc, "audit ok 0\n", 0)?;
+    let more = repeated(alloc, head, 1, 65_536, (", A", ""), "} x;\n")?;
+    let refused = "t.spectra:2:1: fault 18 TooMany\n";
+    synth_writes(&rt, alloc, &more, refused, 3)
 }
 
 // A sum of so many operands more stands between a head and a tail.
