@@ -4,8 +4,9 @@
 //! own formulas. Where a call of the store is refused at its second try, the call of the object answers `Budget` and the
 //! object tells from then on which call it was and all that was held.
 //!
-//! Contract: `RegionBdd::make` gives an object that holds nothing, and `RegionBdd` meets the trait `Regions` whole. Each
-//! call that may answer `Budget` does so only where the store then holds exactly its budget of nodes (`cause`).
+//! Contract: `RegionBdd::make` gives an object that holds nothing, and `RegionBdd` meets the trait `Regions` whole. A call of
+//! an object answers `Budget` only where its store then holds exactly its budget of nodes (`cause`); of `make`, whose store
+//! is gone after a refusal, no clause says so. Which sets fill the budget isn't said yet.
 //! Path: game → sets as diagrams → **regions as diagrams** → layers.
 #![tactic(auto)]
 

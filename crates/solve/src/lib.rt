@@ -1,7 +1,8 @@
 //! Who wins a specification, with which numbers, and by which strategy.
 //!
 //! The game of a specification is solved over sets of its states, first for the system, and where it doesn't win, for the
-//! environment. One of the two wins each game (Bloem et al. 2012, solving GR(1) games). Each call has a budget of nodes.
+//! environment. One of the two wins each game (Bloem et al. 2012, solving GR(1) games). Each call has a budget of nodes;
+//! where it runs out who wins is open, and no clause says yet what filled it.
 //!
 //! Contract: `verdict`, whose numbers are true of all plays, and whose strategy is fresh and of that specification; `numbers`
 //! says the same and makes no strategy. `core_of` gives what is left of the guarantees of an unrealizable specification, tried

@@ -3,8 +3,9 @@
 //! A diagram stands for a set at the present or at the next bits where it is true of the bits of its states and of no
 //! other bits. So two diagrams stand for one set exactly where they are one function.
 //!
-//! Contract: `members` makes the lines of a game's first and later moves, and `forcing` gives the states from which a player
-//! forces a set by them.
+//! Contract: `members` makes the lines of a game's first and later moves (`FitMoves`), `updates` and `goals` those of its
+//! hidden tables and goals, `levels` tells which bits are next ones, and `forcing` gives the states from which a player forces
+//! a set by them (`told`).
 //! Path: codes, operations → **sets as diagrams** → regions as diagrams.
 #![tactic(auto)]
 
