@@ -1,6 +1,6 @@
 //! The choice between two edges by a third.
 
-ghost use Rattle.std.specs.Prelude.{◌≡◌, ◌<◌, ◌≤◌, ℕ, IfOk, MatchOption};
+ghost use Rattle.std.specs.Prelude.{◌≡◌, ◌<◌, IfOk, MatchOption};
 ghost use Rattle.bdd_store.specs.State.{IsEdge, diagram_of, IsFull};
 ghost use Rattle.bdd_ops.specs.Contents.{function_at};
 ghost use Rattle.bdd_ops.specs.Steps.{IsChoice, IsChoiceOfParts, Grows, level_at};

@@ -1,11 +1,11 @@
-ghost use Rattle.std.specs.Prelude.{◌≡◌, [], ◌∷◌, ◌++◌, OnOk, ◌≢◌, ◌<◌, ◌≤◌, ◌↔◌, ◌⊎◌, ℕ, map, min, length, IfOk, IfSome, vec_len, OnErr, MatchOption, IsTrue, true, false, slice_index_or, ◌+◌, ◌*◌, if◌then◌else◌};
-ghost use Rattle.spec_model.specs.Diagrams.{ite, shifted, IsLater, IsReduced, IsWithin, branch, constant, value, Bits};
+ghost use Rattle.std.specs.Prelude.{◌≡◌, ◌<◌, ◌≤◌, ◌↔◌, ◌⊎◌, ℕ, map, min, IfOk, vec_len, OnErr, MatchOption, IsTrue, true};
+ghost use Rattle.spec_model.specs.Diagrams.{IsReduced, IsWithin, constant, value};
 ghost use Rattle.node_table.specs.Table.{count_of};
-ghost use Rattle.bdd_store.specs.State.{IsEdge, IsRoot, diagram_of, KeepsEdges, SameRoots, AddsRoot, IsFull, IsStore, IsNewStore, IsReached, IsConstant, HasParts};
-ghost use Rattle.bdd_ops.specs.Functions.{split, Ignores, IgnoresTo, is_among, joined, joined_over, join_of};
-ghost use Rattle.bdd_ops.specs.Contents.{Contents, AreRight, function_at, list_at, over_op};
+ghost use Rattle.bdd_store.specs.State.{IsEdge, IsRoot, diagram_of, SameRoots, AddsRoot, IsFull, IsNewStore, IsReached, IsConstant, HasParts};
+ghost use Rattle.bdd_ops.specs.Functions.{split, Ignores, IgnoresTo, joined};
+ghost use Rattle.bdd_ops.specs.Contents.{Contents, AreRight, function_at};
 ghost use Rattle.bdd_ops.specs.Calls.{KeepsRoots};
-ghost use Rattle.bdd_ops.specs.Steps.{IsSplitAt, IsChoice, IsSplit, Grows, SameNodes, HasFunction, level_at};
+ghost use Rattle.bdd_ops.specs.Steps.{IsSplitAt, IsSplit, Grows, level_at};
 
 use crate::OutOfMemory;
 use crate::level_list::LevelList;
@@ -104,7 +104,7 @@ impl Diagrams {
         ensures held { IfOk result (λ r. (r ≡ e.0) × AddsRoot self.old.state self.new.state r) }
         ensures table { self.new.state.table ≡ self.old.state.table }
         ensures lists { self.new.lists ≡ self.old.lists }
-        ensures refused { OnErr result (SameRoots self.old.state self.new.state) }
+        ensures unchanged { OnErr result (SameRoots self.old.state self.new.state) }
         ensures memory { result ≡ Err StoreFault.Full → ⊥ }
     {
         match self.store.hold(e) {

@@ -2,7 +2,7 @@
 //!
 //! A caller that knows a root's function, as each call's `meaning` says it, knows by them which levels it doesn't read.
 
-ghost use Rattle.std.specs.Prelude.{◌≡◌, ◌≢◌, ℕ, List};
+ghost use Rattle.std.specs.Prelude.{◌≢◌, ℕ, List};
 ghost use Rattle.spec_model.specs.Diagrams.{Function};
 ghost use Rattle.bdd_ops.specs.Functions.{Ignores};
 ghost use Rattle.bdd_ops.specs.Reading.{ChoicesReadNoMore, QuantifiersReadLess};

@@ -1,4 +1,4 @@
-ghost use Rattle.std.specs.Prelude.{◌≡◌, ◌↔◌, ◌<◌, ◌≤◌, ◌^◌, ℕ, true, false, length, vec_len, IfOk, IsTrue, slice_index_or};
+ghost use Rattle.std.specs.Prelude.{◌≡◌, ◌↔◌, ◌<◌, ◌≤◌, ◌^◌, ℕ, true, false, IfOk, IsTrue, slice_index_or};
 ghost use Rattle.bdd_ops.specs.Functions.{is_among};
 
 use std::alloc::{AllocError, Global};

@@ -1,6 +1,6 @@
 //! The first bits that make a diagram true. Nothing here takes memory.
 
-ghost use Rattle.std.specs.Prelude.{◌≡◌, ◌<◌, ◌≤◌, ◌+◌, ◌-◌, ◌↔◌, ℕ, Bool, true, false, length, IsTrue, slice_index_or};
+ghost use Rattle.std.specs.Prelude.{◌≡◌, ◌<◌, ◌≤◌, ◌+◌, ◌-◌, ◌↔◌, ℕ, true, false, length, IsTrue, slice_index_or};
 ghost use Rattle.spec_model.specs.Diagrams.{bits_of, constant};
 ghost use Rattle.bdd_store.specs.State.{IsEdge, IsRoot, diagram_of};
 ghost use Rattle.bdd_ops.specs.Contents.{function_at};

@@ -1,6 +1,6 @@
 //! "Some" and "all" over a list of levels.
 
-ghost use Rattle.std.specs.Prelude.{◌≡◌, ◌<◌, ℕ, Bool, true, not, length, IfOk, IsTrue, MatchBool};
+ghost use Rattle.std.specs.Prelude.{◌≡◌, ◌<◌, Bool, true, not, length, IfOk, IsTrue, MatchBool};
 ghost use Rattle.bdd_store.specs.State.{IsEdge, diagram_of, IsFull};
 ghost use Rattle.spec_model.specs.Diagrams.{constant};
 ghost use Rattle.bdd_ops.specs.Functions.{joined_over, join_of, is_among, IgnoresTo};

@@ -1,10 +1,10 @@
 //! Diagrams with their levels moved.
 
-ghost use Rattle.std.specs.Prelude.{◌≡◌, ◌<◌, ◌≤◌, ℕ, length, IfOk, slice_index_or};
+ghost use Rattle.std.specs.Prelude.{◌≡◌, ◌<◌, length, IfOk};
 ghost use Rattle.bdd_store.specs.State.{IsEdge, diagram_of, IsFull};
 ghost use Rattle.spec_model.specs.Diagrams.{shifted};
 ghost use Rattle.bdd_ops.specs.Contents.{function_at, list_at};
-ghost use Rattle.bdd_ops.specs.Steps.{HasFunction, IsShiftedPart, IsShift, Grows, level_at};
+ghost use Rattle.bdd_ops.specs.Steps.{HasFunction, IsShiftedPart, IsShift, Grows};
 
 use crate::diagrams::Diagrams;
 use bdd_store::{Edge, StoreFault};

@@ -1,7 +1,7 @@
 //! Worked examples. A table of three levels has the value at the bits b0, b1 and b2 as its bit 4 * b0 + 2 * b1 + b2.
 
-ghost use Rattle.std.specs.Prelude.{◌≡◌, ◌<◌, ◌≤◌, ℕ};
-ghost use Rattle.bdd_store.specs.State.{IsRoot, AddsRoot, SameRoots};
+ghost use Rattle.std.specs.Prelude.{◌≡◌, ◌<◌, ◌≤◌};
+ghost use Rattle.bdd_store.specs.State.{IsRoot, AddsRoot};
 
 use crate::*;
 use std::alloc::Global;

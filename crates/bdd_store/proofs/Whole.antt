@@ -5,7 +5,7 @@ use Rattle.std.proofs.lemmas.Bool.{cases_lt, cases_eq, ne_eqb, eq-eqb}
 use Rattle.spec_model.specs.Diagrams.{Diagram, constant, branch, IsLater}
 use mir.Val.{bool_byte}
 use Rattle.spec_model.proofs.Diagrams.{same_function}
-use Rattle.node_table.specs.Table.{Table, level_at, low_at, high_at, is_marked, IsLive, IsSound, IsFit, IsNodeAt, HasNode, IsNew, AddsNode, KeepsLive, parts_of, diagram_at}
+use Rattle.node_table.specs.Table.{Table, count_of, level_at, low_at, high_at, is_marked, IsLive, IsSound, IsFit, IsNodeAt, HasNode, IsNew, AddsNode, KeepsLive, parts_of, diagram_at}
 use Rattle.node_table.proofs.Meaning.{diagram_at-constant, diagram_at-inner, diagram_at-reduced, diagram_at-within, one_node, later_at}
 use Rattle.node_table.proofs.Adding.{node_meaning}
 use Rattle.node_table.proofs.Marking.{parts_of-inner, parts_of-level, parts_of-constant}
@@ -230,14 +230,14 @@ FullExactly s level low high r =
     × ((low ≢ high) × (HasDiagram s (branch level (diagram_of s low) (diagram_of s high)) → ⊥) × IsFull s → r ≡ Err Full)
 
 pub full_exactly : (s : State) (level low high : ℕ) → IsSound s.table → IsEdge s low → IsEdge s high → low ≢ high → (q : Result ℕ NodeFault) (r : Result Edge StoreFault) →
-    (q ≡ Err NodesFull → (HasNode s.table (record { level = level; low = low; high = high }) → ⊥) × IsFull s) →
-    ((HasNode s.table (record { level = level; low = low; high = high }) → ⊥) × IsFull s → q ≡ Err NodesFull) →
+    (q ≡ Err NodesFull → (HasNode s.table (record { level = level; low = low; high = high }) → ⊥) × (count_of s.table ≡ s.table.budget)) →
+    ((HasNode s.table (record { level = level; low = low; high = high }) → ⊥) × (count_of s.table ≡ s.table.budget) → q ≡ Err NodesFull) →
     (q ≡ Err NodesFull → r ≡ Err Full) → (r ≡ Err Full → q ≡ Err NodesFull) →
     (r ≡ Err Full → (low ≢ high) × (HasDiagram s (branch level (diagram_of s low) (diagram_of s high)) → ⊥) × IsFull s)
     × ((low ≢ high) × (HasDiagram s (branch level (diagram_of s low) (diagram_of s high)) → ⊥) × IsFull s → r ≡ Err Full)
 full_exactly s level low high sound live live' unlike q r there back to from = (
-  (λ e. let was = there (from e) in (unlike, no_node_of_branch s.table level low high sound live live' was.0, was.1)),
-  (λ h. to (back (no_branch_of_node s.table level low high sound h.1, h.2))),
+  (λ e. let was = there (from e) in (unlike, no_node_of_branch s.table level low high sound live live' was.0, record { sound = sound; count = was.1 })),
+  (λ h. to (back (no_branch_of_node s.table level low high sound h.1, h.2.count))),
 )
 
 pub ok_or_err : {T E : Type 0} (x : T) (e : E) → Ok x ≡ Err e → ⊥

@@ -31,9 +31,14 @@ IsRoot s n = 0 < roots_at s n
 abbrev pub HasDiagram : State → Diagram → Type 0
 HasDiagram s d = (n : ℕ) × IsEdge s n × (diagram_of s n ≡ d)
 
+-- the nodes are sound, and as many as the budget
+pub record IsFilled (t : Table) : Type 0 where
+  pub sound : IsSound t
+  pub count : count_of t ≡ t.budget
+
 -- the store holds its budget of nodes
 abbrev pub IsFull : State → Type 0
-IsFull s = count_of s.table ≡ s.table.budget
+IsFull s = IsFilled s.table
 
 -- the answer is remembered
 abbrev pub HasAnswer : State → Answer → Type 0

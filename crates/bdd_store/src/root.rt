@@ -1,6 +1,6 @@
 //! Kept roots, counted at the places of their nodes.
 
-ghost use Rattle.std.specs.Prelude.{◌≡◌, ◌<◌, ◌≤◌, ◌+◌, ◌^◌, ◌==◌, ℕ, sum, length, slice_index, if◌then◌else◌, OnOk, OnErr, vec_len};
+ghost use Rattle.std.specs.Prelude.{◌≡◌, ◌<◌, ◌≤◌, ◌+◌, ◌^◌, ℕ, sum, length, slice_index, OnOk, OnErr, vec_len};
 ghost use Rattle.node_table.specs.Table.{IsSound, IsLive};
 ghost use Rattle.bdd_store.specs.Kept.{AddsOne, SameCounts, MarksKept};
 
@@ -28,7 +28,7 @@ fn reach(kept: &mut Vec<u32>, place: usize) -> Result<(), OutOfMemory>
     requires within { place < 2 ^ 32 }
     requires small { vec_len kept.old ≤ 2 ^ 32 }
     ensures reached { OnOk result (place < vec_len kept.new) }
-    ensures same { SameCounts kept.old.items kept.new.items }
+    ensures keeps { SameCounts kept.old.items kept.new.items }
     ensures counted { sum kept.new.items ≡ sum kept.old.items }
     ensures small { vec_len kept.new ≤ 2 ^ 32 }
 {
@@ -43,7 +43,7 @@ pub fn add_root(kept: &mut Vec<u32>, roots: &mut usize, n: u32) -> Result<(), Ou
     requires small { vec_len kept.old ≤ 2 ^ 32 }
     requires counted { roots.old ≡ sum kept.old.items }
     ensures added { OnOk result (AddsOne kept.old.items kept.new.items n) }
-    ensures refused { OnErr result (SameCounts kept.old.items kept.new.items) }
+    ensures unchanged { OnErr result (SameCounts kept.old.items kept.new.items) }
     ensures small { vec_len kept.new ≤ 2 ^ 32 }
     ensures counted { roots.new ≡ sum kept.new.items }
 {

@@ -1,8 +1,8 @@
-ghost use Rattle.std.specs.Prelude.{◌≡◌, ◌≢◌, ◌<◌, ◌≤◌, ◌↔◌, ◌⊎◌, ◌+◌, ◌==◌, ℕ, List, length, IfOk, IfSome, OnErr, MatchOption, sum, [], if◌then◌else◌, true, false, Ok, Err};
-ghost use Rattle.spec_model.specs.Diagrams.{Diagram, constant, branch, value, Bits, IsLater};
-ghost use Rattle.node_table.specs.Table.{count_of, Table};
+ghost use Rattle.std.specs.Prelude.{◌≡◌, ◌≢◌, ◌<◌, ◌≤◌, ◌↔◌, ◌⊎◌, ◌==◌, ℕ, IfOk, IfSome, OnErr, MatchOption, sum, if◌then◌else◌, true, false, Ok, Err};
+ghost use Rattle.spec_model.specs.Diagrams.{constant, branch, value, Bits, IsLater};
+ghost use Rattle.node_table.specs.Table.{count_of};
 ghost use Rattle.bdd_cache.specs.declared.answer.Answer.{Answer};
-ghost use Rattle.bdd_store.specs.State.{State, IsStore, IsEdge, IsRoot, diagram_of, HasDiagram, IsFull, HasAnswer, IsOfLiveNodes, KeepsEdges, MakesOnly, SameRoots, AddsRoot, IsReached, IsConstant, HasParts, IsNewStore, roots_at};
+ghost use Rattle.bdd_store.specs.State.{State, IsStore, IsEdge, IsRoot, diagram_of, HasDiagram, IsFull, HasAnswer, IsOfLiveNodes, KeepsEdges, MakesOnly, SameRoots, AddsRoot, IsReached, IsConstant, HasParts, IsNewStore};
 
 use crate::OutOfMemory;
 use crate::edge::Edge;
@@ -62,7 +62,7 @@ impl Store {
         ensures keeps { KeepsEdges self.old self.new }
         ensures answers { self.new.answers ≡ self.old.answers }
         ensures full { (result ≡ Err StoreFault.Full) ↔ ((HasDiagram self.old (branch level (constant false) (constant true)) → ⊥) × IsFull self.old) }
-        ensures refused { OnErr result (SameRoots self.old self.new) }
+        ensures unchanged { OnErr result (SameRoots self.old self.new) }
         ensures sound { IsStore self.new }
     {
         let e = self.node(level, self.fixed(false), self.fixed(true))?;
@@ -76,7 +76,7 @@ impl Store {
         ensures kept { IfOk result (λ r. IsRoot self.new r) }
         ensures table { (self.new.table ≡ self.old.table) × (self.new.answers ≡ self.old.answers) }
         ensures full { result ≡ Err StoreFault.Full → ⊥ }
-        ensures refused { OnErr result (SameRoots self.old self.new) }
+        ensures unchanged { OnErr result (SameRoots self.old self.new) }
         ensures sound { IsStore self.new }
     {
         let e = self.edge(root);
@@ -172,7 +172,7 @@ impl Store {
         ensures roots { SameRoots self.old self.new }
         ensures answers { self.new.answers ≡ self.old.answers }
         ensures full { (result ≡ Err StoreFault.Full) ↔ ((low.0 ≢ high.0) × (HasDiagram self.old (branch level (diagram_of self.old low.0) (diagram_of self.old high.0)) → ⊥) × IsFull self.old) }
-        ensures only { OnErr result (self.new ≡ self.old) }
+        ensures unchanged { OnErr result (self.new ≡ self.old) }
         ensures made { MakesOnly self.old self.new (λ made. made ≡ branch level (diagram_of self.old low.0) (diagram_of self.old high.0)) }
         ensures sound { IsStore self.new }
     {
@@ -193,7 +193,7 @@ impl Store {
         ensures held { IfOk result (λ r. (r ≡ e.0) × AddsRoot self.old self.new r) }
         ensures kept { IfOk result (λ r. IsRoot self.new r) }
         ensures table { (self.new.table ≡ self.old.table) × (self.new.answers ≡ self.old.answers) }
-        ensures refused { OnErr result (SameRoots self.old self.new) }
+        ensures unchanged { OnErr result (SameRoots self.old self.new) }
         ensures sound { IsStore self.new }
     {
         add_root(&mut self.kept, &mut self.roots, e.0)?;

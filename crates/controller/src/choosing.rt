@@ -30,8 +30,8 @@ pub fn least_rank<G: Regions>(
     ensures least { let k = G.kept g.old in (when : When) (y : ℕ → StateSet) (x : ℕ → ℕ → StateSet) (b : Before) (r : ℕ) (reply : Assignment) →
         AimsLead k when aims.now y x → AreBefore k.game when b state.now → IsFirstReached k.game when y b input.now r reply → r < length aims.now →
         (result ≡ r) × (out.new ≡ reply) }
-    ensures stays { Stays (G.kept g.old) (G.kept g.new) }
-    ensures same { IsSameGame (G.kept g.old) (G.kept g.new) }
+    ensures held { Stays (G.kept g.old) (G.kept g.new) }
+    ensures keeps { IsSameGame (G.kept g.old) (G.kept g.new) }
 {
     for r in 0..aims.len() {
         if g.first_out(&aims[r].layer, state, input, out) {
@@ -46,8 +46,8 @@ pub fn least_index<G: Regions>(g: &mut G, regions: &[G::R], state: &[Value]) -> 
     requires { AreSomewhere (G.kept g.old) regions.now }
     ensures least { let k = G.kept g.old in (sets : ℕ → StateSet) (s : State) (i : ℕ) → RegionsAre k regions.now sets → IsTrue (is_state k.game s) → listed s ≡ state.now →
         IsLeastNumber (λ n. IsTrue (sets n s)) i → i < length regions.now → result ≡ i }
-    ensures stays { Stays (G.kept g.old) (G.kept g.new) }
-    ensures same { IsSameGame (G.kept g.old) (G.kept g.new) }
+    ensures held { Stays (G.kept g.old) (G.kept g.new) }
+    ensures keeps { IsSameGame (G.kept g.old) (G.kept g.new) }
 {
     for i in 0..regions.len() {
         if g.has(&regions[i], state) {

@@ -2,18 +2,17 @@
 
 ghost use Rattle.std.specs.Prelude.{◌≡◌, ◌<◌, length, IsTrue, IfOk, IfErr, Some, None, is_none, option_map, slice_get};
 ghost use Rattle.std.specs.Bool.{OnTrue, OnFalse};
-ghost use Rattle.spec_model.specs.Rules.{after};
-ghost use Rattle.spec_model.specs.Steps.{is_input, legal_input, reached};
+ghost use Rattle.spec_model.specs.Steps.{is_input, legal_input};
 ghost use Rattle.regions.specs.Rules.{output_count};
 ghost use Rattle.spec_model.specs.GameViews.{game_data};
 ghost use Rattle.spec_model.specs.WellMade.{WellMade};
 ghost use Rattle.game_play.specs.Judged.{IsJudgeOf};
 ghost use Rattle.spec_model.specs.FirstBroken.{first_broken};
 ghost use Rattle.gr1_law.specs.Layers.{LayerSets};
-ghost use Rattle.gr1_law.specs.Choice.{Memory, first_memory, IsChosen};
+ghost use Rattle.gr1_law.specs.Choice.{Memory, first_memory};
 ghost use Rattle.controller.specs.Made.{AreLayersOf, IsRefused};
 ghost use Rattle.controller.specs.Places.{IsAt};
-ghost use Rattle.controller.specs.Objects.{IsFresh, IsStarted, game_of, StandsFor, Stands, InEachPlay, Begins, GoesOn, HoldsTheSame, GivesBack};
+ghost use Rattle.controller.specs.Objects.{IsFresh, IsStarted, game_of, Stands, InEachPlay, Begins, GoesOn, HoldsTheSame, GivesBack};
 
 use crate::aims::Aim;
 use crate::choosing::least_rank;
@@ -137,7 +136,7 @@ impl<G: Regions> Controller<G> {
         requires legal { InEachPlay G.kept self.old (λ z l h b m. IsTrue (legal_input (game_of G.kept self.old) b input.now)) }
         requires room { length out.old ≡ output_count (game_of G.kept self.old) }
         ensures chosen { InEachPlay G.kept self.old (λ z l h b m. (next : Memory) × GoesOn G.kept self.old self.new z l h b m input.now out.new next) }
-        ensures same { HoldsTheSame G.kept self.old self.new }
+        ensures keeps { HoldsTheSame G.kept self.old self.new }
     {
         let rank = least_rank(&mut self.g, &self.first, self.place.values(), input, out);
         self.place.go_on(self.g.game(), input, out);
@@ -153,7 +152,7 @@ impl<G: Regions> Controller<G> {
         requires legal { InEachPlay G.kept self.old (λ z l h b m. IsTrue (legal_input (game_of G.kept self.old) b input.now)) }
         requires room { length out.old ≡ output_count (game_of G.kept self.old) }
         ensures chosen { InEachPlay G.kept self.old (λ z l h b m. (next : Memory) × GoesOn G.kept self.old self.new z l h b m input.now out.new next) }
-        ensures same { HoldsTheSame G.kept self.old self.new }
+        ensures keeps { HoldsTheSame G.kept self.old self.new }
     {
         let last_goal = self.place.goal;
         let last_rank = self.place.rank;

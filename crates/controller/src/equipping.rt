@@ -1,11 +1,11 @@
 //! The states of the goals, and all moves of a strategy.
 
-ghost use Rattle.std.specs.Prelude.{◌≡◌, ◌<◌, ◌++◌, [], None, Some, length, map, IfOk, IfErr, OnErr};
-ghost use Rattle.regions.specs.Kept.{States, HoldsBesides, MakesRegion, IsSameGame};
+ghost use Rattle.std.specs.Prelude.{◌≡◌, ◌<◌, ◌++◌, [], None, length, IfOk, IfErr, OnErr};
+ghost use Rattle.regions.specs.Kept.{HoldsBesides, IsSameGame};
 ghost use Rattle.regions.specs.declared.types.When.TheVariants.{First, Later};
-ghost use Rattle.gr1_law.specs.Layers.{goal_set, goal_sets};
+ghost use Rattle.gr1_law.specs.Layers.{goal_sets};
 ghost use Rattle.gr1_sys.specs.Held.{HasEach, all_regions};
-ghost use Rattle.strategy_parts.specs.Owned.{MakesAll, region_items};
+ghost use Rattle.strategy_parts.specs.Owned.{MakesAll};
 ghost use Rattle.controller.specs.Owned.{aims_items, all_aims_items, made_items};
 ghost use Rattle.controller.specs.Made.{Targets, AreTargets, TellsHalt, AreLike, AreAllLike, regions_for, first_layers, move_meanings, made_meanings};
 
@@ -39,7 +39,7 @@ fn moves_of<G: Regions>(
     ensures alike { IfOk result (λ m. AreAllLike m.1.items layers.now) }
     ensures halted { OnErr result (HoldsBesides (G.kept g.old) (G.kept g.new) []) }
     ensures told { let k = G.kept g.old in (targets : Targets) → AreTargets targets First k (regions_for First (first_layers layers.now)) → AreTargets targets Later k (all_regions layers.now) → IfErr result (TellsHalt k (G.kept g.new) targets) }
-    ensures same { IsSameGame (G.kept g.old) (G.kept g.new) }
+    ensures keeps { IsSameGame (G.kept g.old) (G.kept g.new) }
 {
     let first = aims_into(alloc, g, When::First, layers_of_first::<G>(layers))?;
     match later_aims(alloc, g, layers) {
@@ -66,7 +66,7 @@ pub fn equip<G: Regions>(
     ensures counted { let k = G.kept g.old in IfOk result (λ m. length m.2.items ≡ length (goal_sets k.game)) }
     ensures halted { OnErr result (HoldsBesides (G.kept g.old) (G.kept g.new) []) }
     ensures told { let k = G.kept g.old in (targets : Targets) → AreTargets targets First k (regions_for First (first_layers layers.now)) → AreTargets targets Later k (all_regions layers.now) → IfErr result (TellsHalt k (G.kept g.new) targets) }
-    ensures same { IsSameGame (G.kept g.old) (G.kept g.new) }
+    ensures keeps { IsSameGame (G.kept g.old) (G.kept g.new) }
 {
     let holds = recurring_regions(alloc, g, Wanted::Guarantees)?;
     match moves_of(alloc, g, layers) {

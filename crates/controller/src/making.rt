@@ -1,9 +1,9 @@
 //! The moves into the layers, as they are made for a strategy.
 
-ghost use Rattle.std.specs.Prelude.{◌≡◌, [], ◌∷◌, None, length, IfOk, IfErr, OnErr};
-ghost use Rattle.regions.specs.Kept.{HasRegion, HoldsBesides, IsSameGame};
-ghost use Rattle.gr1_sys.specs.Held.{HasEach, goal_regions, all_regions};
-ghost use Rattle.strategy_parts.specs.Owned.{MakesAll, move_items};
+ghost use Rattle.std.specs.Prelude.{◌≡◌, [], ◌∷◌, None, IfOk, IfErr, OnErr};
+ghost use Rattle.regions.specs.Kept.{HoldsBesides, IsSameGame};
+ghost use Rattle.gr1_sys.specs.Held.{HasEach, all_regions};
+ghost use Rattle.strategy_parts.specs.Owned.{MakesAll};
 ghost use Rattle.controller.specs.Owned.{aim_items, aims_items, all_aims_items};
 ghost use Rattle.controller.specs.Made.{Targets, AreTargets, TellsHalt, AreLike, AreAllLike, leadings, parts_for as parts_for_lem, regions_for};
 
@@ -28,7 +28,7 @@ fn aim_into<G: Regions>(
     ensures made { let k = G.kept g.old in IfOk result (λ a. MakesAll k (G.kept g.new) (aim_items a) (leadings k when (layer.now ∷ parts.now))) }
     ensures halted { OnErr result (HoldsBesides (G.kept g.old) (G.kept g.new) []) }
     ensures told { let k = G.kept g.old in (targets : Targets) → AreTargets targets when k (layer.now ∷ parts.now) → IfErr result (TellsHalt k (G.kept g.new) targets) }
-    ensures same { IsSameGame (G.kept g.old) (G.kept g.new) }
+    ensures keeps { IsSameGame (G.kept g.old) (G.kept g.new) }
 {
     let parts = moves_into(alloc, g, Owner::Sys, when, parts)?;
     match g.out_moves(when, layer) {
@@ -63,7 +63,7 @@ pub fn aims_into<G: Regions>(
     ensures alike { IfOk result (λ aims. AreLike when aims.items layers.now) }
     ensures halted { OnErr result (HoldsBesides (G.kept g.old) (G.kept g.new) []) }
     ensures told { let k = G.kept g.old in (targets : Targets) → AreTargets targets when k (regions_for when layers.now) → IfErr result (TellsHalt k (G.kept g.new) targets) }
-    ensures same { IsSameGame (G.kept g.old) (G.kept g.new) }
+    ensures keeps { IsSameGame (G.kept g.old) (G.kept g.new) }
 {
     let Ok(mut aims) = Vec::with_capacity(alloc, layers.len()) else {
         return Err(Halt::Memory);
@@ -92,7 +92,7 @@ pub fn later_aims<G: Regions>(
     ensures alike { IfOk result (λ goals. AreAllLike goals.items layers.now) }
     ensures halted { OnErr result (HoldsBesides (G.kept g.old) (G.kept g.new) []) }
     ensures told { let k = G.kept g.old in (targets : Targets) → AreTargets targets When.Later k (all_regions layers.now) → IfErr result (TellsHalt k (G.kept g.new) targets) }
-    ensures same { IsSameGame (G.kept g.old) (G.kept g.new) }
+    ensures keeps { IsSameGame (G.kept g.old) (G.kept g.new) }
 {
     let Ok(mut goals) = Vec::with_capacity(alloc, layers.len()) else {
         return Err(Halt::Memory);

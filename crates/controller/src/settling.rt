@@ -24,8 +24,8 @@ fn first_part<G: Regions>(g: &mut G, layers: &[SysLayer<G>], rank: usize, state:
     requires layers { (x : ℕ → ℕ → StateSet) × LayersAre (G.kept g.old) layers.now x }
     ensures first { let k = G.kept g.old in (x : ℕ → ℕ → StateSet) (n : ℕ) (s : State) (i : ℕ) → LayersAre k layers.now x → HaveParts n layers.now → IsTrue (is_state k.game s) → listed s ≡ state.now →
         IsLeastNumber (λ m. IsTrue (x rank m s)) i → i < n → result ≡ i }
-    ensures stays { Stays (G.kept g.old) (G.kept g.new) }
-    ensures same { IsSameGame (G.kept g.old) (G.kept g.new) }
+    ensures held { Stays (G.kept g.old) (G.kept g.new) }
+    ensures keeps { IsSameGame (G.kept g.old) (G.kept g.new) }
 {
     least_index(g, &layers[rank].x, state)
 }
@@ -42,8 +42,8 @@ pub fn new_index<G: Regions>(
     requires { (l : LayerSets) × (b : Before) × (m : Memory) × (x : Assignment) × (y : Assignment) × (next : Memory) × Settles (G.kept g.old) goals.now place.now goal rank waits l b m x y next }
     ensures index { let k = G.kept g.old in (l : LayerSets) (b : Before) (m : Memory) (x : Assignment) (y : Assignment) (next : Memory) →
         Settles k goals.now place.now goal rank waits l b m x y next → result ≡ next.index }
-    ensures stays { Stays (G.kept g.old) (G.kept g.new) }
-    ensures same { IsSameGame (G.kept g.old) (G.kept g.new) }
+    ensures held { Stays (G.kept g.old) (G.kept g.new) }
+    ensures keeps { IsSameGame (G.kept g.old) (G.kept g.new) }
 {
     if waits {
         place.index

@@ -1,7 +1,7 @@
 //! The moves of a strategy given back, many at once.
 
 ghost use Rattle.regions.specs.Kept.{IsSameGame};
-ghost use Rattle.strategy_parts.specs.Owned.{HasAll, SpendsAll, region_items, move_items};
+ghost use Rattle.strategy_parts.specs.Owned.{HasAll, SpendsAll};
 ghost use Rattle.controller.specs.Owned.{aim_items, aims_items, all_aims_items, made_items};
 
 use crate::aims::Aim;
@@ -12,7 +12,7 @@ use strategy_parts::{spend_moves, spend_regions};
 pub fn spend_aim<G: Regions>(g: &mut G, aim: Aim<G>)
     requires { HasAll (G.kept g.old) (aim_items aim) }
     ensures spends { SpendsAll (G.kept g.old) (G.kept g.new) (aim_items aim) }
-    ensures same { IsSameGame (G.kept g.old) (G.kept g.new) }
+    ensures keeps { IsSameGame (G.kept g.old) (G.kept g.new) }
 {
     let Aim { layer, parts } = aim;
     g.spend_move(layer);
@@ -23,7 +23,7 @@ pub fn spend_aim<G: Regions>(g: &mut G, aim: Aim<G>)
 pub fn spend_aims<G: Regions>(g: &mut G, mut aims: Vec<Aim<G>>)
     requires { HasAll (G.kept g.old) (aims_items aims.items) }
     ensures spends { SpendsAll (G.kept g.old) (G.kept g.new) (aims_items aims.items) }
-    ensures same { IsSameGame (G.kept g.old) (G.kept g.new) }
+    ensures keeps { IsSameGame (G.kept g.old) (G.kept g.new) }
 {
     while let Some(a) = aims.pop() {
         spend_aim(g, a);
@@ -35,7 +35,7 @@ pub fn spend_aims<G: Regions>(g: &mut G, mut aims: Vec<Aim<G>>)
 pub fn spend_all_aims<G: Regions>(g: &mut G, mut goals: Vec<Vec<Aim<G>>>)
     requires { HasAll (G.kept g.old) (all_aims_items goals.items) }
     ensures spends { SpendsAll (G.kept g.old) (G.kept g.new) (all_aims_items goals.items) }
-    ensures same { IsSameGame (G.kept g.old) (G.kept g.new) }
+    ensures keeps { IsSameGame (G.kept g.old) (G.kept g.new) }
 {
     while let Some(aims) = goals.pop() {
         spend_aims(g, aims);
@@ -52,7 +52,7 @@ pub fn spend_made<G: Regions>(
 )
     requires { HasAll (G.kept g.old) (made_items first.items goals.items holds.items) }
     ensures spends { SpendsAll (G.kept g.old) (G.kept g.new) (made_items first.items goals.items holds.items) }
-    ensures same { IsSameGame (G.kept g.old) (G.kept g.new) }
+    ensures keeps { IsSameGame (G.kept g.old) (G.kept g.new) }
 {
     spend_regions(g, holds);
     spend_aims(g, first);

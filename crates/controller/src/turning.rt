@@ -26,8 +26,8 @@ pub fn aimed<G: Regions>(g: &mut G, holds: &[G::R], goal: usize, state: &[Value]
         IsTrue (is_state k.game s) → listed s ≡ state.now → m.goal ≡ goal →
         (result.0 ≡ goal_aimed k.game (Some s) m) × (result.1 ≡ goal_stays k.game (Some s) m) }
     ensures within { result.0 < length holds.now }
-    ensures stays { Stays (G.kept g.old) (G.kept g.new) }
-    ensures same { IsSameGame (G.kept g.old) (G.kept g.new) }
+    ensures held { Stays (G.kept g.old) (G.kept g.new) }
+    ensures keeps { IsSameGame (G.kept g.old) (G.kept g.new) }
 {
     if !g.has(&holds[goal], state) {
         (goal, true)
@@ -60,8 +60,8 @@ fn wait<G: Regions>(
     requires room { length out.old ≡ output_count (G.kept g.old).game }
     ensures first { let k = G.kept g.old in (sets : ℕ → StateSet) (b : Before) (reply : Assignment) → MovesLead k When.Later parts.now sets →
         AreBefore k.game When.Later b state.now → first_into k.game When.Later (sets index) b input.now ≡ Some reply → out.new ≡ reply }
-    ensures stays { Stays (G.kept g.old) (G.kept g.new) }
-    ensures same { IsSameGame (G.kept g.old) (G.kept g.new) }
+    ensures held { Stays (G.kept g.old) (G.kept g.new) }
+    ensures keeps { IsSameGame (G.kept g.old) (G.kept g.new) }
 {
     g.first_out(&parts[index], state, input, out);
 }
@@ -82,8 +82,8 @@ pub fn lead<G: Regions>(
     requires room { length out.old ≡ output_count (G.kept g.old).game }
     ensures chosen { let k = G.kept g.old in (l : LayerSets) (s : State) (m : Memory) (y : Assignment) (next : Memory) → IsLater k aims.now state.now rank index stays input.now l s m y next →
         (suc result.0 ≡ next.rank) × (out.new ≡ y) × (result.1 ≡ waits_lem k.game (Some s) m next.rank) }
-    ensures stays { Stays (G.kept g.old) (G.kept g.new) }
-    ensures same { IsSameGame (G.kept g.old) (G.kept g.new) }
+    ensures held { Stays (G.kept g.old) (G.kept g.new) }
+    ensures keeps { IsSameGame (G.kept g.old) (G.kept g.new) }
 {
     let reached = least_rank(g, aims, state, input, out);
     if waits_on(stays, reached, rank) {

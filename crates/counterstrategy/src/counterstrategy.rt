@@ -143,7 +143,7 @@ impl<G: Regions> Counterstrategy<G> {
         requires fresh { IsFresh self.old }
         requires room { length input.old ≡ input_count (game_of G.kept self.old) }
         ensures given { InEachPlay G.kept self.old (λ e h notes b k. Gives G.kept self.new e h notes b k input.new) }
-        ensures same { HoldsTheSame G.kept self.old self.new }
+        ensures keeps { HoldsTheSame G.kept self.old self.new }
     {
         self.give_next();
         input.copy_from_slice(&self.given);
@@ -157,7 +157,7 @@ impl<G: Regions> Counterstrategy<G> {
         requires legal { InEachPlay G.kept self.old (λ e h notes b k. IsTrue (legal_output (game_of G.kept self.old) b (given_by self.old) out.now)) }
         requires room { length input.old ≡ input_count (game_of G.kept self.old) }
         ensures answered { InEachPlay G.kept self.old (λ e h notes b k. (next : CounterMemory) × GoesOn G.kept self.old self.new e h notes b k out.now result next input.new) }
-        ensures same { HoldsTheSame G.kept self.old self.new }
+        ensures keeps { HoldsTheSame G.kept self.old self.new }
     {
         let note = self.complete(out);
         self.give_next();
@@ -172,7 +172,7 @@ impl<G: Regions> Counterstrategy<G> {
         requires output { IsTrue (is_output (game_of G.kept self.old) out.now) }
         requires legal { InEachPlay G.kept self.old (λ e h notes b k. IsTrue (legal_output (game_of G.kept self.old) b (given_by self.old) out.now)) }
         ensures completed { InEachPlay G.kept self.old (λ e h notes b k. (next : CounterMemory) × Completes G.kept self.old self.new e h notes b k out.now result next) }
-        ensures same { HoldsTheSame G.kept self.old self.new }
+        ensures keeps { HoldsTheSame G.kept self.old self.new }
     {
         let place = &mut self.place;
         place.position.go_on(self.g.game(), &self.given, out);
@@ -198,7 +198,7 @@ impl<G: Regions> Counterstrategy<G> {
         requires stands { Stands G.kept self.old }
         requires fresh { IsFresh self.old }
         ensures given { InEachPlay G.kept self.old (λ e h notes b k. Gives G.kept self.new e h notes b k (given_by self.new)) }
-        ensures same { HoldsTheSame G.kept self.old self.new }
+        ensures keeps { HoldsTheSame G.kept self.old self.new }
     {
         give(&mut self.g, &self.kit, &self.place, &mut self.given);
         self.has_given = true;

@@ -1,6 +1,6 @@
 //! The states of the goals and of the assumptions, and all moves of a strategy.
 
-ghost use Rattle.std.specs.Prelude.{◌≡◌, ◌++◌, ◌∷◌, [], None, length, map, IfOk, IfErr, OnOk, OnErr};
+ghost use Rattle.std.specs.Prelude.{◌≡◌, ◌++◌, [], None, length, map, IfOk, IfErr, OnOk, OnErr};
 ghost use Rattle.spec_model.specs.Sets.{no_states};
 ghost use Rattle.regions.specs.Kept.{States, HasRegion, HoldsBesides, IsSameGame};
 ghost use Rattle.gr1_law.specs.Layers.{goal_sets, assumption_sets};
@@ -26,7 +26,7 @@ fn goal_regions<G: Regions>(alloc: Global, g: &mut G) -> Result<(Vec<G::R>, Vec<
     ensures asms { let k = G.kept g.old in IfOk result (λ r. length r.1.items ≡ length (assumption_sets k.game)) }
     ensures halted { OnErr result (HoldsBesides (G.kept g.old) (G.kept g.new) []) }
     ensures told { let k = G.kept g.old in (tale : Tale) → Every (λ s. IsIn s tale.sets) (goal_sets k.game) → Every (λ s. IsIn s tale.sets) (assumption_sets k.game) → IfErr result (TellsHalt k (G.kept g.new) tale) }
-    ensures same { IsSameGame (G.kept g.old) (G.kept g.new) }
+    ensures keeps { IsSameGame (G.kept g.old) (G.kept g.new) }
 {
     let goals = recurring_regions(alloc, g, Wanted::Guarantees)?;
     match recurring_regions(alloc, g, Wanted::Assumptions) {
@@ -55,8 +55,8 @@ fn fill_from<G: Regions>(
     ensures counted { OnOk result (HasMoves kit.new layers.now) }
     ensures halted { OnErr result (HoldsSome (G.kept g.old) (G.kept g.new) (moves_in kit.new)) }
     ensures told { let k = G.kept g.old in (tale : Tale) → IsTaleOf tale k layers.now → IfErr result (TellsHalt k (G.kept g.new) tale) }
-    ensures keeps { (kit.new.goals ≡ kit.old.goals) × (kit.new.asms ≡ kit.old.asms) }
-    ensures same { IsSameGame (G.kept g.old) (G.kept g.new) }
+    ensures others { (kit.new.goals ≡ kit.old.goals) × (kit.new.asms ≡ kit.old.asms) }
+    ensures keeps { IsSameGame (G.kept g.old) (G.kept g.new) }
 {
     add_layers(g, When::First, none, layers, &mut kit.first)?;
     add_layers(g, When::Later, none, layers, &mut kit.later)?;
@@ -77,8 +77,8 @@ fn fill<G: Regions>(
     ensures counted { OnOk result (HasMoves kit.new layers.now) }
     ensures halted { OnErr result (HoldsSome (G.kept g.old) (G.kept g.new) (moves_in kit.new)) }
     ensures told { let k = G.kept g.old in (tale : Tale) → IsTaleOf tale k layers.now → IfErr result (TellsHalt k (G.kept g.new) tale) }
-    ensures keeps { (kit.new.goals ≡ kit.old.goals) × (kit.new.asms ≡ kit.old.asms) }
-    ensures same { IsSameGame (G.kept g.old) (G.kept g.new) }
+    ensures others { (kit.new.goals ≡ kit.old.goals) × (kit.new.asms ≡ kit.old.asms) }
+    ensures keeps { IsSameGame (G.kept g.old) (G.kept g.new) }
 {
     let none = g.none()?;
     let filled = fill_from(alloc, g, &none, layers, kit);
@@ -94,7 +94,7 @@ pub fn equip<G: Regions>(alloc: Global, g: &mut G, layers: &[EnvLayer<G>]) -> Re
     ensures equipped { let k = G.kept g.old in IfOk result (λ kit. IsEquipped k.game kit layers.now) }
     ensures halted { OnErr result (HoldsBesides (G.kept g.old) (G.kept g.new) []) }
     ensures told { let k = G.kept g.old in IfErr result (TellsHalt k (G.kept g.new) (tale_of k layers.now)) }
-    ensures same { IsSameGame (G.kept g.old) (G.kept g.new) }
+    ensures keeps { IsSameGame (G.kept g.old) (G.kept g.new) }
 {
     let (goals, asms) = goal_regions(alloc, g)?;
     let mut kit = Kit {

@@ -1,7 +1,6 @@
 //! The next input: the first that forces the next state into the first set into which one can.
 
-ghost use Rattle.std.specs.Prelude.{◌≡◌, ◌<◌, ◌+◌, ◌*◌, ◌≤◌, ◌^◌, ℕ, suc, length, List, IsTrue};
-ghost use Rattle.std.specs.Bool.{OnFalse};
+ghost use Rattle.std.specs.Prelude.{◌≡◌, ◌<◌, ◌+◌, ◌*◌, ◌≤◌, ℕ, suc, length, List};
 ghost use Rattle.spec_model.specs.Values.{Assignment};
 ghost use Rattle.spec_model.specs.Steps.{Before};
 ghost use Rattle.spec_model.specs.Sets.{StateSet};
@@ -25,8 +24,8 @@ fn give_first<G: Regions>(g: &mut G, moves: &[G::Move], state: &[Value], input: 
     ensures first { let k = G.kept g.old in (when : When) (sets : ℕ → StateSet) (b : Before) (r : ℕ) (x : Assignment) →
         MovesLead k when moves.now sets → AreBefore k.game when b state.now → IsFirstForced k.game when sets b r x → r < length moves.now → input.new ≡ x }
     ensures room { length input.new ≡ length input.old }
-    ensures stays { Stays (G.kept g.old) (G.kept g.new) }
-    ensures same { IsSameGame (G.kept g.old) (G.kept g.new) }
+    ensures held { Stays (G.kept g.old) (G.kept g.new) }
+    ensures keeps { IsSameGame (G.kept g.old) (G.kept g.new) }
 {
     for m in moves {
         if g.first_in(m, state, input) {
@@ -49,8 +48,8 @@ fn give_in_hold<G: Regions>(
     ensures first { let k = G.kept g.old in (when : When) (sets : ℕ → StateSet) (b : Before) (r : ℕ) (x : Assignment) →
         IsHeldAs k (Move none.now) (Inputs when (sets 0)) → MovesLead k when moves.now (λ r. sets (suc r)) → AreBefore k.game when b state.now → IsFirstForced k.game when sets b r x → r ≤ length moves.now → input.new ≡ x }
     ensures room { length input.new ≡ length input.old }
-    ensures stays { Stays (G.kept g.old) (G.kept g.new) }
-    ensures same { IsSameGame (G.kept g.old) (G.kept g.new) }
+    ensures held { Stays (G.kept g.old) (G.kept g.new) }
+    ensures keeps { IsSameGame (G.kept g.old) (G.kept g.new) }
 {
     if !g.first_in(none, state, input) {
         give_first(g, moves, state, input);
@@ -73,8 +72,8 @@ pub fn give<G: Regions>(g: &mut G, kit: &Kit<G>, place: &Place, input: &mut [Val
     ensures given { let k = G.kept g.old in (e : EnvLayerSets) (n : ℕ) (counts : ℕ → ℕ → List ℕ) (b : Before) (m : CounterMemory) (r : ℕ) (x : Assignment) →
         ServesTurn k kit.now place.now e n counts b m r x → input.new ≡ x }
     ensures room { length input.new ≡ length input.old }
-    ensures stays { Stays (G.kept g.old) (G.kept g.new) }
-    ensures same { IsSameGame (G.kept g.old) (G.kept g.new) }
+    ensures held { Stays (G.kept g.old) (G.kept g.new) }
+    ensures keeps { IsSameGame (G.kept g.old) (G.kept g.new) }
 {
     let state = place.position.values();
     if place.denying {

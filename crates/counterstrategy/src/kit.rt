@@ -1,9 +1,9 @@
 //! What a strategy has besides its layers.
 
-ghost use Rattle.std.specs.Prelude.{◌≡◌, ◌++◌};
+ghost use Rattle.std.specs.Prelude.{◌++◌};
 ghost use Rattle.regions.specs.Kept.{IsSameGame};
 ghost use Rattle.strategy_parts.specs.Owned.{HasAll, SpendsAll, move_items};
-ghost use Rattle.counterstrategy.specs.Owned.{list_items, moves_in, kit_items};
+ghost use Rattle.counterstrategy.specs.Owned.{list_items, kit_items};
 
 use regions::Regions;
 use strategy_parts::{spend_moves, spend_regions};
@@ -24,7 +24,7 @@ pub struct Kit<G: Regions> {
 pub fn spend_lists<G: Regions>(g: &mut G, mut lists: Vec<Vec<G::Move>>)
     requires { HasAll (G.kept g.old) (list_items lists.items) }
     ensures spends { SpendsAll (G.kept g.old) (G.kept g.new) (list_items lists.items) }
-    ensures same { IsSameGame (G.kept g.old) (G.kept g.new) }
+    ensures keeps { IsSameGame (G.kept g.old) (G.kept g.new) }
 {
     while let Some(moves) = lists.pop() {
         spend_moves(g, moves);
@@ -41,7 +41,7 @@ fn spend_all_moves<G: Regions>(
 )
     requires { HasAll (G.kept g.old) (move_items first.items ++ (move_items later.items ++ list_items delays.items)) }
     ensures spends { SpendsAll (G.kept g.old) (G.kept g.new) (move_items first.items ++ (move_items later.items ++ list_items delays.items)) }
-    ensures same { IsSameGame (G.kept g.old) (G.kept g.new) }
+    ensures keeps { IsSameGame (G.kept g.old) (G.kept g.new) }
 {
     spend_moves(g, first);
     spend_moves(g, later);
@@ -52,7 +52,7 @@ fn spend_all_moves<G: Regions>(
 pub fn spend_kit<G: Regions>(g: &mut G, kit: Kit<G>)
     requires { HasAll (G.kept g.old) (kit_items kit) }
     ensures spends { SpendsAll (G.kept g.old) (G.kept g.new) (kit_items kit) }
-    ensures same { IsSameGame (G.kept g.old) (G.kept g.new) }
+    ensures keeps { IsSameGame (G.kept g.old) (G.kept g.new) }
 {
     let Kit {
         goals,

@@ -1,6 +1,6 @@
 //! The moves into the layers and into the iterates, as they are made for a strategy.
 
-ghost use Rattle.std.specs.Prelude.{◌≡◌, ◌++◌, ◌∷◌, [], None, List, Vec, map, IfOk, IfErr, OnOk, OnErr};
+ghost use Rattle.std.specs.Prelude.{◌≡◌, ◌++◌, ◌∷◌, [], None, List, Vec, IfErr, OnOk, OnErr};
 ghost use Rattle.std.specs.declared.alloc.Global.{Global};
 ghost use Rattle.spec_model.specs.declared.value.Owner.{Owner};
 ghost use Rattle.regions.specs.declared.types.When.{When};
@@ -31,7 +31,7 @@ fn add_moves<G: Regions>(
     ensures added { let k = G.kept g.old in OnOk result (Adds move_items k (G.kept g.new) moves.old.items moves.new.items (leadings k Owner.Env when (r.now ∷ []))) }
     ensures halted { OnErr result (AddsSome move_items (G.kept g.old) (G.kept g.new) moves.old.items moves.new.items) }
     ensures told { let k = G.kept g.old in (tale : Tale) → tale.who ≡ Owner.Env → IsIn (k.set r.now) (tale.targets when) → IfErr result (TellsHalt k (G.kept g.new) tale) }
-    ensures same { IsSameGame (G.kept g.old) (G.kept g.new) }
+    ensures keeps { IsSameGame (G.kept g.old) (G.kept g.new) }
 {
     if moves.reserve(1).is_err() {
         return Err(Halt::Memory);
@@ -58,7 +58,7 @@ pub fn add_layers<G: Regions>(
     ensures added { let k = G.kept g.old in OnOk result (Adds move_items k (G.kept g.new) moves.old.items moves.new.items (leadings k Owner.Env when (none.now ∷ tops layers.now))) }
     ensures halted { OnErr result (AddsSome move_items (G.kept g.old) (G.kept g.new) moves.old.items moves.new.items) }
     ensures told { let k = G.kept g.old in (tale : Tale) → tale.who ≡ Owner.Env → AreTargets tale when k (none.now ∷ tops layers.now) → IfErr result (TellsHalt k (G.kept g.new) tale) }
-    ensures same { IsSameGame (G.kept g.old) (G.kept g.new) }
+    ensures keeps { IsSameGame (G.kept g.old) (G.kept g.new) }
 {
     add_moves(g, when, none, moves)?;
     for l in layers {
@@ -80,7 +80,7 @@ fn add_list<G: Regions>(
     ensures alike { (done : List (Vec _ Global)) (v : Vec _ Global) → AreLike chains.old.items done → v.items ≡ list.now → OnOk result (AreLike chains.new.items (done ++ v ∷ [])) }
     ensures halted { OnErr result (AddsSome list_items (G.kept g.old) (G.kept g.new) chains.old.items chains.new.items) }
     ensures told { let k = G.kept g.old in (tale : Tale) → tale.who ≡ Owner.Env → AreTargets tale When.Later k list.now → IfErr result (TellsHalt k (G.kept g.new) tale) }
-    ensures same { IsSameGame (G.kept g.old) (G.kept g.new) }
+    ensures keeps { IsSameGame (G.kept g.old) (G.kept g.new) }
 {
     if chains.reserve(1).is_err() {
         return Err(Halt::Memory);
@@ -107,7 +107,7 @@ fn add_lists<G: Regions>(
     ensures alike { (done : List (Vec _ Global)) → AreLike chains.old.items done → OnOk result (AreLike chains.new.items (done ++ lists.now)) }
     ensures halted { OnErr result (AddsSome list_items (G.kept g.old) (G.kept g.new) chains.old.items chains.new.items) }
     ensures told { let k = G.kept g.old in (tale : Tale) → tale.who ≡ Owner.Env → AreTargets tale When.Later k (list_regions (lists.now)) → IfErr result (TellsHalt k (G.kept g.new) tale) }
-    ensures same { IsSameGame (G.kept g.old) (G.kept g.new) }
+    ensures keeps { IsSameGame (G.kept g.old) (G.kept g.new) }
 {
     for list in lists {
         add_list(alloc, g, list, chains)?;
@@ -128,7 +128,7 @@ fn add_holds<G: Regions>(
     ensures alike { (done : List (Vec _ Global)) → AreLike chains.old.items done → OnOk result (AreLike chains.new.items (done ++ goal_lists goals.now)) }
     ensures halted { OnErr result (AddsSome list_items (G.kept g.old) (G.kept g.new) chains.old.items chains.new.items) }
     ensures told { let k = G.kept g.old in (tale : Tale) → tale.who ≡ Owner.Env → AreTargets tale When.Later k (goal_delays goals.now) → IfErr result (TellsHalt k (G.kept g.new) tale) }
-    ensures same { IsSameGame (G.kept g.old) (G.kept g.new) }
+    ensures keeps { IsSameGame (G.kept g.old) (G.kept g.new) }
 {
     for goal in goals {
         add_lists(alloc, g, &goal.x, chains)?;
@@ -149,7 +149,7 @@ pub fn add_delays<G: Regions>(
     ensures alike { (done : List (Vec _ Global)) → AreLike chains.old.items done → OnOk result (AreLike chains.new.items (done ++ all_lists layers.now)) }
     ensures halted { OnErr result (AddsSome list_items (G.kept g.old) (G.kept g.new) chains.old.items chains.new.items) }
     ensures told { let k = G.kept g.old in (tale : Tale) → tale.who ≡ Owner.Env → AreTargets tale When.Later k (all_delays layers.now) → IfErr result (TellsHalt k (G.kept g.new) tale) }
-    ensures same { IsSameGame (G.kept g.old) (G.kept g.new) }
+    ensures keeps { IsSameGame (G.kept g.old) (G.kept g.new) }
 {
     for l in layers {
         add_holds(alloc, g, &l.goals, chains)?;

@@ -1,6 +1,6 @@
 //! What is remembered of a position, and its note.
 
-ghost use Rattle.std.specs.Prelude.{◌≡◌, ◌<◌, ◌+◌, ℕ, suc, length, map, IsTrue, if◌then◌else◌, get_or, ◌==◌};
+ghost use Rattle.std.specs.Prelude.{◌≡◌, ◌<◌, ◌+◌, ℕ, length, map, IsTrue, if◌then◌else◌, get_or, ◌==◌};
 ghost use Rattle.spec_model.specs.Games.{State, listed};
 ghost use Rattle.spec_model.specs.GameViews.{goal_data};
 ghost use Rattle.spec_model.specs.Steps.{is_state};
@@ -26,8 +26,8 @@ fn least_layer<G: Regions>(g: &mut G, layers: &[EnvLayer<G>], state: &[Value]) -
     requires { AreSomewhere (G.kept g.old) (tops layers.now) }
     ensures least { let k = G.kept g.old in (sets : ℕ → StateSet) (s : State) (a : ℕ) → RegionsAre k (tops layers.now) sets → IsTrue (is_state k.game s) → listed s ≡ state.now →
         IsLeastNumber (λ n. IsTrue (sets n s)) a → a < length layers.now → result ≡ a }
-    ensures stays { Stays (G.kept g.old) (G.kept g.new) }
-    ensures same { IsSameGame (G.kept g.old) (G.kept g.new) }
+    ensures held { Stays (G.kept g.old) (G.kept g.new) }
+    ensures keeps { IsSameGame (G.kept g.old) (G.kept g.new) }
 {
     for a in 0..layers.len() {
         if g.has(&layers[a].z, state) {
@@ -42,8 +42,8 @@ fn least_goal<G: Regions>(g: &mut G, goals: &[EnvGoal<G>], state: &[Value]) -> u
     requires { AreSomewhere (G.kept g.old) (holds_in goals.now) }
     ensures least { let k = G.kept g.old in (sets : ℕ → StateSet) (s : State) (j : ℕ) → RegionsAre k (holds_in goals.now) sets → IsTrue (is_state k.game s) → listed s ≡ state.now →
         IsLeastNumber (λ n. IsTrue (sets n s)) j → j < length goals.now → result ≡ j }
-    ensures stays { Stays (G.kept g.old) (G.kept g.new) }
-    ensures same { IsSameGame (G.kept g.old) (G.kept g.new) }
+    ensures held { Stays (G.kept g.old) (G.kept g.new) }
+    ensures keeps { IsSameGame (G.kept g.old) (G.kept g.new) }
 {
     for j in 0..goals.len() {
         if g.has(&goals[j].y, state) {
@@ -58,8 +58,8 @@ fn aim<G: Regions>(g: &mut G, layers: &[EnvLayer<G>], place: &Place) -> (usize, 
     requires { (kit : Kit _ _ _) × (e : EnvLayerSets) × (m : CounterMemory) × (s : State) × (next : CounterMemory) × ServesReply (G.kept g.old) layers.now kit place.now e m s next }
     ensures aim { let k = G.kept g.old in (kit : Kit _ _ _) (e : EnvLayerSets) (m : CounterMemory) (s : State) (next : CounterMemory) → ServesReply k layers.now kit place.now e m s next →
         (result.0 ≡ next.layer) × (result.1 ≡ next.goal) × (result.2 ≡ next.before) }
-    ensures stays { Stays (G.kept g.old) (G.kept g.new) }
-    ensures same { IsSameGame (G.kept g.old) (G.kept g.new) }
+    ensures held { Stays (G.kept g.old) (G.kept g.new) }
+    ensures keeps { IsSameGame (G.kept g.old) (G.kept g.new) }
 {
     if place.denying {
         (place.layer, place.goal, place.index)
@@ -77,8 +77,8 @@ fn next_index<G: Regions>(g: &mut G, asms: &[G::R], before: usize, state: &[Valu
     requires asms { AreSomewhere (G.kept g.old) asms.now }
     ensures index { let k = G.kept g.old in (s : State) → RegionsAre k asms.now (assumption_set k.game) → length asms.now ≡ length (assumption_sets k.game) →
         IsTrue (is_state k.game s) → listed s ≡ state.now → result ≡ (if assumption_set k.game before s then next_assumption k.game before else before) }
-    ensures stays { Stays (G.kept g.old) (G.kept g.new) }
-    ensures same { IsSameGame (G.kept g.old) (G.kept g.new) }
+    ensures held { Stays (G.kept g.old) (G.kept g.new) }
+    ensures keeps { IsSameGame (G.kept g.old) (G.kept g.new) }
 {
     if !g.has(&asms[before], state) {
         before
@@ -94,8 +94,8 @@ pub fn note_position<G: Regions>(g: &mut G, layers: &[EnvLayer<G>], kit: &Kit<G>
     requires { (e : EnvLayerSets) × (m : CounterMemory) × (s : State) × (next : CounterMemory) × ServesReply (G.kept g.old) layers.now kit.now place.old e m s next }
     ensures noted { let k = G.kept g.old in (e : EnvLayerSets) (m : CounterMemory) (s : State) (next : CounterMemory) → ServesReply k layers.now kit.now place.old e m s next → memory_at place.new ≡ next }
     ensures position { place.new.position ≡ place.old.position }
-    ensures stays { Stays (G.kept g.old) (G.kept g.new) }
-    ensures same { IsSameGame (G.kept g.old) (G.kept g.new) }
+    ensures held { Stays (G.kept g.old) (G.kept g.new) }
+    ensures keeps { IsSameGame (G.kept g.old) (G.kept g.new) }
 {
     let (layer, goal, before) = aim(g, layers, place);
     let state = place.position.values();

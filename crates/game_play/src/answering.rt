@@ -1,7 +1,6 @@
 //! Which guarantee or monitor's line an output breaks first. Only `OutputJudge::make` takes memory.
 
-ghost use Rattle.std.specs.Prelude.{◌≡◌, [], map, option_map, Some, None, is_none, IfOk, IsTrue};
-ghost use Rattle.spec_model.specs.Views.{formula};
+ghost use Rattle.std.specs.Prelude.{◌≡◌, [], Some, None, is_none, IfOk, IsTrue};
 ghost use Rattle.spec_model.specs.GameViews.{game_data};
 ghost use Rattle.spec_model.specs.Games.{State, first_hidden};
 ghost use Rattle.spec_model.specs.Steps.{is_state, is_input, is_output, legal_output};

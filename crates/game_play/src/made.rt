@@ -1,6 +1,6 @@
 //! What is seen of a position that has just been made: its hidden tables are read where they are asked for.
 
-ghost use Rattle.std.specs.Prelude.{◌≡◌, ◌<◌, map, not, true, [], length, pos};
+ghost use Rattle.std.specs.Prelude.{◌≡◌, ◌<◌, map, not, true, []};
 ghost use Rattle.spec_model.specs.Views.{variable_data};
 ghost use Rattle.spec_model.specs.GameViews.{hidden_data};
 ghost use Rattle.spec_model.specs.Values.{is_assignment};

@@ -1,6 +1,6 @@
 //! The hidden values of a game along a play. No call takes memory.
 
-ghost use Rattle.std.specs.Prelude.{◌≡◌, ◌<◌, ◌^◌, ◌++◌, length, map, pos, IsTrue, true, []};
+ghost use Rattle.std.specs.Prelude.{◌≡◌, ◌<◌, ◌^◌, length, map, pos, IsTrue, true, []};
 ghost use Rattle.std.specs.List.{list_all};
 ghost use Rattle.spec_model.specs.Values.{is_assignment};
 ghost use Rattle.spec_model.specs.GameViews.{game_data, hidden_data};

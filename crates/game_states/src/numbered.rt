@@ -1,7 +1,6 @@
 //! A game with its states numbered, and which moves lead where.
 
 ghost use Rattle.std.specs.Prelude.{◌≡◌, ◌<◌, ◌≤◌, ◌+◌, true, Some, None, map, length, option_map, slice_get, IfOk};
-ghost use Rattle.std.specs.List.{list_all};
 ghost use Rattle.spec_model.specs.GameViews.{game_data};
 ghost use Rattle.spec_model.specs.Games.{inputs_of, outputs_of, step_reading};
 ghost use Rattle.spec_model.specs.Moves.{has_next};

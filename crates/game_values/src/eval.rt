@@ -1,11 +1,10 @@
 //! The value of an expression, as what is seen has its variables and entries.
 
-ghost use Rattle.std.specs.Prelude.{◌≡◌, ◌+ℤ◌, ◌-ℤ◌, ◌*ℤ◌, ◌^◌, ◌<◌, pos, length, map, not, get_or, false, [], FitsSigned};
+ghost use Rattle.std.specs.Prelude.{◌≡◌, ◌^◌, ◌<◌, length, map, false};
 ghost use Rattle.std.specs.List.{list_all, list_any};
-ghost use Rattle.std.specs.Int.{int_rem_euclid, w64};
 ghost use Rattle.spec_model.specs.Syntax.{NextOf};
 ghost use Rattle.spec_model.specs.Views.{formula};
-ghost use Rattle.spec_model.specs.Values.{truth_of, number_of};
+ghost use Rattle.spec_model.specs.Values.{number_of};
 ghost use Rattle.spec_model.specs.Meaning.{value_at, holds_at, truths_at};
 ghost use Rattle.spec_model.specs.Games.{letter_of};
 ghost use Rattle.game_values.specs.Times.{time_of};

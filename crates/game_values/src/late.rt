@@ -1,7 +1,7 @@
 //! When lines are judged: which read a next value, and which assumptions wait for the output.
 
-ghost use Rattle.std.specs.Prelude.{◌≡◌, ◌*◌, ◌^◌, ◌<◌, ℕ, Bool, not, ◌&&◌, ◌||◌, map, length, option_map, unwrap_or, slice_get, get_or, false, true, [], IfOk};
-ghost use Rattle.std.specs.List.{list_any, list_all};
+ghost use Rattle.std.specs.Prelude.{◌≡◌, ◌*◌, ◌<◌, ◌&&◌, ◌||◌, map, get_or, false, true, [], IfOk};
+ghost use Rattle.std.specs.List.{list_any};
 ghost use Rattle.spec_model.specs.Views.{formula, variable_data};
 ghost use Rattle.spec_model.specs.GameViews.{hidden_data};
 ghost use Rattle.spec_model.specs.Moves.{has_next, some_has_next};

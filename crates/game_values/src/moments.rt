@@ -1,7 +1,6 @@
 //! Moments that were read before.
 
-ghost use Rattle.std.specs.Prelude.{◌≡◌, ℕ, [], map, get_or, false};
-ghost use Rattle.spec_model.specs.Meaning.{Reading};
+ghost use Rattle.std.specs.Prelude.{◌≡◌, [], map, get_or, false};
 ghost use Rattle.game_values.specs.Moments.{reading_in};
 
 use crate::seen::{At, Found, Seen};

@@ -32,7 +32,7 @@ fn next_delay<G: Regions>(g: &mut G, cover: &G::R, asm: &G::R, t: &G::R) -> Resu
     ensures made { let k = G.kept g.old in IfOk result (λ r. MakesRegion k (G.kept g.new) r (rising k.game (k.set cover.now) (k.set asm.now) (k.set t.now))) }
     ensures halted { OnErr result (HoldsBesides (G.kept g.old) (G.kept g.new) []) }
     ensures told { let k = G.kept g.old in (game : GameData) (m : Moment) (a j i r : ℕ) → k.game ≡ game → AreOfDelay game m a j i (k.set cover.now) (k.set asm.now) → k.set t.now ≡ delay_at game m a j i r → IfErr result (TellsHalt game k (G.kept g.new) m) }
-    ensures same { IsSameGame (G.kept g.old) (G.kept g.new) }
+    ensures keeps { IsSameGame (G.kept g.old) (G.kept g.new) }
 {
     let forced = g.pre_env(t)?;
     let met = or_in(g, forced, asm)?;
@@ -58,7 +58,7 @@ fn grow<G: Regions>(
     ensures halted { OnErr result (HoldsWithoutAll (G.kept g.old) (G.kept g.new) rs.items) }
     ensures told { let k = G.kept g.old in (game : GameData) (m : Moment) (a j i r : ℕ) → k.game ≡ game → AreOfDelay game m a j i (k.set cover.now) (k.set asm.now) →
         k.set (last_of none.now rs.items) ≡ delay_at game m a j i r → IfErr result (TellsHalt game k (G.kept g.new) m) }
-    ensures same { IsSameGame (G.kept g.old) (G.kept g.new) }
+    ensures keeps { IsSameGame (G.kept g.old) (G.kept g.new) }
 {
     if rs.reserve(1).is_err() {
         spend_all(g, rs);
@@ -97,7 +97,7 @@ pub fn delays<G: Regions>(
     ensures made { let k = G.kept g.old in IfOk result (λ rs. HasDelays k.game k (G.kept g.new) (k.set cover.now) (k.set asm.now) rs.items) }
     ensures halted { OnErr result (HoldsBesides (G.kept g.old) (G.kept g.new) []) }
     ensures told { let k = G.kept g.old in (game : GameData) (m : Moment) (a j i : ℕ) → k.game ≡ game → AreOfDelay game m a j i (k.set cover.now) (k.set asm.now) → IfErr result (TellsHalt game k (G.kept g.new) m) }
-    ensures same { IsSameGame (G.kept g.old) (G.kept g.new) }
+    ensures keeps { IsSameGame (G.kept g.old) (G.kept g.new) }
 {
     let mut rs = Vec::new(alloc);
     loop {

@@ -3,7 +3,7 @@
 ghost use Rattle.std.specs.Prelude.{◌≡◌, ◌<◌, ◌∷◌, [], None, IfOk, IfErr, OnErr, length, get_or};
 ghost use Rattle.spec_model.specs.Games.{GameData};
 ghost use Rattle.spec_model.specs.Sets.{no_states};
-ghost use Rattle.regions.specs.Kept.{HasRegion, HoldsBesides, MakesRegion, IsSameGame};
+ghost use Rattle.regions.specs.Kept.{HoldsBesides, MakesRegion, IsSameGame};
 ghost use Rattle.gr1_sys.specs.Held.{HasTogether, MakesRegions, SpendsAll};
 ghost use Rattle.gr1_env.specs.Givens.{wanted, given_regions, given_sets};
 ghost use Rattle.gr1_env.specs.Moment.{Moment, TellsHalt};
@@ -46,7 +46,7 @@ fn miss_region<G: Regions>(g: &mut G, j: usize) -> Result<G::R, Halt>
     ensures made { let k = G.kept g.old in IfOk result (λ r. MakesRegion k (G.kept g.new) r (get_or (wanted k.game Wanted.Misses) j no_states)) }
     ensures halted { OnErr result (HoldsBesides (G.kept g.old) (G.kept g.new) []) }
     ensures told { let k = G.kept g.old in (game : GameData) (m : Moment) → k.game ≡ game → IfErr result (TellsHalt game k (G.kept g.new) m) }
-    ensures same { IsSameGame (G.kept g.old) (G.kept g.new) }
+    ensures keeps { IsSameGame (G.kept g.old) (G.kept g.new) }
 {
     if g.game().goals.is_empty() {
         return g.none();
@@ -71,7 +71,7 @@ fn assumption_region<G: Regions>(g: &mut G, i: usize) -> Result<G::R, Halt>
     ensures made { let k = G.kept g.old in IfOk result (λ r. MakesRegion k (G.kept g.new) r (get_or (wanted k.game Wanted.Assumptions) i no_states)) }
     ensures halted { OnErr result (HoldsBesides (G.kept g.old) (G.kept g.new) []) }
     ensures told { let k = G.kept g.old in (game : GameData) (m : Moment) → k.game ≡ game → IfErr result (TellsHalt game k (G.kept g.new) m) }
-    ensures same { IsSameGame (G.kept g.old) (G.kept g.new) }
+    ensures keeps { IsSameGame (G.kept g.old) (G.kept g.new) }
 {
     if g.game().assume.is_empty() {
         g.all()
@@ -87,7 +87,7 @@ fn region_of<G: Regions>(g: &mut G, kind: Wanted, i: usize) -> Result<G::R, Halt
     ensures made { let k = G.kept g.old in IfOk result (λ r. MakesRegion k (G.kept g.new) r (get_or (wanted k.game kind) i no_states)) }
     ensures halted { OnErr result (HoldsBesides (G.kept g.old) (G.kept g.new) []) }
     ensures told { let k = G.kept g.old in (game : GameData) (m : Moment) → k.game ≡ game → IfErr result (TellsHalt game k (G.kept g.new) m) }
-    ensures same { IsSameGame (G.kept g.old) (G.kept g.new) }
+    ensures keeps { IsSameGame (G.kept g.old) (G.kept g.new) }
 {
     match kind {
         Wanted::Misses => miss_region(g, i),
@@ -101,7 +101,7 @@ fn regions_of<G: Regions>(alloc: Global, g: &mut G, kind: Wanted) -> Result<Vec<
     ensures made { let k = G.kept g.old in IfOk result (λ rs. MakesRegions k (G.kept g.new) rs.items (wanted k.game kind)) }
     ensures halted { OnErr result (HoldsBesides (G.kept g.old) (G.kept g.new) []) }
     ensures told { let k = G.kept g.old in (game : GameData) (m : Moment) → k.game ≡ game → IfErr result (TellsHalt game k (G.kept g.new) m) }
-    ensures same { IsSameGame (G.kept g.old) (G.kept g.new) }
+    ensures keeps { IsSameGame (G.kept g.old) (G.kept g.new) }
 {
     let n = count(g, kind);
     let Ok(mut rs) = Vec::with_capacity(alloc, n) else {
@@ -126,7 +126,7 @@ pub fn give<G: Regions>(alloc: Global, g: &mut G) -> Result<Given<G>, Halt>
     ensures counted { let k = G.kept g.old in IfOk result (λ given. length given.misses.items ≡ length (wanted k.game Wanted.Misses)) }
     ensures halted { OnErr result (HoldsBesides (G.kept g.old) (G.kept g.new) []) }
     ensures told { let k = G.kept g.old in (game : GameData) (m : Moment) → k.game ≡ game → IfErr result (TellsHalt game k (G.kept g.new) m) }
-    ensures same { IsSameGame (G.kept g.old) (G.kept g.new) }
+    ensures keeps { IsSameGame (G.kept g.old) (G.kept g.new) }
 {
     let misses = regions_of(alloc, g, Wanted::Misses)?;
     match with_misses(alloc, g) {
@@ -144,7 +144,7 @@ fn with_misses<G: Regions>(alloc: Global, g: &mut G) -> Result<(G::R, Vec<G::R>)
     ensures made { let k = G.kept g.old in IfOk result (λ r. MakesRegions k (G.kept g.new) (r.0 ∷ r.1.items) (no_states ∷ wanted k.game Wanted.Assumptions)) }
     ensures halted { OnErr result (HoldsBesides (G.kept g.old) (G.kept g.new) []) }
     ensures told { let k = G.kept g.old in (game : GameData) (m : Moment) → k.game ≡ game → IfErr result (TellsHalt game k (G.kept g.new) m) }
-    ensures same { IsSameGame (G.kept g.old) (G.kept g.new) }
+    ensures keeps { IsSameGame (G.kept g.old) (G.kept g.new) }
 {
     let asms = regions_of(alloc, g, Wanted::Assumptions)?;
     match g.none() {
@@ -160,7 +160,7 @@ fn with_misses<G: Regions>(alloc: Global, g: &mut G) -> Result<(G::R, Vec<G::R>)
 pub fn spend_given<G: Regions>(g: &mut G, given: Given<G>)
     requires { HasTogether (G.kept g.old) (given_regions given) }
     ensures spends { SpendsAll (G.kept g.old) (G.kept g.new) (given_regions given) }
-    ensures same { IsSameGame (G.kept g.old) (G.kept g.new) }
+    ensures keeps { IsSameGame (G.kept g.old) (G.kept g.new) }
 {
     let Given { none, misses, asms } = given;
     spend_all(g, misses);

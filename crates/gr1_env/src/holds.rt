@@ -1,9 +1,9 @@
 //! The hold of one goal above a layer.
 
-ghost use Rattle.std.specs.Prelude.{◌≡◌, ◌<◌, ◌≤◌, ℕ, [], ◌∷◌, None, IfOk, IfErr, OnErr, length, map};
+ghost use Rattle.std.specs.Prelude.{◌≡◌, ◌<◌, ◌≤◌, ℕ, [], None, IfOk, IfErr, OnErr, length, map};
 ghost use Rattle.spec_model.specs.Games.{GameData};
 ghost use Rattle.spec_model.specs.Steps.{states_of};
-ghost use Rattle.spec_model.specs.Sets.{all_states, no_states};
+ghost use Rattle.spec_model.specs.Sets.{no_states};
 ghost use Rattle.regions.specs.Kept.{Region, States, HasRegion, HoldsBesides, HoldsWithout, MakesRegion, IsSameGame};
 ghost use Rattle.gr1_law.specs.Layers.{assumption_sets};
 ghost use Rattle.gr1_sys.specs.Solution.{meet};
@@ -36,7 +36,7 @@ fn all_delays<G: Regions>(
     ensures made { let k = G.kept g.old in IfOk result (λ xs. HaveDelays k.game k (G.kept g.new) (k.set cover.now) (map k.set asms.now) xs.items) }
     ensures halted { OnErr result (HoldsBesides (G.kept g.old) (G.kept g.new) []) }
     ensures told { let k = G.kept g.old in (game : GameData) (m : Moment) (a j : ℕ) → k.game ≡ game → IsGoal game j → k.set cover.now ≡ cover_at game m a j → map k.set asms.now ≡ assumption_sets game → IfErr result (TellsHalt game k (G.kept g.new) m) }
-    ensures same { IsSameGame (G.kept g.old) (G.kept g.new) }
+    ensures keeps { IsSameGame (G.kept g.old) (G.kept g.new) }
 {
     let Ok(mut xs) = Vec::with_capacity(alloc, asms.len()) else {
         return Err(Halt::Memory);
@@ -71,7 +71,7 @@ fn delays_for<G: Regions>(
     ensures made { let k = G.kept g.old in IfOk result (λ xs. HaveDelays k.game k (G.kept g.new) (cover_of k.game (k.set base.now) (k.set y.now)) (map k.set asms.now) xs.items) }
     ensures halted { OnErr result (HoldsBesides (G.kept g.old) (G.kept g.new) []) }
     ensures told { let k = G.kept g.old in (game : GameData) (m : Moment) (a j : ℕ) → k.game ≡ game → AreOfHold game m a j (k.set base.now) (k.set y.now) (map k.set asms.now) → IfErr result (TellsHalt game k (G.kept g.new) m) }
-    ensures same { IsSameGame (G.kept g.old) (G.kept g.new) }
+    ensures keeps { IsSameGame (G.kept g.old) (G.kept g.new) }
 {
     let forced = g.pre_env(y)?;
     let cover = and_in(g, forced, base)?;
@@ -96,7 +96,7 @@ fn common<G: Regions>(g: &mut G, none: &G::R, xs: &[Vec<G::R>]) -> Result<G::R, 
     ensures halted { OnErr result (HoldsBesides (G.kept g.old) (G.kept g.new) []) }
     ensures told { let k = G.kept g.old in (game : GameData) (m : Moment) (a j : ℕ) → k.game ≡ game → IsGoal game j → length xs.now ≤ length (assumption_sets game) →
         ((i : ℕ) → i < length xs.now → last_set k none.now xs.now i ≡ delay_at game m a j i (length (states_of game))) → IfErr result (TellsHalt game k (G.kept g.new) m) }
-    ensures same { IsSameGame (G.kept g.old) (G.kept g.new) }
+    ensures keeps { IsSameGame (G.kept g.old) (G.kept g.new) }
 {
     let mut met = g.all()?;
     for rs in xs {
@@ -123,7 +123,7 @@ fn turn<G: Regions>(
     ensures turned { let k = G.kept g.old in IfOk result (λ r. TurnsTo k.game k (G.kept g.new) (k.set base.now) (k.set y.now) (map k.set asms.now) r.0.items r.1) }
     ensures halted { OnErr result (HoldsBesides (G.kept g.old) (G.kept g.new) []) }
     ensures told { let k = G.kept g.old in (game : GameData) (m : Moment) (a j : ℕ) → k.game ≡ game → AreOfHold game m a j (k.set base.now) (k.set y.now) (map k.set asms.now) → IfErr result (TellsHalt game k (G.kept g.new) m) }
-    ensures same { IsSameGame (G.kept g.old) (G.kept g.new) }
+    ensures keeps { IsSameGame (G.kept g.old) (G.kept g.new) }
 {
     let xs = delays_for(alloc, g, base, y, asms, none)?;
     match common(g, none, &xs) {
@@ -162,7 +162,7 @@ fn one_value<G: Regions>(
     ensures steps { let k = G.kept g.old in IfOk result (λ s. Steps k.game k (G.kept g.new) (k.set base.now) (map k.set asms.now) y (k.set y) s) }
     ensures halted { let k = G.kept g.old in OnErr result (HoldsWithout k (G.kept g.new) (Region y) (States (k.set y))) }
     ensures told { let k = G.kept g.old in (game : GameData) (m : Moment) (a j : ℕ) → k.game ≡ game → AreOfHold game m a j (k.set base.now) (k.set y) (map k.set asms.now) → IfErr result (TellsHalt game k (G.kept g.new) m) }
-    ensures same { IsSameGame (G.kept g.old) (G.kept g.new) }
+    ensures keeps { IsSameGame (G.kept g.old) (G.kept g.new) }
 {
     match turn(alloc, g, base, &y, asms, none) {
         Ok((xs, next)) => {
@@ -199,7 +199,7 @@ pub fn hold<G: Regions>(
     ensures halted { OnErr result (HoldsBesides (G.kept g.old) (G.kept g.new) []) }
     ensures told { let k = G.kept g.old in (game : GameData) (a j : ℕ) → k.game ≡ game → IsGoal game j → k.set base.now ≡ base_for game (layer_number game a) j → map k.set asms.now ≡ assumption_sets game →
         IfErr result (TellsHold game k (G.kept g.new) a j) }
-    ensures same { IsSameGame (G.kept g.old) (G.kept g.new) }
+    ensures keeps { IsSameGame (G.kept g.old) (G.kept g.new) }
 {
     let mut y = g.all()?;
     loop {

@@ -1,6 +1,6 @@
 //! The layers, from the first to the last.
 
-ghost use Rattle.std.specs.Prelude.{◌≡◌, ◌<◌, ◌≤◌, ℕ, suc, [], ◌∷◌, None, IfOk, IfErr, OnErr, length, map};
+ghost use Rattle.std.specs.Prelude.{◌≡◌, ◌<◌, ◌≤◌, ℕ, suc, [], None, IfOk, IfErr, OnErr, length, map};
 ghost use Rattle.spec_model.specs.Games.{GameData};
 ghost use Rattle.spec_model.specs.Sets.{either, rest, pre_env};
 ghost use Rattle.regions.specs.Kept.{HasRegion, HoldsBesides, MakesRegion, IsSameGame};
@@ -35,7 +35,7 @@ fn hold_above<G: Regions>(
     ensures halted { OnErr result (HoldsBesides (G.kept g.old) (G.kept g.new) []) }
     ensures told { let k = G.kept g.old in (game : GameData) (a j : ℕ) → k.game ≡ game → IsGoal game j → k.set miss.now ≡ rest game (goal_set game j) → k.set forced.now ≡ pre_env game (layer_number game a) →
         map k.set given.now.asms.items ≡ assumption_sets game → IfErr result (TellsHold game k (G.kept g.new) a j) }
-    ensures same { IsSameGame (G.kept g.old) (G.kept g.new) }
+    ensures keeps { IsSameGame (G.kept g.old) (G.kept g.new) }
 {
     let base = g.or(miss, forced)?;
     match hold(alloc, g, &base, &given.asms, &given.none) {
@@ -63,7 +63,7 @@ fn holds_above<G: Regions>(
     ensures made { let k = G.kept g.old in IfOk result (λ goals. HaveHolds k.game k (G.kept g.new) (k.set forced.now) (map k.set given.now.misses.items) (map k.set given.now.asms.items) goals.items) }
     ensures halted { OnErr result (HoldsBesides (G.kept g.old) (G.kept g.new) []) }
     ensures told { let k = G.kept g.old in (game : GameData) (a : ℕ) → k.game ≡ game → k.set forced.now ≡ pre_env game (layer_number game a) → AreGiven game (map k.set given.now.misses.items) (map k.set given.now.asms.items) → IfErr result (TellsLayer game k (G.kept g.new) a) }
-    ensures same { IsSameGame (G.kept g.old) (G.kept g.new) }
+    ensures keeps { IsSameGame (G.kept g.old) (G.kept g.new) }
 {
     let Ok(mut goals) = Vec::with_capacity(alloc, given.misses.len()) else {
         return Err(Halt::Memory);
@@ -93,7 +93,7 @@ fn holds_over<G: Regions>(
     ensures made { let k = G.kept g.old in IfOk result (λ goals. HaveHolds k.game k (G.kept g.new) (pre_env k.game (k.set lower.now)) (map k.set given.now.misses.items) (map k.set given.now.asms.items) goals.items) }
     ensures halted { OnErr result (HoldsBesides (G.kept g.old) (G.kept g.new) []) }
     ensures told { let k = G.kept g.old in (game : GameData) (a : ℕ) → k.game ≡ game → k.set lower.now ≡ layer_number game a → AreGiven game (map k.set given.now.misses.items) (map k.set given.now.asms.items) → IfErr result (TellsLayer game k (G.kept g.new) a) }
-    ensures same { IsSameGame (G.kept g.old) (G.kept g.new) }
+    ensures keeps { IsSameGame (G.kept g.old) (G.kept g.new) }
 {
     let forced = g.pre_env(lower)?;
     match holds_above(alloc, g, &forced, given) {
@@ -115,7 +115,7 @@ fn union_of<G: Regions>(g: &mut G, goals: &[EnvGoal<G>]) -> Result<G::R, Halt>
     ensures made { let k = G.kept g.old in IfOk result (λ r. MakesRegion k (G.kept g.new) r (union (hold_set k goals.now) (length goals.now))) }
     ensures halted { OnErr result (HoldsBesides (G.kept g.old) (G.kept g.new) []) }
     ensures told { let k = G.kept g.old in (game : GameData) (m : Moment) (a : ℕ) → k.game ≡ game → length goals.now ≤ length (goal_sets game) → ((j : ℕ) → j < length goals.now → hold_set k goals.now j ≡ m.value (suc a) j) → IfErr result (TellsHalt game k (G.kept g.new) m) }
-    ensures same { IsSameGame (G.kept g.old) (G.kept g.new) }
+    ensures keeps { IsSameGame (G.kept g.old) (G.kept g.new) }
 {
     let mut joined = g.none()?;
     for e in goals {
@@ -137,7 +137,7 @@ fn layer_above<G: Regions>(
     ensures made { let k = G.kept g.old in IfOk result (λ l. HasLayer k.game k (G.kept g.new) (k.set lower.now) (map k.set given.now.misses.items) (map k.set given.now.asms.items) l) }
     ensures halted { OnErr result (HoldsBesides (G.kept g.old) (G.kept g.new) []) }
     ensures told { let k = G.kept g.old in (game : GameData) (a : ℕ) → k.game ≡ game → k.set lower.now ≡ layer_number game a → AreGiven game (map k.set given.now.misses.items) (map k.set given.now.asms.items) → IfErr result (TellsLayer game k (G.kept g.new) a) }
-    ensures same { IsSameGame (G.kept g.old) (G.kept g.new) }
+    ensures keeps { IsSameGame (G.kept g.old) (G.kept g.new) }
 {
     let goals = holds_over(alloc, g, lower, given)?;
     match union_of(g, &goals) {
@@ -173,7 +173,7 @@ fn grow<G: Regions>(
         IfOk result (λ r. GrowsLayers k.game k (G.kept g.new) (k.set (last_z given.now.none layers.items)) (map k.set given.now.misses.items) (map k.set given.now.asms.items) layers.items r.0.items r.1) }
     ensures halted { OnErr result (HoldsWithoutAll (G.kept g.old) (G.kept g.new) (all_regions layers.items)) }
     ensures told { let k = G.kept g.old in (game : GameData) (a : ℕ) → k.game ≡ game → k.set (last_z given.now.none layers.items) ≡ layer_number game a → AreGiven game (map k.set given.now.misses.items) (map k.set given.now.asms.items) → IfErr result (TellsLayer game k (G.kept g.new) a) }
-    ensures same { IsSameGame (G.kept g.old) (G.kept g.new) }
+    ensures keeps { IsSameGame (G.kept g.old) (G.kept g.new) }
 {
     if layers.reserve(1).is_err() {
         spend_layers(g, layers);
@@ -208,7 +208,7 @@ pub fn all_layers<G: Regions>(
     ensures last { let k = G.kept g.old in IfOk result (λ layers. (G.kept g.new).set (last_z given.now.none layers.items) ≡ layer_on k.game (map k.set given.now.misses.items) (map k.set given.now.asms.items) (length layers.items)) }
     ensures halted { OnErr result (HoldsBesides (G.kept g.old) (G.kept g.new) []) }
     ensures told { let k = G.kept g.old in (game : GameData) → k.game ≡ game → AreGiven game (map k.set given.now.misses.items) (map k.set given.now.asms.items) → IfErr result (TellsLayers game k (G.kept g.new)) }
-    ensures same { IsSameGame (G.kept g.old) (G.kept g.new) }
+    ensures keeps { IsSameGame (G.kept g.old) (G.kept g.new) }
 {
     let mut layers = Vec::new(alloc);
     loop {

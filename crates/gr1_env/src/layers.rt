@@ -49,7 +49,7 @@ impl<G: Regions> EnvLayers<G> {
     pub fn spend_all(self, g: &mut G)
         requires { HasTogether (G.kept g.old) (all_regions self.layers.items) }
         ensures spends { SpendsAll (G.kept g.old) (G.kept g.new) (all_regions self.layers.items) }
-        ensures same { IsSameGame (G.kept g.old) (G.kept g.new) }
+        ensures keeps { IsSameGame (G.kept g.old) (G.kept g.new) }
     {
         let EnvLayers { layers } = self;
         spend_layers(g, layers);

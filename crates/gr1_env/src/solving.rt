@@ -21,10 +21,10 @@ use std::alloc::Global;
 fn counted<G: Regions>(g: &mut G, layers: Vec<EnvLayer<G>>) -> Result<EnvLayers<G>, Halt>
     requires held { HasTogether (G.kept g.old) (all_regions layers.items) }
     ensures layers { IfOk result (λ l. l.layers.items ≡ layers.items) }
-    ensures stays { IfOk result (λ _. Stays (G.kept g.old) (G.kept g.new)) }
+    ensures held { IfOk result (λ _. Stays (G.kept g.old) (G.kept g.new)) }
     ensures halted { OnErr result (HoldsWithoutAll (G.kept g.old) (G.kept g.new) (all_regions layers.items)) }
     ensures told { IfErr result (λ halt. (halt ≡ Halt.Memory) × ((G.kept g.new).jam ≡ (G.kept g.old).jam)) }
-    ensures same { IsSameGame (G.kept g.old) (G.kept g.new) }
+    ensures keeps { IsSameGame (G.kept g.old) (G.kept g.new) }
 {
     if denials::<G>(&layers).is_some() {
         Ok(EnvLayers { layers })
@@ -47,7 +47,7 @@ fn decide<G: Regions>(
         IfOk result (λ o. MatchOption o (IsDropped k (G.kept g.new) last (all_regions layers.items)) (λ l. (l.layers.items ≡ layers.items) × IsForced k (G.kept g.new) last)) }
     ensures halted { OnErr result (HoldsWithoutAll (G.kept g.old) (G.kept g.new) (all_regions layers.items)) }
     ensures told { let k = G.kept g.old in (game : GameData) (m : Moment) (n : ℕ) → k.game ≡ game → IsLayerCount m.layers n → k.set (last_z given.now.none layers.items) ≡ m.layers.z n → IfErr result (TellsHalt game k (G.kept g.new) m) }
-    ensures same { IsSameGame (G.kept g.old) (G.kept g.new) }
+    ensures keeps { IsSameGame (G.kept g.old) (G.kept g.new) }
 {
     match g.start_env(last_layer::<G>(&given.none, &layers)) {
         Ok(true) => match counted(g, layers) {
@@ -77,7 +77,7 @@ fn winning<G: Regions>(
         IfOk result (λ o. MatchOption o (HasLost k (G.kept g.new) misses asms) (λ l. HasWon k (G.kept g.new) misses asms l.layers.items)) }
     ensures halted { OnErr result (HoldsBesides (G.kept g.old) (G.kept g.new) []) }
     ensures told { let k = G.kept g.old in (game : GameData) → k.game ≡ game → AreGiven game (map k.set given.now.misses.items) (map k.set given.now.asms.items) → IfErr result (TellsLayers game k (G.kept g.new)) }
-    ensures same { IsSameGame (G.kept g.old) (G.kept g.new) }
+    ensures keeps { IsSameGame (G.kept g.old) (G.kept g.new) }
 {
     let layers = all_layers(alloc, g, given)?;
     decide(g, given, layers)
@@ -94,7 +94,7 @@ pub fn solve_env<G: Regions>(alloc: Global, g: &mut G) -> Result<Option<EnvLayer
     ensures moment { let k = G.kept g.old in IfOk result (λ o. IfSome o (λ l. (sets : _) → WonByEnvironment k (G.kept g.new) l.layers.items sets → AreOfOneMoment k.game (G.kept g.new) l.layers.items sets)) }
     ensures halted { OnErr result (HoldsBesides (G.kept g.old) (G.kept g.new) []) }
     ensures told { IfErr result (TellsOneMoment (G.kept g.old) (G.kept g.new)) }
-    ensures same { IsSameGame (G.kept g.old) (G.kept g.new) }
+    ensures keeps { IsSameGame (G.kept g.old) (G.kept g.new) }
 {
     let given = give(alloc, g)?;
     match winning(alloc, g, &given) {

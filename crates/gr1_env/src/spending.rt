@@ -12,7 +12,7 @@ use regions::Regions;
 pub fn spend_lists<G: Regions>(g: &mut G, mut xs: Vec<Vec<G::R>>)
     requires { HasTogether (G.kept g.old) (list_regions xs.items) }
     ensures spends { SpendsAll (G.kept g.old) (G.kept g.new) (list_regions xs.items) }
-    ensures same { IsSameGame (G.kept g.old) (G.kept g.new) }
+    ensures keeps { IsSameGame (G.kept g.old) (G.kept g.new) }
 {
     while let Some(rs) = xs.pop() {
         spend_all(g, rs);
@@ -24,7 +24,7 @@ pub fn spend_lists<G: Regions>(g: &mut G, mut xs: Vec<Vec<G::R>>)
 pub fn spend_hold<G: Regions>(g: &mut G, e: EnvGoal<G>)
     requires { HasTogether (G.kept g.old) (hold_regions e) }
     ensures spends { SpendsAll (G.kept g.old) (G.kept g.new) (hold_regions e) }
-    ensures same { IsSameGame (G.kept g.old) (G.kept g.new) }
+    ensures keeps { IsSameGame (G.kept g.old) (G.kept g.new) }
 {
     let EnvGoal { y, x } = e;
     g.spend(y);
@@ -35,7 +35,7 @@ pub fn spend_hold<G: Regions>(g: &mut G, e: EnvGoal<G>)
 pub fn spend_holds<G: Regions>(g: &mut G, mut goals: Vec<EnvGoal<G>>)
     requires { HasTogether (G.kept g.old) (goal_regions goals.items) }
     ensures spends { SpendsAll (G.kept g.old) (G.kept g.new) (goal_regions goals.items) }
-    ensures same { IsSameGame (G.kept g.old) (G.kept g.new) }
+    ensures keeps { IsSameGame (G.kept g.old) (G.kept g.new) }
 {
     while let Some(e) = goals.pop() {
         spend_hold(g, e);
@@ -47,7 +47,7 @@ pub fn spend_holds<G: Regions>(g: &mut G, mut goals: Vec<EnvGoal<G>>)
 pub fn spend_layer<G: Regions>(g: &mut G, l: EnvLayer<G>)
     requires { HasTogether (G.kept g.old) (layer_regions l) }
     ensures spends { SpendsAll (G.kept g.old) (G.kept g.new) (layer_regions l) }
-    ensures same { IsSameGame (G.kept g.old) (G.kept g.new) }
+    ensures keeps { IsSameGame (G.kept g.old) (G.kept g.new) }
 {
     let EnvLayer { z, goals } = l;
     g.spend(z);
@@ -58,7 +58,7 @@ pub fn spend_layer<G: Regions>(g: &mut G, l: EnvLayer<G>)
 pub fn spend_layers<G: Regions>(g: &mut G, mut layers: Vec<EnvLayer<G>>)
     requires { HasTogether (G.kept g.old) (all_regions layers.items) }
     ensures spends { SpendsAll (G.kept g.old) (G.kept g.new) (all_regions layers.items) }
-    ensures same { IsSameGame (G.kept g.old) (G.kept g.new) }
+    ensures keeps { IsSameGame (G.kept g.old) (G.kept g.new) }
 {
     while let Some(l) = layers.pop() {
         spend_layer(g, l);

@@ -1,7 +1,6 @@
 //! The layers of one goal, from the first to the last.
 
 ghost use Rattle.std.specs.Prelude.{◌≡◌, [], None, IfOk, IfErr, OnErr};
-ghost use Rattle.std.specs.Vec.{vec_len};
 ghost use Rattle.spec_model.specs.Sets.{StateSet, both, pre_sys};
 ghost use Rattle.regions.specs.Kept.{HasRegion, HoldsBesides, IsSameGame};
 ghost use Rattle.gr1_law.specs.Layers.{goal_set};
@@ -33,7 +32,7 @@ fn grow<G: Regions>(
     ensures halted { OnErr result (HoldsWithoutAll (G.kept g.old) (G.kept g.new) (goal_regions layers.items)) }
     ensures told { let k = G.kept g.old in (z : StateSet) (j n : _) → IsGoal k.game j → k.set reach.now ≡ both (goal_set k.game j) (pre_sys k.game z) →
         k.set (last_region given.now.none layers.items) ≡ layer_of k.game z j n → IfErr result (TellsHalt k (G.kept g.new) z) }
-    ensures same { IsSameGame (G.kept g.old) (G.kept g.new) }
+    ensures keeps { IsSameGame (G.kept g.old) (G.kept g.new) }
 {
     if layers.reserve(1).is_err() {
         spend_layers(g, layers);
@@ -77,7 +76,7 @@ pub fn goal_layers<G: Regions>(
         IfOk result (λ layers. HasClimbed k.game k (G.kept g.new) z j layers.items) }
     ensures halted { OnErr result (HoldsBesides (G.kept g.old) (G.kept g.new) []) }
     ensures told { let k = G.kept g.old in (z : StateSet) (j : _) → IsGoal k.game j → k.set reach.now ≡ both (goal_set k.game j) (pre_sys k.game z) → IfErr result (TellsHalt k (G.kept g.new) z) }
-    ensures same { IsSameGame (G.kept g.old) (G.kept g.new) }
+    ensures keeps { IsSameGame (G.kept g.old) (G.kept g.new) }
 {
     let mut layers = Vec::new(alloc);
     loop {

@@ -2,7 +2,7 @@
 
 ghost use Rattle.std.specs.Prelude.{◌≡◌, ◌<◌, ◌∷◌, [], None, IfOk, IfErr, OnErr, length, get_or};
 ghost use Rattle.spec_model.specs.Sets.{StateSet, no_states};
-ghost use Rattle.regions.specs.Kept.{HasRegion, HoldsBesides, MakesRegion, IsSameGame};
+ghost use Rattle.regions.specs.Kept.{HoldsBesides, MakesRegion, IsSameGame};
 ghost use Rattle.gr1_sys.specs.Moment.{TellsHalt};
 ghost use Rattle.gr1_sys.specs.Held.{HasTogether, MakesRegions, SpendsAll};
 ghost use Rattle.gr1_sys.specs.Givens.{wanted, given_regions, given_sets};
@@ -45,7 +45,7 @@ fn goal_region<G: Regions>(g: &mut G, j: usize) -> Result<G::R, Halt>
     ensures made { let k = G.kept g.old in IfOk result (λ r. MakesRegion k (G.kept g.new) r (get_or (wanted k.game Wanted.Goals) j no_states)) }
     ensures halted { OnErr result (HoldsBesides (G.kept g.old) (G.kept g.new) []) }
     ensures told { (z : StateSet) → IfErr result (TellsHalt (G.kept g.old) (G.kept g.new) z) }
-    ensures same { IsSameGame (G.kept g.old) (G.kept g.new) }
+    ensures keeps { IsSameGame (G.kept g.old) (G.kept g.new) }
 {
     if g.game().goals.is_empty() {
         g.all()
@@ -61,7 +61,7 @@ fn lapse_region<G: Regions>(g: &mut G, i: usize) -> Result<G::R, Halt>
     ensures made { let k = G.kept g.old in IfOk result (λ r. MakesRegion k (G.kept g.new) r (get_or (wanted k.game Wanted.Lapses) i no_states)) }
     ensures halted { OnErr result (HoldsBesides (G.kept g.old) (G.kept g.new) []) }
     ensures told { (z : StateSet) → IfErr result (TellsHalt (G.kept g.old) (G.kept g.new) z) }
-    ensures same { IsSameGame (G.kept g.old) (G.kept g.new) }
+    ensures keeps { IsSameGame (G.kept g.old) (G.kept g.new) }
 {
     if g.game().assume.is_empty() {
         return g.none();
@@ -86,7 +86,7 @@ fn region_of<G: Regions>(g: &mut G, kind: Wanted, i: usize) -> Result<G::R, Halt
     ensures made { let k = G.kept g.old in IfOk result (λ r. MakesRegion k (G.kept g.new) r (get_or (wanted k.game kind) i no_states)) }
     ensures halted { OnErr result (HoldsBesides (G.kept g.old) (G.kept g.new) []) }
     ensures told { (z : StateSet) → IfErr result (TellsHalt (G.kept g.old) (G.kept g.new) z) }
-    ensures same { IsSameGame (G.kept g.old) (G.kept g.new) }
+    ensures keeps { IsSameGame (G.kept g.old) (G.kept g.new) }
 {
     match kind {
         Wanted::Goals => goal_region(g, i),
@@ -100,7 +100,7 @@ fn regions_of<G: Regions>(alloc: Global, g: &mut G, kind: Wanted) -> Result<Vec<
     ensures made { let k = G.kept g.old in IfOk result (λ rs. MakesRegions k (G.kept g.new) rs.items (wanted k.game kind)) }
     ensures halted { OnErr result (HoldsBesides (G.kept g.old) (G.kept g.new) []) }
     ensures told { (z : StateSet) → IfErr result (TellsHalt (G.kept g.old) (G.kept g.new) z) }
-    ensures same { IsSameGame (G.kept g.old) (G.kept g.new) }
+    ensures keeps { IsSameGame (G.kept g.old) (G.kept g.new) }
 {
     let n = count(g, kind);
     let Ok(mut rs) = Vec::with_capacity(alloc, n) else {
@@ -125,7 +125,7 @@ pub fn give<G: Regions>(alloc: Global, g: &mut G) -> Result<Given<G>, Halt>
     ensures counted { let k = G.kept g.old in IfOk result (λ given. length given.goals.items ≡ length (wanted k.game Wanted.Goals)) }
     ensures halted { OnErr result (HoldsBesides (G.kept g.old) (G.kept g.new) []) }
     ensures told { (z : StateSet) → IfErr result (TellsHalt (G.kept g.old) (G.kept g.new) z) }
-    ensures same { IsSameGame (G.kept g.old) (G.kept g.new) }
+    ensures keeps { IsSameGame (G.kept g.old) (G.kept g.new) }
 {
     let goals = regions_of(alloc, g, Wanted::Goals)?;
     match with_goals(alloc, g) {
@@ -147,7 +147,7 @@ fn with_goals<G: Regions>(alloc: Global, g: &mut G) -> Result<(G::R, Vec<G::R>),
     ensures made { let k = G.kept g.old in IfOk result (λ r. MakesRegions k (G.kept g.new) (r.0 ∷ r.1.items) (no_states ∷ wanted k.game Wanted.Lapses)) }
     ensures halted { OnErr result (HoldsBesides (G.kept g.old) (G.kept g.new) []) }
     ensures told { (z : StateSet) → IfErr result (TellsHalt (G.kept g.old) (G.kept g.new) z) }
-    ensures same { IsSameGame (G.kept g.old) (G.kept g.new) }
+    ensures keeps { IsSameGame (G.kept g.old) (G.kept g.new) }
 {
     let lapses = regions_of(alloc, g, Wanted::Lapses)?;
     match g.none() {
@@ -163,7 +163,7 @@ fn with_goals<G: Regions>(alloc: Global, g: &mut G) -> Result<(G::R, Vec<G::R>),
 pub fn spend_given<G: Regions>(g: &mut G, given: Given<G>)
     requires { HasTogether (G.kept g.old) (given_regions given) }
     ensures spends { SpendsAll (G.kept g.old) (G.kept g.new) (given_regions given) }
-    ensures same { IsSameGame (G.kept g.old) (G.kept g.new) }
+    ensures keeps { IsSameGame (G.kept g.old) (G.kept g.new) }
 {
     let Given {
         none,

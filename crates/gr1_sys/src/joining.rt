@@ -13,7 +13,7 @@ pub fn all_states<G: Regions>(g: &mut G) -> Result<G::R, Halt>
     ensures made { let k = G.kept g.old in IfOk result (λ r. MakesRegion k (G.kept g.new) r (all_states_lem k.game)) }
     ensures halted { OnErr result (HoldsBesides (G.kept g.old) (G.kept g.new) []) }
     ensures told { (z : StateSet) → IfErr result (TellsHalt (G.kept g.old) (G.kept g.new) z) }
-    ensures same { IsSameGame (G.kept g.old) (G.kept g.new) }
+    ensures keeps { IsSameGame (G.kept g.old) (G.kept g.new) }
 {
     g.all()
 }
@@ -27,7 +27,7 @@ pub fn or_in<G: Regions>(g: &mut G, a: G::R, b: &G::R) -> Result<G::R, Halt>
         IfOk result (λ r. Replaces k (G.kept g.new) (Region a) (States (k.set a)) (Region r) (States (either (k.set a) (k.set b.now)))) }
     ensures halted { let k = G.kept g.old in OnErr result (HoldsWithout k (G.kept g.new) (Region a) (States (k.set a))) }
     ensures told { let k = G.kept g.old in IfErr result (λ halt. (G.kept g.new).jam ≡ jam_after k Or (States (k.set a) ∷ States (k.set b.now) ∷ []) halt) }
-    ensures same { IsSameGame (G.kept g.old) (G.kept g.new) }
+    ensures keeps { IsSameGame (G.kept g.old) (G.kept g.new) }
 {
     match g.or(&a, b) {
         Ok(joined) => {
@@ -50,7 +50,7 @@ pub fn and_in<G: Regions>(g: &mut G, a: G::R, b: &G::R) -> Result<G::R, Halt>
         IfOk result (λ r. Replaces k (G.kept g.new) (Region a) (States (k.set a)) (Region r) (States (both (k.set a) (k.set b.now)))) }
     ensures halted { let k = G.kept g.old in OnErr result (HoldsWithout k (G.kept g.new) (Region a) (States (k.set a))) }
     ensures told { let k = G.kept g.old in IfErr result (λ halt. (G.kept g.new).jam ≡ jam_after k And (States (k.set a) ∷ States (k.set b.now) ∷ []) halt) }
-    ensures same { IsSameGame (G.kept g.old) (G.kept g.new) }
+    ensures keeps { IsSameGame (G.kept g.old) (G.kept g.new) }
 {
     match g.and(&a, b) {
         Ok(common) => {

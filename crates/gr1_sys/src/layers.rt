@@ -37,7 +37,7 @@ impl<G: Regions> SysLayers<G> {
     pub fn spend_all(self, g: &mut G)
         requires { HasTogether (G.kept g.old) (self.z ∷ all_regions self.goals.items) }
         ensures spends { SpendsAll (G.kept g.old) (G.kept g.new) (self.z ∷ all_regions self.goals.items) }
-        ensures same { IsSameGame (G.kept g.old) (G.kept g.new) }
+        ensures keeps { IsSameGame (G.kept g.old) (G.kept g.new) }
     {
         let SysLayers { z, goals } = self;
         g.spend(z);

@@ -1,13 +1,11 @@
 //! The parts of a layer: where the play can wait while an assumption is false.
 
-ghost use Rattle.std.specs.Prelude.{◌≡◌, ◌↔◌, ℕ, [], None, Some, IfOk, IfErr, OnErr, IsTrue, length, map};
-ghost use Rattle.spec_model.specs.Steps.{below};
-ghost use Rattle.spec_model.specs.Sets.{StateSet, either, both, pre_sys};
+ghost use Rattle.std.specs.Prelude.{◌≡◌, ◌↔◌, ℕ, [], None, IfOk, IfErr, OnErr, IsTrue};
+ghost use Rattle.spec_model.specs.Sets.{StateSet};
 ghost use Rattle.regions.specs.Kept.{Region, States, HasRegion, HoldsBesides, HoldsWithout, MakesRegion, IsSameGame, Replaces};
-ghost use Rattle.gr1_law.specs.Layers.{union};
 ghost use Rattle.gr1_sys.specs.Solution.{greatest_of};
 ghost use Rattle.gr1_sys.specs.Moment.{part_iterate, AreOfPart, TellsHalt};
-ghost use Rattle.gr1_sys.specs.Held.{waiting, HasEach, HasTogether, HoldsWithoutAll, SpendsAll, MakesRegions, set_at};
+ghost use Rattle.gr1_sys.specs.Held.{waiting};
 
 use crate::joining::{all_states, and_in, or_in};
 use regions::{Halt, Regions};
@@ -23,7 +21,7 @@ fn part_step<G: Regions>(g: &mut G, base: &G::R, lapse: &G::R, x: &G::R) -> Resu
     ensures halted { OnErr result (HoldsBesides (G.kept g.old) (G.kept g.new) []) }
     ensures told { let k = G.kept g.old in (z : StateSet) (j r i n : ℕ) → AreOfPart k.game z j r i (k.set base.now) (k.set lapse.now) →
         k.set x.now ≡ part_iterate k.game z j r i n → IfErr result (TellsHalt k (G.kept g.new) z) }
-    ensures same { IsSameGame (G.kept g.old) (G.kept g.new) }
+    ensures keeps { IsSameGame (G.kept g.old) (G.kept g.new) }
 {
     let forced = g.pre_sys(x)?;
     let waits = and_in(g, forced, lapse)?;
@@ -48,7 +46,7 @@ fn next_part<G: Regions>(
     ensures halted { let k = G.kept g.old in OnErr result (HoldsWithout k (G.kept g.new) (Region x) (States (k.set x))) }
     ensures told { let k = G.kept g.old in (z : StateSet) (j r i n : ℕ) → AreOfPart k.game z j r i (k.set base.now) (k.set lapse.now) →
         k.set x ≡ part_iterate k.game z j r i n → IfErr result (TellsHalt k (G.kept g.new) z) }
-    ensures same { IsSameGame (G.kept g.old) (G.kept g.new) }
+    ensures keeps { IsSameGame (G.kept g.old) (G.kept g.new) }
 {
     match part_step(g, base, lapse, &x) {
         Ok(next) => {
@@ -72,7 +70,7 @@ pub fn greatest_part<G: Regions>(g: &mut G, base: &G::R, lapse: &G::R) -> Result
         IfOk result (λ x. MakesRegion k (G.kept g.new) x (greatest_of k.game (waiting k.game (k.set base.now) (k.set lapse.now)))) }
     ensures halted { OnErr result (HoldsBesides (G.kept g.old) (G.kept g.new) []) }
     ensures told { let k = G.kept g.old in (z : StateSet) (j r i : ℕ) → AreOfPart k.game z j r i (k.set base.now) (k.set lapse.now) → IfErr result (TellsHalt k (G.kept g.new) z) }
-    ensures same { IsSameGame (G.kept g.old) (G.kept g.new) }
+    ensures keeps { IsSameGame (G.kept g.old) (G.kept g.new) }
 {
     let mut x = all_states(g)?;
     loop {

@@ -1,14 +1,14 @@
 //! The layers of one goal, rank by rank.
 
-ghost use Rattle.std.specs.Prelude.{◌≡◌, ◌↔◌, ◌+◌, ◌≤◌, ℕ, suc, List, [], None, Some, IfOk, IfErr, OnErr, IsTrue, length, map};
+ghost use Rattle.std.specs.Prelude.{◌≡◌, ◌≤◌, ℕ, List, [], None, Some, IfOk, IfErr, OnErr, length, map};
 ghost use Rattle.std.specs.Vec.{vec_len};
 ghost use Rattle.spec_model.specs.Steps.{below};
-ghost use Rattle.spec_model.specs.Sets.{StateSet, either, both, pre_sys, no_states};
-ghost use Rattle.regions.specs.Kept.{Item, Meaning, Region, States, HasRegion, HoldsBesides, MakesRegion, IsSameGame, weight};
-ghost use Rattle.gr1_law.specs.Layers.{goal_set, assumption_sets, union, IsLeastNumber};
+ghost use Rattle.spec_model.specs.Sets.{StateSet, either, both, pre_sys};
+ghost use Rattle.regions.specs.Kept.{HasRegion, HoldsBesides, MakesRegion, IsSameGame};
+ghost use Rattle.gr1_law.specs.Layers.{goal_set, assumption_sets, union};
 ghost use Rattle.gr1_sys.specs.Solution.{layer_of, part_of};
 ghost use Rattle.gr1_sys.specs.Moment.{IsGoal, base_of, AreLapses, TellsHalt};
-ghost use Rattle.gr1_sys.specs.Held.{part_at, set_at, layer_sets, rank_sets, flatten, HasEach, HasTogether, HoldsWithoutAll, MakesRegions, IsGiven, HaveParts, layer_regions, goal_regions, last_region};
+ghost use Rattle.gr1_sys.specs.Held.{part_at, set_at, layer_sets, rank_sets, HasEach, MakesRegions, IsGiven, layer_regions, last_region};
 
 use crate::givens::Given;
 use crate::joining::or_in;
@@ -32,7 +32,7 @@ fn solutions<G: Regions>(
         IfOk result (λ xs. MakesRegions k (G.kept g.new) xs.items (map (part_at k base.now lapses.now) (below (length lapses.now)))) }
     ensures halted { OnErr result (HoldsBesides (G.kept g.old) (G.kept g.new) []) }
     ensures told { let k = G.kept g.old in (z : StateSet) (j r : ℕ) → IsGoal k.game j → k.set base.now ≡ base_of k.game z j r → AreLapses k.game (map k.set lapses.now) → IfErr result (TellsHalt k (G.kept g.new) z) }
-    ensures same { IsSameGame (G.kept g.old) (G.kept g.new) }
+    ensures keeps { IsSameGame (G.kept g.old) (G.kept g.new) }
 {
     let Ok(mut xs) = Vec::with_capacity(alloc, lapses.len()) else {
         return Err(Halt::Memory);
@@ -57,7 +57,7 @@ fn union_of<G: Regions>(g: &mut G, xs: &[G::R]) -> Result<G::R, Halt>
         IfOk result (λ r. MakesRegion k (G.kept g.new) r (union (set_at k xs.now) (length xs.now))) }
     ensures halted { OnErr result (HoldsBesides (G.kept g.old) (G.kept g.new) []) }
     ensures told { let k = G.kept g.old in (z : StateSet) (j r n : ℕ) → IsGoal k.game j → length xs.now ≤ length (assumption_sets k.game) → map k.set xs.now ≡ map (part_of k.game z (layer_of k.game z j r) j) (below n) → IfErr result (TellsHalt k (G.kept g.new) z) }
-    ensures same { IsSameGame (G.kept g.old) (G.kept g.new) }
+    ensures keeps { IsSameGame (G.kept g.old) (G.kept g.new) }
 {
     let mut joined = g.none()?;
     for x in xs {
@@ -81,7 +81,7 @@ fn layer_on<G: Regions>(
     ensures parts { IfOk result (λ l. vec_len l.x ≡ length lapses.now) }
     ensures halted { OnErr result (HoldsBesides (G.kept g.old) (G.kept g.new) []) }
     ensures told { let k = G.kept g.old in (z : StateSet) (j r : ℕ) → IsGoal k.game j → k.set base.now ≡ base_of k.game z j r → AreLapses k.game (map k.set lapses.now) → IfErr result (TellsHalt k (G.kept g.new) z) }
-    ensures same { IsSameGame (G.kept g.old) (G.kept g.new) }
+    ensures keeps { IsSameGame (G.kept g.old) (G.kept g.new) }
 {
     let x = solutions(alloc, g, base, lapses)?;
     match union_of(g, &x) {
@@ -102,7 +102,7 @@ fn base_above<G: Regions>(g: &mut G, reach: &G::R, below: &G::R) -> Result<G::R,
         IfOk result (λ r. MakesRegion k (G.kept g.new) r (either (pre_sys k.game (k.set below.now)) (k.set reach.now))) }
     ensures halted { OnErr result (HoldsBesides (G.kept g.old) (G.kept g.new) []) }
     ensures told { let k = G.kept g.old in (z : StateSet) (j r : ℕ) → IsGoal k.game j → k.set reach.now ≡ both (goal_set k.game j) (pre_sys k.game z) → k.set below.now ≡ layer_of k.game z j r → IfErr result (TellsHalt k (G.kept g.new) z) }
-    ensures same { IsSameGame (G.kept g.old) (G.kept g.new) }
+    ensures keeps { IsSameGame (G.kept g.old) (G.kept g.new) }
 {
     let forced = g.pre_sys(below)?;
     or_in(g, forced, reach)
@@ -126,7 +126,7 @@ pub fn layer_above<G: Regions>(
     ensures parts { IfOk result (λ l. vec_len l.x ≡ length (assumption_sets (G.kept g.old).game)) }
     ensures halted { OnErr result (HoldsBesides (G.kept g.old) (G.kept g.new) []) }
     ensures told { let k = G.kept g.old in (z : StateSet) (j r : ℕ) → IsGoal k.game j → k.set reach.now ≡ both (goal_set k.game j) (pre_sys k.game z) → k.set below.now ≡ layer_of k.game z j r → IfErr result (TellsHalt k (G.kept g.new) z) }
-    ensures same { IsSameGame (G.kept g.old) (G.kept g.new) }
+    ensures keeps { IsSameGame (G.kept g.old) (G.kept g.new) }
 {
     let base = base_above(g, reach, below)?;
     match layer_on(alloc, g, &base, &given.lapses) {

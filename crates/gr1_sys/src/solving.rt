@@ -1,11 +1,9 @@
 //! The system's winning states, with their layers.
 
 ghost use Rattle.std.specs.Prelude.{◌≡◌, ◌↔◌, ◌+◌, ◌≤◌, [], ◌∷◌, None, Some, IfOk, IfErr, OnErr, IsTrue, MatchOption, sum};
-ghost use Rattle.spec_model.specs.Sets.{StateSet, system_forces, IsGreatest};
 ghost use Rattle.regions.specs.Kept.{Region, States, HasRegion, HoldsBesides, HoldsWithout, IsSameGame, Stays};
-ghost use Rattle.gr1_sys.specs.Solution.{following};
 ghost use Rattle.gr1_sys.specs.Moment.{IsValueOfZ, TellsHalt, TellsOneMoment};
-ghost use Rattle.gr1_sys.specs.Held.{HasTogether, HoldsWithoutAll, MakesRegions, IsGiven, ranks_of, all_regions};
+ghost use Rattle.gr1_sys.specs.Held.{HasTogether, HoldsWithoutAll, IsGiven, ranks_of, all_regions};
 ghost use Rattle.gr1_sys.specs.Solved.{Steps, HasWon, IsForced, IsDropped, IsLost, WonBySystem};
 
 use crate::givens::{Given, give, spend_given};
@@ -40,7 +38,7 @@ fn one_round<G: Regions>(
     ensures steps { let k = G.kept g.old in IfOk result (λ s. Steps k (G.kept g.new) z (k.set z) s) }
     ensures halted { let k = G.kept g.old in OnErr result (HoldsWithout k (G.kept g.new) (Region z) (States (k.set z))) }
     ensures told { let k = G.kept g.old in IfErr result (TellsHalt k (G.kept g.new) (k.set z)) }
-    ensures same { IsSameGame (G.kept g.old) (G.kept g.new) }
+    ensures keeps { IsSameGame (G.kept g.old) (G.kept g.new) }
 {
     match turn(alloc, g, &z, given) {
         Ok((goals, next)) => {
@@ -72,7 +70,7 @@ fn winning<G: Regions>(
     ensures value { IfOk result (λ r. IsValueOfZ (G.kept g.old).game ((G.kept g.new).set r.0)) }
     ensures halted { OnErr result (HoldsBesides (G.kept g.old) (G.kept g.new) []) }
     ensures told { IfErr result (TellsOneMoment (G.kept g.old) (G.kept g.new)) }
-    ensures same { IsSameGame (G.kept g.old) (G.kept g.new) }
+    ensures keeps { IsSameGame (G.kept g.old) (G.kept g.new) }
 {
     let mut z = all_states(g)?;
     loop {
@@ -105,10 +103,10 @@ fn counted<G: Regions>(
 ) -> Result<SysLayers<G>, Halt>
     requires held { HasTogether (G.kept g.old) (z ∷ all_regions goals.items) }
     ensures layers { IfOk result (λ l. (l.z ≡ z) × (l.goals.items ≡ goals.items)) }
-    ensures stays { IfOk result (λ _. Stays (G.kept g.old) (G.kept g.new)) }
+    ensures held { IfOk result (λ _. Stays (G.kept g.old) (G.kept g.new)) }
     ensures halted { OnErr result (HoldsWithoutAll (G.kept g.old) (G.kept g.new) (z ∷ all_regions goals.items)) }
     ensures told { IfErr result (λ halt. (halt ≡ Halt.Memory) × ((G.kept g.new).jam ≡ (G.kept g.old).jam)) }
-    ensures same { IsSameGame (G.kept g.old) (G.kept g.new) }
+    ensures keeps { IsSameGame (G.kept g.old) (G.kept g.new) }
 {
     if fits(&goals) {
         Ok(SysLayers { z, goals })
@@ -130,7 +128,7 @@ fn decide<G: Regions>(
     ensures decided { let k = G.kept g.old in IfOk result (λ o. MatchOption o (IsDropped k (G.kept g.new) z (all_regions goals.items)) (λ l. (l.z ≡ z) × ((l.goals.items ≡ goals.items) × IsForced k (G.kept g.new) z))) }
     ensures halted { OnErr result (HoldsWithoutAll (G.kept g.old) (G.kept g.new) (z ∷ all_regions goals.items)) }
     ensures told { let k = G.kept g.old in IfErr result (TellsHalt k (G.kept g.new) (k.set z)) }
-    ensures same { IsSameGame (G.kept g.old) (G.kept g.new) }
+    ensures keeps { IsSameGame (G.kept g.old) (G.kept g.new) }
 {
     match g.start_sys(&z) {
         Ok(true) => match counted(g, z, goals) {
@@ -160,7 +158,7 @@ pub fn solve_sys<G: Regions>(alloc: Global, g: &mut G) -> Result<Option<SysLayer
     ensures solved { let k = G.kept g.old in IfOk result (λ o. MatchOption o (IsLost k (G.kept g.new)) (λ l. (sets : _) × WonBySystem k (G.kept g.new) l.z l.goals.items sets)) }
     ensures halted { OnErr result (HoldsBesides (G.kept g.old) (G.kept g.new) []) }
     ensures told { IfErr result (TellsOneMoment (G.kept g.old) (G.kept g.new)) }
-    ensures same { IsSameGame (G.kept g.old) (G.kept g.new) }
+    ensures keeps { IsSameGame (G.kept g.old) (G.kept g.new) }
 {
     let given = give(alloc, g)?;
     match winning(alloc, g, &given) {

@@ -1,6 +1,5 @@
 //! Regions given back, many at once.
 
-ghost use Rattle.std.specs.Prelude.{◌≡◌};
 ghost use Rattle.regions.specs.Kept.{IsSameGame};
 ghost use Rattle.gr1_sys.specs.Held.{HasTogether, SpendsAll, layer_regions, goal_regions, all_regions};
 
@@ -11,7 +10,7 @@ use regions::Regions;
 pub fn spend_all<G: Regions>(g: &mut G, mut rs: Vec<G::R>)
     requires { HasTogether (G.kept g.old) rs.items }
     ensures spends { SpendsAll (G.kept g.old) (G.kept g.new) rs.items }
-    ensures same { IsSameGame (G.kept g.old) (G.kept g.new) }
+    ensures keeps { IsSameGame (G.kept g.old) (G.kept g.new) }
 {
     while let Some(r) = rs.pop() {
         g.spend(r);
@@ -23,7 +22,7 @@ pub fn spend_all<G: Regions>(g: &mut G, mut rs: Vec<G::R>)
 pub fn spend_layer<G: Regions>(g: &mut G, l: SysLayer<G>)
     requires { HasTogether (G.kept g.old) (layer_regions l) }
     ensures spends { SpendsAll (G.kept g.old) (G.kept g.new) (layer_regions l) }
-    ensures same { IsSameGame (G.kept g.old) (G.kept g.new) }
+    ensures keeps { IsSameGame (G.kept g.old) (G.kept g.new) }
 {
     let SysLayer { y, x } = l;
     g.spend(y);
@@ -34,7 +33,7 @@ pub fn spend_layer<G: Regions>(g: &mut G, l: SysLayer<G>)
 pub fn spend_layers<G: Regions>(g: &mut G, mut ls: Vec<SysLayer<G>>)
     requires { HasTogether (G.kept g.old) (goal_regions ls.items) }
     ensures spends { SpendsAll (G.kept g.old) (G.kept g.new) (goal_regions ls.items) }
-    ensures same { IsSameGame (G.kept g.old) (G.kept g.new) }
+    ensures keeps { IsSameGame (G.kept g.old) (G.kept g.new) }
 {
     while let Some(l) = ls.pop() {
         spend_layer(g, l);
@@ -46,7 +45,7 @@ pub fn spend_layers<G: Regions>(g: &mut G, mut ls: Vec<SysLayer<G>>)
 pub fn spend_goals<G: Regions>(g: &mut G, mut goals: Vec<Vec<SysLayer<G>>>)
     requires { HasTogether (G.kept g.old) (all_regions goals.items) }
     ensures spends { SpendsAll (G.kept g.old) (G.kept g.new) (all_regions goals.items) }
-    ensures same { IsSameGame (G.kept g.old) (G.kept g.new) }
+    ensures keeps { IsSameGame (G.kept g.old) (G.kept g.new) }
 {
     while let Some(ls) = goals.pop() {
         spend_layers(g, ls);

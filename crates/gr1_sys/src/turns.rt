@@ -1,13 +1,13 @@
 //! The layers of each goal for one value of Z, and the value that follows.
 
-ghost use Rattle.std.specs.Prelude.{◌≡◌, ◌<◌, ◌≤◌, ℕ, [], ◌∷◌, None, IfOk, IfErr, OnErr, length};
+ghost use Rattle.std.specs.Prelude.{◌≡◌, ◌<◌, ◌≤◌, ℕ, [], None, IfOk, IfErr, OnErr, length};
 ghost use Rattle.spec_model.specs.Steps.{states_of};
 ghost use Rattle.spec_model.specs.Sets.{StateSet, pre_sys};
 ghost use Rattle.regions.specs.Kept.{HasRegion, HoldsBesides, MakesRegion, IsSameGame};
 ghost use Rattle.gr1_law.specs.Layers.{goal_set, goal_sets};
-ghost use Rattle.gr1_sys.specs.Solution.{layer_of, meet, following};
+ghost use Rattle.gr1_sys.specs.Solution.{layer_of, meet};
 ghost use Rattle.gr1_sys.specs.Moment.{IsGoal, TellsHalt};
-ghost use Rattle.gr1_sys.specs.Held.{HasEach, MakesRegions, IsGiven, HasClimbed, HaveClimbed, all_regions, last_set, TurnsTo};
+ghost use Rattle.gr1_sys.specs.Held.{HasEach, IsGiven, HasClimbed, HaveClimbed, all_regions, last_set, TurnsTo};
 
 use crate::climbing::goal_layers;
 use crate::givens::Given;
@@ -36,7 +36,7 @@ fn layers_of<G: Regions>(
         IfOk result (λ layers. HasClimbed k.game k (G.kept g.new) z j layers.items) }
     ensures halted { OnErr result (HoldsBesides (G.kept g.old) (G.kept g.new) []) }
     ensures told { let k = G.kept g.old in (z : StateSet) (j : ℕ) → IsGoal k.game j → k.set goal.now ≡ goal_set k.game j → k.set ready.now ≡ pre_sys k.game z → IfErr result (TellsHalt k (G.kept g.new) z) }
-    ensures same { IsSameGame (G.kept g.old) (G.kept g.new) }
+    ensures keeps { IsSameGame (G.kept g.old) (G.kept g.new) }
 {
     let reach = g.and(goal, ready)?;
     match goal_layers(alloc, g, &reach, given) {
@@ -66,7 +66,7 @@ fn all_layers<G: Regions>(
         IfOk result (λ goals. HaveClimbed k.game k (G.kept g.new) z goals.items × (length goals.items ≡ length given.now.goals.items)) }
     ensures halted { OnErr result (HoldsBesides (G.kept g.old) (G.kept g.new) []) }
     ensures told { let k = G.kept g.old in (z : StateSet) → k.set ready.now ≡ pre_sys k.game z → IfErr result (TellsHalt k (G.kept g.new) z) }
-    ensures same { IsSameGame (G.kept g.old) (G.kept g.new) }
+    ensures keeps { IsSameGame (G.kept g.old) (G.kept g.new) }
 {
     let Ok(mut goals) = Vec::with_capacity(alloc, given.goals.len()) else {
         return Err(Halt::Memory);
@@ -97,7 +97,7 @@ fn layers_for<G: Regions>(
         IfOk result (λ goals. HaveClimbed k.game k (G.kept g.new) (k.set z.now) goals.items × (length goals.items ≡ length given.now.goals.items)) }
     ensures halted { OnErr result (HoldsBesides (G.kept g.old) (G.kept g.new) []) }
     ensures told { let k = G.kept g.old in IfErr result (TellsHalt k (G.kept g.new) (k.set z.now)) }
-    ensures same { IsSameGame (G.kept g.old) (G.kept g.new) }
+    ensures keeps { IsSameGame (G.kept g.old) (G.kept g.new) }
 {
     let ready = g.pre_sys(z)?;
     match all_layers(alloc, g, &ready, given) {
@@ -121,7 +121,7 @@ fn common<G: Regions>(g: &mut G, none: &G::R, goals: &[Vec<SysLayer<G>>]) -> Res
         IfOk result (λ r. MakesRegion k (G.kept g.new) r (meet k.game (last_set k none.now goals.now) (length goals.now))) }
     ensures halted { OnErr result (HoldsBesides (G.kept g.old) (G.kept g.new) []) }
     ensures told { let k = G.kept g.old in (z : StateSet) → length goals.now ≤ length (goal_sets k.game) → ((j : ℕ) → j < length goals.now → last_set k none.now goals.now j ≡ layer_of k.game z j (length (states_of k.game))) → IfErr result (TellsHalt k (G.kept g.new) z) }
-    ensures same { IsSameGame (G.kept g.old) (G.kept g.new) }
+    ensures keeps { IsSameGame (G.kept g.old) (G.kept g.new) }
 {
     let mut met = g.all()?;
     for layers in goals {
@@ -143,7 +143,7 @@ pub fn turn<G: Regions>(
     ensures turned { let k = G.kept g.old in IfOk result (λ r. TurnsTo k (G.kept g.new) (k.set z.now) r.0.items r.1) }
     ensures halted { OnErr result (HoldsBesides (G.kept g.old) (G.kept g.new) []) }
     ensures told { let k = G.kept g.old in IfErr result (TellsHalt k (G.kept g.new) (k.set z.now)) }
-    ensures same { IsSameGame (G.kept g.old) (G.kept g.new) }
+    ensures keeps { IsSameGame (G.kept g.old) (G.kept g.new) }
 {
     let goals = layers_for(alloc, g, z, given)?;
     match common(g, &given.none, &goals) {

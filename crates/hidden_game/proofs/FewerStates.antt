@@ -53,7 +53,7 @@ module _ (s : Specification) (kept : List ℕ) where
   abbrev part : Specification
   part = with_guarantees s kept
 
-  fewer_operators : length (past_operators part) ≤ length (past_operators s)
+  pub fewer_operators : length (past_operators part) ≤ length (past_operators s)
   fewer_operators =
       let stayed : List Statement = filter (stays kept) s.lines in
       let same = ap (λ fs. length (distinct fs)) (same_trees s stayed stayed) in

@@ -47,7 +47,7 @@ moves_counted (v ∷ vs) = by_owner (is_env v.owner) (domains_of is_env vs) (dom
         let moved : length (assignments_of ds) * (domain_size v.domain * length (assignments_of es)) ≡ domain_size v.domain * (length (assignments_of ds) * length (assignments_of es)) = grind arith in
         ap (λ k. length (assignments_of ds) * k) (length-assignments v.domain es) ∙ (moved ∙ ap (λ k. domain_size v.domain * k) rest)
 
-assignments_counted : (ds : List DomainData) → length (assignments_of ds) ≡ product (map domain_size ds)
+pub assignments_counted : (ds : List DomainData) → length (assignments_of ds) ≡ product (map domain_size ds)
 assignments_counted [] = refl
 assignments_counted (d ∷ ds) = length-assignments d ds ∙ ap (λ n. domain_size d * n) (assignments_counted ds)
 

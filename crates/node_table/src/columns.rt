@@ -35,7 +35,7 @@ pub fn settle(
     requires marks { vec_len marked.old ≡ vec_len nodes.old }
     requires free { slice_index_or live.old.items n false ≡ false }
     ensures settled { OnOk result (Settles nodes.old.items nodes.new.items live.old.items live.new.items marked.old.items marked.new.items n node) }
-    ensures refused { OnErr result ((nodes.new.items ≡ nodes.old.items) × (live.new.items ≡ live.old.items) × (marked.new.items ≡ marked.old.items)) }
+    ensures unchanged { OnErr result ((nodes.new.items ≡ nodes.old.items) × (live.new.items ≡ live.old.items) × (marked.new.items ≡ marked.old.items)) }
 {
     if n < nodes.len() {
         nodes[n] = node;

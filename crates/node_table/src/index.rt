@@ -1,7 +1,7 @@
 //! The unique table's index: slots in which the search for a node goes from one to the next until it meets it.
 
-ghost use Rattle.std.specs.Prelude.{◌≡◌, ◌<◌, ◌≤◌, length, slice_index, ℕ};
-ghost use Rattle.node_table.specs.Index.{start_of, used, node_of, EndsAt};
+ghost use Rattle.std.specs.Prelude.{◌≡◌, ◌<◌, length, slice_index, ℕ};
+ghost use Rattle.node_table.specs.Index.{start_of, used, EndsAt};
 
 use crate::node::Node;
 

@@ -1,5 +1,5 @@
-ghost use Rattle.std.specs.Prelude.{◌≡◌, ◌≢◌, ◌<◌, ◌≤◌, ◌↔◌, ◌⊎◌, ℕ, true, length, slice_set, Ok, Err, IfOk, OnOk, OnErr, IsOkAnd};
-ghost use Rattle.node_table.specs.Table.{IsLive, IsMarked, IsNodeAt, HasNode, IsFit, IsSound, IsNew, SameBounds, AddsNode, KeepsLive, MarksNode, Sweeps, count_of, parts_of, level_at, low_at, high_at, is_live, is_marked, diagram_at};
+ghost use Rattle.std.specs.Prelude.{◌≡◌, ◌<◌, ◌≤◌, ◌↔◌, ◌⊎◌, ℕ, true, slice_set, Ok, Err, IfOk, OnErr, IsOkAnd};
+ghost use Rattle.node_table.specs.Table.{IsLive, IsMarked, IsNodeAt, HasNode, IsFit, IsSound, IsNew, SameBounds, AddsNode, KeepsLive, MarksNode, Sweeps, count_of, parts_of, low_at, high_at, is_marked, diagram_at};
 ghost use Rattle.spec_model.specs.Diagrams.{branch};
 
 use crate::OutOfMemory;
@@ -76,7 +76,7 @@ impl Nodes {
         ensures added { IfOk result (λ n. (self.new ≡ self.old) ⊎ AddsNode self.old self.new n) }
 
         ensures full { (result ≡ Err NodeFault.Full) ↔ ((¬ HasNode self.old (record { level = level; low = low; high = high })) × (count_of self.old ≡ self.old.budget)) }
-        ensures refused { OnErr result (self.new ≡ self.old) }
+        ensures unchanged { OnErr result (self.new ≡ self.old) }
         ensures bounds { SameBounds self.old self.new }
         ensures marks { (k : ℕ) → is_marked self.new k ≡ is_marked self.old k }
         ensures keeps { KeepsLive self.old self.new }

@@ -61,7 +61,7 @@ pub fn room_for(
     ensures room { OnOk result (count + 1 ≤ vec_len slots.new) }
     ensures index { IsIndexOf slots.new.items nodes.now live.now }
     ensures used { used slots.new.items + 2 ≡ count }
-    ensures refused { OnErr result (slots.new.items ≡ slots.old.items) }
+    ensures unchanged { OnErr result (slots.new.items ≡ slots.old.items) }
 {
     if count as usize + 1 <= slots.len() / 2 {
         return Ok(at);

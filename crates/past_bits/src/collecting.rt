@@ -1,6 +1,6 @@
 //! Which past operators a specification has.
 
-ghost use Rattle.std.specs.Prelude.{◌≡◌, [], map, flat_map, IfOk, OnOk};
+ghost use Rattle.std.specs.Prelude.{◌≡◌, map, flat_map, IfOk, OnOk};
 ghost use Rattle.spec_model.specs.Views.{formula, regular, content_data, spec_data};
 ghost use Rattle.spec_model.specs.Sizes.{past_trees, past_trees_of_all, atoms_of, atoms_of_all, formulas_of, past_operators};
 ghost use Rattle.spec_model.specs.Syntax.{regulars, TriggerUse};

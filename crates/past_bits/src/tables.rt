@@ -1,10 +1,8 @@
 //! The hidden tables of past operators.
 
 ghost use Rattle.std.specs.Prelude.{◌≡◌, map, IfOk};
-ghost use Rattle.spec_model.specs.Syntax.{PastOf};
 ghost use Rattle.spec_model.specs.Views.{spec_data};
 ghost use Rattle.spec_model.specs.GameViews.{hidden_data};
-ghost use Rattle.game_values.specs.Safety.{formulas_in};
 ghost use Rattle.past_bits.specs.Tables.{first_bit, number_of_bit, next_cells, entry_cells};
 ghost use Rattle.past_bits.specs.Bits.{tree_of, table_of, tables_of, bits_of, bit_data};
 

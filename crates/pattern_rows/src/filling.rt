@@ -1,6 +1,6 @@
 //! The table of a pattern, filled cell by cell.
 
-ghost use Rattle.std.specs.Prelude.{◌≡◌, ◌==◌, ◌≤◌, ◌↔◌, ◌++◌, map, flat_map, length, replicate, true, false, IfOk, OnOk, IsErrOf, IsTrue};
+ghost use Rattle.std.specs.Prelude.{◌≡◌, ◌==◌, ◌≤◌, ◌↔◌, ◌++◌, map, flat_map, length, true, false, IfOk, OnOk, IsErrOf, IsTrue};
 ghost use Rattle.std.specs.List.{list_all};
 ghost use Rattle.spec_model.specs.Syntax.{Variable};
 ghost use Rattle.spec_model.specs.Values.{is_assignment, assignments_of};
@@ -8,7 +8,7 @@ ghost use Rattle.spec_model.specs.Views.{formula, pattern_data};
 ghost use Rattle.spec_model.specs.GameViews.{hidden_data};
 ghost use Rattle.spec_model.specs.Steps.{below};
 ghost use Rattle.spec_model.specs.WellTyped.{is_determined};
-ghost use Rattle.pattern_rows.specs.Patterns.{IsPattern, IsGoal, is_goal_line, is_wide as is_wide_lem};
+ghost use Rattle.pattern_rows.specs.Patterns.{IsPattern, IsGoal, is_wide as is_wide_lem};
 ghost use Rattle.pattern_rows.specs.Rows.{letters as letters_lem, goal_holds as goal_holds_lem, next_after, are_told_after, rows_of};
 
 use crate::choices::{PAST, all_letters, assignments, count_assignments};

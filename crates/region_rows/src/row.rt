@@ -1,6 +1,6 @@
 //! A set of numbered states: a bit for each number, in words.
 
-ghost use Rattle.std.specs.Prelude.{◌≡◌, ◌↔◌, ◌<◌, ◌≤◌, ◌*◌, ◌/◌, ℕ, not, ◌&&◌, ◌||◌, false, length, get_or, map, IfOk, IsTrue, bit_or, ◌%◌, ◌^◌, if◌then◌else◌};
+ghost use Rattle.std.specs.Prelude.{◌≡◌, ◌↔◌, ◌<◌, ◌≤◌, ◌*◌, ◌/◌, ℕ, not, ◌&&◌, ◌||◌, false, get_or, map, IfOk, IsTrue, bit_or, ◌%◌, ◌^◌, if◌then◌else◌};
 ghost use Rattle.spec_model.specs.Steps.{below};
 ghost use Rattle.region_rows.specs.Rows.{word_of, ones_of, bit_of, set_in, Shows};
 

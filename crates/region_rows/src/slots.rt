@@ -1,7 +1,7 @@
 //! What is held, each in a slot of its own; a slot that is freed is used again.
 
-ghost use Rattle.std.specs.Prelude.{◌≡◌, ◌<◌, ◌++◌, ◌∷◌, [], length, IfOk, OnErr, slice_set, slice_get, Some};
-ghost use Rattle.region_rows.specs.Slots.{HasRow, HasContent, TakesSlot, FreesSlot};
+ghost use Rattle.std.specs.Prelude.{◌≡◌, ◌<◌, length, IfOk, OnErr, slice_get, Some};
+ghost use Rattle.region_rows.specs.Slots.{HasRow, TakesSlot, FreesSlot};
 
 use crate::row::Row;
 use regions::When;

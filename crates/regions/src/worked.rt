@@ -1,6 +1,6 @@
 //! Small functions over any regions, which show how to use the contract.
 
-ghost use Rattle.std.specs.Prelude.{◌≡◌, ◌↔◌, [], ◌∷◌, None, Some, IfOk, IfErr, OnOk, OnErr, IsErrOf, IsTrue};
+ghost use Rattle.std.specs.Prelude.{◌≡◌, ◌↔◌, [], None, Some, IfOk, OnErr, IsErrOf, IsTrue};
 ghost use Rattle.spec_model.specs.Sets.{either, pre_sys, pre_env, IsGreatest};
 ghost use Rattle.regions.specs.Kept.{Region, States, HasRegion, HoldsBesides, HoldsWithout, MakesRegion, IsSameGame, JamAdds, Replaces};
 ghost use Rattle.regions.specs.Worked.{IsForced, TellsJam};
@@ -19,7 +19,7 @@ pub fn one_forces<G: Regions>(g: &mut G, a: &G::R, b: &G::R) -> Result<G::R, Hal
     ensures memory { IsErrOf result Halt.Memory → (G.kept g.new).jam ≡ None }
     ensures budget { let k = G.kept g.old in
         IsErrOf result Halt.Budget → (jam : _) × ((G.kept g.new).jam ≡ Some jam) × JamAdds k (IsForced k.game (k.set a.now) (k.set b.now)) jam }
-    ensures same { IsSameGame (G.kept g.old) (G.kept g.new) }
+    ensures keeps { IsSameGame (G.kept g.old) (G.kept g.new) }
 {
     let x = g.pre_sys(a)?;
     let y = match g.pre_env(b) {
@@ -52,7 +52,7 @@ fn forced_into<G: Regions>(g: &mut G, z: G::R) -> Result<(G::R, bool), Halt>
     ensures settled { let k = G.kept g.old in IfOk result (λ r. IsTrue r.1 ↔ k.set z ≡ pre_sys k.game (k.set z)) }
     ensures halted { let k = G.kept g.old in OnErr result (HoldsWithout k (G.kept g.new) (Region z) (States (k.set z))) }
     ensures told { IsErrOf result Halt.Budget → TellsJam (G.kept g.new) }
-    ensures same { IsSameGame (G.kept g.old) (G.kept g.new) }
+    ensures keeps { IsSameGame (G.kept g.old) (G.kept g.new) }
 {
     match g.pre_sys(&z) {
         Ok(next) => {
@@ -74,7 +74,7 @@ pub fn greatest<G: Regions>(g: &mut G) -> Result<G::R, Halt>
     ensures greatest { let new = G.kept g.new in IfOk result (λ z. IsGreatest (pre_sys new.game) (new.set z)) }
     ensures halted { OnErr result (HoldsBesides (G.kept g.old) (G.kept g.new) []) }
     ensures told { IsErrOf result Halt.Budget → TellsJam (G.kept g.new) }
-    ensures same { IsSameGame (G.kept g.old) (G.kept g.new) }
+    ensures keeps { IsSameGame (G.kept g.old) (G.kept g.new) }
 {
     let mut z = g.all()?;
     loop {

@@ -42,7 +42,7 @@ fn begin<G: Regions>(play: &mut Counterstrategy<G>, lines: &mut Lines)
     requires fresh { IsFresh play.old }
     requires room { length (shown_of lines.old) ≡ input_count (game_of G.kept play.old) }
     ensures given { InEachPlay G.kept play.old (λ e h notes b k. Gives G.kept play.new e h notes b k (shown_of lines.new)) }
-    ensures same { HoldsTheSame G.kept play.old play.new }
+    ensures play { HoldsTheSame G.kept play.old play.new }
     ensures keeps { KeepsTables lines.old lines.new }
     ensures reader { KeepsReader lines.old lines.new }
 {
@@ -58,7 +58,7 @@ fn complete<G: Regions>(play: &mut Counterstrategy<G>, lines: &mut Lines) -> Not
     requires legal { InEachPlay G.kept play.old (λ e h notes b k. IsTrue (legal_output (game_of G.kept play.old) b (given_by play.old) (read_of lines.old))) }
     requires room { length (shown_of lines.old) ≡ input_count (game_of G.kept play.old) }
     ensures answered { InEachPlay G.kept play.old (λ e h notes b k. (next : CounterMemory) × GoesOn G.kept play.old play.new e h notes b k (read_of lines.old) result next (shown_of lines.new)) }
-    ensures same { HoldsTheSame G.kept play.old play.new }
+    ensures play { HoldsTheSame G.kept play.old play.new }
     ensures keeps { KeepsTables lines.old lines.new }
     ensures reader { KeepsReader lines.old lines.new }
 {

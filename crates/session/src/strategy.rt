@@ -37,7 +37,7 @@ fn choose<G: Regions>(play: &mut Controller<G>, lines: &mut Lines)
     requires legal { InEachPlay G.kept play.old (λ z l h b m. IsTrue (legal_input (game_of G.kept play.old) b (read_of lines.old))) }
     requires room { length (shown_of lines.old) ≡ output_count (game_of G.kept play.old) }
     ensures chosen { InEachPlay G.kept play.old (λ z l h b m. (next : Memory) × GoesOn G.kept play.old play.new z l h b m (read_of lines.old) (shown_of lines.new) next) }
-    ensures same { HoldsTheSame G.kept play.old play.new }
+    ensures play { HoldsTheSame G.kept play.old play.new }
     ensures keeps { KeepsTables lines.old lines.new }
     ensures reader { KeepsReader lines.old lines.new }
 {

@@ -1,6 +1,6 @@
 //! Taking lines from an input that gives its bytes in pieces of any size.
 
-ghost use Rattle.std.specs.Prelude.{◌≡◌, ◌≢◌, ◌+◌, ◌-◌, ◌<◌, ◌≤◌, [], ℕ, Some, None, Err, length, take, drop, vec_len, slice_index, IfSome, IfNone, IfOk, IfErr, OnErr, OnOk};
+ghost use Rattle.std.specs.Prelude.{◌≡◌, ◌≢◌, ◌+◌, ◌-◌, ◌<◌, ◌≤◌, [], ℕ, Some, None, Err, length, take, drop, vec_len, slice_index, IfSome, IfNone, IfOk, OnErr};
 ghost use Rattle.std.specs.Io.KnownBytes.{Keeps, Consumes, IsAtEnd};
 ghost use Rattle.std.specs.Str.Lines.{strip_carriage_return};
 ghost use Rattle.sp_outside.specs.Causes.{Rose, HasCause};
@@ -97,7 +97,7 @@ fn read_behind<I: Source>(buffer: &mut [u8], end: usize, input: &mut I) -> Resul
 }
 
 impl Reader {
-    ghost use Rattle.session_lines.specs.Pieces.{reader_pending, reader_line, HasNoFeed, HasNoFeedBelow, Grows};
+    ghost use Rattle.session_lines.specs.Pieces.{reader_pending, reader_line, Grows};
     ghost use Rattle.session_lines.specs.Taking.{Takes};
 
     /// A reader into which nothing was taken.
@@ -152,7 +152,7 @@ impl Reader {
 
     // Moves what is there to the front, so that all other room is behind it.
     fn move_to_front(&mut self)
-        ensures same { reader_pending self.new ≡ reader_pending self.old }
+        ensures keeps { reader_pending self.new ≡ reader_pending self.old }
         ensures front { self.new.start ≡ 0 }
     {
         let start = self.start;

@@ -1,6 +1,6 @@
 //! Values and their texts.
 
-ghost use Rattle.std.specs.Prelude.{◌≡◌, [], List, ℕ, ℤ, map, string_bytes, slice_index_or, IfSome, IfNone};
+ghost use Rattle.std.specs.Prelude.{◌≡◌, [], List, ℕ, map, string_bytes, slice_index_or, IfSome, IfNone};
 ghost use Rattle.spec_model.specs.declared.value.Value.{Value};
 ghost use Rattle.spec_model.specs.Values.{TruthValues, WholeNumbers, Enumeration, is_assignment};
 ghost use Rattle.spec_model.specs.Views.{domain_data, variable_data};

@@ -1,7 +1,7 @@
 //! The words of a line, and what they give a variable.
 
-ghost use Rattle.std.specs.Prelude.{◌≡◌, ◌<◌, [], ◌∷◌, ◌++◌, List, ℕ, Some, None, length, map, is_some, option_map, filter, not, ◌==◌, MatchOption, IfSome, IfNone};
-ghost use Rattle.std.specs.List.{position, slice_split, list_any, list_all};
+ghost use Rattle.std.specs.Prelude.{◌≡◌, ◌<◌, [], ◌∷◌, ◌++◌, List, ℕ, Some, None, length, map, is_some, filter, not, ◌==◌, IfSome, IfNone};
+ghost use Rattle.std.specs.List.{position, list_all};
 ghost use Rattle.std.specs.Option.{option_copied};
 ghost use Rattle.spec_model.specs.Views.{variable_data};
 ghost use Rattle.session_lines.specs.Reading.{is_blank as blank_test, words, after_sign, after_name, texts_given, names_one};

@@ -1,7 +1,7 @@
 //! Copies of lines, patterns and triggers, which stand for the same data.
 
 ghost use Rattle.std.specs.Prelude.{◌≡◌, map, IfOk, string_bytes, option_map};
-ghost use Rattle.spec_model.specs.Views.{formula, regular, content_data, line_data, pattern_data, trigger_data, spec_data};
+ghost use Rattle.spec_model.specs.Views.{regular, content_data, line_data, pattern_data, trigger_data, spec_data};
 
 use crate::copy::{copy_domains, copy_expr, copy_exprs, copy_names, copy_vars};
 use crate::expr::Regex;

@@ -1,4 +1,5 @@
 -- The faults of what may not stand where it stands: next values and variables.
+use Rattle.spectra_trees.specs.declared.faults.TheConstants.{NEXT_HERE, NEXT_NESTED, NEXT_OF_SYSTEM, SYSTEM_IN_INITIAL, WRONG_TYPE}
 use Rattle.std.specs.Prelude.{Bool, true, false, ◌&&◌, ◌||◌, if◌then◌else◌, List, [], ◌++◌}
 use Rattle.std.specs.List.{list_any}
 use Rattle.spectra_trees.specs.declared.tree.Place.{Place}
@@ -27,19 +28,19 @@ names_system s e = list_any (λ name. is_system s (named_in s name)) (names_in e
 
 -- a `next`: its operand names a variable of the system, or it stands under another one
 abbrev pub next_faults : Ban → Setting → (under : Bool) → Place → Expression → List Finding
-next_faults ban s u at e = fault_if ban.next 10 at ++ (fault_if u 11 at ++ fault_if (ban.shifted && names_system s e) 12 at)
+next_faults ban s u at e = fault_if ban.next NEXT_HERE at ++ (fault_if u NEXT_NESTED at ++ fault_if (ban.shifted && names_system s e) NEXT_OF_SYSTEM at)
 
 -- a define or predicate by what stands in its body
 abbrev pub body_misplaced : Ban → (under : Bool) → Place → Contents → List Finding
 body_misplaced ban u at c =
-    fault_if (ban.variable && c.variable) 9 at
-    ++ (fault_if (ban.next && c.next) 10 at
-    ++ (fault_if (u && c.next) 11 at
-    ++ (fault_if (ban.shifted && (c.shifted || u && c.system)) 12 at
-    ++ fault_if (ban.system && c.system) 13 at)))
+    fault_if (ban.variable && c.variable) WRONG_TYPE at
+    ++ (fault_if (ban.next && c.next) NEXT_HERE at
+    ++ (fault_if (u && c.next) NEXT_NESTED at
+    ++ (fault_if (ban.shifted && (c.shifted || u && c.system)) NEXT_OF_SYSTEM at
+    ++ fault_if (ban.system && c.system) SYSTEM_IN_INITIAL at)))
 
 abbrev pub name_misplaced : Ban → Setting → (under : Bool) → Place → Named → List Finding
-name_misplaced ban s u at (variable k) = fault_if ban.variable 9 at ++ fault_if (ban.system && is_system_variable s.scope k) 13 at
+name_misplaced ban s u at (variable k) = fault_if ban.variable WRONG_TYPE at ++ fault_if (ban.system && is_system_variable s.scope k) SYSTEM_IN_INITIAL at
 name_misplaced ban s u at (define k) = body_misplaced ban u at (s.note k).contents
 name_misplaced ban s u at (predicate k) = body_misplaced ban u at (s.note k).contents
 name_misplaced ban s u at _ = []
@@ -51,7 +52,7 @@ shifted_contents s ms (Expressions.one_more e es) = both (if (first_mark ms).shi
 
 -- arguments whose `next` or variable of the system comes under a `next` of the called body
 abbrev pub call_misplaced : Ban → Place → Contents → List Finding
-call_misplaced ban at c = fault_if c.next 11 at ++ fault_if (ban.shifted && c.system) 12 at
+call_misplaced ban at c = fault_if c.next NEXT_NESTED at ++ fault_if (ban.shifted && c.system) NEXT_OF_SYSTEM at
 
 abbrev mutual
   pub misplaced : Ban → Setting → (under : Bool) → Expression → List Finding

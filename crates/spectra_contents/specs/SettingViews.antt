@@ -14,9 +14,9 @@ abbrev pub note_or_blank : Option Note → Note
 note_or_blank (Some n) = n
 note_or_blank None = blank
 
--- the note of a numbered definition among these, where some are hidden
-abbrev pub note_among : List Note → (hidden : List Bool) → ℕ → Note
-note_among notes hidden k = if get_or hidden k false then blank else note_or_blank (slice_get notes k)
+-- the note of a numbered definition among these, where some are unseen
+abbrev pub note_among : List Note → (unseen : List Bool) → ℕ → Note
+note_among notes unseen k = if get_or unseen k false then blank else note_or_blank (slice_get notes k)
 
 -- whether a definition is settled, where it has a note
 abbrev pub is_noted_settled : Option code_note.Note → Bool
@@ -32,7 +32,7 @@ setting_data s =
     record {
       scope = scope_data s.scope.now;
       variables = map kind_data s.variables.now;
-      note = note_among (map note_data s.notes.now) s.hidden.now;
+      note = note_among (map note_data s.notes.now) s.unseen.now;
       parameters = places_in s.parameters.now;
       kinds = map kind_data s.kinds.now;
     }

@@ -16,6 +16,9 @@ use crate::contents::{
 use crate::setting::{Contents, Mark, Setting, is_system_variable};
 use spectra_names::findings::{Findings, place_of, report_if};
 use spectra_names::scope::Named;
+use spectra_trees::faults::{
+    NEXT_HERE, NEXT_NESTED, NEXT_OF_SYSTEM, SYSTEM_IN_INITIAL, WRONG_TYPE,
+};
 use spectra_trees::tree::{ExprForm, ExprTree, Name, Place};
 
 /// What may not stand in an expression: `next`; a variable of the system under a `next`; one anywhere; any variable.
@@ -60,11 +63,11 @@ fn is_system(setting: &Setting<'_, '_>, named: Named) -> bool
 #[tactic(auto, using(spectra_names::proofs::First::with_faults_append))]
 // Reports what is wrong with a `next` whose operand names a variable of the system, or doesn't.
 fn report_next(findings: &mut Findings, ban: Ban, under: bool, at: Place, names_system: bool)
-    ensures { found_in findings.new ≡ with_faults (found_in findings.old) (fault_if ban.next 10 at ++ (fault_if under 11 at ++ fault_if (ban.shifted && names_system) 12 at)) }
+    ensures { found_in findings.new ≡ with_faults (found_in findings.old) (fault_if ban.next NEXT_HERE at ++ (fault_if under NEXT_NESTED at ++ fault_if (ban.shifted && names_system) NEXT_OF_SYSTEM at)) }
 {
-    report_if(findings, ban.next, 10, at);
-    report_if(findings, under, 11, at);
-    report_if(findings, ban.shifted && names_system, 12, at);
+    report_if(findings, ban.next, NEXT_HERE, at);
+    report_if(findings, under, NEXT_NESTED, at);
+    report_if(findings, ban.shifted && names_system, NEXT_OF_SYSTEM, at);
 }
 
 #[tactic(auto, using(spectra_names::proofs::First::with_faults_append))]
@@ -72,16 +75,16 @@ fn report_next(findings: &mut Findings, ban: Ban, under: bool, at: Place, names_
 fn report_body(findings: &mut Findings, ban: Ban, under: bool, at: Place, c: Contents)
     ensures { found_in findings.new ≡ with_faults (found_in findings.old) (body_misplaced ban under at c) }
 {
-    report_if(findings, ban.variable && c.variable, 9, at);
-    report_if(findings, ban.next && c.next, 10, at);
-    report_if(findings, under && c.next, 11, at);
+    report_if(findings, ban.variable && c.variable, WRONG_TYPE, at);
+    report_if(findings, ban.next && c.next, NEXT_HERE, at);
+    report_if(findings, under && c.next, NEXT_NESTED, at);
     report_if(
         findings,
         ban.shifted && (c.shifted || under && c.system),
-        12,
+        NEXT_OF_SYSTEM,
         at,
     );
-    report_if(findings, ban.system && c.system, 13, at);
+    report_if(findings, ban.system && c.system, SYSTEM_IN_INITIAL, at);
 }
 
 #[tactic(auto, using(spectra_names::proofs::First::with_faults_append))]
@@ -99,8 +102,8 @@ fn report_name(
     match named {
         Named::Variable(number) => {
             let of_system = is_system_variable(setting.scope, number);
-            report_if(findings, ban.variable, 9, at);
-            report_if(findings, ban.system && of_system, 13, at);
+            report_if(findings, ban.variable, WRONG_TYPE, at);
+            report_if(findings, ban.system && of_system, SYSTEM_IN_INITIAL, at);
         }
         Named::Define(number) => {
             report_body(findings, ban, under, at, body_contents(setting, number));
@@ -119,8 +122,8 @@ fn report_name(
 fn report_call(findings: &mut Findings, ban: Ban, at: Place, c: Contents)
     ensures { found_in findings.new ≡ with_faults (found_in findings.old) (call_misplaced ban at c) }
 {
-    report_if(findings, c.next, 11, at);
-    report_if(findings, ban.shifted && c.system, 12, at);
+    report_if(findings, c.next, NEXT_NESTED, at);
+    report_if(findings, ban.shifted && c.system, NEXT_OF_SYSTEM, at);
 }
 
 // What stands in a name alone, whose faults are reported.

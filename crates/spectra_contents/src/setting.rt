@@ -56,7 +56,7 @@ pub struct Setting<'s, 'a> {
     pub scope: &'s Scope<'a>,
     pub variables: &'s [Kind<'a>],
     pub notes: &'s [Note<'a>],
-    pub hidden: &'s [bool],
+    pub unseen: &'s [bool],
     pub signatures: &'s [Signature<'a>],
     pub parameters: &'s Parameters<'a>,
     pub kinds: &'s [Kind<'a>],
@@ -97,17 +97,17 @@ impl<'s, 'a> Setting<'s, 'a> {
     }
 
     // Whether the note of a numbered definition isn't seen.
-    fn is_hidden(&self, number: usize) -> bool
-        ensures { result ≡ get_or self.now.hidden.now number false }
+    fn is_unseen(&self, number: usize) -> bool
+        ensures { result ≡ get_or self.now.unseen.now number false }
     {
-        number < self.hidden.len() && self.hidden[number]
+        number < self.unseen.len() && self.unseen[number]
     }
 
     /// The note of a numbered definition, where one is known.
     pub fn note(&self, number: usize) -> Option<&'s Note<'a>>
         ensures { note_or_blank (option_map (λ n. note_data n.now) result) ≡ (setting_data self.now).note number }
     {
-        if self.is_hidden(number) {
+        if self.is_unseen(number) {
             None
         } else {
             self.notes.get(number)

@@ -1,4 +1,5 @@
 -- What several files declare and say with each name resolved, item by item, and the names that mean nothing in it.
+use Rattle.spectra_trees.specs.declared.faults.TheConstants.{ARITY, UNKNOWN}
 use Rattle.std.specs.Prelude.{ℕ, suc, ◌+◌, ◌==◌, Bool, true, false, if◌then◌else◌, List, [], ◌∷◌, ◌++◌, Option, Some, None, length, map, flat_map, option_map}
 use Rattle.spec_model.specs.declared.value.Owner.{Owner}
 use Rattle.spec_model.specs.declared.value.Owner.TheVariants as owners
@@ -181,8 +182,8 @@ use_of _ n = uses.Unknown
 
 abbrev pub use_faults : Spot → PatternUse → List Finding
 use_faults at (uses.Pattern k) = []
-use_faults at (uses.Arity k) = fault 16 at ∷ []
-use_faults at uses.Unknown = fault 7 at ∷ []
+use_faults at (uses.Arity k) = fault ARITY at ∷ []
+use_faults at uses.Unknown = fault UNKNOWN at ∷ []
 
 abbrev pub body_of : Names → (file : ℕ) → BodyData → ResolvedBody
 body_of s file (BodyData.Initial e) = ResolvedBody.Initial (resolved (at_large s) file e)

@@ -1,4 +1,5 @@
 -- What types stand for, and their faults: unknown names, and names twice in one enum.
+use Rattle.spectra_trees.specs.declared.faults.TheConstants.{UNKNOWN}
 use Rattle.std.specs.Prelude.{ℕ, Bool, true, false, not, ◌&&◌, if◌then◌else◌, List, [], ◌∷◌, ◌++◌, Option, Some, None, map, position, unwrap_or, bytes_eq}
 use Rattle.std.specs.List.{list_all}
 use Rattle.spectra_trees.specs.Data.{NameData, TypeData, TypeShape}
@@ -39,7 +40,7 @@ named_type _ = NoType
 
 abbrev pub named_faults : Option Named → Spot → List Finding
 named_faults (Some (names.Type k)) at = []
-named_faults _ at = fault 7 at ∷ []
+named_faults _ at = fault UNKNOWN at ∷ []
 
 -- what a type stands for, where its bounds' names are looked up so
 abbrev pub type_of : Names → Looking → (file : ℕ) → TypeData → ResolvedType

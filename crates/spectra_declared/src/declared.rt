@@ -17,6 +17,7 @@ use crate::mentions::enum_names_of;
 use spectra_resolved::enum_names::EnumNames;
 use spectra_resolved::findings::Findings;
 use spectra_resolved::look::Scope;
+use spectra_trees::faults::TOO_MANY;
 use spectra_trees::tree::{Name, Tree};
 use std::alloc::{AllocError, Global};
 
@@ -60,7 +61,7 @@ fn enums_of<'t>(
         add_item(alloc, &mut enums, *filed)?;
         if !passed && enums.len() > MOST_NAMES {
             passed = true;
-            findings.report(18, spot_of_item(*filed));
+            findings.report(TOO_MANY, spot_of_item(*filed));
         }
     }
     Ok(enums)

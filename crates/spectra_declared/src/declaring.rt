@@ -1,6 +1,6 @@
 //! What the items of several files declare.
 
-ghost use Rattle.std.specs.Prelude.{◌≡◌, ◌+◌, [], ◌∷◌, ◌++◌, if◌then◌else◌, map, length, IfOk, OnOk};
+ghost use Rattle.std.specs.Prelude.{◌≡◌, ◌+◌, [], ◌∷◌, map, IfOk, OnOk};
 ghost use Rattle.spectra_trees.specs.Views.{name_data, expr_data, item_data};
 ghost use Rattle.spectra_resolved.specs.Findings.{found_in};
 ghost use Rattle.spectra_resolved.specs.Spaces.{with_entries, no_names};

@@ -10,6 +10,7 @@ ghost use Rattle.spectra_declared.specs.LimitViews.{weight_of};
 use crate::items::Filed;
 use spectra_resolved::findings::Findings;
 use spectra_resolved::spot::{Spot, spot_at, spot_of};
+use spectra_trees::faults::{IMPORTED_LINE, TOO_MANY};
 use spectra_trees::tree::{Item, Name, Tree};
 
 /// Of what there may be so many.
@@ -56,7 +57,7 @@ pub fn report_past(findings: &mut Findings, limited: Limited, most: usize, items
     for filed in items {
         let weight = weight(limited, filed.item);
         if room < weight {
-            findings.report(18, spot_of_item(*filed));
+            findings.report(TOO_MANY, spot_of_item(*filed));
             return;
         }
         room -= weight;
@@ -78,7 +79,7 @@ fn report_imported_item(findings: &mut Findings, last: usize, filed: Filed<'_>)
     ensures { found_in findings.new ≡ with_faults (found_in findings.old) (imported_faults last (filed_data filed.entry)) }
 {
     if filed.file < last && is_main(filed.item) {
-        findings.report(17, spot_of_item(filed));
+        findings.report(IMPORTED_LINE, spot_of_item(filed));
     }
 }
 
@@ -101,7 +102,7 @@ fn report_file_imports(findings: &mut Findings, file: usize, last: usize, import
         return;
     }
     match imports.get(64) {
-        Some(name) => findings.report(18, spot_of(file, name)),
+        Some(name) => findings.report(TOO_MANY, spot_of(file, name)),
         None => {}
     }
 }
@@ -111,7 +112,7 @@ fn report_each_import(findings: &mut Findings, file: usize, imports: &[Name])
     ensures { found_in findings.new ≡ with_faults (found_in findings.old) (import_faults file true (map name_data imports.now)) }
 {
     for name in imports {
-        findings.report(17, spot_of(file, name));
+        findings.report(IMPORTED_LINE, spot_of(file, name));
     }
 }
 

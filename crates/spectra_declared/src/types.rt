@@ -19,6 +19,7 @@ use spectra_resolved::spot::{mentioned, spot_at, spot_of};
 use spectra_resolved::table::{Named, Table};
 use spectra_resolved::text::TypeUse;
 use spectra_resolved::tree::Leaf;
+use spectra_trees::faults::UNKNOWN;
 use spectra_trees::tree::{Name, TypeForm, TypeTree};
 use std::alloc::{AllocError, Global};
 
@@ -122,7 +123,7 @@ fn named_use(resolver: &Resolver<'_, '_>, findings: &mut Findings, name: &Name) 
     match resolver.look.scope.types.get(name.text.as_str()) {
         Some(Named::Type(number)) => TypeUse::Named(number),
         _ => {
-            findings.report(7, spot_of(resolver.file, name));
+            findings.report(UNKNOWN, spot_of(resolver.file, name));
             TypeUse::Hole
         }
     }

@@ -7,7 +7,7 @@ ghost use Rattle.spectra_resolved.specs.Spots.{mentioned as mentioned_lem};
 ghost use Rattle.spectra_declared.specs.Items.{filed_data};
 ghost use Rattle.spectra_resolved.specs.LookViews.{scope_data, look_data};
 ghost use Rattle.spectra_declared.specs.Types.{type_of, type_faults};
-ghost use Rattle.spectra_declared.specs.Meanings.{at_large, owner_of as owner_of_lem, variables_in, variable_faults, aliases_in, alias_faults};
+ghost use Rattle.spectra_declared.specs.Meanings.{owner_of as owner_of_lem, variables_in, variable_faults, aliases_in, alias_faults};
 ghost use Rattle.spectra_resolved.specs.TextViews.{variable_data, alias_data};
 
 use crate::items::Filed;

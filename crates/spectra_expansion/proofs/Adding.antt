@@ -3,13 +3,13 @@ use Rattle.std.proofs.Common.{◌≡◌, ℕ, zero, suc, ◌+◌, ◌-◌, ◌*�
 use Rattle.std.proofs.lemmas.Bool.{cases_lt, false≢true, ne_eqb}
 use Rattle.spectra_expansion.specs.declared.measure.Use.{Use}
 use Rattle.spectra_expansion.specs.declared.measure.Measure.{Measure}
-use Rattle.spectra_expansion.specs.Measuring.{held, joined}
+use Rattle.spectra_expansion.specs.Measuring.{capped, joined}
 use Rattle.spectra_expansion.specs.Counting.{first_measure, later_measures, argument_nodes, argument_levels, nodes_with, levels_with, deepest, first_nodes, first_levels, later_uses, Naming, Covers, Adds}
 
--- ---- held numbers
+-- ---- capped numbers
 
-held-small : (a : ℕ) → a ≤ 2 ^ 64 - 1 → held a ≡ a
-held-small a small = omega (arith, small)
+capped-small : (a : ℕ) → a ≤ 2 ^ 64 - 1 → capped a ≡ a
+capped-small a small = omega (arith, small)
 
 past-product : (a b : ℕ) → 2 ^ 64 - 1 ≤ a → 0 < b → 2 ^ 64 - 1 ≤ a * b
 past-product a zero past some = omega (arith, some)
@@ -18,31 +18,31 @@ past-product a (suc b) past some = omega (arith, past)
 times-zero : (a : ℕ) → a * 0 ≡ 0
 times-zero a = omega arith
 
--- a product may have its factor held
-pub held_times : (a b : ℕ) → held (held a * b) ≡ held (a * b)
-held_times a zero = omega arith
-held_times a (suc b) =
+-- a product may have its factor capped
+pub capped_times : (a b : ℕ) → capped (capped a * b) ≡ capped (a * b)
+capped_times a zero = omega arith
+capped_times a (suc b) =
     elim (cases_lt (2 ^ 64 - 1) a) [
       | inl past ↦
-          (let top : held a ≡ 2 ^ 64 - 1 = omega (arith, past) in
-          let first = past-product (held a) (suc b) (omega (arith, top)) (omega arith) in
+          (let top : capped a ≡ 2 ^ 64 - 1 = omega (arith, past) in
+          let first = past-product (capped a) (suc b) (omega (arith, top)) (omega arith) in
           let second = past-product a (suc b) (omega (arith, past)) (omega arith) in
           omega (arith, first, second))
-      | inr small ↦ ap (λ n. held (n * suc b)) (held-small a small)
+      | inr small ↦ ap (λ n. capped (n * suc b)) (capped-small a small)
     ]
 
-pub times_held : (a b : ℕ) → held (a * held b) ≡ held (a * b)
-times_held a b = let turn : a * held b ≡ held b * a = omega arith in let back : b * a ≡ a * b = omega arith in ap held turn ∙ held_times b a ∙ ap held back
+pub times_capped : (a b : ℕ) → capped (a * capped b) ≡ capped (a * b)
+times_capped a b = let turn : a * capped b ≡ capped b * a = omega arith in let back : b * a ≡ a * b = omega arith in ap capped turn ∙ capped_times b a ∙ ap capped back
 
 -- ---- one more after another
 
 covered : (parameters : Naming) (m n : ℕ) (ns : List ℕ) → n ≡ m → Covers parameters m ns → Covers parameters n ns
 covered parameters m n ns same covers = subst (λ k. Covers parameters k ns) (sym same) covers
 
-sum-after : (a b c x y : ℕ) → held b ≡ held (a + x) → held c ≡ held (b + y) → held c ≡ held (a + (x + y))
+sum-after : (a b c x y : ℕ) → capped b ≡ capped (a + x) → capped c ≡ capped (b + y) → capped c ≡ capped (a + (x + y))
 sum-after a b c x y first second = omega (arith, first, second)
 
-max-after : (a b c x y : ℕ) → held b ≡ held (max a x) → held c ≡ held (max b y) → held c ≡ held (max a (max x y))
+max-after : (a b c x y : ℕ) → capped b ≡ capped (max a x) → capped c ≡ capped (max b y) → capped c ≡ capped (max a (max x y))
 max-after a b c x y first second = omega (arith, first, second)
 
 pub adds_both : (parameters : Naming) (a b c : Measure) (n1 l1 n2 l2 : List ℕ → ℕ) → Adds parameters a b n1 l1 → Adds parameters b c n2 l2
@@ -54,15 +54,15 @@ adds_both parameters a b c n1 l1 n2 l2 first second =
       levels = λ ns covers. max-after (levels_with a ns) (levels_with b ns) (levels_with c ns) (l1 ns) (l2 ns) (first.levels ns covers) (second.levels ns (covered parameters _ _ ns first.size covers));
     }
 
-sum-same : (a c x y : ℕ) → held c ≡ held (a + x) → held x ≡ held y → held c ≡ held (a + y)
+sum-same : (a c x y : ℕ) → capped c ≡ capped (a + x) → capped x ≡ capped y → capped c ≡ capped (a + y)
 sum-same a c x y first same = omega (arith, first, same)
 
-max-same : (a c x y : ℕ) → held c ≡ held (max a x) → held x ≡ held y → held c ≡ held (max a y)
+max-same : (a c x y : ℕ) → capped c ≡ capped (max a x) → capped x ≡ capped y → capped c ≡ capped (max a y)
 max-same a c x y first same = omega (arith, first, same)
 
 -- the same, said in other words
 pub adds_as : (parameters : Naming) (a b : Measure) (n1 l1 n2 l2 : List ℕ → ℕ) → Adds parameters a b n1 l1
-    → ((ns : List ℕ) → Covers parameters (length a.uses.items) ns → held (n1 ns) ≡ held (n2 ns)) → ((ns : List ℕ) → Covers parameters (length a.uses.items) ns → held (l1 ns) ≡ held (l2 ns)) → Adds parameters a b n2 l2
+    → ((ns : List ℕ) → Covers parameters (length a.uses.items) ns → capped (n1 ns) ≡ capped (n2 ns)) → ((ns : List ℕ) → Covers parameters (length a.uses.items) ns → capped (l1 ns) ≡ capped (l2 ns)) → Adds parameters a b n2 l2
 adds_as parameters a b n1 l1 n2 l2 adds nodes levels =
     record {
       size = adds.size;
@@ -80,18 +80,18 @@ first-argument : (ns : List ℕ) → first_measure ns ≡ get_or ns 0 1
 first-argument [] = refl
 first-argument (n ∷ ns) = refl
 
-more-times : (was now times n rest : ℕ) → now ≡ held (was + times) → held (now * n + rest) ≡ held ((was * n + rest) + times * n)
+more-times : (was now times n rest : ℕ) → now ≡ capped (was + times) → capped (now * n + rest) ≡ capped ((was * n + rest) + times * n)
 more-times was now times n rest is =
-    let both = held_times (was + times) n in
-    let here = ap (λ t. held (t * n)) is in
+    let both = capped_times (was + times) n in
+    let here = ap (λ t. capped (t * n)) is in
     omega (arith, both, here)
 
-pub argument_nodes-set : (us : List Use) (i : ℕ) (u : Use) (d : Use) (times : ℕ) (ns : List ℕ) → i < length us → u.times ≡ held ((get_or us i d).times + times)
-    → held (argument_nodes (set us i u) ns) ≡ held (argument_nodes us ns + times * get_or ns i 1)
+pub argument_nodes-set : (us : List Use) (i : ℕ) (u : Use) (d : Use) (times : ℕ) (ns : List ℕ) → i < length us → u.times ≡ capped ((get_or us i d).times + times)
+    → capped (argument_nodes (set us i u) ns) ≡ capped (argument_nodes us ns + times * get_or ns i 1)
 argument_nodes-set [] i u d times ns within is = omega (arith, within)
 argument_nodes-set (v ∷ us) zero u d times ns within is =
     more-times v.times u.times times (first_measure ns) (argument_nodes us (later_measures ns)) is
-    ∙ ap (λ n. held ((v.times * first_measure ns + argument_nodes us (later_measures ns)) + times * n)) (first-argument ns)
+    ∙ ap (λ n. capped ((v.times * first_measure ns + argument_nodes us (later_measures ns)) + times * n)) (first-argument ns)
 argument_nodes-set (v ∷ us) (suc i) u d times ns within is =
     let rest = argument_nodes-set us i u d times (later_measures ns) (omega (arith, within)) is in
     let there = ap (λ n. times * n) (later-argument ns i) in
@@ -103,10 +103,10 @@ more-above before true was_above now_above above n rest used there = absurd (fal
 more-above true false was_above now_above above n rest used there = omega (arith, there)
 more-above false false was_above now_above above n rest used there = omega (arith, there)
 
-is-used : (now was times : ℕ) → 0 < times → now ≡ held (was + times) → (now == 0) ≡ false
+is-used : (now was times : ℕ) → 0 < times → now ≡ capped (was + times) → (now == 0) ≡ false
 is-used now was times some is = ne_eqb now 0 (λ none. omega (arith, some, is, none))
 
-pub argument_levels-set : (us : List Use) (i : ℕ) (u : Use) (d : Use) (times above : ℕ) (ns : List ℕ) → i < length us → 0 < times → u.times ≡ held ((get_or us i d).times + times)
+pub argument_levels-set : (us : List Use) (i : ℕ) (u : Use) (d : Use) (times above : ℕ) (ns : List ℕ) → i < length us → 0 < times → u.times ≡ capped ((get_or us i d).times + times)
     → u.above ≡ (if (get_or us i d).times == 0 then above else max (get_or us i d).above above)
     → argument_levels 0 (set us i u) ns ≡ max (argument_levels 0 us ns) (above + get_or ns i 1)
 argument_levels-set [] i u d times above ns within some is there = omega (arith, within)
@@ -148,22 +148,22 @@ adds_none parameters a times =
 pub adds_leaf : (parameters : Naming) (a b : Measure) (times above : ℕ) (n l : List ℕ → ℕ) → Adds parameters a b (λ ns. times * 1) (λ ns. above + 1)
     → ((ns : List ℕ) → Covers parameters (length a.uses.items) ns → n ns ≡ 1) → ((ns : List ℕ) → Covers parameters (length a.uses.items) ns → l ns ≡ 1) → Adds parameters a b (λ ns. times * n ns) (λ ns. above + l ns)
 adds_leaf parameters a b times above n l leaf one_node one_level =
-    adds_as parameters a b _ _ (λ ns. times * n ns) (λ ns. above + l ns) leaf (λ ns covers. ap (λ k. held (times * k)) (sym (one_node ns covers))) (λ ns covers. ap (λ k. held (above + k)) (sym (one_level ns covers)))
+    adds_as parameters a b _ _ (λ ns. times * n ns) (λ ns. above + l ns) leaf (λ ns covers. ap (λ k. capped (times * k)) (sym (one_node ns covers))) (λ ns covers. ap (λ k. capped (above + k)) (sym (one_level ns covers)))
 
-pub adds_under : (parameters : Naming) (a b c : Measure) (times above below : ℕ) (n l : List ℕ → ℕ) → below ≡ held (above + 1) → Adds parameters a b (λ ns. times * 1) (λ ns. above + 1)
+pub adds_under : (parameters : Naming) (a b c : Measure) (times above below : ℕ) (n l : List ℕ → ℕ) → below ≡ capped (above + 1) → Adds parameters a b (λ ns. times * 1) (λ ns. above + 1)
     → Adds parameters b c (λ ns. times * n ns) (λ ns. below + l ns) → Adds parameters a c (λ ns. times * (1 + n ns)) (λ ns. above + (1 + l ns))
 adds_under parameters a b c times above below n l one node operand =
     adds_as parameters a c _ _ (λ ns. times * (1 + n ns)) (λ ns. above + (1 + l ns)) (adds_both parameters a b c _ _ _ _ node operand) (λ ns covers. omega arith) (λ ns covers. omega (arith, one))
 
 -- the second operand may come before the first
-pub adds_between : (parameters : Naming) (a b c d : Measure) (times above below : ℕ) (n1 l1 n2 l2 : List ℕ → ℕ) → below ≡ held (above + 1) → Adds parameters a b (λ ns. times * 1) (λ ns. above + 1)
+pub adds_between : (parameters : Naming) (a b c d : Measure) (times above below : ℕ) (n1 l1 n2 l2 : List ℕ → ℕ) → below ≡ capped (above + 1) → Adds parameters a b (λ ns. times * 1) (λ ns. above + 1)
     → Adds parameters b c (λ ns. times * n2 ns) (λ ns. below + l2 ns) → Adds parameters c d (λ ns. times * n1 ns) (λ ns. below + l1 ns)
     → Adds parameters a d (λ ns. times * (1 + (n1 ns + n2 ns))) (λ ns. above + (1 + max (l1 ns) (l2 ns)))
 adds_between parameters a b c d times above below n1 l1 n2 l2 one node second first =
     adds_as parameters a d _ _ (λ ns. times * (1 + (n1 ns + n2 ns))) (λ ns. above + (1 + max (l1 ns) (l2 ns)))
     (adds_both parameters a b d _ _ _ _ node (adds_both parameters b c d _ _ _ _ second first)) (λ ns covers. omega arith) (λ ns covers. omega (arith, one))
 
-pub adds_several : (parameters : Naming) (a b c : Measure) (times above below : ℕ) (n : List ℕ → ℕ) (ls : List ℕ → List ℕ) → below ≡ held (above + 1) → Adds parameters a b (λ ns. times * 1) (λ ns. above + 1)
+pub adds_several : (parameters : Naming) (a b c : Measure) (times above below : ℕ) (n : List ℕ → ℕ) (ls : List ℕ → List ℕ) → below ≡ capped (above + 1) → Adds parameters a b (λ ns. times * 1) (λ ns. above + 1)
     → Adds parameters b c (λ ns. times * n ns) (λ ns. deepest below (ls ns)) → Adds parameters a c (λ ns. times * (1 + n ns)) (λ ns. above + (1 + joined max (ls ns)))
 adds_several parameters a b c times above below n ls one node operands =
     adds_as parameters a c _ _ (λ ns. times * (1 + n ns)) (λ ns. above + (1 + joined max (ls ns))) (adds_both parameters a b c _ _ _ _ node operands)
@@ -194,7 +194,7 @@ pub adds_argument : (parameters : Naming) (a b c : Measure) (times above : ℕ) 
 adds_argument parameters a b c times above us n l ms ls one others =
     adds_as parameters a c _ _ (λ ns. times * argument_nodes us (n ns ∷ ms ns)) (λ ns. argument_levels above us (l ns ∷ ls ns)) (adds_both parameters a b c _ _ _ _ one others)
     (λ ns covers. let split = ap (λ k. times * k) (first-nodes us (n ns) (ms ns)) in omega (arith, split))
-    (λ ns covers. ap held (sym (first-levels above us (l ns) (ls ns))))
+    (λ ns covers. ap capped (sym (first-levels above us (l ns) (ls ns))))
 
 -- a definition's own part, and then its arguments
 pub adds_put : (parameters : Naming) (a b c own : Measure) (times above : ℕ) (ms ls : List ℕ → List ℕ) → Adds parameters a b (λ ns. times * own.nodes) (λ ns. above + own.levels)
@@ -202,15 +202,15 @@ pub adds_put : (parameters : Naming) (a b c own : Measure) (times above : ℕ) (
     → Adds parameters a c (λ ns. times * nodes_with own (ms ns)) (λ ns. above + levels_with own (ls ns))
 adds_put parameters a b c own times above ms ls first arguments =
     adds_as parameters a c _ _ (λ ns. times * nodes_with own (ms ns)) (λ ns. above + levels_with own (ls ns)) (adds_both parameters a b c _ _ _ _ first arguments)
-    (λ ns covers. omega arith) (λ ns covers. ap held (argument_levels-above above own.levels own.uses.items (ls ns)))
+    (λ ns covers. omega arith) (λ ns covers. ap capped (argument_levels-above above own.levels own.uses.items (ls ns)))
 
 -- what is used so often, and so deep
-pub adds_used : (parameters : Naming) (a b : Measure) (times above often deep inner below : ℕ) (n l : List ℕ → ℕ) → 0 < often → inner ≡ held (times * often) → below ≡ held (above + deep)
+pub adds_used : (parameters : Naming) (a b : Measure) (times above often deep inner below : ℕ) (n l : List ℕ → ℕ) → 0 < often → inner ≡ capped (times * often) → below ≡ capped (above + deep)
     → Adds parameters a b (λ ns. inner * n ns) (λ ns. below + l ns) → Adds parameters a b (λ ns. times * (often * n ns)) (λ ns. if often == 0 then 0 else above + deep + l ns)
 adds_used parameters a b times above often deep inner below n l some inner_is below_is adds =
     let used : (often == 0) ≡ false = ne_eqb often 0 (λ none. omega (arith, some, none)) in
     adds_as parameters a b _ _ (λ ns. times * (often * n ns)) (λ ns. if often == 0 then 0 else above + deep + l ns) adds
-    (λ ns covers. let product = ap (λ k. held (k * n ns)) inner_is ∙ held_times (times * often) (n ns) in omega (arith, product))
+    (λ ns covers. let product = ap (λ k. capped (k * n ns)) inner_is ∙ capped_times (times * often) (n ns) in omega (arith, product))
     (λ ns covers. rw used (omega (arith, below_is)))
 
 pub adds_unused : (parameters : Naming) (a : Measure) (times above often deep : ℕ) (n l : List ℕ → ℕ) → often ≤ 0 → Adds parameters a a (λ ns. times * (often * n ns)) (λ ns. if often == 0 then 0 else above + deep + l ns)

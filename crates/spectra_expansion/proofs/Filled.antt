@@ -9,7 +9,7 @@ use Rattle.spectra_order.specs.Orders.{IsUse, IsOrder}
 use Rattle.spectra_expansion.specs.declared.measure.Measure.{Measure}
 use Rattle.spec_model.specs.FormulaSizes.{nodes_in, levels_in}
 use Rattle.spectra_expansion.specs.Expansion.{no_meaning, body_formula, expanded}
-use Rattle.spectra_expansion.specs.Measuring.{held}
+use Rattle.spectra_expansion.specs.Measuring.{capped}
 use Rattle.spectra_expansion.specs.Counting.{argument_nodes, argument_levels, nodes_of, levels_of}
 use Rattle.spectra_expansion.specs.Telling.{Tells, AreMeasures}
 use Rattle.spectra_expansion.specs.Filling.{IsLeaf, AreLeaves, PutsBody, Puts, IsSettled, IsFilled}
@@ -63,8 +63,8 @@ leaf-levels (Some m) ns are = let leaf = are m refl in let none = ap (λ us. arg
 leaf-tells : (table : List Measure) (put : ℕ → List Formula → Formula) (k : ℕ) → AreLeaves table → ((fs : List Formula) → put k fs ≡ no_meaning) → Tells table put k
 leaf-tells table put k are none =
     record {
-      nodes = λ fs. ap (λ f. held (nodes_in f)) (none fs) ∙ ap held (sym (leaf-nodes (slice_get table k) (map nodes_in fs) (are k)));
-      levels = λ fs. ap (λ f. held (levels_in f)) (none fs) ∙ ap held (sym (leaf-levels (slice_get table k) (map levels_in fs) (are k)));
+      nodes = λ fs. ap (λ f. capped (nodes_in f)) (none fs) ∙ ap capped (sym (leaf-nodes (slice_get table k) (map nodes_in fs) (are k)));
+      levels = λ fs. ap (λ f. capped (levels_in f)) (none fs) ∙ ap capped (sym (leaf-levels (slice_get table k) (map levels_in fs) (are k)));
     }
 
 pub filled_none : (scope : Scope) (order : List ℕ) (table : List Measure) → length table ≡ length scope.definitions → AreLeaves table → IsFilled scope order 0 table
@@ -87,8 +87,8 @@ filled_none scope order table size are =
 tells-same : (old new : List Measure) (put : ℕ → List Formula → Formula) (k : ℕ) → slice_get new k ≡ slice_get old k → Tells old put k → Tells new put k
 tells-same old new put k same tells =
     record {
-      nodes = λ fs. tells.nodes fs ∙ ap (λ o. held (nodes_of o (map nodes_in fs))) (sym same);
-      levels = λ fs. tells.levels fs ∙ ap (λ o. held (levels_of o (map levels_in fs))) (sym same);
+      nodes = λ fs. tells.nodes fs ∙ ap (λ o. capped (nodes_of o (map nodes_in fs))) (sym same);
+      levels = λ fs. tells.levels fs ∙ ap (λ o. capped (levels_of o (map levels_in fs))) (sym same);
     }
 
 pub body-there : (scope : Scope) (deep k : ℕ) (d : Definition) (fs : List Formula) → is_on_cycle scope k ≡ false → slice_get scope.definitions k ≡ Some d
@@ -123,8 +123,8 @@ put-tells scope order i k (suc deep) old new is here filled off puts low =
     let told : (at j : ℕ) → slice_get (uses_of scope puts.d) at ≡ Some j → Tells old (expanded deep scope) j =
     λ at j uses. filled.told deep j (omega (arith, low)) (settled-use scope order i k j is here off (use-of scope k puts.d at j puts.there uses)) in
     record {
-      nodes = λ fs. ap (λ f. held (nodes_in f)) (body-there scope deep k puts.d fs off puts.there) ∙ puts.body.nodes (expanded deep scope) told fs ∙ ap (λ o. held (nodes_of o (map nodes_in fs))) (sym stands);
-      levels = λ fs. ap (λ f. held (levels_in f)) (body-there scope deep k puts.d fs off puts.there) ∙ puts.body.levels (expanded deep scope) told fs ∙ ap (λ o. held (levels_of o (map levels_in fs))) (sym stands);
+      nodes = λ fs. ap (λ f. capped (nodes_in f)) (body-there scope deep k puts.d fs off puts.there) ∙ puts.body.nodes (expanded deep scope) told fs ∙ ap (λ o. capped (nodes_of o (map nodes_in fs))) (sym stands);
+      levels = λ fs. ap (λ f. capped (levels_in f)) (body-there scope deep k puts.d fs off puts.there) ∙ puts.body.levels (expanded deep scope) told fs ∙ ap (λ o. capped (levels_of o (map levels_in fs))) (sym stands);
     }
 
 -- what is settled after one more is that one, or was settled

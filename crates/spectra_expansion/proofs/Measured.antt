@@ -14,7 +14,7 @@ use Rattle.spectra_names.specs.Spaces.{Named, unknown, parameter, variable, enum
 use Rattle.spectra_order.specs.Cycles.{definition_named}
 use Rattle.spec_model.specs.FormulaSizes.{nodes_in, nodes_in_each, levels_in, levels_in_each}
 use Rattle.spectra_expansion.specs.Expansion.{no_meaning, read_formula, call_formula, prefix_formula, binary_formula, formula_in, form_formula, formulas_in}
-use Rattle.spectra_expansion.specs.Measuring.{held, read_measure, call_measure, joined, measure_in, form_measure, measures_in}
+use Rattle.spectra_expansion.specs.Measuring.{capped, read_measure, call_measure, joined, measure_in, form_measure, measures_in}
 
 -- a measure of formulas in which operands join
 pub record IsMeasure (join : ℕ → ℕ → ℕ) (size : Formula → ℕ) (sizes : Formulas → ℕ) : Type 0 where
@@ -29,7 +29,7 @@ pub record IsMeasure (join : ℕ → ℕ → ℕ) (size : Formula → ℕ) (size
   pub remainder : (f : Formula) (n : _) → size (Remainder f n) ≡ 1 + size f
   pub none : sizes Formulas.none ≡ 0
   pub one_more : (f : Formula) (fs : Formulas) → sizes (Formulas.one_more f fs) ≡ join (size f) (sizes fs)
-  pub same : (a b c d : ℕ) → held a ≡ held b → held c ≡ held d → held (join a c) ≡ held (join b d)
+  pub same : (a b c d : ℕ) → capped a ≡ capped b → capped c ≡ capped d → capped (join a c) ≡ capped (join b d)
 
 binary-nodes : (word : BinaryWord) (f g : Formula) → nodes_in (binary_formula word f g) ≡ 1 + (nodes_in f + nodes_in g)
 binary-nodes binary.Implies f g = refl
@@ -73,10 +73,10 @@ prefix-levels prefixes.Prev f = omega arith
 prefix-levels prefixes.Once f = omega arith
 prefix-levels prefixes.Historically f = omega arith
 
-sum-same : (a b c d : ℕ) → held a ≡ held b → held c ≡ held d → held (a + c) ≡ held (b + d)
+sum-same : (a b c d : ℕ) → capped a ≡ capped b → capped c ≡ capped d → capped (a + c) ≡ capped (b + d)
 sum-same a b c d first second = omega (arith, first, second)
 
-max-same : (a b c d : ℕ) → held a ≡ held b → held c ≡ held d → held (max a c) ≡ held (max b d)
+max-same : (a b c d : ℕ) → capped a ≡ capped b → capped c ≡ capped d → capped (max a c) ≡ capped (max b d)
 max-same a b c d first second = omega (arith, first, second)
 
 pub nodes_measure : IsMeasure (λ a b. a + b) nodes_in nodes_in_each
@@ -113,7 +113,7 @@ levels_measure =
       same = max-same;
     }
 
-one-more-same : (a b : ℕ) → held a ≡ held b → held (1 + a) ≡ held (1 + b)
+one-more-same : (a b : ℕ) → capped a ≡ capped b → capped (1 + a) ≡ capped (1 + b)
 one-more-same a b same = omega (arith, same)
 
 get-mapped : {X Y : Type 0} (f : X → Y) (xs : List X) (i : ℕ) (d : X) (e : Y) → f d ≡ e → f (get_or xs i d) ≡ get_or (map f xs) i e
@@ -127,44 +127,44 @@ first-there x xs = (0, omega arith, refl)
 pub later-there : {X : Type 0} (x y : X) (xs : List X) → Contains xs y → Contains (x ∷ xs) y
 later-there x y xs within = Contains-append_right (x ∷ []) xs y within
 
--- measures that are the same where they are held
+-- measures that are the same where they are capped
 abbrev pub AreSame : List ℕ → List ℕ → Type 0
-AreSame ns ms = map held ns ≡ map held ms
+AreSame ns ms = map capped ns ≡ map capped ms
 
-module _ (join : ℕ → ℕ → ℕ) (size : Formula → ℕ) (sizes : Formulas → ℕ) (is : IsMeasure join size sizes) (formula_at : ℕ → List Formula → Formula) (measure_at : ℕ → List ℕ → ℕ) (keeps : (k : ℕ) (ns ms : List ℕ) → AreSame ns ms → held (measure_at k ns) ≡ held (measure_at k ms)) (scope : Scope) (places : Places) (fs : List Formula) where
+module _ (join : ℕ → ℕ → ℕ) (size : Formula → ℕ) (sizes : Formulas → ℕ) (is : IsMeasure join size sizes) (formula_at : ℕ → List Formula → Formula) (measure_at : ℕ → List ℕ → ℕ) (keeps : (k : ℕ) (ns ms : List ℕ) → AreSame ns ms → capped (measure_at k ns) ≡ capped (measure_at k ms)) (scope : Scope) (places : Places) (fs : List Formula) where
   -- what these names stand for is measured
   abbrev pub AreMeasured : List NameData → Type 0
-  AreMeasured names = (name : NameData) (k : ℕ) → Contains names name → definition_named (named scope places name.text) ≡ Some k → (gs : List Formula) → held (size (formula_at k gs)) ≡ held (measure_at k (map size gs))
+  AreMeasured names = (name : NameData) (k : ℕ) → Contains names name → definition_named (named scope places name.text) ≡ Some k → (gs : List Formula) → capped (size (formula_at k gs)) ≡ capped (measure_at k (map size gs))
 
-  read-measured : (text : List ℕ) (n : Named) → ((k : ℕ) → definition_named n ≡ Some k → (gs : List Formula) → held (size (formula_at k gs)) ≡ held (measure_at k (map size gs)))
-      → held (size (read_formula formula_at scope fs text n)) ≡ held (read_measure measure_at (map size fs) n)
-  read-measured text unknown told = ap held (is.constant _)
-  read-measured text (parameter i) told = ap held (get-mapped size fs i no_meaning 1 (is.constant _))
-  read-measured text (variable k) told = ap held (is.variable k)
-  read-measured text enum_name told = ap held (is.constant _)
+  read-measured : (text : List ℕ) (n : Named) → ((k : ℕ) → definition_named n ≡ Some k → (gs : List Formula) → capped (size (formula_at k gs)) ≡ capped (measure_at k (map size gs)))
+      → capped (size (read_formula formula_at scope fs text n)) ≡ capped (read_measure measure_at (map size fs) n)
+  read-measured text unknown told = ap capped (is.constant _)
+  read-measured text (parameter i) told = ap capped (get-mapped size fs i no_meaning 1 (is.constant _))
+  read-measured text (variable k) told = ap capped (is.variable k)
+  read-measured text enum_name told = ap capped (is.constant _)
   read-measured text (define k) told = told k refl []
-  read-measured text (predicate k) told = ap held (is.constant _)
+  read-measured text (predicate k) told = ap capped (is.constant _)
 
-  call-measured : (n : Named) (gs : List Formula) (ns : List ℕ) → AreSame (map size gs) ns → ((k : ℕ) → definition_named n ≡ Some k → (gs : List Formula) → held (size (formula_at k gs)) ≡ held (measure_at k (map size gs)))
-      → held (size (call_formula formula_at n gs)) ≡ held (call_measure measure_at n ns)
-  call-measured unknown gs ns same told = ap held (is.constant _)
-  call-measured (parameter i) gs ns same told = ap held (is.constant _)
-  call-measured (variable k) gs ns same told = ap held (is.constant _)
-  call-measured enum_name gs ns same told = ap held (is.constant _)
-  call-measured (define k) gs ns same told = ap held (is.constant _)
+  call-measured : (n : Named) (gs : List Formula) (ns : List ℕ) → AreSame (map size gs) ns → ((k : ℕ) → definition_named n ≡ Some k → (gs : List Formula) → capped (size (formula_at k gs)) ≡ capped (measure_at k (map size gs)))
+      → capped (size (call_formula formula_at n gs)) ≡ capped (call_measure measure_at n ns)
+  call-measured unknown gs ns same told = ap capped (is.constant _)
+  call-measured (parameter i) gs ns same told = ap capped (is.constant _)
+  call-measured (variable k) gs ns same told = ap capped (is.constant _)
+  call-measured enum_name gs ns same told = ap capped (is.constant _)
+  call-measured (define k) gs ns same told = ap capped (is.constant _)
   call-measured (predicate k) gs ns same told = told k refl gs ∙ keeps k _ _ same
 
-  under-one : (f : Formula) (n m : ℕ) → size f ≡ 1 + n → held n ≡ held m → held (size f) ≡ held (1 + m)
-  under-one f n m its same = ap held its ∙ one-more-same n m same
+  under-one : (f : Formula) (n m : ℕ) → size f ≡ 1 + n → capped n ≡ capped m → capped (size f) ≡ capped (1 + m)
+  under-one f n m its same = ap capped its ∙ one-more-same n m same
 
   mutual
-    pub measured : (e : Expression) → AreMeasured (names_in e) → held (size (formula_in formula_at scope places fs e)) ≡ held (measure_in join measure_at scope places (map size fs) e)
+    pub measured : (e : Expression) → AreMeasured (names_in e) → capped (size (formula_in formula_at scope places fs e)) ≡ capped (measure_in join measure_at scope places (map size fs) e)
     measured (expression first at form) told = form-measured form told
 
-    form-measured : (form : Form) → AreMeasured (names_in_form form) → held (size (form_formula formula_at scope places fs form)) ≡ held (form_measure join measure_at scope places (map size fs) form)
-    form-measured Form.True told = ap held (is.constant _)
-    form-measured Form.False told = ap held (is.constant _)
-    form-measured (Form.Number negative digits) told = ap held (is.constant _)
+    form-measured : (form : Form) → AreMeasured (names_in_form form) → capped (size (form_formula formula_at scope places fs form)) ≡ capped (form_measure join measure_at scope places (map size fs) form)
+    form-measured Form.True told = ap capped (is.constant _)
+    form-measured Form.False told = ap capped (is.constant _)
+    form-measured (Form.Number negative digits) told = ap capped (is.constant _)
     form-measured (Form.Read name) told = read-measured name.text (named scope places name.text) (λ k its. told name k (first-there name []) its)
     form-measured (Form.Call name es) told =
         call-measured (named scope places name.text) _ _ (each-measured es (λ n k within. told n k (later-there name n (names_in_each es) within))) (λ k its. told name k (first-there name (names_in_each es)) its)
@@ -180,11 +180,11 @@ module _ (join : ℕ → ℕ → ℕ) (size : Formula → ℕ) (sizes : Formulas
     each-measured : (es : Expressions) → AreMeasured (names_in_each es) → AreSame (map size (listed (formulas_in formula_at scope places fs es))) (measures_in join measure_at scope places (map size fs) es)
     each-measured Expressions.none told = refl
     each-measured (Expressions.one_more e es) told =
-        ap (λ n. n ∷ map held (map size (listed (formulas_in formula_at scope places fs es)))) (measured e (λ n k within. told n k (Contains-append_left _ _ _ within)))
-        ∙ ap (λ ns. held (measure_in join measure_at scope places (map size fs) e) ∷ ns) (each-measured es (λ n k within. told n k (Contains-append_right _ _ _ within)))
+        ap (λ n. n ∷ map capped (map size (listed (formulas_in formula_at scope places fs es)))) (measured e (λ n k within. told n k (Contains-append_left _ _ _ within)))
+        ∙ ap (λ ns. capped (measure_in join measure_at scope places (map size fs) e) ∷ ns) (each-measured es (λ n k within. told n k (Contains-append_right _ _ _ within)))
 
-    joined-measured : (es : Expressions) → AreMeasured (names_in_each es) → held (sizes (formulas_in formula_at scope places fs es)) ≡ held (joined join (measures_in join measure_at scope places (map size fs) es))
-    joined-measured Expressions.none told = ap held is.none
+    joined-measured : (es : Expressions) → AreMeasured (names_in_each es) → capped (sizes (formulas_in formula_at scope places fs es)) ≡ capped (joined join (measures_in join measure_at scope places (map size fs) es))
+    joined-measured Expressions.none told = ap capped is.none
     joined-measured (Expressions.one_more e es) told =
-        ap held (is.one_more _ _)
+        ap capped (is.one_more _ _)
         ∙ is.same _ _ _ _ (measured e (λ n k within. told n k (Contains-append_left _ _ _ within))) (joined-measured es (λ n k within. told n k (Contains-append_right _ _ _ within)))

@@ -11,51 +11,51 @@ use Rattle.spectra_expansion.specs.declared.measure.Use.{Use}
 use Rattle.spectra_expansion.specs.declared.measure.Measure.{Measure}
 use Rattle.spec_model.specs.FormulaSizes.{nodes_in, nodes_in_each, levels_in, levels_in_each}
 use Rattle.spectra_expansion.specs.Expansion.{formula_in}
-use Rattle.spectra_expansion.specs.Measuring.{held, measure_in}
+use Rattle.spectra_expansion.specs.Measuring.{capped, measure_in}
 use Rattle.spectra_expansion.specs.Counting.{first_measure, later_measures, argument_nodes, argument_levels, nodes_of, levels_of, nodes_put, levels_put}
 use Rattle.spectra_expansion.specs.Telling.{Tells, AreUnused}
-use Rattle.spectra_expansion.proofs.Adding.{times_held}
+use Rattle.spectra_expansion.proofs.Adding.{times_capped}
 use Rattle.spectra_expansion.proofs.Measured.{nodes_measure, levels_measure, measured}
 
--- ---- held arguments
+-- ---- capped arguments
 
-first-held : (ns : List ℕ) → held (first_measure ns) ≡ first_measure (map held ns)
-first-held [] = refl
-first-held (n ∷ ns) = refl
+first-capped : (ns : List ℕ) → capped (first_measure ns) ≡ first_measure (map capped ns)
+first-capped [] = refl
+first-capped (n ∷ ns) = refl
 
-later-held : (ns : List ℕ) → map held (later_measures ns) ≡ later_measures (map held ns)
-later-held [] = refl
-later-held (n ∷ ns) = refl
+later-capped : (ns : List ℕ) → map capped (later_measures ns) ≡ later_measures (map capped ns)
+later-capped [] = refl
+later-capped (n ∷ ns) = refl
 
-first-same : (ns ms : List ℕ) → map held ns ≡ map held ms → held (first_measure ns) ≡ held (first_measure ms)
-first-same ns ms same = first-held ns ∙ ap first_measure same ∙ sym (first-held ms)
+first-same : (ns ms : List ℕ) → map capped ns ≡ map capped ms → capped (first_measure ns) ≡ capped (first_measure ms)
+first-same ns ms same = first-capped ns ∙ ap first_measure same ∙ sym (first-capped ms)
 
-later-same : (ns ms : List ℕ) → map held ns ≡ map held ms → map held (later_measures ns) ≡ map held (later_measures ms)
-later-same ns ms same = later-held ns ∙ ap later_measures same ∙ sym (later-held ms)
+later-same : (ns ms : List ℕ) → map capped ns ≡ map capped ms → map capped (later_measures ns) ≡ map capped (later_measures ms)
+later-same ns ms same = later-capped ns ∙ ap later_measures same ∙ sym (later-capped ms)
 
-argument_nodes-same : (us : List Use) (ns ms : List ℕ) → map held ns ≡ map held ms → held (argument_nodes us ns) ≡ held (argument_nodes us ms)
+argument_nodes-same : (us : List Use) (ns ms : List ℕ) → map capped ns ≡ map capped ms → capped (argument_nodes us ns) ≡ capped (argument_nodes us ms)
 argument_nodes-same [] ns ms same = refl
 argument_nodes-same (u ∷ us) ns ms same =
     let rest = argument_nodes-same us (later_measures ns) (later_measures ms) (later-same ns ms same) in
-    let first : held (u.times * first_measure ns) ≡ held (u.times * first_measure ms) = sym (times_held u.times (first_measure ns)) ∙ ap (λ n. held (u.times * n)) (first-same ns ms same) ∙ times_held u.times (first_measure ms) in
+    let first : capped (u.times * first_measure ns) ≡ capped (u.times * first_measure ms) = sym (times_capped u.times (first_measure ns)) ∙ ap (λ n. capped (u.times * n)) (first-same ns ms same) ∙ times_capped u.times (first_measure ms) in
     omega (arith, rest, first)
 
-level-same : (none : Bool) (d a n m rest other : ℕ) → held n ≡ held m → held rest ≡ held other
-    → held (max (if none then 0 else d + a + n) rest) ≡ held (max (if none then 0 else d + a + m) other)
+level-same : (none : Bool) (d a n m rest other : ℕ) → capped n ≡ capped m → capped rest ≡ capped other
+    → capped (max (if none then 0 else d + a + n) rest) ≡ capped (max (if none then 0 else d + a + m) other)
 level-same true d a n m rest other same later = omega (arith, later)
 level-same false d a n m rest other same later = omega (arith, same, later)
 
-argument_levels-same : (d : ℕ) (us : List Use) (ns ms : List ℕ) → map held ns ≡ map held ms → held (argument_levels d us ns) ≡ held (argument_levels d us ms)
+argument_levels-same : (d : ℕ) (us : List Use) (ns ms : List ℕ) → map capped ns ≡ map capped ms → capped (argument_levels d us ns) ≡ capped (argument_levels d us ms)
 argument_levels-same d [] ns ms same = refl
 argument_levels-same d (u ∷ us) ns ms same =
     level-same (u.times == 0) d u.above (first_measure ns) (first_measure ms) (argument_levels d us (later_measures ns)) (argument_levels d us (later_measures ms)) (first-same ns ms same)
     (argument_levels-same d us (later_measures ns) (later_measures ms) (later-same ns ms same))
 
-nodes_of-same : (o : Option Measure) (ns ms : List ℕ) → map held ns ≡ map held ms → held (nodes_of o ns) ≡ held (nodes_of o ms)
+nodes_of-same : (o : Option Measure) (ns ms : List ℕ) → map capped ns ≡ map capped ms → capped (nodes_of o ns) ≡ capped (nodes_of o ms)
 nodes_of-same None ns ms same = refl
 nodes_of-same (Some m) ns ms same = let arguments = argument_nodes-same m.uses.items ns ms same in omega (arith, arguments)
 
-levels_of-same : (o : Option Measure) (ns ms : List ℕ) → map held ns ≡ map held ms → held (levels_of o ns) ≡ held (levels_of o ms)
+levels_of-same : (o : Option Measure) (ns ms : List ℕ) → map capped ns ≡ map capped ms → capped (levels_of o ns) ≡ capped (levels_of o ms)
 levels_of-same None ns ms same = refl
 levels_of-same (Some m) ns ms same = let arguments = argument_levels-same 0 m.uses.items ns ms same in omega (arith, arguments)
 
@@ -66,12 +66,12 @@ abbrev pub TellsNames : Scope → Places → List Measure → (ℕ → List Form
 TellsNames scope places table put e = (name : NameData) (k : ℕ) → Contains (names_in e) name → definition_named (named scope places name.text) ≡ Some k → Tells table put k
 
 pub nodes_told : (scope : Scope) (places : Places) (table : List Measure) (put : ℕ → List Formula → Formula) (e : Expression) (fs : List Formula) → TellsNames scope places table put e
-    → held (nodes_in (formula_in put scope places fs e)) ≡ held (measure_in (λ a b. a + b) (nodes_put table) scope places (map nodes_in fs) e)
+    → capped (nodes_in (formula_in put scope places fs e)) ≡ capped (measure_in (λ a b. a + b) (nodes_put table) scope places (map nodes_in fs) e)
 nodes_told scope places table put e fs told =
     measured (λ a b. a + b) nodes_in nodes_in_each nodes_measure put (nodes_put table) (λ k ns ms same. nodes_of-same (slice_get table k) ns ms same) scope places fs e (λ name k within is gs. (told name k within is).nodes gs)
 
 pub levels_told : (scope : Scope) (places : Places) (table : List Measure) (put : ℕ → List Formula → Formula) (e : Expression) (fs : List Formula) → TellsNames scope places table put e
-    → held (levels_in (formula_in put scope places fs e)) ≡ held (measure_in max (levels_put table) scope places (map levels_in fs) e)
+    → capped (levels_in (formula_in put scope places fs e)) ≡ capped (measure_in max (levels_put table) scope places (map levels_in fs) e)
 levels_told scope places table put e fs told =
     measured max levels_in levels_in_each levels_measure put (levels_put table) (λ k ns ms same. levels_of-same (slice_get table k) ns ms same) scope places fs e (λ name k within is gs. (told name k within is).levels gs)
 

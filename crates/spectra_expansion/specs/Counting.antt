@@ -3,7 +3,7 @@ use Rattle.std.specs.Prelude.{◌≡◌, ℕ, ◌+◌, ◌*◌, ◌≤◌, ◌==
 use Rattle.spectra_names.specs.Spaces.{Named, parameter}
 use Rattle.spectra_expansion.specs.declared.measure.Use.{Use}
 use Rattle.spectra_expansion.specs.declared.measure.Measure.{Measure}
-use Rattle.spectra_expansion.specs.Measuring.{held}
+use Rattle.spectra_expansion.specs.Measuring.{capped}
 
 -- the first argument's measure; where there is none, a leaf's
 abbrev pub first_measure : List ℕ → ℕ
@@ -74,5 +74,5 @@ Covers parameters counted ns = (text : List ℕ) (i : ℕ) → parameters text �
 -- a measure to which these nodes and levels are added, by the measures of arguments
 pub record Adds (parameters : Naming) (old new : Measure) (more_nodes more_levels : List ℕ → ℕ) : Type 0 where
   pub size : length new.uses.items ≡ length old.uses.items
-  pub nodes : (ns : List ℕ) → Covers parameters (length old.uses.items) ns → held (nodes_with new ns) ≡ held (nodes_with old ns + more_nodes ns)
-  pub levels : (ns : List ℕ) → Covers parameters (length old.uses.items) ns → held (levels_with new ns) ≡ held (max (levels_with old ns) (more_levels ns))
+  pub nodes : (ns : List ℕ) → Covers parameters (length old.uses.items) ns → capped (nodes_with new ns) ≡ capped (nodes_with old ns + more_nodes ns)
+  pub levels : (ns : List ℕ) → Covers parameters (length old.uses.items) ns → capped (levels_with new ns) ≡ capped (max (levels_with old ns) (more_levels ns))

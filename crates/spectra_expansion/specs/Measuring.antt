@@ -3,9 +3,9 @@ use Rattle.std.specs.Prelude.{ℕ, ◌+◌, ◌-◌, ◌^◌, min, List, [], ◌
 use Rattle.spectra_trees.specs.Data.{Expression, expression, Form, Expressions}
 use Rattle.spectra_names.specs.Spaces.{Named, parameter, define, predicate, Scope, Places, named}
 
--- a number, held at the greatest one of 64 bits
-abbrev pub held : ℕ → ℕ
-held n = min n (2 ^ 64 - 1)
+-- a number, capped at the greatest one of 64 bits
+abbrev pub capped : ℕ → ℕ
+capped n = min n (2 ^ 64 - 1)
 
 -- of a name read alone; what has no meaning is a leaf
 abbrev pub read_measure : (put : ℕ → List ℕ → ℕ) → (arguments : List ℕ) → Named → ℕ

@@ -8,13 +8,13 @@ use Rattle.spectra_expansion.specs.declared.measure.Use.{Use}
 use Rattle.spectra_expansion.specs.declared.measure.Measure.{Measure}
 use Rattle.spec_model.specs.FormulaSizes.{nodes_in, levels_in}
 use Rattle.spectra_expansion.specs.Expansion.{body_formula, put_in}
-use Rattle.spectra_expansion.specs.Measuring.{held, measure_in}
+use Rattle.spectra_expansion.specs.Measuring.{capped, measure_in}
 use Rattle.spectra_expansion.specs.Counting.{argument_nodes, argument_levels, nodes_with, levels_with, nodes_put, levels_put, Covers}
 
 -- how large a definition's formula is stands in the table
 pub record Tells (table : List Measure) (put : ℕ → List Formula → Formula) (k : ℕ) : Type 0 where
-  pub nodes : (fs : List Formula) → held (nodes_in (put k fs)) ≡ held (nodes_put table k (map nodes_in fs))
-  pub levels : (fs : List Formula) → held (levels_in (put k fs)) ≡ held (levels_put table k (map levels_in fs))
+  pub nodes : (fs : List Formula) → capped (nodes_in (put k fs)) ≡ capped (nodes_put table k (map nodes_in fs))
+  pub levels : (fs : List Formula) → capped (levels_in (put k fs)) ≡ capped (levels_put table k (map levels_in fs))
 
 -- how large each definition's formula is stands in the table
 abbrev pub AreMeasures : Scope → List Measure → Type 0
@@ -28,8 +28,8 @@ pub record AreUnused (uses : List Use) : Type 0 where
 -- a measure of an expression, by the measures in a table
 pub record IsMeasured (scope : Scope) (places : Places) (table : List Measure) (counted : ℕ) (m : Measure) (e : Expression) : Type 0 where
   pub size : length m.uses.items ≡ counted
-  pub nodes : (ns : List ℕ) → Covers (named scope places) counted ns → held (nodes_with m ns) ≡ held (measure_in (λ a b. a + b) (nodes_put table) scope places ns e)
-  pub levels : (ns : List ℕ) → Covers (named scope places) counted ns → held (levels_with m ns) ≡ held (measure_in max (levels_put table) scope places ns e)
+  pub nodes : (ns : List ℕ) → Covers (named scope places) counted ns → capped (nodes_with m ns) ≡ capped (measure_in (λ a b. a + b) (nodes_put table) scope places ns e)
+  pub levels : (ns : List ℕ) → Covers (named scope places) counted ns → capped (levels_with m ns) ≡ capped (measure_in max (levels_put table) scope places ns e)
 
 -- outside of predicates no name is a parameter
 abbrev pub HasNoParameters : Scope → Type 0
@@ -41,5 +41,5 @@ TellsUses scope table put d = (at k : ℕ) → slice_get (uses_of scope d) at �
 
 -- a measure of a definition's body, where the table tells what it uses
 pub record MeasuresBody (scope : Scope) (table : List Measure) (m : Measure) (d : Definition) : Type 0 where
-  pub nodes : (put : ℕ → List Formula → Formula) → TellsUses scope table put d → (fs : List Formula) → held (nodes_in (body_formula put scope fs (Some d))) ≡ held (nodes_with m (map nodes_in fs))
-  pub levels : (put : ℕ → List Formula → Formula) → TellsUses scope table put d → (fs : List Formula) → held (levels_in (body_formula put scope fs (Some d))) ≡ held (levels_with m (map levels_in fs))
+  pub nodes : (put : ℕ → List Formula → Formula) → TellsUses scope table put d → (fs : List Formula) → capped (nodes_in (body_formula put scope fs (Some d))) ≡ capped (nodes_with m (map nodes_in fs))
+  pub levels : (put : ℕ → List Formula → Formula) → TellsUses scope table put d → (fs : List Formula) → capped (levels_in (body_formula put scope fs (Some d))) ≡ capped (levels_with m (map levels_in fs))

@@ -1,6 +1,6 @@
 //! The measures of a text's definitions, along an order in which each stands behind those that it uses.
 
-ghost use Rattle.std.specs.Prelude.{◌≡◌, ◌<◌, [], length, IfOk, OnOk};
+ghost use Rattle.std.specs.Prelude.{◌≡◌, ◌<◌, length, IfOk, OnOk};
 ghost use Rattle.spectra_order.specs.Orders.{IsOrder};
 ghost use Rattle.spectra_names.specs.ScopeViews.{definition_data, scope_data};
 ghost use Rattle.spectra_expansion.specs.Filling.{IsLeaf, AreLeaves, PutsBody, Puts};

@@ -2,10 +2,10 @@
 
 ghost use Rattle.std.specs.Prelude.{◌≡◌, ◌<◌, ◌+◌, ◌*◌, ◌==◌, max, if◌then◌else◌, ℕ, List, [], length, get_or};
 ghost use Rattle.spectra_names.specs.Spaces.{parameter};
-ghost use Rattle.spectra_expansion.specs.Measuring.{held};
+ghost use Rattle.spectra_expansion.specs.Measuring.{capped};
 ghost use Rattle.spectra_expansion.specs.Counting.{argument_nodes, argument_levels, Naming, Adds};
 
-/// How often a parameter stands in a formula, and the greatest number of levels above it. Both are held at the greatest
+/// How often a parameter stands in a formula, and the greatest number of levels above it. Both are capped at the greatest
 /// number of 64 bits.
 #[derive(Clone, Copy)]
 pub struct Use {
@@ -24,7 +24,7 @@ pub struct Measure {
 impl Use {
     // One with more uses, as many levels below others.
     fn with(self, times: u64, above: u64) -> Use
-        ensures times { result.times ≡ held (self.times + times) }
+        ensures times { result.times ≡ capped (self.times + times) }
         ensures above { result.above ≡ (if self.times == 0 then above else max self.above above) }
     {
         Use {

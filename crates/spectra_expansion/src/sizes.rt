@@ -1,12 +1,12 @@
 //! How large the formulas of expressions and of definitions are.
 
-ghost use Rattle.std.specs.Prelude.{◌≡◌, [], length};
+ghost use Rattle.std.specs.Prelude.{◌≡◌, length};
 ghost use Rattle.spec_model.specs.Syntax.{Formula};
 ghost use Rattle.spectra_trees.specs.Views.{expr_data};
 ghost use Rattle.spectra_names.specs.ScopeViews.{places_in, scope_data};
 ghost use Rattle.spec_model.specs.FormulaSizes.{nodes_in, levels_in};
 ghost use Rattle.spectra_expansion.specs.Expansion.{formula_of, is_small as is_small_lem};
-ghost use Rattle.spectra_expansion.specs.Measuring.{held};
+ghost use Rattle.spectra_expansion.specs.Measuring.{capped};
 ghost use Rattle.spectra_expansion.specs.Telling.{AreMeasures, AreUnused, IsMeasured};
 
 use crate::counting::{Counting, count};
@@ -15,7 +15,7 @@ use spectra_names::scope::{Parameters, Scope};
 use spectra_trees::tree::ExprTree;
 use std::alloc::Global;
 
-/// How many nodes and levels a formula has, held at the greatest number of 64 bits.
+/// How many nodes and levels a formula has, capped at the greatest number of 64 bits.
 #[derive(Clone, Copy, Debug)]
 pub struct Size {
     pub nodes: u64,
@@ -61,8 +61,8 @@ pub fn size_of(
     e: &ExprTree,
 ) -> Size
     requires { AreMeasures (scope_data scope.now) table.now }
-    ensures nodes { result.nodes ≡ held (nodes_in (formula_of (scope_data scope.now) (places_in parameters.now) (expr_data e.now))) }
-    ensures levels { result.levels ≡ held (levels_in (formula_of (scope_data scope.now) (places_in parameters.now) (expr_data e.now))) }
+    ensures nodes { result.nodes ≡ capped (nodes_in (formula_of (scope_data scope.now) (places_in parameters.now) (expr_data e.now))) }
+    ensures levels { result.levels ≡ capped (levels_in (formula_of (scope_data scope.now) (places_in parameters.now) (expr_data e.now))) }
 {
     let m = measure_of(scope, parameters, table, Vec::new(alloc), e);
     Size {
@@ -74,7 +74,7 @@ pub fn size_of(
 #[tactic(auto, using(crate::proofs::Small::small_by_size))]
 /// Whether a formula of this size is no larger than one line may be.
 pub fn is_small(size: Size) -> bool
-    ensures { (f : Formula) → size.nodes ≡ held (nodes_in f) → size.levels ≡ held (levels_in f) → result ≡ is_small_lem f }
+    ensures { (f : Formula) → size.nodes ≡ capped (nodes_in f) → size.levels ≡ capped (levels_in f) → result ≡ is_small_lem f }
 {
     size.nodes <= 1_000_000 && size.levels <= 512
 }

@@ -1,6 +1,6 @@
 //! Comparisons, conjunctions, disjunctions and whole expressions: one function for each production.
 
-ghost use Rattle.std.specs.Prelude.{◌<◌, ◌≤◌, [], length, IfOk};
+ghost use Rattle.std.specs.Prelude.{◌<◌};
 ghost use Rattle.spectra_trees.specs.Views.{expr_data};
 ghost use Rattle.spectra_trees.specs.Lexemes.{lexemes_of};
 ghost use Rattle.spectra_exprs.specs.Read.{Gives, starts as starts_lem, all_of};

@@ -2,7 +2,7 @@
 //!
 //! Each function answers the tree and the tokens behind it, or the fault at the first token that goes on no text.
 
-ghost use Rattle.std.specs.Prelude.{◌<◌, ◌≤◌, [], length, map, IfOk};
+ghost use Rattle.std.specs.Prelude.{◌<◌, map};
 ghost use Rattle.spectra_trees.specs.Views.{expr_data};
 ghost use Rattle.spectra_trees.specs.Lexemes.{lexeme_of, lexemes_of};
 ghost use Rattle.spectra_exprs.specs.Read.{Gives, starts as starts_lem, all_of};

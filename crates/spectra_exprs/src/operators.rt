@@ -1,10 +1,10 @@
 //! Tokens and operators at the front of what is left to read.
 
-ghost use Rattle.std.specs.Prelude.{◌≡◌, ◌<◌, ◌≤◌, length, IfOk, IfSome, option_map};
+ghost use Rattle.std.specs.Prelude.{◌≡◌, ◌<◌, option_map};
 ghost use Rattle.spectra_trees.specs.Views.{expr_data};
 ghost use Rattle.spectra_trees.specs.Lexemes.{lexeme_of, lexemes_of};
 ghost use Rattle.spectra_exprs.specs.Read.{Gives, first_number as first_number_lem, starts as starts_lem, expect as expect_lem};
-ghost use Rattle.spectra_exprs.specs.Operators.{prefix_word as prefix_word_lem, arrow_word as arrow_word_lem, past_word as past_word_lem, relation_word as relation_word_lem, sum_word as sum_word_lem, operator_word as operator_word_lem, operator_at, prefix_at, starts_sum as starts_sum_lem, starts_or as starts_or_lem, expect_or as expect_or_lem, joins as joins_lem, is_some, is_operator as is_operator_lem, closed as closed_lem};
+ghost use Rattle.spectra_exprs.specs.Operators.{prefix_word as prefix_word_lem, arrow_word as arrow_word_lem, past_word as past_word_lem, relation_word as relation_word_lem, sum_word as sum_word_lem, operator_word as operator_word_lem, operator_at, prefix_at, starts_sum as starts_sum_lem, starts_or as starts_or_lem, expect_or as expect_or_lem, joins as joins_lem, is_operator as is_operator_lem, closed as closed_lem};
 
 use crate::fault::SyntaxFault;
 use spectra_trees::class::{Class, is_same};

@@ -1,6 +1,6 @@
 //! The trees of single tokens, and what is read so far of a sum or a chain.
 
-ghost use Rattle.std.specs.Prelude.{◌≡◌, ◌<◌, ◌≤◌, ◌++◌, ◌∷◌, [], false, true, length, map, IfOk, IfErr};
+ghost use Rattle.std.specs.Prelude.{◌≡◌, ◌<◌, ◌++◌, ◌∷◌, [], false, true, map, IfOk, IfErr};
 ghost use Rattle.spectra_trees.specs.Data.{expression};
 ghost use Rattle.spectra_trees.specs.Views.{expr_data, form_data};
 ghost use Rattle.spectra_trees.specs.Lexemes.{lexeme_of, lexemes_of};

@@ -1,4 +1,5 @@
 -- What is open around a part of an expression, and the faults of what stands where it may not.
+use Rattle.spectra_trees.specs.declared.faults.TheConstants.{NEXT_HERE, NEXT_NESTED, NEXT_OF_SYSTEM, SYSTEM_IN_INITIAL, WRONG_TYPE}
 use Rattle.std.specs.Prelude.{◌≡◌, ℕ, Bool, true, false, ◌==◌, nat_lt, ◌&&◌, if◌then◌else◌, List, [], ◌∷◌, ◌++◌, Option, Some, None, unwrap_or, All}
 use Rattle.std.specs.List.{list_any}
 use Rattle.spectra_resolved.specs.declared.spot.Spot.{Spot}
@@ -63,19 +64,19 @@ within names false at o = o
 
 -- a part in a `next`, where it may not be
 abbrev pub in_next : Brought → Option Spot → Spot → List Finding
-in_next names (Some outer) at = fault 11 (meeting names outer at at) ∷ []
+in_next names (Some outer) at = fault NEXT_NESTED (meeting names outer at at) ∷ []
 in_next names None at = []
 
 -- a `next` in past operators: at the first of them that a body brings, or else at itself
 abbrev pub in_past : Around → Spot → List Finding
-in_past o at = fault_if o.past 11 (unwrap_or o.brought at)
+in_past o at = fault_if o.past NEXT_NESTED (unwrap_or o.brought at)
 
 -- a `next`, and a past operator
 abbrev pub next_faults : Brought → Bans → Around → Spot → List Finding
-next_faults names bans o at = fault_if bans.next 10 at ++ (in_next names o.next at ++ in_past o at)
+next_faults names bans o at = fault_if bans.next NEXT_HERE at ++ (in_next names o.next at ++ in_past o at)
 
 abbrev pub past_faults : Brought → Bans → (next : Option Spot) → Spot → List Finding
-past_faults names bans next at = fault_if bans.past 9 at ++ in_next names next at
+past_faults names bans next at = fault_if bans.past WRONG_TYPE at ++ in_next names next at
 
 -- what is read under a `next`, where it may not be
 abbrev pub shifted : Brought → (banned : Bool) → ℕ → (next : Option Spot) → Spot → List Finding
@@ -85,8 +86,8 @@ shifted names banned number None at = []
 -- a variable, of the system or not
 abbrev pub variable_faults : Brought → Bans → (next : Option Spot) → Spot → (system : Bool) → List Finding
 variable_faults names bans next at system =
-    fault_if bans.variable 9 at ++ (fault_if (bans.system && system) 13 at ++ shifted names (bans.shifted_system && system) 12 next at)
+    fault_if bans.variable WRONG_TYPE at ++ (fault_if (bans.system && system) SYSTEM_IN_INITIAL at ++ shifted names (bans.shifted_system && system) NEXT_OF_SYSTEM next at)
 
 -- a parameter of a pattern
 abbrev pub parameter_faults : Brought → Bans → (next : Option Spot) → Spot → List Finding
-parameter_faults names bans next at = fault_if bans.parameter 9 at ++ shifted names bans.shifted_parameter 10 next at
+parameter_faults names bans next at = fault_if bans.parameter WRONG_TYPE at ++ shifted names bans.shifted_parameter NEXT_HERE next at

@@ -40,9 +40,9 @@ can_equal _ _ = false
 
 -- ---- spans
 
--- An end past 64 bits is held at the nearest number of 64 bits. Every such end is faulty.
-abbrev pub held : ℤ → ℤ
-held z = saturate_signed w64 z
+-- An end past 64 bits is capped at the nearest number of 64 bits. Every such end is faulty.
+abbrev pub capped : ℤ → ℤ
+capped z = saturate_signed w64 z
 
 -- an end outside -10^12 to 10^12
 abbrev pub is_far : ℤ → Bool
@@ -55,11 +55,11 @@ is_wide _ = false
 
 -- the least interval with all sums, differences and products of the ends
 abbrev pub added : Kind → Kind → Kind
-added (Whole a b) (Whole c d) = Whole (held (a +ℤ c)) (held (b +ℤ d))
+added (Whole a b) (Whole c d) = Whole (capped (a +ℤ c)) (capped (b +ℤ d))
 added _ _ = SomeWhole
 
 abbrev pub subtracted : Kind → Kind → Kind
-subtracted (Whole a b) (Whole c d) = Whole (held (a -ℤ d)) (held (b -ℤ c))
+subtracted (Whole a b) (Whole c d) = Whole (capped (a -ℤ d)) (capped (b -ℤ c))
 subtracted _ _ = SomeWhole
 
 abbrev pub least_of : ℤ → ℤ → ℤ → ℤ → ℤ
@@ -70,7 +70,7 @@ greatest_of p q r s = int_max (int_max p q) (int_max r s)
 
 abbrev pub multiplied : Kind → Kind → Kind
 multiplied (Whole a b) (Whole c d) =
-    Whole (least_of (held (a *ℤ c)) (held (a *ℤ d)) (held (b *ℤ c)) (held (b *ℤ d))) (greatest_of (held (a *ℤ c)) (held (a *ℤ d)) (held (b *ℤ c)) (held (b *ℤ d)))
+    Whole (least_of (capped (a *ℤ c)) (capped (a *ℤ d)) (capped (b *ℤ c)) (capped (b *ℤ d))) (greatest_of (capped (a *ℤ c)) (capped (a *ℤ d)) (capped (b *ℤ c)) (capped (b *ℤ d)))
 multiplied _ _ = SomeWhole
 
 -- from 0 to n - 1, whatever is divided

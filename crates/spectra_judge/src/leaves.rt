@@ -15,6 +15,7 @@ use crate::operators::{gives, takes};
 use spectra_resolved::findings::Findings;
 use spectra_resolved::spot::Spot;
 use spectra_resolved::tree::{Hole, Leaf, Misuse};
+use spectra_trees::faults::{WIDE_INT, WRONG_TYPE};
 use spectra_trees::tree::BinaryWord;
 
 // What fits where a hole is.
@@ -59,14 +60,14 @@ pub fn misuse_kind<'a>(misuse: Misuse) -> Kind<'a>
 pub fn report_wrong(findings: &mut Findings, right: bool, at: Spot)
     ensures { found_in findings.new ≡ with_faults (found_in findings.old) (wrong right at) }
 {
-    report_if(findings, !right, 9, at);
+    report_if(findings, !right, WRONG_TYPE, at);
 }
 
 // Reports a span that is too wide.
 fn report_wide(findings: &mut Findings, kind: Kind<'_>, at: Spot)
     ensures { found_in findings.new ≡ with_faults (found_in findings.old) (wide (kind_data kind.entry) at) }
 {
-    report_if(findings, is_wide(kind), 14, at);
+    report_if(findings, is_wide(kind), WIDE_INT, at);
 }
 
 #[tactic(auto, using(spectra_resolved::proofs::First::with_faults_append))]
@@ -90,7 +91,7 @@ pub fn report_remainder(
     ensures { found_in findings.new ≡ with_faults (found_in findings.old) (remainder_faults (kind_data kind.entry) operator number_at n) }
 {
     report_wrong(findings, is_whole(kind), operator);
-    report_if(findings, n <= 0, 14, number_at);
+    report_if(findings, n <= 0, WIDE_INT, number_at);
     report_wide(findings, reduced(n), operator);
 }
 

@@ -12,6 +12,9 @@ use crate::findings::report_if;
 use crate::known::Setting;
 use spectra_resolved::findings::Findings;
 use spectra_resolved::spot::Spot;
+use spectra_trees::faults::{
+    NEXT_HERE, NEXT_NESTED, NEXT_OF_SYSTEM, SYSTEM_IN_INITIAL, WRONG_TYPE,
+};
 
 // Reports a part in a `next`, where it may not be.
 fn report_in_next(findings: &mut Findings, names: &[Spot], next: Option<Spot>, at: Spot)
@@ -19,7 +22,7 @@ fn report_in_next(findings: &mut Findings, names: &[Spot], next: Option<Spot>, a
     ensures { found_in findings.new ≡ with_faults (found_in findings.old) (in_next names.now next at) }
 {
     match next {
-        Some(next) => findings.report(11, meeting(names, next, at, at)),
+        Some(next) => findings.report(NEXT_NESTED, meeting(names, next, at, at)),
         None => {}
     }
 }
@@ -28,7 +31,12 @@ fn report_in_next(findings: &mut Findings, names: &[Spot], next: Option<Spot>, a
 fn report_in_past(findings: &mut Findings, around: Around, at: Spot)
     ensures { found_in findings.new ≡ with_faults (found_in findings.old) (in_past around at) }
 {
-    report_if(findings, around.past, 11, around.brought.unwrap_or(at));
+    report_if(
+        findings,
+        around.past,
+        NEXT_NESTED,
+        around.brought.unwrap_or(at),
+    );
 }
 
 #[tactic(auto, using(spectra_resolved::proofs::First::with_faults_append))]
@@ -37,7 +45,7 @@ pub fn report_next(findings: &mut Findings, setting: &Setting<'_, '_>, around: A
     requires rising { AreRising (setting_data setting.now).known.brought }
     ensures { found_in findings.new ≡ with_faults (found_in findings.old) (next_faults (setting_data setting.now).known.brought setting.now.bans around at) }
 {
-    report_if(findings, setting.bans.next, 10, at);
+    report_if(findings, setting.bans.next, NEXT_HERE, at);
     report_in_next(findings, setting.known.brought, around.next, at);
     report_in_past(findings, around, at);
 }
@@ -48,7 +56,7 @@ fn report_past(findings: &mut Findings, setting: &Setting<'_, '_>, next: Option<
     requires rising { AreRising (setting_data setting.now).known.brought }
     ensures { found_in findings.new ≡ with_faults (found_in findings.old) (past_faults (setting_data setting.now).known.brought setting.now.bans next at) }
 {
-    report_if(findings, setting.bans.past, 9, at);
+    report_if(findings, setting.bans.past, WRONG_TYPE, at);
     report_in_next(findings, setting.known.brought, next, at);
 }
 
@@ -104,9 +112,16 @@ pub fn report_variable(
 {
     let bans = setting.bans;
     let names = setting.known.brought;
-    report_if(findings, bans.variable, 9, at);
-    report_if(findings, bans.system && system, 13, at);
-    report_shifted(findings, names, bans.shifted_system && system, 12, next, at);
+    report_if(findings, bans.variable, WRONG_TYPE, at);
+    report_if(findings, bans.system && system, SYSTEM_IN_INITIAL, at);
+    report_shifted(
+        findings,
+        names,
+        bans.shifted_system && system,
+        NEXT_OF_SYSTEM,
+        next,
+        at,
+    );
 }
 
 #[tactic(auto, using(spectra_resolved::proofs::First::with_faults_append))]
@@ -121,12 +136,12 @@ pub fn report_parameter(
     ensures { found_in findings.new ≡ with_faults (found_in findings.old) (parameter_faults (setting_data setting.now).known.brought setting.now.bans next at) }
 {
     let bans = setting.bans;
-    report_if(findings, bans.parameter, 9, at);
+    report_if(findings, bans.parameter, WRONG_TYPE, at);
     report_shifted(
         findings,
         setting.known.brought,
         bans.shifted_parameter,
-        10,
+        NEXT_HERE,
         next,
         at,
     );

@@ -5,7 +5,7 @@ use Rattle.std.proofs.lemmas.Int.{ints, clamps}
 use Rattle.std.proofs.lemmas.Bool.{true≢false}
 use Rattle.std.proofs.Math.Nat.{mod-lt}
 use Rattle.std.proofs.Math.IntN.{*ℤ_comm, zero-*ℤ, suc_ℤ-*ℤ, pred_ℤ-*ℤ}
-use Rattle.spectra_kinds.specs.Kinds.{Kind, Truth, Whole, SomeWhole, NameOf, OneName, Anything, held, is_far, is_wide, least_of, greatest_of, added, subtracted, multiplied, reduced}
+use Rattle.spectra_kinds.specs.Kinds.{Kind, Truth, Whole, SomeWhole, NameOf, OneName, Anything, capped, is_far, is_wide, least_of, greatest_of, added, subtracted, multiplied, reduced}
 use Rattle.spectra_kinds.specs.Types.{Worth, worth_of}
 use Rattle.spectra_kinds.specs.Spans.{IsBetween, IsInSpan}
 
@@ -46,13 +46,13 @@ down_left y a b x h = elim (down_right y a b x h) [ inl k ↦ inl (turned y a y 
 up_left : (y a b x : ℤ) → IsBetween a b x → ((x *ℤ y) ≤ℤ (a *ℤ y)) ⊎ ((x *ℤ y) ≤ℤ (b *ℤ y))
 up_left y a b x h = elim (up_right y a b x h) [ inl k ↦ inl (turned y x y a k) | inr k ↦ inr (turned y x y b k) ]
 
--- ---- ends that are held
+-- ---- ends that are capped
 
-held_rises : (a b : ℤ) → a ≤ℤ b → held a ≤ℤ held b
-held_rises (pos a) (pos b) h = omega (arith, ints)
-held_rises (pos a) (negsuc b) h = omega (arith, ints)
-held_rises (negsuc a) (pos b) h = omega (arith, ints)
-held_rises (negsuc a) (negsuc b) h = omega (arith, ints)
+capped_rises : (a b : ℤ) → a ≤ℤ b → capped a ≤ℤ capped b
+capped_rises (pos a) (pos b) h = omega (arith, ints)
+capped_rises (pos a) (negsuc b) h = omega (arith, ints)
+capped_rises (negsuc a) (pos b) h = omega (arith, ints)
+capped_rises (negsuc a) (negsuc b) h = omega (arith, ints)
 
 at_most_through : (a b c : ℤ) → a ≤ℤ b → b ≤ℤ c → a ≤ℤ c
 at_most_through a b c h k = omega (arith, ints)
@@ -98,46 +98,46 @@ near_low low high e = near_ends low (both_false (is_far low) _ e).0
 pub near_high : (low high : ℤ) → is_wide (Whole low high) ≡ false → IsBetween (neg_ℤ (pos (10 ^ 12))) (pos (10 ^ 12)) high
 near_high low high e = near_ends high (both_false (is_far high) _ (both_false (is_far low) _ e).1).0
 
-held-near : (z : ℤ) → IsBetween (neg_ℤ (pos (10 ^ 12))) (pos (10 ^ 12)) (held z) → held z ≡ z
-held-near (pos n) h = let above = h.above in let below = h.below in omega (arith, ints)
-held-near (negsuc n) h = let above = h.above in let below = h.below in omega (arith, ints)
+capped-near : (z : ℤ) → IsBetween (neg_ℤ (pos (10 ^ 12))) (pos (10 ^ 12)) (capped z) → capped z ≡ z
+capped-near (pos n) h = let above = h.above in let below = h.below in omega (arith, ints)
+capped-near (negsuc n) h = let above = h.above in let below = h.below in omega (arith, ints)
 
 -- ---- sums, differences, products and remainders are in their spans
 
 module _ (a b c d x y : ℤ) (in_first : IsBetween a b x) (in_second : IsBetween c d y) where
-  pub sum_inside : IsInSpan (added (Whole a b) (Whole c d)) (held (x +ℤ y))
+  pub sum_inside : IsInSpan (added (Whole a b) (Whole c d)) (capped (x +ℤ y))
   sum_inside _ =
       record {
-        above = held_rises (a +ℤ c) (x +ℤ y) (omega (arith, ints));
-        below = held_rises (x +ℤ y) (b +ℤ d) (omega (arith, ints));
+        above = capped_rises (a +ℤ c) (x +ℤ y) (omega (arith, ints));
+        below = capped_rises (x +ℤ y) (b +ℤ d) (omega (arith, ints));
       }
 
-  pub difference_inside : IsInSpan (subtracted (Whole a b) (Whole c d)) (held (x -ℤ y))
+  pub difference_inside : IsInSpan (subtracted (Whole a b) (Whole c d)) (capped (x -ℤ y))
   difference_inside _ =
       record {
-        above = held_rises (a -ℤ d) (x -ℤ y) (omega (arith, ints));
-        below = held_rises (x -ℤ y) (b -ℤ c) (omega (arith, ints));
+        above = capped_rises (a -ℤ d) (x -ℤ y) (omega (arith, ints));
+        below = capped_rises (x -ℤ y) (b -ℤ c) (omega (arith, ints));
       }
 
   abbrev ac : ℤ
-  ac = held (a *ℤ c)
+  ac = capped (a *ℤ c)
 
   abbrev ad : ℤ
-  ad = held (a *ℤ d)
+  ad = capped (a *ℤ d)
 
   abbrev bc : ℤ
-  bc = held (b *ℤ c)
+  bc = capped (b *ℤ c)
 
   abbrev bd : ℤ
-  bd = held (b *ℤ d)
+  bd = capped (b *ℤ d)
 
-  low_enough : (p q r : ℤ) → least_of ac ad bc bd ≤ℤ held p → p ≤ℤ q → q ≤ℤ r → least_of ac ad bc bd ≤ℤ held r
-  low_enough p q r h k l = at_most_through _ _ _ h (held_rises p r (at_most_through p q r k l))
+  low_enough : (p q r : ℤ) → least_of ac ad bc bd ≤ℤ capped p → p ≤ℤ q → q ≤ℤ r → least_of ac ad bc bd ≤ℤ capped r
+  low_enough p q r h k l = at_most_through _ _ _ h (capped_rises p r (at_most_through p q r k l))
 
-  high_enough : (p q r : ℤ) → held p ≤ℤ greatest_of ac ad bc bd → r ≤ℤ q → q ≤ℤ p → held r ≤ℤ greatest_of ac ad bc bd
-  high_enough p q r h k l = at_most_through _ _ _ (held_rises r p (at_most_through r q p k l)) h
+  high_enough : (p q r : ℤ) → capped p ≤ℤ greatest_of ac ad bc bd → r ≤ℤ q → q ≤ℤ p → capped r ≤ℤ greatest_of ac ad bc bd
+  high_enough p q r h k l = at_most_through _ _ _ (capped_rises r p (at_most_through r q p k l)) h
 
-  product_above : least_of ac ad bc bd ≤ℤ held (x *ℤ y)
+  product_above : least_of ac ad bc bd ≤ℤ capped (x *ℤ y)
   product_above = elim (down_right x c d y in_second) [
     | inl h ↦ elim (down_left c a b x in_first) [
       | inl g ↦ low_enough (a *ℤ c) (x *ℤ c) (x *ℤ y) (least_below_1 ac ad bc bd) g h
@@ -149,7 +149,7 @@ module _ (a b c d x y : ℤ) (in_first : IsBetween a b x) (in_second : IsBetween
     ]
   ]
 
-  product_below : held (x *ℤ y) ≤ℤ greatest_of ac ad bc bd
+  product_below : capped (x *ℤ y) ≤ℤ greatest_of ac ad bc bd
   product_below = elim (up_right x c d y in_second) [
     | inl h ↦ elim (up_left c a b x in_first) [
       | inl g ↦ high_enough (a *ℤ c) (x *ℤ c) (x *ℤ y) (greatest_above_1 ac ad bc bd) h g
@@ -161,7 +161,7 @@ module _ (a b c d x y : ℤ) (in_first : IsBetween a b x) (in_second : IsBetween
     ]
   ]
 
-  pub product_inside : IsInSpan (multiplied (Whole a b) (Whole c d)) (held (x *ℤ y))
+  pub product_inside : IsInSpan (multiplied (Whole a b) (Whole c d)) (capped (x *ℤ y))
   product_inside _ = record { above = product_above; below = product_below }
 
 remainder_between : (z : ℤ) (n : ℕ) → 0 < n → IsBetween (pos 0) (pos (n - 1)) (int_rem_euclid z (pos n))
@@ -173,11 +173,11 @@ remainder_inside z n h = let e : eqb n 0 ≡ false = ne_eqb n 0 (omega arith) in
 
 -- ---- worths
 
--- what passes 64 bits may be held, since its span is too wide
-pub held_worth : (span : Kind) (z : ℤ) → IsInSpan span (held z) → worth_of (held z) span ≡ worth_of z span
-held_worth (Whole low high) z inside = by (is_wide (Whole low high)) refl
+-- what passes 64 bits may be capped, since its span is too wide
+pub capped_worth : (span : Kind) (z : ℤ) → IsInSpan span (capped z) → worth_of (capped z) span ≡ worth_of z span
+capped_worth (Whole low high) z inside = by (is_wide (Whole low high)) refl
   where
-    by : (wide : Bool) → is_wide (Whole low high) ≡ wide → worth_of (held z) (Whole low high) ≡ worth_of z (Whole low high)
+    by : (wide : Bool) → is_wide (Whole low high) ≡ wide → worth_of (capped z) (Whole low high) ≡ worth_of z (Whole low high)
     by true e = rw e refl
     by false e =
         let there = inside e in
@@ -185,16 +185,16 @@ held_worth (Whole low high) z inside = by (is_wide (Whole low high)) refl
         let high_end = near_high low high e in
         let above = at_most_through _ _ _ low_end.above there.above in
         let below = at_most_through _ _ _ there.below high_end.below in
-        ap (λ v. worth_of v (Whole low high)) (held-near z record { above = above; below = below })
-held_worth Truth z inside = absurd inside
-held_worth SomeWhole z inside = absurd inside
-held_worth (NameOf names) z inside = absurd inside
-held_worth (OneName name) z inside = absurd inside
-held_worth Anything z inside = absurd inside
+        ap (λ v. worth_of v (Whole low high)) (capped-near z record { above = above; below = below })
+capped_worth Truth z inside = absurd inside
+capped_worth SomeWhole z inside = absurd inside
+capped_worth (NameOf names) z inside = absurd inside
+capped_worth (OneName name) z inside = absurd inside
+capped_worth Anything z inside = absurd inside
 
--- a call with the held value, whose span is the one that is meant
-pub is_inside : (s span : Kind) (v z : ℤ) → s ≡ span → v ≡ held z → IsInSpan span (held z) → IsInSpan s v
+-- a call with the capped value, whose span is the one that is meant
+pub is_inside : (s span : Kind) (v z : ℤ) → s ≡ span → v ≡ capped z → IsInSpan span (capped z) → IsInSpan s v
 is_inside s span v z same value inside = rw (same, value) inside
 
-pub has_worth : (r : Option Worth) (s span : Kind) (v z : ℤ) → s ≡ span → v ≡ held z → IsInSpan span (held z) → r ≡ worth_of v s → r ≡ worth_of z span
-has_worth r s span v z same value inside is = is ∙ (λ j. worth_of (value j) (same j)) ∙ held_worth span z inside
+pub has_worth : (r : Option Worth) (s span : Kind) (v z : ℤ) → s ≡ span → v ≡ capped z → IsInSpan span (capped z) → r ≡ worth_of v s → r ≡ worth_of z span
+has_worth r s span v z same value inside is = is ∙ (λ j. worth_of (value j) (same j)) ∙ capped_worth span z inside

@@ -47,7 +47,7 @@ fn span_of<'a>(worth: Worth) -> Kind<'a>
     Kind::Whole(worth.low, worth.high)
 }
 
-// What a sum is worth. A value past 64 bits is held, and its span is too wide.
+// What a sum is worth. A value past 64 bits is capped, and its span is too wide.
 fn sum_worth(a: Worth, b: Worth) -> Option<Worth>
     ensures { option_map worth_data result ≡ worth_of_lem (a.value +ℤ b.value) (added (Whole a.low a.high) (Whole b.low b.high)) }
 {

@@ -1,6 +1,6 @@
 //! What holds of the tokens and the faults of every text.
 
-ghost use Rattle.std.specs.Prelude.{◌≡◌, ℕ, List};
+ghost use Rattle.std.specs.Prelude.{◌≡◌, ℕ};
 ghost use Rattle.spectra_lexer.specs.Tokens.{AreTokens};
 ghost use Rattle.spectra_lexer.specs.Faults.{IsTooLong, IsNotUtf8At, IsBadAt};
 ghost use Rattle.spectra_lexer.specs.Slices.{AreSlices};

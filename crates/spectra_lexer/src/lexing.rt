@@ -1,6 +1,6 @@
 //! From a text to its tokens.
 
-ghost use Rattle.std.specs.Prelude.{◌≡◌, ◌≢◌, ◌≤◌, ◌<◌, ◌++◌, [], ℕ, List, length, IfOk, IfErr, IsErrOf, ◌↔◌, ◌⊎◌};
+ghost use Rattle.std.specs.Prelude.{◌≡◌, ◌≢◌, ◌<◌, ◌++◌, [], ℕ, List, length, IfOk, IfErr, IsErrOf, ◌↔◌, ◌⊎◌};
 ghost use Rattle.std.specs.Str.{chars};
 ghost use Rattle.spectra_lexer.specs.Tokens.{AreTokens, Lexes, token_if, kind_of_piece as kind_of_piece_lem};
 ghost use Rattle.spectra_lexer.specs.Faults.{IsTooLong, IsNotUtf8At, IsBadAt, IsStranger, FailsAt, IsPlaced};

@@ -1,6 +1,6 @@
 //! Where the piece at the front of a text ends.
 
-ghost use Rattle.std.specs.Prelude.{◌≡◌, ◌≢◌, ◌==◌, ◌&&◌, ◌+◌, ◌<◌, ◌++◌, [], ℕ, List, length, codes, IfSome, IfNone};
+ghost use Rattle.std.specs.Prelude.{◌≡◌, ◌≢◌, ◌==◌, ◌&&◌, ◌+◌, ◌<◌, ◌++◌, [], ℕ, List, codes, IfSome, IfNone};
 ghost use Rattle.std.specs.Str.{chars};
 ghost use Rattle.spectra_lexer.specs.declared.opening.Opening.TheVariants as opens;
 ghost use Rattle.spectra_lexer.specs.Pieces.{begins_with as begins_test, opening_of, IsPiece};

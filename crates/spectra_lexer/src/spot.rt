@@ -14,7 +14,7 @@ pub struct Spot {
 }
 
 impl Spot {
-    ghost use Rattle.std.specs.Prelude.{◌≡◌, ◌+◌, ◌≤◌, ◌<◌, ◌^◌};
+    ghost use Rattle.std.specs.Prelude.{◌≡◌, ◌+◌, ◌<◌, ◌^◌};
     ghost use Rattle.spectra_lexer.specs.Tokens.{behind, token_to};
     ghost use Rattle.spectra_lexer.specs.Progress.{further};
 

@@ -1,4 +1,5 @@
 -- The faults of declarations: names that are declared twice, and limits on how many things there are.
+use Rattle.spectra_trees.specs.declared.faults.TheConstants.{TOO_MANY, TWICE}
 use Rattle.std.specs.Prelude.{ℕ, ◌-◌, ◌==◌, Bool, true, false, not, ◌||◌, nat_lt, if◌then◌else◌, List, [], ◌∷◌, ◌++◌, Option, Some, None, length, map, flat_map, option_to_list, bytes_eq}
 use Rattle.spectra_trees.specs.declared.tree.Place.{Place}
 use Rattle.spectra_trees.specs.Data.{NameData, ItemData, TreeData}
@@ -14,7 +15,7 @@ both_enum_names enum_name enum_name = true
 both_enum_names _ _ = false
 
 abbrev pub clash : Option Named → NameData → Named → List Finding
-clash (Some first) name again = fault_if (not (both_enum_names first again)) 8 (place_of name)
+clash (Some first) name again = fault_if (not (both_enum_names first again)) TWICE (place_of name)
 clash None name again = []
 
 -- each declaration of the values' name space whose name has an earlier one, behind those that this look-up finds
@@ -25,7 +26,7 @@ clashes_after before (d ∷ ds) = clash (before d.0.text) d.0 d.1 ++ clashes_aft
 -- each name that stands in the list before it, or is one of those that a test tells
 abbrev pub twice_after : (before : List ℕ → Bool) → List NameData → List Finding
 twice_after before [] = []
-twice_after before (n ∷ ns) = fault_if (before n.text) 8 (place_of n) ++ twice_after (λ text. before text || bytes_eq text n.text) ns
+twice_after before (n ∷ ns) = fault_if (before n.text) TWICE (place_of n) ++ twice_after (λ text. before text || bytes_eq text n.text) ns
 
 abbrev pub twice : List NameData → List Finding
 twice names = twice_after (λ text. false) names
@@ -53,7 +54,7 @@ place_of_item (ItemData.Statement x) = x.at
 abbrev pub past : (ItemData → Bool) → (room : ℕ) → List ItemData → List Finding
 past test room [] = []
 past test room (i ∷ items) =
-    if test i then (if room == 0 then fault 18 (place_of_item i) ∷ [] else past test (room - 1) items) else past test room items
+    if test i then (if room == 0 then fault TOO_MANY (place_of_item i) ∷ [] else past test (room - 1) items) else past test room items
 
 abbrev pub is_variable : ItemData → Bool
 is_variable (ItemData.Variable x) = true
@@ -70,7 +71,7 @@ most_names = 65_535
 abbrev pub names_past : (before : List (List ℕ)) → List ItemData → List Finding
 names_past before [] = []
 names_past before (i ∷ items) =
-    if nat_lt most_names (length (with_names before (enum_names_of i))) then fault 18 (place_of_item i) ∷ []
+    if nat_lt most_names (length (with_names before (enum_names_of i))) then fault TOO_MANY (place_of_item i) ∷ []
     else names_past (with_names before (enum_names_of i)) items
 
 abbrev pub limit_faults : TreeData → List Finding

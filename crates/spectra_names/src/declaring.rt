@@ -12,6 +12,7 @@ ghost use Rattle.spectra_names.specs.Declaring.{known, with_value, with_values, 
 use crate::findings::{Findings, place_of};
 use crate::scope::{Definition, Named};
 use crate::table::Table;
+use spectra_trees::faults::TWICE;
 use spectra_trees::tree::{
     ExprTree, Item, Name, Place, PredicateItem, TypeForm, TypeTree, VarItem,
 };
@@ -33,7 +34,7 @@ fn report_clash(findings: &mut Findings, first: Option<Named>, name: &Name, agai
     match (first, again) {
         (None, _) => {}
         (Some(Named::EnumName), Named::EnumName) => {}
-        (Some(_), _) => findings.report(8, place_of(name)),
+        (Some(_), _) => findings.report(TWICE, place_of(name)),
     }
 }
 

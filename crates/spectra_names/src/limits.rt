@@ -11,6 +11,7 @@ ghost use Rattle.spectra_names.specs.Passes.{limit_test, with_parameter_names, w
 
 use crate::enum_names::EnumNames;
 use crate::findings::Findings;
+use spectra_trees::faults::TOO_MANY;
 use spectra_trees::tree::{Item, Name, Place, TypeForm, TypeTree};
 use std::alloc::{AllocError, Global};
 
@@ -58,7 +59,7 @@ pub fn report_past(findings: &mut Findings, limited: Limited, most: usize, items
     for item in items {
         if is_limited(limited, item) {
             if room == 0 {
-                findings.report(18, place_of_item(item));
+                findings.report(TOO_MANY, place_of_item(item));
                 return;
             }
             room -= 1;
@@ -132,7 +133,7 @@ pub fn enum_names<'a>(
         add_item_names(&mut names, item)?;
         if !passed && names.len() > MOST_NAMES {
             passed = true;
-            findings.report(18, place_of_item(item));
+            findings.report(TOO_MANY, place_of_item(item));
         }
     }
     Ok(names)

@@ -9,6 +9,7 @@ ghost use Rattle.spectra_names.specs.Seeing.{is_seen};
 
 use crate::findings::{Findings, place_of};
 use crate::table::Table;
+use spectra_trees::faults::TWICE;
 use spectra_trees::tree::{Name, TypeTree};
 use std::alloc::{AllocError, Global};
 
@@ -34,7 +35,7 @@ impl<'a> Seen<'a> {
             ≡ with_faults (found_in findings.new) (twice_after (is_seen self.new) rest)) }
     {
         if self.names.get(name.text.as_str()).is_some() {
-            findings.report(8, place_of(name));
+            findings.report(TWICE, place_of(name));
         }
         self.names.declare(name.text.as_str(), ())
     }

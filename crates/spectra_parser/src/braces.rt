@@ -1,6 +1,6 @@
 //! Patterns and monitors: one function for each production.
 
-ghost use Rattle.std.specs.Prelude.{◌≡◌, ◌<◌, ◌≤◌, ◌++◌, ◌∷◌, [], length, map, IfOk, IfErr};
+ghost use Rattle.std.specs.Prelude.{◌≡◌, ◌<◌, map};
 ghost use Rattle.spectra_trees.specs.Views.{item_data, name_data, part_data, part_shape};
 ghost use Rattle.spectra_trees.specs.Lexemes.{lexemes_of};
 ghost use Rattle.spectra_exprs.specs.Read.{Gives, all_of};

@@ -1,6 +1,6 @@
 //! Declarations of variables, types, defines and predicates: one function for each production.
 
-ghost use Rattle.std.specs.Prelude.{◌≡◌, ◌<◌, ◌≤◌, ◌++◌, ◌∷◌, [], length, map, IfOk, IfErr};
+ghost use Rattle.std.specs.Prelude.{◌<◌, map};
 ghost use Rattle.spectra_trees.specs.Views.{item_data};
 ghost use Rattle.spectra_trees.specs.Lexemes.{lexemes_of};
 ghost use Rattle.spectra_exprs.specs.Read.{Gives, starts as starts_lem, all_of};

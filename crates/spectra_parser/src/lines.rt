@@ -1,6 +1,6 @@
 //! Assumptions and guarantees: one function for each production.
 
-ghost use Rattle.std.specs.Prelude.{◌<◌, [], length, IfOk};
+ghost use Rattle.std.specs.Prelude.{◌<◌};
 ghost use Rattle.spectra_trees.specs.Views.{body_data, item_data};
 ghost use Rattle.spectra_trees.specs.Lexemes.{lexeme_of, lexemes_of};
 ghost use Rattle.spectra_exprs.specs.Read.{Gives};

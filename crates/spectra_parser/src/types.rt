@@ -1,6 +1,6 @@
 //! Types: one function for each production.
 
-ghost use Rattle.std.specs.Prelude.{◌≡◌, ◌<◌, ◌≤◌, ◌++◌, ◌∷◌, [], length, map, IfOk, IfErr};
+ghost use Rattle.std.specs.Prelude.{◌<◌, map};
 ghost use Rattle.spectra_trees.specs.Views.{name_data, type_data};
 ghost use Rattle.spectra_trees.specs.Lexemes.{lexeme_of, lexemes_of};
 ghost use Rattle.spectra_exprs.specs.Read.{Gives, starts as starts_lem, all_of};

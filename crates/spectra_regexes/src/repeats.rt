@@ -1,6 +1,6 @@
 //! What may stand behind a regular expression: how often it is repeated.
 
-ghost use Rattle.std.specs.Prelude.{◌≡◌, ◌<◌, ◌≤◌, [], length, string_bytes, IfOk};
+ghost use Rattle.std.specs.Prelude.{◌≡◌, ◌<◌, string_bytes};
 ghost use Rattle.spectra_trees.specs.Views.{regex_data, repeat_data};
 ghost use Rattle.spectra_trees.specs.Lexemes.{lexemes_of};
 ghost use Rattle.spectra_exprs.specs.Read.{Gives, all_of};

@@ -1,4 +1,5 @@
 -- The tree of an expression with each name replaced by what it stands for, and the names that mean nothing in it.
+use Rattle.spectra_trees.specs.declared.faults.TheConstants.{ARITY, UNKNOWN, WRONG_TYPE}
 use Rattle.std.specs.Prelude.{ℕ, ◌==◌, true, false, List, [], ◌∷◌, ◌++◌, Option, Some, None, length, map, if◌then◌else◌}
 use Rattle.spectra_trees.specs.declared.tree.Place.{Place}
 use Rattle.spectra_trees.specs.Data as written
@@ -57,10 +58,10 @@ abbrev mutual
 
 -- the number of the fault: an unknown name, a wrong number of arguments, a predicate without parentheses or another name with
 abbrev pub fault_of : Misuse → ℕ
-fault_of misuse.Unknown = 7
-fault_of (misuse.Arity k) = 16
-fault_of (misuse.Bare k) = 9
-fault_of (misuse.Called leaf) = 9
+fault_of misuse.Unknown = UNKNOWN
+fault_of (misuse.Arity k) = ARITY
+fault_of (misuse.Bare k) = WRONG_TYPE
+fault_of (misuse.Called leaf) = WRONG_TYPE
 
 -- a misused name, at the name
 abbrev pub own_misuse : Spot → Form → List Finding

@@ -1,4 +1,5 @@
 -- Name spaces: lists of declarations in text order. A name stands for its first declaration, and each later one is a fault.
+use Rattle.spectra_trees.specs.declared.faults.TheConstants.{TWICE}
 use Rattle.std.specs.Prelude.{ℕ, Bool, true, false, List, [], ◌∷◌, ◌++◌, Option, Some, None, find, is_some, option_map, bytes_eq, if◌then◌else◌}
 use Rattle.std.specs.Option.{option_or}
 use Rattle.spectra_resolved.specs.declared.table.Named.{Named}
@@ -27,7 +28,7 @@ clash (Some first) d = again first d.1
   where
     again : Named → Named → List Finding
     again (names.Leaf (leaves.EnumName m)) (names.Leaf (leaves.EnumName n)) = []
-    again _ _ = fault 8 d.0.at ∷ []
+    again _ _ = fault TWICE d.0.at ∷ []
 
 -- each declaration whose name has an earlier one, behind those that a look-up finds
 abbrev pub clashes_after : (before : List ℕ → Option Named) → List Entry → List Finding

@@ -1,6 +1,6 @@
 //! The tree of an expression with each name replaced by what it stands for.
 
-ghost use Rattle.std.specs.Prelude.{◌≡◌, [], false, map, IfOk, OnOk};
+ghost use Rattle.std.specs.Prelude.{◌≡◌, false, map, IfOk, OnOk};
 ghost use Rattle.spectra_trees.specs.Data.{expressions};
 ghost use Rattle.spectra_trees.specs.Chains.{is_joined};
 ghost use Rattle.spectra_trees.specs.Views.{name_data, expr_data};
@@ -18,6 +18,7 @@ use crate::numbers::{number_of, signed};
 use crate::spot::{Spot, spot_at, spot_of};
 use crate::table::Named;
 use crate::tree::{Leaf, Link, Misuse, Resolved, Shape};
+use spectra_trees::faults::{ARITY, UNKNOWN, WRONG_TYPE};
 use spectra_trees::tree::{BinaryWord, ExprForm, ExprTree, Name, Place};
 use std::alloc::{AllocError, Global};
 
@@ -34,10 +35,10 @@ pub fn fault_of(misuse: Misuse) -> u8
     ensures { result ≡ fault_of_lem misuse }
 {
     match misuse {
-        Misuse::Unknown => 7,
-        Misuse::Arity(_) => 16,
-        Misuse::Bare(_) => 9,
-        Misuse::Called(_) => 9,
+        Misuse::Unknown => UNKNOWN,
+        Misuse::Arity(_) => ARITY,
+        Misuse::Bare(_) => WRONG_TYPE,
+        Misuse::Called(_) => WRONG_TYPE,
     }
 }
 
@@ -202,7 +203,6 @@ fn node(
     ensures tree { IfOk result (λ t. resolved_data t ≡ resolved_by resolver.now (expr_data e.now)) }
     ensures found { OnOk result (found_in findings.new ≡ with_faults (found_in findings.old) (misuses (resolved_by resolver.now (expr_data e.now)))) }
 {
-    let alloc = resolver.alloc;
     let first = spot_at(resolver.file, e.first);
     let at = spot_at(resolver.file, e.at);
     match &e.form {
@@ -218,16 +218,16 @@ fn node(
             Ok(called(resolver, findings, first, name, arguments))
         }
         ExprForm::Next(a) => {
-            let part = Box::new(alloc, tree(resolver, findings, a)?)?;
+            let part = Box::new(resolver.alloc, tree(resolver, findings, a)?)?;
             Ok(Resolved::Node(first, at, Shape::Next(part)))
         }
         ExprForm::Prefix(word, a) => {
-            let part = Box::new(alloc, tree(resolver, findings, a)?)?;
+            let part = Box::new(resolver.alloc, tree(resolver, findings, a)?)?;
             Ok(Resolved::Node(first, at, Shape::Prefix(*word, part)))
         }
         ExprForm::Binary(_, _, _) => unreachable!(),
         ExprForm::Mod(a, number, digits) => {
-            let part = Box::new(alloc, tree(resolver, findings, a)?)?;
+            let part = Box::new(resolver.alloc, tree(resolver, findings, a)?)?;
             let number_at = spot_at(resolver.file, *number);
             let number = number_of(digits.as_str());
             Ok(Resolved::Node(first, at, Shape::Mod(part, number_at, number)))

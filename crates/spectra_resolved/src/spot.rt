@@ -1,6 +1,6 @@
 //! Places in several files.
 
-ghost use Rattle.std.specs.Prelude.{◌≡◌, ℕ};
+ghost use Rattle.std.specs.Prelude.{◌≡◌};
 ghost use Rattle.spectra_trees.specs.Views.{name_data};
 ghost use Rattle.spectra_resolved.specs.Spots.{spot_at as spot_at_lem, spot_of as spot_of_lem, mentioned as mentioned_lem, mention_data};
 

@@ -11,6 +11,7 @@ use crate::findings::Findings;
 use crate::spot::Mention;
 use crate::tree::Leaf;
 use indexmap::IndexMap;
+use spectra_trees::faults::TWICE;
 use std::alloc::{AllocError, Global};
 
 /// What a name stands for: a value without parentheses; a predicate or a pattern, by its number and that of its parameters; a
@@ -78,6 +79,6 @@ fn report_clash(findings: &mut Findings, first: Option<Named>, name: Mention<'_>
     match (first, again) {
         (None, _) => {}
         (Some(Named::Leaf(Leaf::EnumName(_))), Named::Leaf(Leaf::EnumName(_))) => {}
-        (Some(_), _) => findings.report(8, name.at),
+        (Some(_), _) => findings.report(TWICE, name.at),
     }
 }

@@ -4,3 +4,4 @@ pub mod Classes
 pub mod Lexemes
 pub mod Chains
 pub mod ChainViews
+pub mod Faults

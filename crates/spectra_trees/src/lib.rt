@@ -1,4 +1,4 @@
-//! The trees of the grammar, and the tokens that they are made from.
+//! The trees of the grammar, the tokens that they are made from, and the numbers of faults.
 //!
 //! A tree keeps the place of each name and of each operator. A token has a class: what it is for the grammar.
 //!
@@ -7,6 +7,7 @@
 
 pub mod chain;
 pub mod class;
+pub mod faults;
 pub mod lexeme;
 mod spellings;
 #[cfg(test)]

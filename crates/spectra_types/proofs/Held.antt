@@ -1,4 +1,4 @@
--- Counts of nodes that are held at the greatest number of 64 bits give the same faults.
+-- Counts of nodes that are capped at the greatest number of 64 bits give the same faults.
 use Rattle.std.proofs.Common.{◌≡◌, ◌⊎◌, inl, inr, ℕ, ◌+◌, ◌<◌, nat_lt, nat_le, false, ◌&&◌, ◌||◌, if◌then◌else◌, List, [], ◌∷◌, ◌++◌, Option, Some, None, length, refl, sym, ap, ◌∙◌, arith}
 use Rattle.std.proofs.lemmas.Bool.{cases_lt}
 use Rattle.std.proofs.lemmas.Bool.Decides.{nat_tests}
@@ -7,14 +7,14 @@ use Rattle.spectra_trees.specs.Data.{Expression, LineData, ItemData}
 use Rattle.spectra_names.specs.Findings.{fault_if}
 use Rattle.spectra_names.specs.Spaces.{Scope, no_parameters}
 use Rattle.spectra_expansion.specs.Expansion.{formula_of, most_nodes, most_levels}
-use Rattle.spectra_expansion.specs.Measuring.{held}
+use Rattle.spectra_expansion.specs.Measuring.{capped}
 use Rattle.spec_model.specs.FormulaSizes.{nodes_in, levels_in}
 use Rattle.spectra_contents.specs.Contents.{Setting}
 use Rattle.spectra_typing.specs.Notes.{boolean_faults}
 use Rattle.spectra_types.specs.Meanings.{expression_of, ban_of, is_too_large, line_depth, faults_of_line, nodes_of_line, lines_faults}
 
--- numbers that are held alike are one, or both too large
-one_or_large : (a b : ℕ) → held a ≡ held b → (a ≡ b) ⊎ ((most_nodes < a) × (most_nodes < b))
+-- numbers that are capped alike are one, or both too large
+one_or_large : (a b : ℕ) → capped a ≡ capped b → (a ≡ b) ⊎ ((most_nodes < a) × (most_nodes < b))
 one_or_large a b same = elim (cases_lt most_nodes a) [
   | inl far ↦ elim (cases_lt most_nodes b) [ inl further ↦ inr (far, further) | inr near ↦ inl (omega arith) ]
   | inr near ↦ inl (omega arith)
@@ -57,6 +57,6 @@ module _ (s : Setting) where
   lines_alike a b (ItemData.Pattern x ∷ items) large larger = lines_alike a b items large larger
   lines_alike a b (ItemData.Monitor x ∷ items) large larger = lines_alike a b items large larger
 
--- lines behind as many nodes, and behind that number held
-pub lines_held : (s : Setting) (nodes a : ℕ) (items : List ItemData) → nodes ≡ held a → lines_faults s nodes items ≡ lines_faults s a items
-lines_held s nodes a items is = elim (one_or_large nodes a (omega arith)) [ inl same ↦ ap (λ n. lines_faults s n items) same | inr both ↦ lines_alike s nodes a items both.0 both.1 ]
+-- lines behind as many nodes, and behind that number capped
+pub lines_capped : (s : Setting) (nodes a : ℕ) (items : List ItemData) → nodes ≡ capped a → lines_faults s nodes items ≡ lines_faults s a items
+lines_capped s nodes a items is = elim (one_or_large nodes a (omega arith)) [ inl same ↦ ap (λ n. lines_faults s n items) same | inr both ↦ lines_alike s nodes a items both.0 both.1 ]

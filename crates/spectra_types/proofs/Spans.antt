@@ -8,7 +8,7 @@ use Rattle.std.proofs.Math.Nat.{mul-le-mul_right}
 use Rattle.std.proofs.Math.IntN.{pos-*ℤ-pos, negsuc-*ℤ-pos, *ℤ-negsuc, *ℤ_comm}
 use Rattle.spec_model.specs.Typing as model
 use Rattle.spec_model.specs.Typing.{whole, summed}
-use Rattle.spectra_kinds.specs.Kinds.{Kind, Whole, held, is_far, is_wide, added, subtracted, multiplied, least_of, greatest_of}
+use Rattle.spectra_kinds.specs.Kinds.{Kind, Whole, capped, is_far, is_wide, added, subtracted, multiplied, least_of, greatest_of}
 
 -- ---- ends
 
@@ -22,10 +22,10 @@ near z e =
     let low = parts.0 in
     let high = parts.1 in (grind (arith, ints), grind (arith, ints))
 
--- an end that is held near is itself
-pub held-near : (z : ℤ) → IsNear (held z) → held z ≡ z
-held-near (pos n) is = let high = is.1 in omega (arith, ints)
-held-near (negsuc n) is = let low = is.0 in omega (arith, ints)
+-- an end that is capped near is itself
+pub capped-near : (z : ℤ) → IsNear (capped z) → capped z ≡ z
+capped-near (pos n) is = let high = is.1 in omega (arith, ints)
+capped-near (negsuc n) is = let low = is.0 in omega (arith, ints)
 
 -- a span that isn't wide, by its ends
 pub record IsNarrow (low high : ℤ) : Type 0 where
@@ -63,18 +63,18 @@ same_whole : (a b c d : ℤ) → a ≡ c → b ≡ d → IsNarrow c d → whole 
 same_whole a b c d low high is = (λ i. whole (low i) (high i)) ∙ whole-narrow c d is
 
 module _ (a b c d : ℤ) where
-  pub sum_ends : is_wide (added (Whole a b) (Whole c d)) ≡ false → (held (a +ℤ c) ≡ a +ℤ c) × (held (b +ℤ d) ≡ b +ℤ d)
-  sum_ends e = let is = narrow (held (a +ℤ c)) (held (b +ℤ d)) e in (held-near (a +ℤ c) is.low_near, held-near (b +ℤ d) is.high_near)
+  pub sum_ends : is_wide (added (Whole a b) (Whole c d)) ≡ false → (capped (a +ℤ c) ≡ a +ℤ c) × (capped (b +ℤ d) ≡ b +ℤ d)
+  sum_ends e = let is = narrow (capped (a +ℤ c)) (capped (b +ℤ d)) e in (capped-near (a +ℤ c) is.low_near, capped-near (b +ℤ d) is.high_near)
 
-  pub sum_span : is_wide (added (Whole a b) (Whole c d)) ≡ false → summed (Some (model.Whole a b)) (Some (model.Whole c d)) ≡ Some (model.Whole (held (a +ℤ c)) (held (b +ℤ d)))
-  sum_span e = let ends = sum_ends e in same_whole (a +ℤ c) (b +ℤ d) (held (a +ℤ c)) (held (b +ℤ d)) (sym ends.0) (sym ends.1) (narrow (held (a +ℤ c)) (held (b +ℤ d)) e)
+  pub sum_span : is_wide (added (Whole a b) (Whole c d)) ≡ false → summed (Some (model.Whole a b)) (Some (model.Whole c d)) ≡ Some (model.Whole (capped (a +ℤ c)) (capped (b +ℤ d)))
+  sum_span e = let ends = sum_ends e in same_whole (a +ℤ c) (b +ℤ d) (capped (a +ℤ c)) (capped (b +ℤ d)) (sym ends.0) (sym ends.1) (narrow (capped (a +ℤ c)) (capped (b +ℤ d)) e)
 
-  pub difference_ends : is_wide (subtracted (Whole a b) (Whole c d)) ≡ false → (held (a -ℤ d) ≡ a -ℤ d) × (held (b -ℤ c) ≡ b -ℤ c)
-  difference_ends e = let is = narrow (held (a -ℤ d)) (held (b -ℤ c)) e in (held-near (a -ℤ d) is.low_near, held-near (b -ℤ c) is.high_near)
+  pub difference_ends : is_wide (subtracted (Whole a b) (Whole c d)) ≡ false → (capped (a -ℤ d) ≡ a -ℤ d) × (capped (b -ℤ c) ≡ b -ℤ c)
+  difference_ends e = let is = narrow (capped (a -ℤ d)) (capped (b -ℤ c)) e in (capped-near (a -ℤ d) is.low_near, capped-near (b -ℤ c) is.high_near)
 
-  pub difference_span : is_wide (subtracted (Whole a b) (Whole c d)) ≡ false → model.subtracted (Some (model.Whole a b)) (Some (model.Whole c d)) ≡ Some (model.Whole (held (a -ℤ d)) (held (b -ℤ c)))
+  pub difference_span : is_wide (subtracted (Whole a b) (Whole c d)) ≡ false → model.subtracted (Some (model.Whole a b)) (Some (model.Whole c d)) ≡ Some (model.Whole (capped (a -ℤ d)) (capped (b -ℤ c)))
   difference_span e =
-      let ends = difference_ends e in same_whole (a -ℤ d) (b -ℤ c) (held (a -ℤ d)) (held (b -ℤ c)) (sym ends.0) (sym ends.1) (narrow (held (a -ℤ d)) (held (b -ℤ c)) e)
+      let ends = difference_ends e in same_whole (a -ℤ d) (b -ℤ c) (capped (a -ℤ d)) (capped (b -ℤ c)) (sym ends.0) (sym ends.1) (narrow (capped (a -ℤ d)) (capped (b -ℤ c)) e)
 
 -- what is between near ends is near
 four_near : (p q r s : ℤ) → IsNear (least_of p q r s) → IsNear (greatest_of p q r s) → IsNear p × IsNear q × IsNear r × IsNear s
@@ -85,19 +85,19 @@ four_near p q r s least greatest =
 
 module _ (a b c d : ℤ) where
   abbrev low_end : ℤ
-  low_end = least_of (held (a *ℤ c)) (held (a *ℤ d)) (held (b *ℤ c)) (held (b *ℤ d))
+  low_end = least_of (capped (a *ℤ c)) (capped (a *ℤ d)) (capped (b *ℤ c)) (capped (b *ℤ d))
 
   abbrev high_end : ℤ
-  high_end = greatest_of (held (a *ℤ c)) (held (a *ℤ d)) (held (b *ℤ c)) (held (b *ℤ d))
+  high_end = greatest_of (capped (a *ℤ c)) (capped (a *ℤ d)) (capped (b *ℤ c)) (capped (b *ℤ d))
 
   pub product_ends : is_wide (multiplied (Whole a b) (Whole c d)) ≡ false → (low_end ≡ least_of (a *ℤ c) (a *ℤ d) (b *ℤ c) (b *ℤ d)) × (high_end ≡ greatest_of (a *ℤ c) (a *ℤ d) (b *ℤ c) (b *ℤ d))
   product_ends e =
       let is = narrow low_end high_end e in
-      let each = four_near (held (a *ℤ c)) (held (a *ℤ d)) (held (b *ℤ c)) (held (b *ℤ d)) is.low_near is.high_near in
-      let p = held-near (a *ℤ c) each.0 in
-      let q = held-near (a *ℤ d) each.1 in
-      let r = held-near (b *ℤ c) each.2 in
-      let s = held-near (b *ℤ d) each.3 in
+      let each = four_near (capped (a *ℤ c)) (capped (a *ℤ d)) (capped (b *ℤ c)) (capped (b *ℤ d)) is.low_near is.high_near in
+      let p = capped-near (a *ℤ c) each.0 in
+      let q = capped-near (a *ℤ d) each.1 in
+      let r = capped-near (b *ℤ c) each.2 in
+      let s = capped-near (b *ℤ d) each.3 in
       ((λ i. least_of (p i) (q i) (r i) (s i)), (λ i. greatest_of (p i) (q i) (r i) (s i)))
 
   pub product_span : is_wide (multiplied (Whole a b) (Whole c d)) ≡ false → model.multiplied (Some (model.Whole a b)) (Some (model.Whole c d)) ≡ Some (model.Whole low_end high_end)
@@ -148,8 +148,8 @@ sum_within x y j k p q e =
     let q_low = q.from_low in
     let q_high = q.to_high in
     record {
-      low = held (p.low +ℤ q.low);
-      high = held (p.high +ℤ q.high);
+      low = capped (p.low +ℤ q.low);
+      high = capped (p.high +ℤ q.high);
       is = λ i. added (p.is i) (q.is i);
       from_low = rw ends.0 (omega (arith, ints));
       to_high = rw ends.1 (omega (arith, ints));
@@ -164,8 +164,8 @@ difference_within x y j k p q e =
     let q_low = q.from_low in
     let q_high = q.to_high in
     record {
-      low = held (p.low -ℤ q.high);
-      high = held (p.high -ℤ q.low);
+      low = capped (p.low -ℤ q.high);
+      high = capped (p.high -ℤ q.low);
       is = λ i. subtracted (p.is i) (q.is i);
       from_low = rw ends.0 (omega (arith, ints));
       to_high = rw ends.1 (omega (arith, ints));

@@ -11,7 +11,7 @@ use Rattle.spectra_kinds.specs.WorthViews.{AreWorths}
 use Rattle.spectra_expansion.specs.Handing.{AreHanded}
 use Rattle.spectra_expansion.specs.Needs.{MarksCycles, MarksReads}
 use Rattle.spectra_expansion.specs.declared.sizes.Size.{Size}
-use Rattle.spectra_expansion.specs.Measuring.{held}
+use Rattle.spectra_expansion.specs.Measuring.{capped}
 use Rattle.spec_model.specs.FormulaSizes.{nodes_in, levels_in}
 use Rattle.spectra_expansion.specs.Telling.{AreMeasures}
 use Rattle.spectra_contents.specs.Contents.{Setting}
@@ -39,10 +39,10 @@ pub record AreFacts (f : Facts) : Type 0 where
   pub clear : AreClear (length (scope_in f).definitions) f.setting
   pub outside : places_in f.setting.parameters.now ≡ no_parameters
 
--- the nodes and levels of a formula, held at the greatest number of 64 bits
+-- the nodes and levels of a formula, capped at the greatest number of 64 bits
 pub record IsSize (size : Size) (f : Formula) : Type 0 where
-  pub nodes : size.nodes ≡ held (nodes_in f)
-  pub levels : size.levels ≡ held (levels_in f)
+  pub nodes : size.nodes ≡ capped (nodes_in f)
+  pub levels : size.levels ≡ capped (levels_in f)
 
 abbrev pub line_item_data : LineItem → LineData
 line_item_data l = record { at = l.at; role = l.role; name = option_map name_data l.name; body = body_data l.body }

@@ -1,4 +1,5 @@
 -- All faults of a text, and the specification that a text without one means.
+use Rattle.spectra_trees.specs.declared.faults.TheConstants.{CYCLE, TOO_LARGE, UNKNOWN, WIDE_INT, WRONG_TYPE}
 use Rattle.std.specs.Prelude.{ℕ, suc, ◌+◌, Bool, true, false, not, ◌&&◌, ◌||◌, nat_lt, nat_le, if◌then◌else◌, List, [], ◌∷◌, ◌++◌, Option, Some, None, length, map, flat_map, option_map, option_to_list, position, unwrap_or, bytes_eq}
 use Rattle.spec_model.specs.declared.spec.Role.{Role}
 use Rattle.spec_model.specs.declared.spec.Role.TheVariants as roles
@@ -25,11 +26,11 @@ use Rattle.spectra_typing.specs.Notes.{depth_of, expression_faults, boolean_faul
 
 -- a bound is a whole number that reads no variable
 abbrev pub bound_faults : Setting → Expression → List Finding
-bound_faults s e = expression_faults bound_ban (depth_of s.scope e no_parameters) s e ++ fault_if (not (is_whole (kind_of s e))) 9 (first_of e)
+bound_faults s e = expression_faults bound_ban (depth_of s.scope e no_parameters) s e ++ fault_if (not (is_whole (kind_of s e))) WRONG_TYPE (first_of e)
 
 -- bounds with no number between them, or more than 4,096
 abbrev pub range_faults : Option Worth → Option Worth → Place → List Finding
-range_faults (Some low) (Some high) at = fault_if (not (is_range low.value high.value)) 14 at
+range_faults (Some low) (Some high) at = fault_if (not (is_range low.value high.value)) WIDE_INT at
 range_faults (Some low) None at = []
 range_faults None high at = []
 
@@ -42,7 +43,7 @@ type_faults s at (TypeShape.Named name) = unknown_type (s.scope.types name.text)
   where
     unknown_type : Option ℕ → List Finding
     unknown_type (Some k) = []
-    unknown_type None = fault 7 (place_of name) ∷ []
+    unknown_type None = fault UNKNOWN (place_of name) ∷ []
 
 abbrev pub types_faults : Setting → List TypeData → List Finding
 types_faults s ts = flat_map (λ (t : TypeData). type_faults s t.at t.form) ts
@@ -62,7 +63,7 @@ name_of_definition (PredicateBody p) = p.name
 abbrev pub definitions_faults : Setting → ℕ → List Definition → List Finding
 definitions_faults s k [] = []
 definitions_faults s k (d ∷ ds) =
-    fault_if (is_on_cycle s.scope k) 15 (place_of (name_of_definition d)) ++ (definition_faults s d ++ definitions_faults s (suc k) ds)
+    fault_if (is_on_cycle s.scope k) CYCLE (place_of (name_of_definition d)) ++ (definition_faults s d ++ definitions_faults s (suc k) ds)
 
 -- ---- lines
 
@@ -95,7 +96,7 @@ line_depth scope before f = if nat_le (before + nodes_in f) most_nodes && nat_le
 
 abbrev pub line_faults : Setting → (before : ℕ) → Place → Ban → Expression → List Finding
 line_faults s before at ban e =
-    fault_if (is_too_large before (formula_of s.scope no_parameters e)) 19 at ++ boolean_faults ban (line_depth s.scope before (formula_of s.scope no_parameters e)) s e
+    fault_if (is_too_large before (formula_of s.scope no_parameters e)) TOO_LARGE at ++ boolean_faults ban (line_depth s.scope before (formula_of s.scope no_parameters e)) s e
 
 abbrev pub faults_of_line : Setting → (before : ℕ) → LineData → Option Expression → List Finding
 faults_of_line s before l (Some e) = line_faults s before l.at (ban_of l.role l.body) e

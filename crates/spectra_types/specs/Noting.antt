@@ -13,11 +13,11 @@ use Rattle.spectra_contents.specs.SettingViews.{note_data, note_among, is_settle
 use Rattle.spectra_typing.specs.Typed.{takes_kinds, faults_with}
 use Rattle.spectra_typing.specs.Noted.{depth_of_body}
 use Rattle.spectra_typing.specs.Notes.{setting_of, note_of_body}
-use Rattle.spectra_types.specs.declared.notes.Tables.{Tables}
+use Rattle.spectra_types.specs.declared.notes.NoteTables.{NoteTables}
 use Rattle.spectra_types.specs.Signatures.{AreSignatures}
 
 -- the tables are those of their scope
-pub record AreTables (t : Tables) : Type 0 where
+pub record AreNoteTables (t : NoteTables) : Type 0 where
   pub cycles : AreOnCycle (all_uses (scope_data t.scope.now)) (length (scope_data t.scope.now).definitions) t.on_cycle.now
   pub measured : AreMeasures (scope_data t.scope.now) t.measures.now
   pub variables : map kind_data t.variables.now ≡ variable_kinds (scope_data t.scope.now)

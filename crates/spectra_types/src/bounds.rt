@@ -20,6 +20,7 @@ use spectra_kinds::worth::Worth;
 use spectra_kinds::worths::worth_in;
 use spectra_names::findings::{Findings, place_of, report_if};
 use spectra_names::seen::report_twice;
+use spectra_trees::faults::{UNKNOWN, WIDE_INT, WRONG_TYPE};
 use spectra_trees::tree::{ExprTree, Name, Place, PredicateItem, TypeForm, TypeTree};
 use spectra_typing::notes::look;
 use std::alloc::AllocError;
@@ -49,7 +50,7 @@ fn report_bound<'a>(
     let setting = &facts.setting;
     let deep = depth_in(facts, setting.parameters, e);
     let looked = look(facts.alloc, findings, bound_ban(), deep, setting, e)?;
-    report_if(findings, !is_whole(looked.kind), 9, e.first);
+    report_if(findings, !is_whole(looked.kind), WRONG_TYPE, e.first);
     Ok(())
 }
 
@@ -58,7 +59,7 @@ fn report_range(findings: &mut Findings, low: Option<Worth>, high: Option<Worth>
     ensures { found_in findings.new ≡ with_faults (found_in findings.old) (range_faults (option_map worth_data low) (option_map worth_data high) at) }
 {
     match (low, high) {
-        (Some(low), Some(high)) => report_if(findings, !is_range(low, high), 14, at),
+        (Some(low), Some(high)) => report_if(findings, !is_range(low, high), WIDE_INT, at),
         (_, _) => {}
     }
 }
@@ -104,7 +105,7 @@ fn report_unknown(facts: &Facts<'_, '_>, findings: &mut Findings, at: Place, nam
 {
     match facts.setting.scope.type_named(name.text.as_str()) {
         Some(_) => {}
-        None => findings.report(7, place_of(name)),
+        None => findings.report(UNKNOWN, place_of(name)),
     }
 }
 

@@ -1,18 +1,13 @@
 //! The faults of definitions.
 
-ghost use Rattle.std.specs.Prelude.{◌≡◌, ◌<◌, ◌∷◌, ◌++◌, suc, List, length, map, IfOk, OnOk};
-ghost use Rattle.spectra_trees.specs.Data.{NameData, TypeData};
-ghost use Rattle.spectra_trees.specs.Views.{name_data, expr_data, type_data};
-ghost use Rattle.spectra_names.specs.Findings.{found_in, fault_if, place_of as place_of_lem, with_faults};
+ghost use Rattle.std.specs.Prelude.{◌≡◌, ◌<◌, ◌∷◌, suc, List, length, OnOk};
+ghost use Rattle.spectra_trees.specs.Views.{name_data, expr_data};
+ghost use Rattle.spectra_names.specs.Findings.{found_in, with_faults};
 ghost use Rattle.spectra_names.specs.Spaces.{Definition as DefinitionData, PredicateBody, parameters_of as parameters_of_lem};
-ghost use Rattle.spectra_names.specs.Declarations.{twice};
-ghost use Rattle.spectra_names.specs.ScopeViews.{definition_data, predicate_data, places_in};
+ghost use Rattle.spectra_names.specs.ScopeViews.{definition_data, predicate_data};
 ghost use Rattle.spectra_order.specs.Cycles.{is_on_cycle as is_on_cycle_lem};
-ghost use Rattle.spectra_kinds.specs.KindViews.{kind_data};
 ghost use Rattle.spectra_contents.specs.Misplaced.{no_ban as no_ban_lem};
-ghost use Rattle.spectra_contents.specs.SettingViews.{setting_data};
 ghost use Rattle.spectra_typing.specs.Notes.{define_faults, predicate_faults, setting_within as setting_within_lem, boolean_faults, depth_of as depth_of_lem};
-ghost use Rattle.spectra_typing.specs.Placed.{IsSigned};
 ghost use Rattle.spectra_types.specs.FactsViews.{scope_in, setting_in, AreFacts};
 ghost use Rattle.spectra_types.specs.Meanings.{definition_faults, definitions_faults, name_of_definition};
 
@@ -25,6 +20,7 @@ use spectra_names::building::parameters_of;
 use spectra_names::findings::{Findings, place_of, report_if};
 use spectra_names::scope::Definition;
 use spectra_names::seen::report_parameters_twice;
+use spectra_trees::faults::CYCLE;
 use spectra_trees::tree::{ExprTree, Name, PredicateItem};
 use spectra_typing::notes::{look, look_boolean, no_ban};
 use std::alloc::AllocError;
@@ -155,7 +151,7 @@ fn report_numbered<'a>(
         ≡ with_faults (found_in findings.new) (definitions_faults (setting_in facts.now) (suc number) rest)) }
 {
     let name = name_of(definition);
-    report_if(findings, is_on_cycle(facts, number), 15, place_of(name));
+    report_if(findings, is_on_cycle(facts, number), CYCLE, place_of(name));
     report_definition(facts, findings, definition)
 }
 

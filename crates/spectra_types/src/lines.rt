@@ -6,7 +6,7 @@ ghost use Rattle.spectra_trees.specs.Views.{expr_data, body_data, item_data};
 ghost use Rattle.spectra_names.specs.Findings.{found_in, with_faults};
 ghost use Rattle.spectra_names.specs.Spaces.{no_parameters};
 ghost use Rattle.spectra_expansion.specs.Expansion.{formula_of};
-ghost use Rattle.spectra_expansion.specs.Measuring.{held};
+ghost use Rattle.spectra_expansion.specs.Measuring.{capped};
 ghost use Rattle.spec_model.specs.FormulaSizes.{nodes_in};
 ghost use Rattle.spectra_types.specs.FactsViews.{scope_in, setting_in, line_item_data, AreFacts};
 ghost use Rattle.spectra_types.specs.Meanings.{expression_of as expression_of_lem, is_asm as is_asm_lem, ban_of as ban_of_lem, line_faults, faults_of_line, nodes_of_line, lines_faults};
@@ -16,6 +16,7 @@ use crate::sizes::{is_too_large, line_depth, size_in};
 use spec_model::spec::Role;
 use spectra_contents::misplaced::Ban;
 use spectra_names::findings::{Findings, report_if};
+use spectra_trees::faults::TOO_LARGE;
 use spectra_trees::tree::{BodyTree, ExprTree, Item, LineItem, Place};
 use spectra_typing::notes::look_boolean;
 use std::alloc::AllocError;
@@ -77,11 +78,11 @@ fn report_expression<'a>(
 ) -> Result<u64, AllocError>
     requires { AreFacts facts.now }
     ensures found { OnOk result (found_in findings.new ≡ with_faults (found_in findings.old) (line_faults (setting_in facts.now) before at ban (expr_data e.now))) }
-    ensures nodes { IfOk result (λ nodes. nodes ≡ held (before + nodes_in (formula_of (scope_in facts.now) no_parameters (expr_data e.now)))) }
+    ensures nodes { IfOk result (λ nodes. nodes ≡ capped (before + nodes_in (formula_of (scope_in facts.now) no_parameters (expr_data e.now)))) }
 {
     let setting = &facts.setting;
     let size = size_in(facts, setting.parameters, e);
-    report_if(findings, is_too_large(before, size), 19, at);
+    report_if(findings, is_too_large(before, size), TOO_LARGE, at);
     let deep = line_depth(facts, before, size);
     look_boolean(facts.alloc, findings, ban, deep, setting, e)?;
     Ok(before.saturating_add(size.nodes))
@@ -97,7 +98,7 @@ fn report_line<'a>(
 ) -> Result<u64, AllocError>
     requires { AreFacts facts.now }
     ensures found { OnOk result (found_in findings.new ≡ with_faults (found_in findings.old) (faults_of_line (setting_in facts.now) before (line_item_data line.now) (expression_of_lem (body_data line.now.body)))) }
-    ensures nodes { IfOk result (λ nodes. nodes ≡ held (before + nodes_of_line (scope_in facts.now) (expression_of_lem (body_data line.now.body)))) }
+    ensures nodes { IfOk result (λ nodes. nodes ≡ capped (before + nodes_of_line (scope_in facts.now) (expression_of_lem (body_data line.now.body)))) }
 {
     match expression_of(&line.body) {
         Some(e) => {
@@ -108,7 +109,7 @@ fn report_line<'a>(
     }
 }
 
-#[tactic(auto, using(spectra_names::proofs::First::with_faults_append, crate::proofs::Held::lines_held))]
+#[tactic(auto, using(spectra_names::proofs::First::with_faults_append, crate::proofs::Held::lines_capped))]
 // Reports what is wrong with an item that is a line, where so many nodes stand in the lines before it, and gives how many
 // stand in the lines up to it.
 fn report_item<'a>(

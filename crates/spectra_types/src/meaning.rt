@@ -1,6 +1,6 @@
 //! The specification that a text without faults means.
 
-ghost use Rattle.std.specs.Prelude.{◌≡◌, ◌≤◌, ◌^◌, [], length, map, option_map, string_bytes, IfOk};
+ghost use Rattle.std.specs.Prelude.{◌≡◌, ◌≤◌, ◌^◌, [], length, map, string_bytes, IfOk};
 ghost use Rattle.spec_model.specs.Views.{domain_data, variable_data, spec_data};
 ghost use Rattle.spectra_trees.specs.Views.{item_data};
 ghost use Rattle.spectra_names.specs.Declarations.{past, is_line};

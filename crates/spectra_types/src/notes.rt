@@ -1,8 +1,7 @@
 //! What each definition of a text is for those that use it.
 
 ghost use Rattle.std.specs.Prelude.{◌≡◌, ◌<◌, true, false, [], Some, length, map, slice_get, IfOk, OnOk};
-ghost use Rattle.spectra_trees.specs.Views.{expr_data};
-ghost use Rattle.spectra_names.specs.ScopeViews.{scope_data, places_in, definition_data};
+ghost use Rattle.spectra_names.specs.ScopeViews.{scope_data, definition_data};
 ghost use Rattle.spectra_order.specs.Cycles.{all_uses, AreOnCycle};
 ghost use Rattle.spectra_order.specs.Orders.{IsOrder};
 ghost use Rattle.spectra_kinds.specs.KindViews.{kind_data};
@@ -12,7 +11,7 @@ ghost use Rattle.spectra_contents.specs.SettingViews.{note_data, note_among, set
 ghost use Rattle.spectra_typing.specs.Noted.{depth_of_body as depth_of_body_lem};
 ghost use Rattle.spectra_typing.specs.Notes.{setting_of as setting_of_lem, notes_seen, notes_of};
 ghost use Rattle.spectra_typing.specs.Placed.{IsSigned};
-ghost use Rattle.spectra_types.specs.Noting.{AreTables, NotesAreClear, AreUnsettled, IsSettledNote, PutsNote, made_note as made_note_lem};
+ghost use Rattle.spectra_types.specs.Noting.{AreNoteTables, NotesAreClear, AreUnsettled, IsSettledNote, PutsNote, made_note as made_note_lem};
 ghost use Rattle.spectra_types.specs.Signatures.{AreSignatures};
 
 use crate::sizes::depth_of;
@@ -28,7 +27,7 @@ use std::alloc::{AllocError, Global};
 
 /// What notes are made from, but for the notes themselves. `none` are the parameters of a define.
 #[derive(Clone, Copy)]
-pub struct Tables<'s, 'a> {
+pub struct NoteTables<'s, 'a> {
     pub scope: &'s Scope<'a>,
     pub on_cycle: &'s [bool],
     pub measures: &'s [Measure],
@@ -63,11 +62,11 @@ fn depth_of_body(
 // How deep bodies are put into a numbered definition's body, none into that of one on a cycle.
 fn depth_there(
     alloc: Global,
-    tables: &Tables<'_, '_>,
+    tables: &NoteTables<'_, '_>,
     on_cycle: bool,
     number: usize,
 ) -> Result<usize, AllocError>
-    requires tables { AreTables tables.now }
+    requires tables { AreNoteTables tables.now }
     requires within { number < length (scope_data tables.now.scope.now).definitions }
     ensures on { IfOk result (λ deep. on_cycle ≡ true → deep ≡ 0) }
     ensures off { IfOk result (λ deep. on_cycle ≡ false → deep ≡ depth_of_body_lem (scope_data tables.now.scope.now) (slice_get (scope_data tables.now.scope.now).definitions number)) }
@@ -81,11 +80,11 @@ fn depth_there(
 
 // The setting of a define's body, by these notes. One that is used in its own body sees nothing of others that are.
 fn setting_of<'b, 'a>(
-    tables: &Tables<'b, 'a>,
+    tables: &NoteTables<'b, 'a>,
     notes: &'b [Note<'a>],
     on_cycle: bool,
 ) -> Setting<'b, 'a>
-    requires tables { AreTables tables.now }
+    requires tables { AreNoteTables tables.now }
     requires size { length notes.now ≡ length (scope_data tables.now.scope.now).definitions }
     ensures setting { setting_data result ≡ setting_of_lem (scope_data tables.now.scope.now) (notes_seen (scope_data tables.now.scope.now) (note_among (map note_data notes.now) []) on_cycle) }
     ensures signed { IsSigned result }
@@ -95,7 +94,7 @@ fn setting_of<'b, 'a>(
         scope: tables.scope,
         variables: tables.variables,
         notes,
-        hidden: if on_cycle { tables.on_cycle } else { &[] },
+        unseen: if on_cycle { tables.on_cycle } else { &[] },
         signatures: tables.signatures,
         parameters: tables.none,
         kinds: &[],
@@ -105,11 +104,11 @@ fn setting_of<'b, 'a>(
 // What a numbered definition is for those that use it, by the notes of those that it uses.
 fn made_note<'a>(
     alloc: Global,
-    tables: &Tables<'_, 'a>,
+    tables: &NoteTables<'_, 'a>,
     notes: &[Note<'a>],
     number: usize,
 ) -> Result<Note<'a>, AllocError>
-    requires tables { AreTables tables.now }
+    requires tables { AreNoteTables tables.now }
     requires size { length notes.now ≡ length (scope_data tables.now.scope.now).definitions }
     requires within { number < length (scope_data tables.now.scope.now).definitions }
     requires clear { NotesAreClear (scope_data tables.now.scope.now) notes.now }
@@ -137,11 +136,11 @@ fn blanks<'a>(alloc: Global, count: usize) -> Result<Vec<Note<'a>>, AllocError>
 // Puts a definition's note in its place.
 fn put_note<'a>(
     alloc: Global,
-    tables: &Tables<'_, 'a>,
+    tables: &NoteTables<'_, 'a>,
     notes: &mut Vec<Note<'a>>,
     number: usize,
 ) -> Result<(), AllocError>
-    requires tables { AreTables tables.now }
+    requires tables { AreNoteTables tables.now }
     requires size { length notes.old.items ≡ length (scope_data tables.now.scope.now).definitions }
     requires within { number < length (scope_data tables.now.scope.now).definitions }
     requires clear { NotesAreClear (scope_data tables.now.scope.now) notes.old.items }
@@ -170,7 +169,7 @@ pub fn notes<'a>(
     ensures clear { IfOk result (λ notes. NotesAreClear (scope_data scope.now) notes.items) }
 {
     let none = Parameters::none(alloc);
-    let tables = Tables {
+    let tables = NoteTables {
         scope,
         on_cycle: order.on_cycle.as_slice(),
         measures,

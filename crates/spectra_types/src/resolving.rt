@@ -124,7 +124,7 @@ fn resolve_with<'a>(
         scope,
         variables: &tables.variables,
         notes: &tables.notes,
-        hidden: &[],
+        unseen: &[],
         signatures: &tables.signatures,
         parameters: &none,
         kinds: &[],

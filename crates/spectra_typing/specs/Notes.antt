@@ -1,4 +1,5 @@
 -- The faults in the bodies of definitions, and what each definition is for those that use it.
+use Rattle.spectra_trees.specs.declared.faults.TheConstants.{WRONG_TYPE}
 use Rattle.std.specs.Prelude.{ℕ, zero, suc, Bool, true, false, not, ◌&&◌, if◌then◌else◌, List, [], ◌++◌, Option, Some, None, length, map, replicate, slice_get}
 use Rattle.spectra_trees.specs.Data.{Expression, first_of, PredicateData}
 use Rattle.spectra_names.specs.declared.findings.Finding.{Finding}
@@ -25,7 +26,7 @@ expression_faults ban deep s e = typing_faults (faults_with deep s) true s e ++ 
 
 -- those of one that is to be Boolean
 abbrev pub boolean_faults : Ban → (deep : ℕ) → Setting → Expression → List Finding
-boolean_faults ban deep s e = expression_faults ban deep s e ++ fault_if (not (is_truth (kind_of s e))) 9 (first_of e)
+boolean_faults ban deep s e = expression_faults ban deep s e ++ fault_if (not (is_truth (kind_of s e))) WRONG_TYPE (first_of e)
 
 -- the setting of the text's own expressions
 abbrev pub setting_of : Scope → (ℕ → Note) → Setting

@@ -1,4 +1,5 @@
 -- Faults that are reported where they stand, or at a name whose body they stand in.
+use Rattle.spectra_trees.specs.declared.faults.TheConstants.{ARITY}
 use Rattle.std.specs.Prelude.{◌≡◌, ℕ, Bool, ◌++◌, ◌==◌, ◌&&◌, if◌then◌else◌, length, List, [], ◌∷◌, Option, Some, None, map, option_map, slice_get}
 use Rattle.spectra_trees.specs.declared.tree.Place.{Place}
 use Rattle.spectra_names.specs.declared.findings.Finding.{Finding}
@@ -41,7 +42,7 @@ unfit (k ∷ ks) given at = wrong (can_equal k given) at
 
 -- the faults of a call of a predicate that takes these kinds
 abbrev pub taken_faults : Setting → List Kind → Place → Expressions → List Finding
-taken_faults s ks at es = if length (kinds_of s es) == length ks then wrong_arguments s ks es else fault 16 at ∷ []
+taken_faults s ks at es = if length (kinds_of s es) == length ks then wrong_arguments s ks es else fault ARITY at ∷ []
 
 -- the faults of a called body with arguments of these kinds
 abbrev pub called_with : (ℕ → List Kind → List Finding) → Setting → Named → List Kind → List Finding

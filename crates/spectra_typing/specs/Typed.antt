@@ -1,5 +1,6 @@
 -- The kind of an expression, and the faults of kinds and spans: unknown names, wrong kinds, wide spans, arguments too many
 -- or too few.
+use Rattle.spectra_trees.specs.declared.faults.TheConstants.{ARITY, UNKNOWN, WIDE_INT, WRONG_TYPE}
 use Rattle.std.specs.Prelude.{true, ℕ, zero, suc, ◌==◌, Bool, not, ◌&&◌, if◌then◌else◌, List, [], ◌∷◌, ◌++◌, Option, Some, None, length, map, get_or}
 use Rattle.spectra_trees.specs.declared.tree.Place.{Place}
 use Rattle.spectra_trees.specs.declared.tree.BinaryWord.{BinaryWord}
@@ -61,7 +62,7 @@ kinds_of s (Expressions.one_more e es) = kind_of s e ∷ kinds_of s es
 
 -- an operand of the wrong kind, at its operator
 abbrev pub wrong : Bool → Place → List Finding
-wrong right at = fault_if (not right) 9 at
+wrong right at = fault_if (not right) WRONG_TYPE at
 
 -- what an operator between two operands takes
 abbrev pub takes : BinaryWord → Kind → Kind → Bool
@@ -99,33 +100,33 @@ takes_kinds scope k = kinds (predicate_in scope k)
     kinds None = []
 
 abbrev pub read_faults : Named → Place → List Finding
-read_faults unknown at = fault 7 at ∷ []
-read_faults (predicate k) at = fault 9 at ∷ []
+read_faults unknown at = fault UNKNOWN at ∷ []
+read_faults (predicate k) at = fault WRONG_TYPE at ∷ []
 read_faults _ at = []
 
 abbrev pub has_arity : Setting → ℕ → Expressions → Bool
 has_arity s k es = length (kinds_of s es) == length (takes_kinds s.scope k)
 
 abbrev pub call_faults : Setting → Named → Place → Expressions → List Finding
-call_faults s unknown at es = fault 7 at ∷ []
-call_faults s (predicate k) at es = if has_arity s k es then wrong_arguments s (takes_kinds s.scope k) es else fault 16 at ∷ []
-call_faults s _ at es = fault 9 at ∷ []
+call_faults s unknown at es = fault UNKNOWN at ∷ []
+call_faults s (predicate k) at es = if has_arity s k es then wrong_arguments s (takes_kinds s.scope k) es else fault ARITY at ∷ []
+call_faults s _ at es = fault WRONG_TYPE at ∷ []
 
 -- the number of a remainder is 0, or the remainders are too many
 abbrev pub remainder_faults : ℕ → (operator number : Place) → List Finding
-remainder_faults n operator number = fault_if (n == 0) 14 number ++ fault_if (is_wide (reduced n)) 14 operator
+remainder_faults n operator number = fault_if (n == 0) WIDE_INT number ++ fault_if (is_wide (reduced n)) WIDE_INT operator
 
 -- the faults of an expression itself, those of its parts apart
 abbrev pub node_faults : Setting → (at : Place) → Form → List Finding
 node_faults s at Form.True = []
 node_faults s at Form.False = []
-node_faults s at (Form.Number negative digits) = fault_if (is_wide (form_kind s (Form.Number negative digits))) 14 at
+node_faults s at (Form.Number negative digits) = fault_if (is_wide (form_kind s (Form.Number negative digits))) WIDE_INT at
 node_faults s at (Form.Read name) = read_faults (named_in s name) (place_of name)
 node_faults s at (Form.Call name es) = call_faults s (named_in s name) (place_of name) es
 node_faults s at (Form.Next e) = []
 node_faults s at (Form.Prefix word e) = wrong (is_truth (kind_of s e)) at
 node_faults s at (Form.Binary word a b) =
-    wrong (takes word (kind_of s a) (kind_of s b)) at ++ fault_if (is_wide (binary_kind word (kind_of s a) (kind_of s b))) 14 at
+    wrong (takes word (kind_of s a) (kind_of s b)) at ++ fault_if (is_wide (binary_kind word (kind_of s a) (kind_of s b))) WIDE_INT at
 node_faults s at (Form.Mod e number digits) = wrong (is_whole (kind_of s e)) at ++ remainder_faults (number_of digits) at number
 node_faults s at (Form.And es ops) = operands s at es ops
 node_faults s at (Form.Or es ops) = operands s at es ops

@@ -1,7 +1,6 @@
 //! The bodies that are put in at one depth, each of them once.
 
 ghost use Rattle.std.specs.Prelude.{◌≡◌, ◌==◌, true, [], ◌∷◌, map, IfOk, OnOk};
-ghost use Rattle.spectra_kinds.specs.KindViews.{kind_data};
 ghost use Rattle.spectra_typing.specs.Walked.{body_data, faults_left, AddsBody, HaveFaults, IsOneOf};
 
 use crate::calls::{Body, Called};

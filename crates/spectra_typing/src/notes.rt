@@ -27,6 +27,7 @@ use spectra_kinds::kinds::{Kind, is_truth};
 use spectra_names::findings::{Findings, report_if};
 use spectra_names::scope::Definition;
 use spectra_names::seen::report_parameters_twice;
+use spectra_trees::faults::WRONG_TYPE;
 use spectra_trees::tree::{ExprTree, PredicateItem};
 use std::alloc::{AllocError, Global};
 
@@ -90,7 +91,7 @@ pub fn look_boolean<'a>(
     ensures found { OnOk result (found_in findings.new ≡ with_faults (found_in findings.old) (boolean_faults ban deep (setting_data setting.now) (expr_data e.now))) }
 {
     let looked = look(alloc, findings, ban, deep, setting, e)?;
-    report_if(findings, !is_truth(looked.kind), 9, e.first);
+    report_if(findings, !is_truth(looked.kind), WRONG_TYPE, e.first);
     Ok(looked)
 }
 

@@ -6,6 +6,7 @@ ghost use Rattle.spectra_typing.specs.Typed.{wrong};
 ghost use Rattle.spectra_typing.specs.Placed.{placed as placed_lem, found_with};
 
 use spectra_names::findings::{Findings, report_if};
+use spectra_trees::faults::WRONG_TYPE;
 use spectra_trees::tree::Place;
 
 // Where a fault is reported: where it stands, or where it is moved to.
@@ -35,5 +36,5 @@ pub fn report_placed(
 pub fn report_wrong(findings: &mut Findings, moved: Option<Place>, right: bool, at: Place)
     ensures { found_in findings.new ≡ found_with (found_in findings.old) moved (wrong right at) }
 {
-    report_placed(findings, moved, !right, 9, at);
+    report_placed(findings, moved, !right, WRONG_TYPE, at);
 }

@@ -73,7 +73,7 @@ fn read<'a>(
         scope: &scope,
         variables: &[],
         notes: &[],
-        hidden: &[],
+        unseen: &[],
         signatures: &[],
         parameters: &parameters,
         kinds: &[],

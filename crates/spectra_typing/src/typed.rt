@@ -18,6 +18,7 @@ use spectra_contents::setting::{Setting, kind_at};
 use spectra_kinds::kinds::{Kind, can_equal, is_truth, is_whole, is_wide, reduced};
 use spectra_names::findings::Findings;
 use spectra_names::scope::Named;
+use spectra_trees::faults::{ARITY, UNKNOWN, WIDE_INT, WRONG_TYPE};
 use spectra_trees::tree::{BinaryWord, ExprTree, Place};
 
 /// Whether an operator between two operands takes these kinds.
@@ -54,7 +55,7 @@ pub fn typed_number<'a>(
     ensures found { found_in findings.new ≡ found_with (found_in findings.old) moved (node_faults (setting_data setting.now) at (Form.Number negative digits.now)) }
 {
     let kind = number_kind(negative, digits);
-    report_placed(findings, moved, is_wide(kind), 14, at);
+    report_placed(findings, moved, is_wide(kind), WIDE_INT, at);
     kind
 }
 
@@ -63,8 +64,8 @@ pub fn report_read(findings: &mut Findings, moved: Option<Place>, named: Named, 
     ensures { found_in findings.new ≡ found_with (found_in findings.old) moved (read_faults (named_data named) at) }
 {
     match named {
-        Named::Unknown => report_placed(findings, moved, true, 7, at),
-        Named::Predicate(_) => report_placed(findings, moved, true, 9, at),
+        Named::Unknown => report_placed(findings, moved, true, UNKNOWN, at),
+        Named::Predicate(_) => report_placed(findings, moved, true, WRONG_TYPE, at),
         Named::Parameter(_) => {}
         Named::Variable(_) => {}
         Named::EnumName => {}
@@ -83,10 +84,16 @@ pub fn report_binary(
     b: Kind<'_>,
 )
     ensures { found_in findings.new ≡ found_with (found_in findings.old) moved (wrong (takes_lem word (kind_data a.entry) (kind_data b.entry)) at
-        ++ fault_if (is_wide_lem (binary_kind_lem word (kind_data a.entry) (kind_data b.entry))) 14 at) }
+        ++ fault_if (is_wide_lem (binary_kind_lem word (kind_data a.entry) (kind_data b.entry))) WIDE_INT at) }
 {
     report_wrong(findings, moved, takes(word, a, b), at);
-    report_placed(findings, moved, is_wide(binary_kind(word, a, b)), 14, at);
+    report_placed(
+        findings,
+        moved,
+        is_wide(binary_kind(word, a, b)),
+        WIDE_INT,
+        at,
+    );
 }
 
 #[tactic(auto, using(crate::proofs::Placing::found_with_append))]
@@ -103,8 +110,8 @@ pub fn report_remainder(
     ensures { found_in findings.new ≡ found_with (found_in findings.old) moved (wrong (is_whole_lem (kind_data kind.entry)) operator ++ remainder_faults n operator number) }
 {
     report_wrong(findings, moved, is_whole(kind), operator);
-    report_placed(findings, moved, n == 0, 14, number);
-    report_placed(findings, moved, is_wide(reduced(n)), 14, operator);
+    report_placed(findings, moved, n == 0, WIDE_INT, number);
+    report_placed(findings, moved, is_wide(reduced(n)), WIDE_INT, operator);
 }
 
 // Reports an argument that its parameter doesn't take.
@@ -163,7 +170,7 @@ fn report_taken(
     if kinds.len() == wanted.len() {
         wrong_arguments(findings, moved, setting, wanted, kinds, es);
     } else {
-        report_placed(findings, moved, true, 16, at);
+        report_placed(findings, moved, true, ARITY, at);
     }
 }
 
@@ -215,10 +222,10 @@ pub fn report_call(
         Named::Predicate(number) => {
             report_called(findings, moved, setting, number, at, kinds, es);
         }
-        Named::Unknown => report_placed(findings, moved, true, 7, at),
-        Named::Parameter(_) => report_placed(findings, moved, true, 9, at),
-        Named::Variable(_) => report_placed(findings, moved, true, 9, at),
-        Named::EnumName => report_placed(findings, moved, true, 9, at),
-        Named::Define(_) => report_placed(findings, moved, true, 9, at),
+        Named::Unknown => report_placed(findings, moved, true, UNKNOWN, at),
+        Named::Parameter(_) => report_placed(findings, moved, true, WRONG_TYPE, at),
+        Named::Variable(_) => report_placed(findings, moved, true, WRONG_TYPE, at),
+        Named::EnumName => report_placed(findings, moved, true, WRONG_TYPE, at),
+        Named::Define(_) => report_placed(findings, moved, true, WRONG_TYPE, at),
     }
 }

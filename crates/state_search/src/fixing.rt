@@ -1,14 +1,14 @@
 //! Fixing the bits of values.
 
-ghost use Rattle.std.specs.Prelude.{◌≡◌, ◌≢◌, ◌+◌, ◌<◌, ◌≤◌, ◌⊎◌, ℕ, true, length, List};
+ghost use Rattle.std.specs.Prelude.{◌≡◌, ◌+◌, ◌<◌, ◌≤◌, ◌⊎◌, ℕ, true, length};
 ghost use Rattle.std.specs.List.{list_any};
 ghost use Rattle.spec_model.specs.declared.value.Value.{Value};
-ghost use Rattle.spec_model.specs.Values.{same_value, values_of, rank_of};
+ghost use Rattle.spec_model.specs.Values.{same_value, values_of};
 ghost use Rattle.spec_model.specs.Diagrams.{Bits};
 ghost use Rattle.game_values.specs.declared.seen.At.{At};
 ghost use Rattle.bdd_ops.specs.Paths.{fixed_at, Agrees};
 ghost use Rattle.bit_compile.specs.Domains.{level_count};
-ghost use Rattle.bit_compile.specs.Codes.{IsOutside, has_number, domain_in, width_at, level_at};
+ghost use Rattle.bit_compile.specs.Codes.{IsOutside, has_number, domain_in};
 ghost use Rattle.state_search.specs.Parts.{ArePart, AgreesWithin, IsFixedTo, IsValueFixed, AllowsValue, AreFixed, AllowsValues, KeepsOtherBits};
 
 use bit_compile::{Codes, code, power};
@@ -54,7 +54,7 @@ fn fix_value(codes: &Codes, at: At, k: usize, value: Value, fixed: &mut [Option<
     ensures others { (m : ℕ) → IsOutside codes.now at k m →
         fixed_at fixed.new m ≡ fixed_at fixed.old m }
 {
-    let n = code(codes.domain(k), value);
+    let n = code(codes.domain(k), value, 0);
     fix_number(fixed, codes.level(at, k) as usize, codes.width(k), n);
 }
 

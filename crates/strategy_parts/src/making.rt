@@ -1,6 +1,6 @@
 //! Regions and moves made for a strategy, many at once.
 
-ghost use Rattle.std.specs.Prelude.{◌≡◌, ◌<◌, [], ◌∷◌, None, length, map, get_or, IfOk, IfErr, OnErr};
+ghost use Rattle.std.specs.Prelude.{◌≡◌, ◌<◌, [], None, length, map, get_or, IfOk, IfErr, OnErr};
 ghost use Rattle.spec_model.specs.declared.value.Owner.{Owner};
 ghost use Rattle.spec_model.specs.Sets.{no_states};
 ghost use Rattle.regions.specs.Kept.{Move, States, HasRegion, HoldsBesides, Makes, MakesRegion, IsSameGame};
@@ -39,7 +39,7 @@ fn assumption_region<G: Regions>(g: &mut G, i: usize) -> Result<G::R, Halt>
     ensures made { let k = G.kept g.old in IfOk result (λ r. MakesRegion k (G.kept g.new) r (get_or (sets_wanted k.game Wanted.Assumptions) i no_states)) }
     ensures halted { OnErr result (HoldsBesides (G.kept g.old) (G.kept g.new) []) }
     ensures told { (tale : Tale) → IfErr result (TellsHalt (G.kept g.old) (G.kept g.new) tale) }
-    ensures same { IsSameGame (G.kept g.old) (G.kept g.new) }
+    ensures keeps { IsSameGame (G.kept g.old) (G.kept g.new) }
 {
     if g.game().assume.is_empty() {
         g.all()
@@ -55,7 +55,7 @@ fn guarantee_region<G: Regions>(g: &mut G, j: usize) -> Result<G::R, Halt>
     ensures made { let k = G.kept g.old in IfOk result (λ r. MakesRegion k (G.kept g.new) r (get_or (sets_wanted k.game Wanted.Guarantees) j no_states)) }
     ensures halted { OnErr result (HoldsBesides (G.kept g.old) (G.kept g.new) []) }
     ensures told { (tale : Tale) → IfErr result (TellsHalt (G.kept g.old) (G.kept g.new) tale) }
-    ensures same { IsSameGame (G.kept g.old) (G.kept g.new) }
+    ensures keeps { IsSameGame (G.kept g.old) (G.kept g.new) }
 {
     if g.game().goals.is_empty() {
         g.all()
@@ -71,7 +71,7 @@ fn region_of<G: Regions>(g: &mut G, kind: Wanted, i: usize) -> Result<G::R, Halt
     ensures made { let k = G.kept g.old in IfOk result (λ r. MakesRegion k (G.kept g.new) r (get_or (sets_wanted k.game kind) i no_states)) }
     ensures halted { OnErr result (HoldsBesides (G.kept g.old) (G.kept g.new) []) }
     ensures told { (tale : Tale) → IfErr result (TellsHalt (G.kept g.old) (G.kept g.new) tale) }
-    ensures same { IsSameGame (G.kept g.old) (G.kept g.new) }
+    ensures keeps { IsSameGame (G.kept g.old) (G.kept g.new) }
 {
     match kind {
         Wanted::Assumptions => assumption_region(g, i),
@@ -90,7 +90,7 @@ pub fn recurring_regions<G: Regions>(
     ensures made { let k = G.kept g.old in IfOk result (λ rs. MakesAll k (G.kept g.new) (region_items rs.items) (map States (sets_wanted k.game kind))) }
     ensures halted { OnErr result (HoldsBesides (G.kept g.old) (G.kept g.new) []) }
     ensures told { let k = G.kept g.old in (tale : Tale) → Every (λ s. IsIn s tale.sets) (sets_wanted k.game kind) → IfErr result (TellsHalt k (G.kept g.new) tale) }
-    ensures same { IsSameGame (G.kept g.old) (G.kept g.new) }
+    ensures keeps { IsSameGame (G.kept g.old) (G.kept g.new) }
 {
     let n = count(g, kind);
     let Ok(mut rs) = Vec::with_capacity(alloc, n) else {
@@ -115,7 +115,7 @@ fn moves_to<G: Regions>(g: &mut G, who: Owner, when: When, r: &G::R) -> Result<G
     ensures made { let k = G.kept g.old in IfOk result (λ m. Makes k (G.kept g.new) (Move m) (moves_meant who when (k.set r.now))) }
     ensures halted { OnErr result (HoldsBesides (G.kept g.old) (G.kept g.new) []) }
     ensures told { let k = G.kept g.old in (tale : Tale) → tale.who ≡ who → IsIn (k.set r.now) (tale.targets when) → IfErr result (TellsHalt k (G.kept g.new) tale) }
-    ensures same { IsSameGame (G.kept g.old) (G.kept g.new) }
+    ensures keeps { IsSameGame (G.kept g.old) (G.kept g.new) }
 {
     match who {
         Owner::Env => g.in_moves(when, r),
@@ -136,7 +136,7 @@ pub fn moves_into<G: Regions>(
     ensures made { let k = G.kept g.old in IfOk result (λ ms. MakesAll k (G.kept g.new) (move_items ms.items) (leadings k who when regions.now)) }
     ensures halted { OnErr result (HoldsBesides (G.kept g.old) (G.kept g.new) []) }
     ensures told { let k = G.kept g.old in (tale : Tale) → tale.who ≡ who → AreTargets tale when k regions.now → IfErr result (TellsHalt k (G.kept g.new) tale) }
-    ensures same { IsSameGame (G.kept g.old) (G.kept g.new) }
+    ensures keeps { IsSameGame (G.kept g.old) (G.kept g.new) }
 {
     let Ok(mut moves) = Vec::with_capacity(alloc, regions.len()) else {
         return Err(Halt::Memory);

@@ -1,6 +1,5 @@
 //! Regions and moves given back, many at once.
 
-ghost use Rattle.std.specs.Prelude.{◌≡◌};
 ghost use Rattle.regions.specs.Kept.{IsSameGame};
 ghost use Rattle.strategy_parts.specs.Owned.{HasAll, SpendsAll, region_items, move_items};
 
@@ -10,7 +9,7 @@ use regions::Regions;
 pub fn spend_regions<G: Regions>(g: &mut G, mut rs: Vec<G::R>)
     requires { HasAll (G.kept g.old) (region_items rs.items) }
     ensures spends { SpendsAll (G.kept g.old) (G.kept g.new) (region_items rs.items) }
-    ensures same { IsSameGame (G.kept g.old) (G.kept g.new) }
+    ensures keeps { IsSameGame (G.kept g.old) (G.kept g.new) }
 {
     while let Some(r) = rs.pop() {
         g.spend(r);
@@ -22,7 +21,7 @@ pub fn spend_regions<G: Regions>(g: &mut G, mut rs: Vec<G::R>)
 pub fn spend_moves<G: Regions>(g: &mut G, mut moves: Vec<G::Move>)
     requires { HasAll (G.kept g.old) (move_items moves.items) }
     ensures spends { SpendsAll (G.kept g.old) (G.kept g.new) (move_items moves.items) }
-    ensures same { IsSameGame (G.kept g.old) (G.kept g.new) }
+    ensures keeps { IsSameGame (G.kept g.old) (G.kept g.new) }
 {
     while let Some(m) = moves.pop() {
         g.spend_move(m);

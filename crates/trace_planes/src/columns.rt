@@ -1,12 +1,10 @@
 //! The codes of positions, in a column for each variable.
 
-ghost use Rattle.std.specs.Prelude.{◌≡◌, ℕ, true, ◌<◌, ◌≤◌, ◌*◌, ◌+◌, not, map, take, length, slice_index, count_by, if◌then◌else◌, vec_len};
+ghost use Rattle.std.specs.Prelude.{◌≡◌, true, ◌<◌, ◌≤◌, ◌*◌, ◌+◌, not, map, take, length, count_by, if◌then◌else◌};
 ghost use Rattle.spec_model.specs.Views.{variable_data};
 ghost use Rattle.spec_model.specs.GameViews.{game_data};
-ghost use Rattle.spec_model.specs.Games.{GameData};
-ghost use Rattle.spec_model.specs.Rules.{Position, Run};
+ghost use Rattle.spec_model.specs.Rules.{Run};
 ghost use Rattle.spec_model.specs.Moves.{is_env, value_among};
-ghost use Rattle.trace_planes.specs.Audits.{IsPosition};
 ghost use Rattle.trace_planes.specs.Rows.{AreRows, HasCodes, HasColumns, KeepsOthers};
 
 use crate::judge::moves;

@@ -3,7 +3,6 @@
 
 ghost use Rattle.std.specs.Prelude.{◌≡◌, ◌<◌, ◌++◌, suc, [], ◌∷◌, length, None, option_map, IfOk};
 ghost use Rattle.spec_model.specs.GameViews.{game_data};
-ghost use Rattle.spec_model.specs.GameRules.{last_state};
 ghost use Rattle.spec_model.specs.Rules.{Position, Run};
 ghost use Rattle.spec_model.specs.Games.{GameData};
 ghost use Rattle.spec_model.specs.WellMade.{WellMade};

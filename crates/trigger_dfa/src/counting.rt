@@ -1,6 +1,6 @@
 //! How many positions an expression has.
 
-ghost use Rattle.std.specs.Prelude.{◌≡◌, ◌≤◌, ◌^◌, min, length, map};
+ghost use Rattle.std.specs.Prelude.{◌≡◌, ◌≤◌, ◌^◌, min, map};
 ghost use Rattle.spec_model.specs.Views.{regular};
 ghost use Rattle.trigger_dfa.specs.Sides.{size_in, size_in_each, copies_in};
 ghost use Rattle.spec_model.specs.Syntax.{regulars};

@@ -1,7 +1,7 @@
 //! From an expression to its positions. A repeat is written out, and the last position of an expression comes first, so that
 //! a sequence is read from its end.
 
-ghost use Rattle.std.specs.Prelude.{◌≡◌, ◌≤◌, ◌<◌, ◌+◌, ◌*◌, length, map, vec_len, option_map};
+ghost use Rattle.std.specs.Prelude.{◌≡◌, ◌≤◌, ◌<◌, ◌+◌, ◌*◌, length, map, vec_len};
 ghost use Rattle.spec_model.specs.Views.{formula, regular};
 ghost use Rattle.spec_model.specs.Syntax.{regulars};
 ghost use Rattle.spec_model.specs.TriggerStates.{Bracket, Either, Empty, copies, written, written_in_turn, written_besides, repeated, brackets};

@@ -2,10 +2,9 @@
 //! McNaughton and Yamada 1960, positions of regular expressions). A set of positions is one word of 64 bits.
 
 ghost use Rattle.std.specs.Prelude.{◌≡◌, ◌≤◌, ◌<◌, ◌-◌, ◌+◌, ◌==◌, ◌^◌, if◌then◌else◌, true, ℕ, length, map, vec_len};
-ghost use Rattle.spec_model.specs.Views.{formula, regular};
-ghost use Rattle.spec_model.specs.Syntax.{regulars};
-ghost use Rattle.spec_model.specs.TriggerStates.{Written, Empty, Then, Either, Star, written, written_in_turn, written_besides, repeated, brackets};
-ghost use Rattle.trigger_dfa.specs.Sides.{IsPart, AddsPart, Links, Means, is_atom};
+ghost use Rattle.spec_model.specs.Views.{formula};
+ghost use Rattle.spec_model.specs.TriggerStates.{Written, Then, Either, brackets};
+ghost use Rattle.trigger_dfa.specs.Sides.{IsPart, Links, Means};
 ghost use Rattle.trigger_dfa.specs.Words.{in_word};
 ghost use Rattle.trigger_dfa.specs.Standings.{first_place};
 ghost use Rattle.spec_model.specs.Sizes.{same_formula};

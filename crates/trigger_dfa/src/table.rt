@@ -1,6 +1,6 @@
 //! The hidden table of a trigger.
 
-ghost use Rattle.std.specs.Prelude.{◌≡◌, ◌≤◌, ◌+◌, ◌^◌, nat_lt, length, map, vec_len, IfOk, OnOk, IsErrOf};
+ghost use Rattle.std.specs.Prelude.{◌≡◌, ◌≤◌, ◌+◌, ◌^◌, nat_lt, map, vec_len, IfOk, OnOk, IsErrOf};
 ghost use Rattle.spec_model.specs.Views.{formula, trigger_data};
 ghost use Rattle.spec_model.specs.GameViews.{hidden_data};
 ghost use Rattle.trigger_dfa.specs.Standings.{table_of};

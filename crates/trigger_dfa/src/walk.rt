@@ -1,6 +1,6 @@
 //! A side's sets of positions, from its start on.
 
-ghost use Rattle.std.specs.Prelude.{◌≡◌, ◌≤◌, ◌<◌, ◌↔◌, ℕ, ◌∷◌, [], List, replicate, length, map, bit_and, vec_len, IfOk, OnOk, IsErrOf};
+ghost use Rattle.std.specs.Prelude.{◌≡◌, ◌≤◌, ◌<◌, ◌↔◌, ◌∷◌, [], List, replicate, length, map, bit_and, vec_len, IfOk, OnOk, IsErrOf};
 ghost use Rattle.spec_model.specs.Syntax.{Formula};
 ghost use Rattle.spec_model.specs.Views.{formula, regular};
 ghost use Rattle.spec_model.specs.Games.{letter_of};

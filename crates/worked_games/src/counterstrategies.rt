@@ -5,13 +5,12 @@
 //! gar alw g -> r; gar alwEv g;      r = false, as long as g is: the goal is denied, and no g is true
 //! ```
 
-ghost use Rattle.std.specs.Prelude.{◌≡◌, [], ◌∷◌, None, map, codes, IfOk, IfSome, IsTrue};
+ghost use Rattle.std.specs.Prelude.{◌≡◌, [], ◌∷◌, None, map, IfOk, IfSome};
 ghost use Rattle.spec_model.specs.Syntax.{Variable, NextOf, Implication, Equivalence};
 ghost use Rattle.spec_model.specs.Views.{formula, variable_data};
 ghost use Rattle.spec_model.specs.GameViews.{game_data, goal_data};
 ghost use Rattle.spec_model.specs.WellMade.{WellMade};
 ghost use Rattle.worked_games.specs.Games.{boolean as boolean_lem, game_with, goal as goal_lem, two_variables};
-ghost use Rattle.counterstrategy.specs.Objects.{Stands};
 ghost use Rattle.worked_games.specs.Notes.{Opens, Plays};
 
 use counterstrategy::{Counterstrategy, Note};

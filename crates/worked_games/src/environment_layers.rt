@@ -85,8 +85,8 @@ fn values(s: u32) -> [Value; 6] {
 /// The states of a region, a bit for each.
 fn word_of<G: Regions>(g: &mut G, a: &G::R, name: Name) -> u64
     requires { HasRegion (G.kept g.old) a.now }
-    ensures stays { Stays (G.kept g.old) (G.kept g.new) }
-    ensures same { IsSameGame (G.kept g.old) (G.kept g.new) }
+    ensures held { Stays (G.kept g.old) (G.kept g.new) }
+    ensures keeps { IsSameGame (G.kept g.old) (G.kept g.new) }
 {
     let mut word = 0u64;
     for s in 0..64u32 {
@@ -99,8 +99,8 @@ fn word_of<G: Regions>(g: &mut G, a: &G::R, name: Name) -> u64
 /// Whether the layers are those of the plain program.
 fn agree<G: Regions>(g: &mut G, layers: &[EnvLayer<G>], plain: &Plain, name: Name) -> bool
     requires { HasEach (G.kept g.old) (all_regions layers.now) }
-    ensures stays { Stays (G.kept g.old) (G.kept g.new) }
-    ensures same { IsSameGame (G.kept g.old) (G.kept g.new) }
+    ensures held { Stays (G.kept g.old) (G.kept g.new) }
+    ensures keeps { IsSameGame (G.kept g.old) (G.kept g.new) }
 {
     for a in 0..layers.len() {
         if word_of(g, &layers[a].z, name) != layer(plain, a) {

@@ -1,9 +1,7 @@
 //! A judge in memory, some of whose calls fail.
 
-ghost use Rattle.std.specs.Prelude.{◌≡◌, ◌≤◌, ◌↔◌, vec_len, vec_capacity, IfOk, IfErr, IsTrue, Contains};
+ghost use Rattle.std.specs.Prelude.{◌≡◌, ◌≤◌, vec_capacity, IsTrue, Contains};
 ghost use Rattle.std.specs.Option.{option_map};
-ghost use Rattle.core_min.specs.Sets.{IsSetBelow};
-ghost use Rattle.core_min.specs.Judges.{IsAnswered, IsSameJudge};
 ghost use Rattle.core_min.specs.Memory.{is_inside, is_inside_one};
 
 use crate::Judge;

@@ -1,7 +1,7 @@
 //! The patterns: a range without lines, a truth value that follows a parameter, and the response pattern.
 
-ghost use Rattle.std.specs.Prelude.{◌≡◌, [], ◌∷◌, pos, map, IfOk};
-ghost use Rattle.spec_model.specs.Syntax.{Constant, Variable, NextOf, Negation, Conjunction, Disjunction, Equivalence, Implication, formulas};
+ghost use Rattle.std.specs.Prelude.{◌≡◌, [], ◌∷◌, map, IfOk};
+ghost use Rattle.spec_model.specs.Syntax.{Variable, NextOf, Negation, Conjunction, Disjunction, formulas};
 ghost use Rattle.spec_model.specs.Views.{formula, domain_data, pattern_data};
 ghost use Rattle.pattern_rows.specs.Patterns.{IsPattern};
 ghost use Rattle.pattern_rows.specs.Examples.{pattern_with, bare as bare_lem, latch as latch_lem, follows_parameter, may_follow_parameter, three_goals, state_is as state_is_lem, response_step as response_step_lem, response as response_lem};

@@ -7,8 +7,7 @@
 //! asm alwEv a;       asm alwEv n = 0;          gar alwEv n = 1;       gar alwEv g;
 //! ```
 
-ghost use Rattle.std.specs.Prelude.{◌≡◌, [], ◌∷◌, map, pos, IfOk};
-ghost use Rattle.spec_model.specs.Syntax.{Constant, Variable, NextOf, Negation, Conjunction, Implication, Comparison, formulas};
+ghost use Rattle.std.specs.Prelude.{◌≡◌, map, IfOk};
 ghost use Rattle.spec_model.specs.Views.{formula, variable_data};
 ghost use Rattle.spec_model.specs.GameViews.{game_data, goal_data};
 ghost use Rattle.region_rows.specs.Examples.{small as small_lem, small_variables, n_is as n_is_lem, goal as goal_lem};

@@ -23,8 +23,8 @@ loop-i-preserved g c =
       none = λ sets s i are inside lists least below.
           later_part sets s i c.loop-i.i least (inv.none sets s i are inside lists least below) c.has.result c.if-has.false
           (has_at (kept c.args.g.now) (kept c.loop-i.g) (g.met.G.Regions.exact _) inv.stays inv.same c.args.regions.now c.loop-i.i c.loop-i-test.true c.index-regions-i.result c.index-regions-i.is sets s c.args.state.now c.has.result c.has.ensures.answer are inside lists);
-      stays = stays_then (kept c.args.g.now) (kept c.loop-i.g) (kept c.has.new.self) inv.stays c.has.ensures.stays;
-      same = same_then (kept c.args.g.now) (kept c.loop-i.g) (kept c.has.new.self) inv.same c.has.ensures.same;
+      stays = stays_then (kept c.args.g.now) (kept c.loop-i.g) (kept c.has.new.self) inv.stays c.has.ensures.held;
+      same = same_then (kept c.args.g.now) (kept c.loop-i.g) (kept c.has.new.self) inv.same c.has.ensures.keeps;
     }
 
 pub returns-clause-least : goal.returns-clause-least

@@ -29,8 +29,8 @@ loop-r-preserved g c =
           not_before (kept c.args.g.now).game when y b c.args.input.now r reply reached c.loop-r.r (inv.none when y x b r reply lead before reached below) c.first_out.new.out c.first_out.result c.if-first_out.false
           (found_at (kept c.args.g.now) (kept c.loop-r.g) (g.met.G.Regions.exact _) inv.stays inv.same c.args.aims.now c.loop-r.r c.loop-r-test.true c.index-aims-r.result when y x b c.args.state.now c.args.input.now c.first_out.new.out c.first_out.result c.first_out.ensures.first lead before);
       room = c.first_out.auto.out ∙ inv.room;
-      stays = stays_then (kept c.args.g.now) (kept c.loop-r.g) (kept c.first_out.new.self) inv.stays c.first_out.ensures.stays;
-      same = same_then (kept c.args.g.now) (kept c.loop-r.g) (kept c.first_out.new.self) inv.same c.first_out.ensures.same;
+      stays = stays_then (kept c.args.g.now) (kept c.loop-r.g) (kept c.first_out.new.self) inv.stays c.first_out.ensures.held;
+      same = same_then (kept c.args.g.now) (kept c.loop-r.g) (kept c.first_out.new.self) inv.same c.first_out.ensures.keeps;
     }
 
 pub returns-clause-least : goal.returns-clause-least

@@ -57,7 +57,7 @@ returns-in-Err-clause-told g c = λ l all later.
     let layers = c.args.layers.now in
     let made = c.in_ok-holds.ensures.made in
     told_still first new (kept c.spend_regions.new.g) l c.in-Err.halt c.spend_regions.ensures.spends.jam
-    (told_after first k new l (region_items c.in_ok-holds.holds.items) (map States (goal_sets first.game)) c.in-Err.halt made c.recurring_regions.ensures.same
+    (told_after first k new l (region_items c.in_ok-holds.holds.items) (map States (goal_sets first.game)) c.in-Err.halt made c.recurring_regions.ensures.keeps
     (all_goals_made first.game l)
     (c.in-Err.ensures.told l
     (targets_stay first k (g.met.G.Regions.exact _) (λ w. omega (arith, made.held w)) l First (regions_for First (first_layers layers)) (first_each first layers c.requires.layers) all)

@@ -60,7 +60,7 @@ returns-in-Err-clause-told g c = λ l all later.
     let made = c.in_ok-first.ensures.made in
     let own = subst (λ (ls : List _). MakesAll first k (aims_items c.in_ok-first.first.items) (leadings first First (regions_for First ls))) c.layers_of_first.ensures made in
     told_still first new (kept c.spend_aims.new.g) l c.in-Err.halt c.spend_aims.ensures.spends.jam
-    (told_after first k new l (aims_items c.in_ok-first.first.items) (leadings first First (regions_for First (first_layers layers))) c.in-Err.halt own c.aims_into.ensures.same
+    (told_after first k new l (aims_items c.in_ok-first.first.items) (leadings first First (regions_for First (first_layers layers))) c.in-Err.halt own c.aims_into.ensures.keeps
     (made_moves first l First (regions_for First (first_layers layers)) all)
     (c.in-Err.ensures.told l (targets_stay first k (g.met.G.Regions.exact _) (λ w. omega (arith, made.held w)) l Later (all_regions layers) c.requires.layers later)))
 

@@ -64,7 +64,7 @@ loop-layer-preserved g c =
       alike = subst (λ (list : List _). AreLike when list (take (i + 1) layers)) (sym c.push_reserved.ensures.items) (subst (AreLike when (c.loop-layer.aims.items ++ aim ∷ [])) (sym taken) (like_push when c.loop-layer.aims.items (take i layers) aim item inv.alike many));
       counted = c.push_reserved.ensures.len ∙ ap (λ n. n + 1) inv.counted;
       room = omega (arith, inv.room, c.push_reserved.ensures.capacity);
-      same = same_then first k new inv.same c.aim_into.ensures.same;
+      same = same_then first k new inv.same c.aim_into.ensures.keeps;
     }
 
 pub spend_aims-requires : goal.spend_aims-requires

@@ -65,7 +65,7 @@ loop-goal-preserved g c =
       alike = subst (λ (list : List _). AreAllLike list (take (i + 1) layers)) (sym c.push_reserved.ensures.items) (subst (AreAllLike (c.loop-goal.goals.items ++ aims ∷ [])) (sym taken) (all_like_push c.loop-goal.goals.items (take i layers) aims item inv.alike (subst (AreLike Later aims.items) c.deref.ensures.value c.in-Ok-aims_into.ensures.alike)));
       counted = c.push_reserved.ensures.len ∙ ap (λ n. n + 1) inv.counted;
       room = omega (arith, inv.room, c.push_reserved.ensures.capacity);
-      same = same_then first k new inv.same c.aims_into.ensures.same;
+      same = same_then first k new inv.same c.aims_into.ensures.keeps;
     }
 
 pub spend_all_aims-requires : goal.spend_all_aims-requires

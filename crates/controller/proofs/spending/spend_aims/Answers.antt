@@ -18,7 +18,7 @@ loop-a-preserved g c =
     record {
       left = last_spent (kept c.args.g.now) (kept c.loop-a.g) (kept c.spend_aim.new.g) (aims_items c.args.aims.items) (aims_items c.pop.new.self.items) (aim_items c.in-Some.a) (g.met.G.Regions.exact _) c.requires is_left c.spend_aim.ensures.spends;
       jam = c.spend_aim.ensures.spends.jam ∙ c.loop-a.invariant.jam;
-      same = same_then (kept c.args.g.now) (kept c.loop-a.g) (kept c.spend_aim.new.g) c.loop-a.invariant.same c.spend_aim.ensures.same;
+      same = same_then (kept c.args.g.now) (kept c.loop-a.g) (kept c.spend_aim.new.g) c.loop-a.invariant.same c.spend_aim.ensures.keeps;
     }
 
 pub returns-clause-spends : goal.returns-clause-spends

@@ -18,7 +18,7 @@ loop-aims-preserved g c =
     record {
       left = last_spent (kept c.args.g.now) (kept c.loop-aims.g) (kept c.spend_aims.new.g) (all_aims_items c.args.goals.items) (all_aims_items c.pop.new.self.items) (aims_items c.in-Some.aims.items) (g.met.G.Regions.exact _) c.requires is_left c.spend_aims.ensures.spends;
       jam = c.spend_aims.ensures.spends.jam ∙ c.loop-aims.invariant.jam;
-      same = same_then (kept c.args.g.now) (kept c.loop-aims.g) (kept c.spend_aims.new.g) c.loop-aims.invariant.same c.spend_aims.ensures.same;
+      same = same_then (kept c.args.g.now) (kept c.loop-aims.g) (kept c.spend_aims.new.g) c.loop-aims.invariant.same c.spend_aims.ensures.keeps;
     }
 
 pub returns-clause-spends : goal.returns-clause-spends

@@ -25,7 +25,7 @@ wait-requires-clause-index g c =
     let kept = g.G.Regions.kept in
     let t = c.requires.turn in
     parts_counted (kept c.args.g.now) c.args.aims.now c.args.state.now c.args.rank c.args.index c.args.stays c.args.input.now t.0 t.1 t.2 t.3 t.4 t.5 c.least_rank-reached.result c.least_rank-reached.new.out c.least_rank-reached.ensures.least
-    (sym c.waits_on.ensures ∙ c.if-waits_on.true) (kept c.least_rank-reached.new.g) c.least_rank-reached.ensures.stays c.least_rank-reached.ensures.same c.index-aims-reached.result c.deref.result.now c.deref.ensures.value
+    (sym c.waits_on.ensures ∙ c.if-waits_on.true) (kept c.least_rank-reached.new.g) c.least_rank-reached.ensures.held c.least_rank-reached.ensures.keeps c.index-aims-reached.result c.deref.result.now c.deref.ensures.value
 
 pub wait-requires-clause-parts : goal.wait-requires-clause-parts
 wait-requires-clause-parts g c =
@@ -33,7 +33,7 @@ wait-requires-clause-parts g c =
     let t = c.requires.turn in (
       _,
       parts_lead (kept c.args.g.now) c.args.aims.now c.args.state.now c.args.rank c.args.index c.args.stays c.args.input.now t.0 t.1 t.2 t.3 t.4 t.5 c.least_rank-reached.result c.least_rank-reached.new.out c.least_rank-reached.ensures.least
-          (sym c.waits_on.ensures ∙ c.if-waits_on.true) (kept c.least_rank-reached.new.g) c.least_rank-reached.ensures.stays c.least_rank-reached.ensures.same c.index-aims-reached.result c.deref.result.now c.deref.ensures.value,
+          (sym c.waits_on.ensures ∙ c.if-waits_on.true) (kept c.least_rank-reached.new.g) c.least_rank-reached.ensures.held c.least_rank-reached.ensures.keeps c.index-aims-reached.result c.deref.result.now c.deref.ensures.value,
     )
 
 pub returns-then-waits_on-clause-chosen : goal.returns-then-waits_on-clause-chosen
@@ -43,7 +43,7 @@ returns-then-waits_on-clause-chosen g c = λ l s m y next later.
     let on = sym c.waits_on.ensures ∙ c.if-waits_on.true in (
       rank_is k c.args.aims.now c.args.state.now c.args.rank c.args.index c.args.stays c.args.input.now l s m y next later c.least_rank-reached.result c.least_rank-reached.new.out c.least_rank-reached.ensures.least,
       waited k c.args.aims.now c.args.state.now c.args.rank c.args.index c.args.stays c.args.input.now l s m y next later c.least_rank-reached.result c.least_rank-reached.new.out c.least_rank-reached.ensures.least
-          on (kept c.least_rank-reached.new.g) c.least_rank-reached.ensures.stays c.least_rank-reached.ensures.same c.index-aims-reached.result c.deref.result.now c.deref.ensures.value c.wait.new.out c.wait.ensures.first,
+          on (kept c.least_rank-reached.new.g) c.least_rank-reached.ensures.held c.least_rank-reached.ensures.keeps c.index-aims-reached.result c.deref.result.now c.deref.ensures.value c.wait.new.out c.wait.ensures.first,
       sym on ∙ waits_is k c.args.aims.now c.args.state.now c.args.rank c.args.index c.args.stays c.args.input.now l s m y next later c.least_rank-reached.result c.least_rank-reached.new.out c.least_rank-reached.ensures.least,
     )
 

@@ -37,8 +37,8 @@ spend_kit-requires g c =
     let ls = c.args.layers.now in
     let made = c.in_ok-goals.ensures.made in
     let own : MakesAll k k1 (region_items kit.goals.items ++ region_items kit.asms.items) (map States (goal_sets k.game) ++ map States (assumption_sets k.game)) =
-    subst (λ (v : Vec _ Global). MakesAll k k1 (region_items v.items ++ region_items kit.asms.items) (map States (goal_sets k.game) ++ map States (assumption_sets k.game))) (sym c.fill.ensures.keeps.0)
-    (subst (λ (v : Vec _ Global). MakesAll k k1 (region_items c.in_ok-goals.goals.items ++ region_items v.items) (map States (goal_sets k.game) ++ map States (assumption_sets k.game))) (sym c.fill.ensures.keeps.1) made) in
+    subst (λ (v : Vec _ Global). MakesAll k k1 (region_items v.items ++ region_items kit.asms.items) (map States (goal_sets k.game) ++ map States (assumption_sets k.game))) (sym c.fill.ensures.others.0)
+    (subst (λ (v : Vec _ Global). MakesAll k k1 (region_items c.in_ok-goals.goals.items ++ region_items v.items) (map States (goal_sets k.game) ++ map States (assumption_sets k.game))) (sym c.fill.ensures.others.1) made) in
     some_together k new (kit_items kit) (g.met.G.Regions.exact _) (kit_held k k1 new ls kit own c.in-Err.ensures.halted)
 
 pub returns-in-Ok-clause-made : goal.returns-in-Ok-clause-made
@@ -51,8 +51,8 @@ returns-in-Ok-clause-made g c =
     let ls = c.args.layers.now in
     let made = c.in_ok-goals.ensures.made in
     let own : MakesAll k k1 (region_items kit.goals.items ++ region_items kit.asms.items) (map States (goal_sets k.game) ++ map States (assumption_sets k.game)) =
-    subst (λ (v : Vec _ Global). MakesAll k k1 (region_items v.items ++ region_items kit.asms.items) (map States (goal_sets k.game) ++ map States (assumption_sets k.game))) (sym c.fill.ensures.keeps.0)
-    (subst (λ (v : Vec _ Global). MakesAll k k1 (region_items c.in_ok-goals.goals.items ++ region_items v.items) (map States (goal_sets k.game) ++ map States (assumption_sets k.game))) (sym c.fill.ensures.keeps.1) made) in
+    subst (λ (v : Vec _ Global). MakesAll k k1 (region_items v.items ++ region_items kit.asms.items) (map States (goal_sets k.game) ++ map States (assumption_sets k.game))) (sym c.fill.ensures.others.0)
+    (subst (λ (v : Vec _ Global). MakesAll k k1 (region_items c.in_ok-goals.goals.items ++ region_items v.items) (map States (goal_sets k.game) ++ map States (assumption_sets k.game))) (sym c.fill.ensures.others.1) made) in
     kit_made k k1 new ls kit own (subst (MakesAll k1 new (moves_in kit)) (meanings_stay k k1 (g.met.G.Regions.exact _) (λ w. omega (arith, made.held w)) ls c.requires.regions) c.in-Ok.ensures.made)
 
 pub returns-in-Err-clause-halted : goal.returns-in-Err-clause-halted
@@ -65,8 +65,8 @@ returns-in-Err-clause-halted g c =
     let ls = c.args.layers.now in
     let made = c.in_ok-goals.ensures.made in
     let own : MakesAll k k1 (region_items kit.goals.items ++ region_items kit.asms.items) (map States (goal_sets k.game) ++ map States (assumption_sets k.game)) =
-    subst (λ (v : Vec _ Global). MakesAll k k1 (region_items v.items ++ region_items kit.asms.items) (map States (goal_sets k.game) ++ map States (assumption_sets k.game))) (sym c.fill.ensures.keeps.0)
-    (subst (λ (v : Vec _ Global). MakesAll k k1 (region_items c.in_ok-goals.goals.items ++ region_items v.items) (map States (goal_sets k.game) ++ map States (assumption_sets k.game))) (sym c.fill.ensures.keeps.1) made) in
+    subst (λ (v : Vec _ Global). MakesAll k k1 (region_items v.items ++ region_items kit.asms.items) (map States (goal_sets k.game) ++ map States (assumption_sets k.game))) (sym c.fill.ensures.others.0)
+    (subst (λ (v : Vec _ Global). MakesAll k k1 (region_items c.in_ok-goals.goals.items ++ region_items v.items) (map States (goal_sets k.game) ++ map States (assumption_sets k.game))) (sym c.fill.ensures.others.1) made) in
     let some = kit_held k k1 new ls kit own c.in-Err.ensures.halted in
     held_and_spent k new (kept c.spend_kit.new.g) (kit_items kit) some.0 (g.met.G.Regions.exact _) some.1 c.spend_kit.ensures.spends
 
@@ -80,8 +80,8 @@ returns-in-Err-clause-told g c =
     let ls = c.args.layers.now in
     let made = c.in_ok-goals.ensures.made in
     let own : MakesAll k k1 (region_items kit.goals.items ++ region_items kit.asms.items) (map States (goal_sets k.game) ++ map States (assumption_sets k.game)) =
-    subst (λ (v : Vec _ Global). MakesAll k k1 (region_items v.items ++ region_items kit.asms.items) (map States (goal_sets k.game) ++ map States (assumption_sets k.game))) (sym c.fill.ensures.keeps.0)
-    (subst (λ (v : Vec _ Global). MakesAll k k1 (region_items c.in_ok-goals.goals.items ++ region_items v.items) (map States (goal_sets k.game) ++ map States (assumption_sets k.game))) (sym c.fill.ensures.keeps.1) made) in
+    subst (λ (v : Vec _ Global). MakesAll k k1 (region_items v.items ++ region_items kit.asms.items) (map States (goal_sets k.game) ++ map States (assumption_sets k.game))) (sym c.fill.ensures.others.0)
+    (subst (λ (v : Vec _ Global). MakesAll k k1 (region_items c.in_ok-goals.goals.items ++ region_items v.items) (map States (goal_sets k.game) ++ map States (assumption_sets k.game))) (sym c.fill.ensures.others.1) made) in
     let tale = tale_of k ls in
     told_still k new (kept c.spend_kit.new.g) tale c.in-Err.halt c.spend_kit.ensures.spends.jam
     (told_after k k1 new tale (region_items kit.goals.items ++ region_items kit.asms.items) (map States (goal_sets k.game) ++ map States (assumption_sets k.game)) c.in-Err.halt own

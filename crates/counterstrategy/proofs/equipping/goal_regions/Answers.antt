@@ -24,7 +24,7 @@ returns-in-Ok-clause-made g c =
     let k1 = kept c.recurring_regions.new.g in
     let new = kept c.recurring_regions-2.new.g in
     makes_both k k1 new (region_items c.in_ok-goals.goals.items) (region_items c.in-Ok.asms.items) (map States (goal_sets k.game)) (map States (assumption_sets k.game)) c.in_ok-goals.ensures.made
-    (subst (λ h. MakesAll k1 new (region_items c.in-Ok.asms.items) (map States (assumption_sets h))) c.recurring_regions.ensures.same.game c.in-Ok.ensures.made)
+    (subst (λ h. MakesAll k1 new (region_items c.in-Ok.asms.items) (map States (assumption_sets h))) c.recurring_regions.ensures.keeps.game c.in-Ok.ensures.made)
 
 pub returns-in-Err-clause-halted : goal.returns-in-Err-clause-halted
 returns-in-Err-clause-halted g c =
@@ -39,4 +39,4 @@ returns-in-Err-clause-told g c = λ tale goals asms.
     let new = kept c.recurring_regions-2.new.g in
     told_still k new (kept c.spend_regions.new.g) tale c.in-Err.halt c.spend_regions.ensures.spends.jam
     (told_after k k1 new tale (region_items c.in_ok-goals.goals.items) (map States (goal_sets k.game)) c.in-Err.halt c.in_ok-goals.ensures.made (made_sets tale (goal_sets k.game) goals)
-    (c.in-Err.ensures.told tale (subst (λ h. Every (λ s. IsIn s tale.sets) (assumption_sets h)) (sym c.recurring_regions.ensures.same.game) asms)))
+    (c.in-Err.ensures.told tale (subst (λ h. Every (λ s. IsIn s tale.sets) (assumption_sets h)) (sym c.recurring_regions.ensures.keeps.game) asms)))

@@ -42,8 +42,8 @@ loop-m-preserved g c =
           (found_by first (kept c.loop-m.g) (g.met.G.Regions.exact _) inv.stays inv.same c.m-item.result when (sets c.loop-m.m-index) b c.args.state.now c.first_in.new.input c.first_in.result c.first_in.ensures.first
           (move_at first when c.args.moves.now sets lead c.loop-m.m-index c.loop-m-test.true c.m-item.result c.m-item.is) before);
       room = c.first_in.auto.input ∙ inv.room;
-      stays = stays_then first (kept c.loop-m.g) (kept c.first_in.new.self) inv.stays c.first_in.ensures.stays;
-      same = same_then first (kept c.loop-m.g) (kept c.first_in.new.self) inv.same c.first_in.ensures.same;
+      stays = stays_then first (kept c.loop-m.g) (kept c.first_in.new.self) inv.stays c.first_in.ensures.held;
+      same = same_then first (kept c.loop-m.g) (kept c.first_in.new.self) inv.same c.first_in.ensures.keeps;
     }
 
 pub returns-clause-first : goal.returns-clause-first

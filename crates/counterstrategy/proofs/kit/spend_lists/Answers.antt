@@ -19,7 +19,7 @@ loop-moves-preserved g c =
     record {
       left = last_spent (kept c.args.g.now) (kept c.loop-moves.g) (kept c.spend_moves.new.g) (list_items c.args.lists.items) (list_items c.pop.new.self.items) (move_items c.in-Some.moves.items) (g.met.G.Regions.exact _) c.requires is_left c.spend_moves.ensures.spends;
       jam = c.spend_moves.ensures.spends.jam ∙ c.loop-moves.invariant.jam;
-      same = same_then (kept c.args.g.now) (kept c.loop-moves.g) (kept c.spend_moves.new.g) c.loop-moves.invariant.same c.spend_moves.ensures.same;
+      same = same_then (kept c.args.g.now) (kept c.loop-moves.g) (kept c.spend_moves.new.g) c.loop-moves.invariant.same c.spend_moves.ensures.keeps;
     }
 
 pub returns-clause-spends : goal.returns-clause-spends

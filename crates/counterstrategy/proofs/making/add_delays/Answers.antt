@@ -90,5 +90,5 @@ loop-l-preserved g c =
           subst (λ (vs : List _). AreLike chains (done ++ vs)) (sym (ap all_lists taken ∙ gather-push (λ n. (λ (l : EnvLayer _ _ _). goal_lists l.goals.items)) (take i xs) item))
           (subst (AreLike chains) (append_assoc done (all_lists (take i xs)) (goal_lists item.goals.items))
           (subst (λ (q : List _). AreLike chains ((done ++ all_lists (take i xs)) ++ goal_lists q)) c.deref.ensures.value (c.in_ok-add_holds.ensures.alike (done ++ all_lists (take i xs)) (c.loop-l.invariant.alike done like))));
-      same = same_then first k new c.loop-l.invariant.same c.add_holds.ensures.same;
+      same = same_then first k new c.loop-l.invariant.same c.add_holds.ensures.keeps;
     }

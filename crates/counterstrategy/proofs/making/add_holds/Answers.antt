@@ -91,5 +91,5 @@ loop-goal-preserved g c =
           subst (λ (vs : List _). AreLike chains (done ++ vs)) (sym (ap goal_lists taken ∙ gather-push (λ n. (λ (e : EnvGoal _ _ _). e.x.items)) (take i xs) item))
           (subst (AreLike chains) (append_assoc done (goal_lists (take i xs)) (item.x.items))
           (subst (λ (q : List _). AreLike chains ((done ++ goal_lists (take i xs)) ++ q)) c.deref.ensures.value (c.in_ok-add_lists.ensures.alike (done ++ goal_lists (take i xs)) (c.loop-goal.invariant.alike done like))));
-      same = same_then first k new c.loop-goal.invariant.same c.add_lists.ensures.same;
+      same = same_then first k new c.loop-goal.invariant.same c.add_lists.ensures.keeps;
     }

@@ -69,5 +69,5 @@ loop-l-preserved g c =
       added = subst (λ (rs : List _). Adds move_items first new c.args.moves.now.items moves (leadings first Env when (c.args.none.now ∷ rs))) (sym (tops_next layers i item c.loop-l-test.true c.l-item.is))
           (step_adds move_items refl move_items-append first (kept c.loop-l.g) (g.met.G.Regions.exact _) c.args.moves.now.items c.loop-l.moves.items when (c.args.none.now ∷ tops (take i layers)) (item.z ∷ []) (here, tt) c.loop-l.invariant.added
           new moves c.in_ok-add_moves-2.ensures.added);
-      same = same_then first (kept c.loop-l.g) new c.loop-l.invariant.same c.add_moves-in-loop-l.ensures.same;
+      same = same_then first (kept c.loop-l.g) new c.loop-l.invariant.same c.add_moves-in-loop-l.ensures.keeps;
     }

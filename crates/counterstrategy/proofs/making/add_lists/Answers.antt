@@ -91,5 +91,5 @@ loop-list-preserved g c =
           subst (λ (vs : List _). AreLike chains (done ++ vs)) (sym taken)
           (subst (AreLike chains) (append_assoc done (take i xs) (item ∷ []))
           (c.in_ok-add_list.ensures.alike (done ++ take i xs) item (c.loop-list.invariant.alike done like) (sym c.deref.ensures.value)));
-      same = same_then first k new c.loop-list.invariant.same c.add_list.ensures.same;
+      same = same_then first k new c.loop-list.invariant.same c.add_list.ensures.keeps;
     }

@@ -28,7 +28,7 @@ least_goal-goal-requires g c =
     let there = layer_found c.args.layers.now c.least_layer-low.result q.5.reply.low low q.5.reply.layer_in c.index-layers-low.result in (
       sets,
       subst (λ (es : List _). RegionsAre (kept c.least_layer-low.new.g) (holds_in es) sets) (sym c.deref.ensures.value)
-          (regions_stay (kept c.args.g.now) (kept c.least_layer-low.new.g) (holds_in (get_or c.args.layers.now c.least_layer-low.result c.index-layers-low.result).goals.items) sets c.least_layer-low.ensures.stays
+          (regions_stay (kept c.args.g.now) (kept c.least_layer-low.new.g) (holds_in (get_or c.args.layers.now c.least_layer-low.result c.index-layers-low.result).goals.items) sets c.least_layer-low.ensures.held
           (holds_there (kept c.args.g.now) c.args.layers.now q.0 c.args.place.now q.1 q.2 q.3 q.4 q.5 _ there).0),
     )
 
@@ -47,7 +47,7 @@ returns-else-place-clause-aim g c = λ kit e m s next serves.
     let low = low_is k c.args.layers.now kit c.args.place.now e m s next serves c.if-place.false c.values-state.result.now c.values-state.ensures c.least_layer-low.result c.least_layer-low.ensures.least in
     let there = layer_found c.args.layers.now c.least_layer-low.result serves.reply.low low serves.reply.layer_in c.index-layers-low.result in (
       (let is = serves.reply.layer in omega (arith, low, is)),
-      goal_is k (kept c.least_layer-low.new.g) c.least_layer-low.ensures.stays c.least_layer-low.ensures.same c.args.layers.now kit c.args.place.now e m s next serves c.if-place.false c.values-state.result.now c.values-state.ensures
+      goal_is k (kept c.least_layer-low.new.g) c.least_layer-low.ensures.held c.least_layer-low.ensures.keeps c.args.layers.now kit c.args.place.now e m s next serves c.if-place.false c.values-state.result.now c.values-state.ensures
           (get_or c.args.layers.now c.least_layer-low.result c.index-layers-low.result) there c.deref.result.now c.deref.ensures.value c.least_goal-goal.result c.least_goal-goal.ensures.least,
       first_asm k c.args.layers.now kit c.args.place.now e m s next serves c.if-place.false,
     )

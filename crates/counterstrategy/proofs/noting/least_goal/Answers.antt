@@ -28,8 +28,8 @@ loop-j-preserved g c =
       none = λ sets s i are inside lists least below.
           later_part sets s i c.loop-j.j least (inv.none sets s i are inside lists least below) c.has.result c.if-has.false
           (has_at (kept c.args.g.now) (kept c.loop-j.g) (g.met.G.Regions.exact _) inv.stays inv.same (holds_in c.args.goals.now) c.loop-j.j (holds_in_count c.args.goals.now c.loop-j.j c.loop-j-test.true) e.y (holds_in_at c.args.goals.now c.loop-j.j c.loop-j-test.true e (got_same c.args.goals.now c.loop-j.j c.index-goals-j.result c.loop-j-test.true)) sets s c.args.state.now c.has.result c.has.ensures.answer are inside lists);
-      stays = stays_then (kept c.args.g.now) (kept c.loop-j.g) (kept c.has.new.self) inv.stays c.has.ensures.stays;
-      same = same_then (kept c.args.g.now) (kept c.loop-j.g) (kept c.has.new.self) inv.same c.has.ensures.same;
+      stays = stays_then (kept c.args.g.now) (kept c.loop-j.g) (kept c.has.new.self) inv.stays c.has.ensures.held;
+      same = same_then (kept c.args.g.now) (kept c.loop-j.g) (kept c.has.new.self) inv.same c.has.ensures.keeps;
     }
 
 pub returns-clause-least : goal.returns-clause-least

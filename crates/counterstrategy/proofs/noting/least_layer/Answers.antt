@@ -28,8 +28,8 @@ loop-a-preserved g c =
       none = λ sets s i are inside lists least below.
           later_part sets s i c.loop-a.a least (inv.none sets s i are inside lists least below) c.has.result c.if-has.false
           (has_at (kept c.args.g.now) (kept c.loop-a.g) (g.met.G.Regions.exact _) inv.stays inv.same (tops c.args.layers.now) c.loop-a.a (tops_count c.args.layers.now c.loop-a.a c.loop-a-test.true) e.z (tops_at c.args.layers.now c.loop-a.a c.loop-a-test.true e (got_same c.args.layers.now c.loop-a.a c.index-layers-a.result c.loop-a-test.true)) sets s c.args.state.now c.has.result c.has.ensures.answer are inside lists);
-      stays = stays_then (kept c.args.g.now) (kept c.loop-a.g) (kept c.has.new.self) inv.stays c.has.ensures.stays;
-      same = same_then (kept c.args.g.now) (kept c.loop-a.g) (kept c.has.new.self) inv.same c.has.ensures.same;
+      stays = stays_then (kept c.args.g.now) (kept c.loop-a.g) (kept c.has.new.self) inv.stays c.has.ensures.held;
+      same = same_then (kept c.args.g.now) (kept c.loop-a.g) (kept c.has.new.self) inv.same c.has.ensures.keeps;
     }
 
 pub returns-clause-least : goal.returns-clause-least

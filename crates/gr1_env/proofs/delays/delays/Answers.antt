@@ -63,7 +63,7 @@ loop-more-preserved g c =
     record {
       climbs = climbs_next first.game first k new c.args.none.now cover asm rs c.in_ok-more.more.items inv.climbs (g.met.G.Regions.exact _)
           (subst (Grows k new (delay_on first.game cover asm (length rs)) (delay_on first.game cover asm (suc (length rs))) rs c.in_ok-more.more.items) c.if-settled.false grown);
-      same = same_then first k new inv.same c.grow.ensures.same;
+      same = same_then first k new inv.same c.grow.ensures.keeps;
     }
 
 pub loop-more-smaller : goal.loop-more-smaller
@@ -82,7 +82,7 @@ loop-more-smaller g c =
     let fewer = climbs_fewer first.game first k new c.args.none.now cover asm rs c.in_ok-more.more.items inv.climbs (g.met.G.Regions.exact _)
     (subst (Grows k new (delay_on first.game cover asm (length rs)) (delay_on first.game cover asm (suc (length rs))) rs c.in_ok-more.more.items) c.if-settled.false grown)
     (g.met.G.Regions.proper c.args.g.now c.args.cover.now c.requires.cover) in
-    rw (c.grow.ensures.same.game, inv.same.game) fewer
+    rw (c.grow.ensures.keeps.game, inv.same.game) fewer
 
 pub returns-then-settled-clause-made : goal.returns-then-settled-clause-made
 returns-then-settled-clause-made g c =

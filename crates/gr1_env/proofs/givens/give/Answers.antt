@@ -21,7 +21,7 @@ returns-in-Ok-clause-made g c =
     let k1 = kept c.regions_of.new.g in
     let k2 = kept c.with_misses.new.g in
     makes_both k k1 k2 c.in_ok-misses.misses.items (c.in-Ok.none ∷ c.in-Ok.asms.items) (wanted k.game Misses) (no_states ∷ wanted k.game Assumptions) c.in_ok-misses.ensures.made
-    (subst (λ h. MakesRegions k1 k2 (c.in-Ok.none ∷ c.in-Ok.asms.items) (no_states ∷ wanted h Assumptions)) c.regions_of.ensures.same.game c.in-Ok.ensures.made)
+    (subst (λ h. MakesRegions k1 k2 (c.in-Ok.none ∷ c.in-Ok.asms.items) (no_states ∷ wanted h Assumptions)) c.regions_of.ensures.keeps.game c.in-Ok.ensures.made)
 
 pub returns-in-Err-clause-halted : goal.returns-in-Err-clause-halted
 returns-in-Err-clause-halted g c =
@@ -41,4 +41,4 @@ returns-in-Err-clause-told g c = λ game m same.
     let kept = g.G.Regions.kept in
     let k = kept c.args.g.now in
     past_many game m k (kept c.regions_of.new.g) (kept c.with_misses.new.g) (kept c.spend_all.new.g) c.in_ok-misses.misses.items (wanted k.game Misses) c.in-Err.halt c.in_ok-misses.ensures.made
-    (subst (λ h. AreNamed game m (wanted h Misses)) (sym same) (wanted_named game m Misses)) c.spend_all.ensures.spends.jam (c.in-Err.ensures.told game m (c.regions_of.ensures.same.game ∙ same))
+    (subst (λ h. AreNamed game m (wanted h Misses)) (sym same) (wanted_named game m Misses)) c.spend_all.ensures.spends.jam (c.in-Err.ensures.told game m (c.regions_of.ensures.keeps.game ∙ same))

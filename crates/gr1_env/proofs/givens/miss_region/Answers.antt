@@ -35,7 +35,7 @@ returns-in-Ok-clause-made g c =
     let found = goal_there c.game.result.now k.game c.game.ensures (sym c.is_empty.ensures ∙ c.if-is_empty.false) c.args.j (miss_counted k.game c.args.j c.requires.there) in
     let made = c.in_ok-holds.ensures.made in
     let is = set_is k1 c.in_ok-holds.holds (states_holding k.game (Guarantee c.args.j)) (g.met.G.Regions.exact _) (λ w. omega (arith, made.held w)) in
-    let rest_is = ap (λ h. rest h (k1.set c.in_ok-holds.holds)) c.holding.ensures.same.game ∙ miss_there k.game c.args.j (k1.set c.in_ok-holds.holds) c.requires.there (is ∙ found.1) in
+    let rest_is = ap (λ h. rest h (k1.set c.in_ok-holds.holds)) c.holding.ensures.keeps.game ∙ miss_there k.game c.args.j (k1.set c.in_ok-holds.holds) c.requires.there (is ∙ found.1) in
     one_above k k1 (kept c.not.new.self) (kept c.spend.new.self) c.in_ok-holds.holds c.in-Ok.misses _ _ (g.met.G.Regions.exact _) made (subst (MakesRegion k1 (kept c.not.new.self) c.in-Ok.misses) rest_is c.in-Ok.ensures.made) c.spend.ensures.spends
 
 pub returns-in-Err-clause-halted : goal.returns-in-Err-clause-halted

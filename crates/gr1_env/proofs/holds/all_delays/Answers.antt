@@ -76,7 +76,7 @@ loop-asm-preserved g c =
       least = subst (λ (vs : List _). AreLeast first.game cover asms vs) (sym c.push_reserved.ensures.items) (more_least first.game first k new cover asms xs c.in-Ok-delays.rs inv.least last);
       counted = c.push_reserved.ensures.len ∙ ap (λ n. n + 1) inv.counted;
       room = omega (arith, inv.room, c.push_reserved.ensures.capacity);
-      same = same_then first k new inv.same c.delays.ensures.same;
+      same = same_then first k new inv.same c.delays.ensures.keeps;
     }
 
 pub returns-clause-made : goal.returns-clause-made

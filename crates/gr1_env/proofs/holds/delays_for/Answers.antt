@@ -62,7 +62,7 @@ returns-in-Ok-clause-made g c =
     let made = replaced_as k (kept c.pre_env.new.self) k2 c.in_ok-forced.forced c.in_ok-cover.cover c.args.base.now (pre_env k.game (k.set c.args.y.now)) both (g.met.G.Regions.exact _) c.requires.base c.in_ok-forced.ensures.made c.in_ok-cover.ensures.made in
     let cover_is = set_is k2 c.in_ok-cover.cover set (g.met.G.Regions.exact _) (λ w. omega (arith, made.held w)) in
     let asms_are = sets_stay k k2 c.args.asms.now (g.met.G.Regions.exact _) (λ w. omega (arith, made.held w)) c.requires.asms in
-    let have = have_at k.game k2 k3 _ set _ _ c.in-Ok.xs.items (c.and_in.ensures.same.game ∙ c.pre_env.ensures.same.game) cover_is asms_are c.in-Ok.ensures.made in
+    let have = have_at k.game k2 k3 _ set _ _ c.in-Ok.xs.items (c.and_in.ensures.keeps.game ∙ c.pre_env.ensures.keeps.game) cover_is asms_are c.in-Ok.ensures.made in
     record {
       made = made_above k k2 k3 (kept c.spend.new.self) c.in_ok-cover.cover set (list_regions c.in-Ok.xs.items) _ (g.met.G.Regions.exact _) made have.made c.spend.ensures.spends;
       counted = have.counted;
@@ -103,4 +103,4 @@ returns-in-Err-clause-told g c = λ game m a j same are.
     let cover_now = set_is k2 c.in_ok-cover.cover set (g.met.G.Regions.exact _) (λ w. omega (arith, made.held w)) in
     let asms_are = sets_stay k k2 c.args.asms.now (g.met.G.Regions.exact _) (λ w. omega (arith, made.held w)) c.requires.asms in
     past_one game m k k2 (kept c.all_delays.new.g) (kept c.spend-in-Err.new.self) c.in_ok-cover.cover set c.in-Err.halt made (covered a j are.goal_in cover_is) c.spend-in-Err.ensures.spends.jam
-    (c.in-Err.ensures.told game m a j (c.and_in.ensures.same.game ∙ (c.pre_env.ensures.same.game ∙ same)) are.goal_in (cover_now ∙ cover_is) (asms_are ∙ are.asms_are))
+    (c.in-Err.ensures.told game m a j (c.and_in.ensures.keeps.game ∙ (c.pre_env.ensures.keeps.game ∙ same)) are.goal_in (cover_now ∙ cover_is) (asms_are ∙ are.asms_are))

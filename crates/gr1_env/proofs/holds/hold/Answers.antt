@@ -23,7 +23,7 @@ loop-e-init g c =
     let is = made_is first (kept c.all.new.self) c.in_ok-y.y _ (g.met.G.Regions.exact _) c.in_ok-y.ensures.made in
     record {
       made = is.1;
-      same = c.all.ensures.same;
+      same = c.all.ensures.keeps;
       falling = subst (IsFalling first.game value) (sym is.0) (falling-first first.game value (hold_value_on-grows first.game base asms) (hold_value_on-inside first.game base asms));
       iterates = (0, is.0);
     }
@@ -64,7 +64,7 @@ loop-e-preserved g c =
     let is = replaced_is first k new c.loop-e.y c.in-Next.next (value (k.set c.loop-e.y)) (g.met.G.Regions.exact _) inv.made steps.0 in
     record {
       made = is.1;
-      same = same_then first k new inv.same c.one_value.ensures.same;
+      same = same_then first k new inv.same c.one_value.ensures.keeps;
       falling = subst (IsFalling first.game value) (sym is.0) (falling-next first.game value (hold_value_on-grows first.game base asms) (hold_value_on-inside first.game base asms) (k.set c.loop-e.y) inv.falling);
       iterates = (suc inv.iterates.0, is.0 ∙ ap value inv.iterates.1);
     }
@@ -84,7 +84,7 @@ loop-e-smaller g c =
     let steps = subst (Steps first.game k new base asms c.loop-e.y (k.set c.loop-e.y)) c.in-Next.is (steps_at first.game k new _ base _ asms c.loop-e.y (k.set c.loop-e.y) _ inv.same.game base_is asms_are c.in_ok-e.ensures.steps) in
     let is = replaced_is first k new c.loop-e.y c.in-Next.next (value (k.set c.loop-e.y)) (g.met.G.Regions.exact _) inv.made steps.0 in
     let fewer = falling-fewer first.game value (hold_value_on-grows first.game base asms) (hold_value_on-inside first.game base asms) (k.set c.loop-e.y) inv.falling steps.1 in
-    rw (is.0, c.one_value.ensures.same.game, inv.same.game) fewer
+    rw (is.0, c.one_value.ensures.keeps.game, inv.same.game) fewer
 
 pub returns-in-Settled-clause-made : goal.returns-in-Settled-clause-made
 returns-in-Settled-clause-made g c =

@@ -37,7 +37,7 @@ returns-in-Ok-clause-turned g c =
     let none = c.args.none.now in
     let have = c.in_ok-xs.ensures.made in
     let empty = set_kept k k1 none (g.met.G.Regions.exact _) (λ w. omega (arith, have.made.held w)) c.requires.none ∙ c.requires.empty in
-    turns_to k.game k k1 (kept c.common.new.g) none c.in-Ok.next (k.set c.args.base.now) (k.set c.args.y.now) (map k.set c.args.asms.now) c.in_ok-xs.xs.items (g.met.G.Regions.exact _) c.delays_for.ensures.same.game empty have
+    turns_to k.game k k1 (kept c.common.new.g) none c.in-Ok.next (k.set c.args.base.now) (k.set c.args.y.now) (map k.set c.args.asms.now) c.in_ok-xs.xs.items (g.met.G.Regions.exact _) c.delays_for.ensures.keeps.game empty have
     (subst (λ (vs : List _). MakesRegion k1 (kept c.common.new.g) c.in-Ok.next (meet k1.game (last_set k1 none vs) (length vs))) c.deref.ensures.value c.in-Ok.ensures.made)
 
 pub returns-in-Err-clause-halted : goal.returns-in-Err-clause-halted
@@ -70,5 +70,5 @@ returns-in-Err-clause-told g c = λ game m a j same are.
     last_stands game m k.game a j i cover (at asms i) same (of_one game m a j i cover asms are.goal_in cover_is are.asms_are (omega (arith, before, have.counted))) in
     past_many game m k k1 (kept c.common.new.g) (kept c.spend_lists.new.g) (list_regions xs) _ c.in-Err.halt have.made
     (lists_named game m k.game a j cover asms xs same are.goal_in cover_is are.asms_are (omega (arith, have.counted))) c.spend_lists.ensures.spends.jam
-    (c.in-Err.ensures.told game m a j (c.delays_for.ensures.same.game ∙ same) are.goal_in (let here = ap (λ (vs : List _). length vs) asked in omega (arith, here, have.counted, counted))
+    (c.in-Err.ensures.told game m a j (c.delays_for.ensures.keeps.game ∙ same) are.goal_in (let here = ap (λ (vs : List _). length vs) asked in omega (arith, here, have.counted, counted))
     (subst (λ (vs : List _). (i : ℕ) → i < length vs → last_set k1 none vs i ≡ delay_at game m a j i (length (states_of game))) (sym asked) last))

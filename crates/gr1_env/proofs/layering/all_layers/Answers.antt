@@ -55,7 +55,7 @@ loop-more-preserved g c =
     record {
       climbs = climbs_next first.game first k new given.none misses asms ls c.in_ok-more.more.items inv.climbs (g.met.G.Regions.exact _)
           (subst (GrowsLayers first.game k new (layer_on first.game misses asms (length ls)) misses asms ls c.in_ok-more.more.items) c.if-settled.false grown);
-      same = same_then first k new inv.same c.grow.ensures.same;
+      same = same_then first k new inv.same c.grow.ensures.keeps;
     }
 
 pub loop-more-smaller : goal.loop-more-smaller
@@ -74,7 +74,7 @@ loop-more-smaller g c =
     let grown = grows_at first.game k new (k.set (last_z given.none ls)) (layer_on first.game misses asms (length ls)) _ misses _ asms ls c.in_ok-more.more.items c.in_ok-more.settled inv.same.game inv.climbs.last misses_are asms_are c.in_ok-more.ensures.grown in
     let fewer = climbs_fewer first.game first k new given.none misses asms ls c.in_ok-more.more.items inv.climbs (g.met.G.Regions.exact _)
     (subst (GrowsLayers first.game k new (layer_on first.game misses asms (length ls)) misses asms ls c.in_ok-more.more.items) c.if-settled.false grown) in
-    rw (c.grow.ensures.same.game, inv.same.game) fewer
+    rw (c.grow.ensures.keeps.game, inv.same.game) fewer
 
 pub returns-then-settled-clause-made : goal.returns-then-settled-clause-made
 returns-then-settled-clause-made g c =

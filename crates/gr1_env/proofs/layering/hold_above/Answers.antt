@@ -47,7 +47,7 @@ returns-in-Ok-clause-made g c =
     let made = c.in_ok-base.ensures.made in
     let base_is = set_is k1 c.in_ok-base.base set (g.met.G.Regions.exact _) (λ w. omega (arith, made.held w)) in
     let asms_are = ap (λ (rs : List _). map k1.set rs) c.deref.ensures.value ∙ sets_stay k k1 c.args.given.now.asms.items (g.met.G.Regions.exact _) (λ w. omega (arith, made.held w)) c.requires.given.asms in
-    let has = hold_at k.game k1 k2 _ set _ _ c.in-Ok.e c.or.ensures.same.game base_is asms_are c.in-Ok.ensures.made in
+    let has = hold_at k.game k1 k2 _ set _ _ c.in-Ok.e c.or.ensures.keeps.game base_is asms_are c.in-Ok.ensures.made in
     record {
       made = made_above k k1 k2 (kept c.spend.new.self) c.in_ok-base.base set (hold_regions c.in-Ok.e) _ (g.met.G.Regions.exact _) made has.made c.spend.ensures.spends;
       whole = has.whole;
@@ -81,4 +81,4 @@ returns-in-Err-clause-told g c = λ game a j same goal_in miss_is forced_is asms
     let base_now = set_is k1 c.in_ok-base.base set (g.met.G.Regions.exact _) (λ w. omega (arith, made.held w)) in
     let asms_now = ap (λ (rs : List _). map k1.set rs) c.deref.ensures.value ∙ sets_stay k k1 c.args.given.now.asms.items (g.met.G.Regions.exact _) (λ w. omega (arith, made.held w)) c.requires.given.asms in
     hold_past_one game k k1 (kept c.hold.new.g) (kept c.spend-in-Err.new.self) a j c.in_ok-base.base set c.in-Err.halt made (λ y. based a j goal_in base_is) c.spend-in-Err.ensures.spends.jam
-    (c.in-Err.ensures.told game a j (c.or.ensures.same.game ∙ same) goal_in (base_now ∙ base_is) (asms_now ∙ asms_are))
+    (c.in-Err.ensures.told game a j (c.or.ensures.keeps.game ∙ same) goal_in (base_now ∙ base_is) (asms_now ∙ asms_are))

@@ -85,7 +85,7 @@ loop-miss-preserved g c =
       whole = subst (λ (vs : List _). AllOf (λ j e. IsWholeHold first.game (either (at misses j) forced) asms e) vs) (sym c.push_reserved.ensures.items) (more_whole first.game first k new forced misses asms goals c.in-Ok-hold_above.e inv.whole last);
       counted = c.push_reserved.ensures.len ∙ ap (λ n. n + 1) inv.counted;
       room = omega (arith, inv.room, c.push_reserved.ensures.capacity);
-      same = same_then first k new inv.same c.hold_above.ensures.same;
+      same = same_then first k new inv.same c.hold_above.ensures.keeps;
     }
 
 pub returns-clause-made : goal.returns-clause-made

@@ -35,7 +35,7 @@ returns-in-Ok-clause-made g c =
     let forced_is = set_is k1 c.in_ok-forced.forced set (g.met.G.Regions.exact _) (λ w. omega (arith, made.held w)) in
     let misses_are = sets_stay k k1 c.args.given.now.misses.items (g.met.G.Regions.exact _) (λ w. omega (arith, made.held w)) c.requires.given.misses in
     let asms_are = sets_stay k k1 c.args.given.now.asms.items (g.met.G.Regions.exact _) (λ w. omega (arith, made.held w)) c.requires.given.asms in
-    let has = holds_at k.game k1 k2 _ set _ _ _ _ c.in-Ok.goals.items c.pre_env.ensures.same.game forced_is misses_are asms_are c.in-Ok.ensures.made in
+    let has = holds_at k.game k1 k2 _ set _ _ _ _ c.in-Ok.goals.items c.pre_env.ensures.keeps.game forced_is misses_are asms_are c.in-Ok.ensures.made in
     record {
       made = made_above k k1 k2 (kept c.spend.new.self) c.in_ok-forced.forced set (goal_regions c.in-Ok.goals.items) _ (g.met.G.Regions.exact _) made has.made c.spend.ensures.spends;
       whole = has.whole;
@@ -73,4 +73,4 @@ returns-in-Err-clause-told g c = λ game a same lower_is are.
     let asms_now = sets_stay k k1 given.asms.items (g.met.G.Regions.exact _) (λ w. omega (arith, made.held w)) c.requires.given.asms in
     let now : AreGiven game (map k1.set given.misses.items) (map k1.set given.asms.items) = record { misses_are = misses_now ∙ are.misses_are; asms_are = asms_now ∙ are.asms_are } in
     layer_past_one game k k1 (kept c.holds_above.new.g) (kept c.spend-in-Err.new.self) a c.in_ok-forced.forced set c.in-Err.halt made (λ j y. forced (layer_number game a) (layer a refl) forced_is) c.spend-in-Err.ensures.spends.jam
-    (c.in-Err.ensures.told game a (c.pre_env.ensures.same.game ∙ same) (forced_now ∙ forced_is) now)
+    (c.in-Err.ensures.told game a (c.pre_env.ensures.keeps.game ∙ same) (forced_now ∙ forced_is) now)

@@ -70,5 +70,5 @@ returns-in-Err-clause-told g c = λ game a same lower_is are.
     (at_hold game k k1 last last a 0 y halt (hold_is_value game a 0)
     (past_many game m k k1 (kept c.union_of.new.g) last (goal_regions goals) _ halt has.made
     (goals_named game m.value k.game a (pre_env k.game (k.set c.args.lower.now)) misses asms goals same forced_is are few (λ j before. value_settled game a 0 a j) has.whole.whole) c.spend_holds.ensures.spends.jam
-    (c.in-Err.ensures.told game m a (c.holds_over.ensures.same.game ∙ same) (let here = ap (λ (es : List _). length es) asked in omega (arith, here, few))
+    (c.in-Err.ensures.told game m a (c.holds_over.ensures.keeps.game ∙ same) (let here = ap (λ (es : List _). length es) asked in omega (arith, here, few))
     (subst (λ (es : List _). (j : ℕ) → j < length es → hold_set k1 es j ≡ m.value (suc a) j) (sym asked) stands))))

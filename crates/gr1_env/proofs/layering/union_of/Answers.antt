@@ -42,7 +42,7 @@ loop-e-preserved g c =
     record {
       made = subst (λ n. MakesRegion first new c.in_ok-joined-2.joined (union (hold_set first c.args.goals.now) n)) (sym next)
           (subst (λ t. MakesRegion first new c.in_ok-joined-2.joined (either sofar t)) set_is made);
-      same = same_then first (kept c.loop-e.g) new c.loop-e.invariant.same c.or_in.ensures.same;
+      same = same_then first (kept c.loop-e.g) new c.loop-e.invariant.same c.or_in.ensures.keeps;
     }
 
 pub returns-in_err-joined-clause-told : goal.returns-in_err-joined-clause-told

@@ -20,12 +20,12 @@ start_env-requires-clause-t g c =
 pub counted-requires : goal.counted-requires
 counted-requires g c =
     let kept = g.G.Regions.kept in
-    record { held = together_still (kept c.args.g.now) (kept c.start_env.new.self) (all_regions c.args.layers.items) (g.met.G.Regions.exact _) c.in-Ok-true.ensures.stays c.requires.held }
+    record { held = together_still (kept c.args.g.now) (kept c.start_env.new.self) (all_regions c.args.layers.items) (g.met.G.Regions.exact _) c.in-Ok-true.ensures.held c.requires.held }
 
 pub spend_layers-requires : goal.spend_layers-requires
 spend_layers-requires g c =
     let kept = g.G.Regions.kept in
-    together_still (kept c.args.g.now) (kept c.start_env.new.self) (all_regions c.args.layers.items) (g.met.G.Regions.exact _) c.in-Ok-false.ensures.stays c.requires.held
+    together_still (kept c.args.g.now) (kept c.start_env.new.self) (all_regions c.args.layers.items) (g.met.G.Regions.exact _) c.in-Ok-false.ensures.held c.requires.held
 
 pub spend_layers-requires-in-Err : goal.spend_layers-requires-in-Err
 spend_layers-requires-in-Err g c =
@@ -35,14 +35,14 @@ spend_layers-requires-in-Err g c =
 pub returns-in-Err-counted-clause-halted : goal.returns-in-Err-counted-clause-halted
 returns-in-Err-counted-clause-halted g c =
     let kept = g.G.Regions.kept in
-    without_later (kept c.args.g.now) (kept c.start_env.new.self) (kept c.counted.new.g) (all_regions c.args.layers.items) (g.met.G.Regions.exact _) c.requires.held c.in-Ok-true.ensures.stays.held c.in-Err-counted.ensures.halted
+    without_later (kept c.args.g.now) (kept c.start_env.new.self) (kept c.counted.new.g) (all_regions c.args.layers.items) (g.met.G.Regions.exact _) c.requires.held c.in-Ok-true.ensures.held.held c.in-Err-counted.ensures.halted
 
 pub returns-in-Ok-false-clause-decided : goal.returns-in-Ok-false-clause-decided
 returns-in-Ok-false-clause-decided g c =
     let kept = g.G.Regions.kept in
     let k = kept c.args.g.now in
     let last_is = c.last_layer.ensures ∙ ap (last_z c.args.given.now.none) c.deref.ensures.value in (
-      spent_later k (kept c.start_env.new.self) (kept c.spend_layers.new.g) (all_regions c.args.layers.items) (g.met.G.Regions.exact _) c.requires.held c.in-Ok-false.ensures.stays c.spend_layers.ensures.spends,
+      spent_later k (kept c.start_env.new.self) (kept c.spend_layers.new.g) (all_regions c.args.layers.items) (g.met.G.Regions.exact _) c.requires.held c.in-Ok-false.ensures.held c.spend_layers.ensures.spends,
       ap (λ r. environment_forces k.game (k.set r) None) (sym last_is) ∙ (sym c.in-Ok-false.ensures.answer ∙ c.in-Ok-false.field-0-test),
     )
 
@@ -56,7 +56,7 @@ returns-in-Err-counted-clause-told g c = λ game m n same last last_is.
     let kept = g.G.Regions.kept in
     let k = kept c.args.g.now in
     let refused = c.in-Err-counted.ensures.told in
-    subst (TellsHalt game k (kept c.counted.new.g) m) (sym refused.0) (refused.1 ∙ (c.in-Ok-true.ensures.stays.jam ∙ c.requires.free))
+    subst (TellsHalt game k (kept c.counted.new.g) m) (sym refused.0) (refused.1 ∙ (c.in-Ok-true.ensures.held.jam ∙ c.requires.free))
 
 pub returns-in-Err-clause-told : goal.returns-in-Err-clause-told
 returns-in-Err-clause-told g c = λ game m n same last last_is.

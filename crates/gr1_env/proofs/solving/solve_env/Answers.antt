@@ -42,8 +42,8 @@ returns-in-Ok-clause-solved g c =
     let gives = given_as k k1 given (g.met.G.Regions.exact _) made c.in_ok-given.ensures.counted in
     let gone = c.spend_given.ensures.spends in
     match_weaker c.in-Ok.won _ _ _ _
-    (lost_is k k1 k2 k3 (map k1.set given.misses.items) (map k1.set given.asms.items) (given_regions given) (given_sets k.game) (g.met.G.Regions.exact _) c.give.ensures.same.game gives.misses gives.asms made gone c.requires.free)
-    (λ l won. (layers_for k.game, won_is k k1 k2 k3 (map k1.set given.misses.items) (map k1.set given.asms.items) (given_regions given) (given_sets k.game) (g.met.G.Regions.exact _) c.give.ensures.same.game gives.misses gives.asms made gone l.layers.items (g.met.G.Regions.exact _) won))
+    (lost_is k k1 k2 k3 (map k1.set given.misses.items) (map k1.set given.asms.items) (given_regions given) (given_sets k.game) (g.met.G.Regions.exact _) c.give.ensures.keeps.game gives.misses gives.asms made gone c.requires.free)
+    (λ l won. (layers_for k.game, won_is k k1 k2 k3 (map k1.set given.misses.items) (map k1.set given.asms.items) (given_regions given) (given_sets k.game) (g.met.G.Regions.exact _) c.give.ensures.keeps.game gives.misses gives.asms made gone l.layers.items (g.met.G.Regions.exact _) won))
     c.in-Ok.ensures.won
 
 pub returns-in-Err-clause-halted : goal.returns-in-Err-clause-halted
@@ -71,7 +71,7 @@ returns-in-Err-clause-told g c =
     let last = kept c.spend_given-in-Err.new.g in
     of_layers k last c.in-Err.halt
     (layers_past k.game k k1 (kept c.winning.new.g) last (given_regions given) (given_sets k.game) c.in-Err.halt made (λ a j y. given_named k.game (moment_at k.game a j y)) c.spend_given-in-Err.ensures.spends.jam
-    (c.in-Err.ensures.told k.game c.give.ensures.same.game (record { misses_are = gives.misses; asms_are = gives.asms })))
+    (c.in-Err.ensures.told k.game c.give.ensures.keeps.game (record { misses_are = gives.misses; asms_are = gives.asms })))
 
 pub returns-in-Ok-clause-moment : goal.returns-in-Ok-clause-moment
 returns-in-Ok-clause-moment g c = some_each c.in-Ok.won _ (λ l. λ sets won. of_one_moment (g.G.Regions.kept c.args.g.now) (g.G.Regions.kept c.spend_given.new.g) l.layers.items sets won)

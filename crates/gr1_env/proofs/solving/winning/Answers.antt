@@ -30,8 +30,8 @@ returns-clause-won g c =
     let asms = map k.set c.args.given.now.asms.items in
     let ls = c.in_ok-layers.layers.items in
     IfOk-weaker c.decide.result _ _ (λ o. match_weaker o _ _ _ _
-    (λ dropped. lost k k1 k2 _ misses asms ls (g.met.G.Regions.exact _) c.requires.free c.all_layers.ensures.same.game c.in_ok-layers.ensures.last c.in_ok-layers.ensures.made dropped)
-    (λ l h. won k k1 k2 _ misses asms ls l.layers.items h.0 c.all_layers.ensures.same.game c.in_ok-layers.ensures.last c.in_ok-layers.ensures.made h.1)) c.decide.ensures.decided
+    (λ dropped. lost k k1 k2 _ misses asms ls (g.met.G.Regions.exact _) c.requires.free c.all_layers.ensures.keeps.game c.in_ok-layers.ensures.last c.in_ok-layers.ensures.made dropped)
+    (λ l h. won k k1 k2 _ misses asms ls l.layers.items h.0 c.all_layers.ensures.keeps.game c.in_ok-layers.ensures.last c.in_ok-layers.ensures.made h.1)) c.decide.ensures.decided
 
 pub returns-clause-halted : goal.returns-clause-halted
 returns-clause-halted g c =
@@ -63,4 +63,4 @@ returns-clause-told g c = λ game same are.
     (at_hold game k k1 k2 k2 n 0 y halt (hold_is_value game n 0)
     (past_many game m k k1 k2 k2 (all_regions ls) _ halt have.made (layers_named game m.value k.game n misses asms ls same are (omega arith) (λ b i before. value_settled game n 0 b i) have.whole) refl
     tells))))
-    (c.decide.ensures.told game m n (c.all_layers.ensures.same.game ∙ same) (last_number game k.game misses asms n same are have.count) last_is)
+    (c.decide.ensures.told game m n (c.all_layers.ensures.keeps.game ∙ same) (last_number game k.game misses asms n same are have.count) last_is)

@@ -18,7 +18,7 @@ loop-e-preserved g c =
     record {
       left = last_spent (kept c.args.g.now) (kept c.loop-e.g) (kept c.spend_hold.new.g) (goal_regions c.args.goals.items) (goal_regions c.pop.new.self.items) (hold_regions c.in-Some.e) (g.met.G.Regions.exact _) c.requires is_left c.spend_hold.ensures.spends;
       jam = c.spend_hold.ensures.spends.jam ∙ c.loop-e.invariant.jam;
-      same = same_then (kept c.args.g.now) (kept c.loop-e.g) (kept c.spend_hold.new.g) c.loop-e.invariant.same c.spend_hold.ensures.same;
+      same = same_then (kept c.args.g.now) (kept c.loop-e.g) (kept c.spend_hold.new.g) c.loop-e.invariant.same c.spend_hold.ensures.keeps;
     }
 
 pub returns-clause-spends : goal.returns-clause-spends

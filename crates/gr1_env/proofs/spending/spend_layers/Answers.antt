@@ -18,7 +18,7 @@ loop-l-preserved g c =
     record {
       left = last_spent (kept c.args.g.now) (kept c.loop-l.g) (kept c.spend_layer.new.g) (all_regions c.args.layers.items) (all_regions c.pop.new.self.items) (layer_regions c.in-Some.l) (g.met.G.Regions.exact _) c.requires is_left c.spend_layer.ensures.spends;
       jam = c.spend_layer.ensures.spends.jam ∙ c.loop-l.invariant.jam;
-      same = same_then (kept c.args.g.now) (kept c.loop-l.g) (kept c.spend_layer.new.g) c.loop-l.invariant.same c.spend_layer.ensures.same;
+      same = same_then (kept c.args.g.now) (kept c.loop-l.g) (kept c.spend_layer.new.g) c.loop-l.invariant.same c.spend_layer.ensures.keeps;
     }
 
 pub returns-clause-spends : goal.returns-clause-spends

@@ -18,7 +18,7 @@ loop-rs-preserved g c =
     record {
       left = last_spent (kept c.args.g.now) (kept c.loop-rs.g) (kept c.spend_all.new.g) (list_regions c.args.xs.items) (list_regions c.pop.new.self.items) (c.in-Some.rs.items) (g.met.G.Regions.exact _) c.requires is_left c.spend_all.ensures.spends;
       jam = c.spend_all.ensures.spends.jam ∙ c.loop-rs.invariant.jam;
-      same = same_then (kept c.args.g.now) (kept c.loop-rs.g) (kept c.spend_all.new.g) c.loop-rs.invariant.same c.spend_all.ensures.same;
+      same = same_then (kept c.args.g.now) (kept c.loop-rs.g) (kept c.spend_all.new.g) c.loop-rs.invariant.same c.spend_all.ensures.keeps;
     }
 
 pub returns-clause-spends : goal.returns-clause-spends

@@ -74,7 +74,7 @@ loop-more-smaller g c =
     let reach_kept = set_kept first k c.args.reach.now (g.met.G.Regions.exact _) (λ w. omega (arith, climbs.made.held w)) c.requires.reach in
     let grown = grows_at first.game k new c.args.reach.now (last_region c.args.given.now.none ls) r.0 r.1.0 (length ls) ls c.in_ok-more.more.items c.in_ok-more.settled c.loop-more.invariant.same.game (c.in_ok-more.ensures.grown r.0 r.1.0 (length ls)) (reach_kept ∙ r.1.1) climbs.last in
     let fewer = climbs_fewer first.game first k new c.args.given.now.none r.0 r.1.0 ls c.in_ok-more.more.items (g.met.G.Regions.exact _) climbs (subst (Grows first.game k new r.0 r.1.0 ls (length ls) c.in_ok-more.more.items) c.if-settled.false grown) in
-    rw (c.grow.ensures.same.game, c.loop-more.invariant.same.game) fewer
+    rw (c.grow.ensures.keeps.game, c.loop-more.invariant.same.game) fewer
 
 pub loop-more-preserved : goal.loop-more-preserved
 loop-more-preserved g c =
@@ -89,7 +89,7 @@ loop-more-preserved g c =
           let reach_kept = set_kept first k c.args.reach.now (g.met.G.Regions.exact _) (λ w. omega (arith, climbs.made.held w)) c.requires.reach in
           let grown = grows_at first.game k new c.args.reach.now (last_region c.args.given.now.none ls) z j (length ls) ls c.in_ok-more.more.items c.in_ok-more.settled c.loop-more.invariant.same.game (c.in_ok-more.ensures.grown z j (length ls)) (reach_kept ∙ reach_is) climbs.last in
           climbs_next first.game first k new c.args.given.now.none z j ls c.in_ok-more.more.items (g.met.G.Regions.exact _) climbs (subst (Grows first.game k new z j ls (length ls) c.in_ok-more.more.items) c.if-settled.false grown);
-      same = same_then first k new c.loop-more.invariant.same c.grow.ensures.same;
+      same = same_then first k new c.loop-more.invariant.same c.grow.ensures.keeps;
     }
 
 pub returns-in_err-more-clause-told : goal.returns-in_err-more-clause-told

@@ -21,7 +21,7 @@ returns-in-Ok-clause-made g c =
     let k1 = kept c.regions_of.new.g in
     let k2 = kept c.with_goals.new.g in
     makes_both k k1 k2 c.in_ok-goals.goals.items (c.in-Ok.none ∷ c.in-Ok.lapses.items) (wanted k.game Goals) (no_states ∷ wanted k.game Lapses) c.in_ok-goals.ensures.made
-    (subst (λ h. MakesRegions k1 k2 (c.in-Ok.none ∷ c.in-Ok.lapses.items) (no_states ∷ wanted h Lapses)) c.regions_of.ensures.same.game c.in-Ok.ensures.made)
+    (subst (λ h. MakesRegions k1 k2 (c.in-Ok.none ∷ c.in-Ok.lapses.items) (no_states ∷ wanted h Lapses)) c.regions_of.ensures.keeps.game c.in-Ok.ensures.made)
 
 pub returns-in-Err-clause-halted : goal.returns-in-Err-clause-halted
 returns-in-Err-clause-halted g c =
@@ -40,4 +40,4 @@ pub returns-in-Err-clause-told : goal.returns-in-Err-clause-told
 returns-in-Err-clause-told g c = λ z.
     let kept = g.G.Regions.kept in
     let k = kept c.args.g.now in
-    past_many k (kept c.regions_of.new.g) (kept c.with_goals.new.g) (kept c.spend_all.new.g) z c.in_ok-goals.goals.items (wanted k.game Goals) c.in-Err.halt c.regions_of.ensures.same.game c.in_ok-goals.ensures.made (wanted_named k.game z Goals) c.spend_all.ensures.spends.jam (c.in-Err.ensures.told z)
+    past_many k (kept c.regions_of.new.g) (kept c.with_goals.new.g) (kept c.spend_all.new.g) z c.in_ok-goals.goals.items (wanted k.game Goals) c.in-Err.halt c.regions_of.ensures.keeps.game c.in_ok-goals.ensures.made (wanted_named k.game z Goals) c.spend_all.ensures.spends.jam (c.in-Err.ensures.told z)

@@ -33,7 +33,7 @@ returns-in-Ok-clause-made g c =
     let found = assumption_there c.game.result.now k.game c.game.ensures (sym c.is_empty.ensures ∙ c.if-is_empty.false) c.args.i (lapse_counted k.game c.args.i c.requires.there) in
     let made = c.in_ok-holds.ensures.made in
     let is = set_is k1 c.in_ok-holds.holds (states_holding k.game (Assumption c.args.i)) (g.met.G.Regions.exact _) (λ w. omega (arith, made.held w)) in
-    let rest_is = ap (λ h. rest h (k1.set c.in_ok-holds.holds)) c.holding.ensures.same.game ∙ lapse_there k.game c.args.i (k1.set c.in_ok-holds.holds) c.requires.there (is ∙ found.1) in
+    let rest_is = ap (λ h. rest h (k1.set c.in_ok-holds.holds)) c.holding.ensures.keeps.game ∙ lapse_there k.game c.args.i (k1.set c.in_ok-holds.holds) c.requires.there (is ∙ found.1) in
     one_above k k1 (kept c.not.new.self) (kept c.spend.new.self) c.in_ok-holds.holds c.in-Ok.lapses _ _ (g.met.G.Regions.exact _) made (subst (MakesRegion k1 (kept c.not.new.self) c.in-Ok.lapses) rest_is c.in-Ok.ensures.made) c.spend.ensures.spends
 
 pub returns-in-Err-clause-halted : goal.returns-in-Err-clause-halted
@@ -62,6 +62,6 @@ returns-in-Err-clause-told g c = λ z.
     let found = assumption_there c.game.result.now k.game c.game.ensures (sym c.is_empty.ensures ∙ c.if-is_empty.false) c.args.i (lapse_counted k.game c.args.i c.requires.there) in
     let is = set_is k1 c.in_ok-holds.holds (states_holding k.game (Assumption c.args.i)) (g.met.G.Regions.exact _) (λ w. omega (arith, made.held w)) in
     let index_in : IsAssumption k.game c.args.i = lapse_counted k.game c.args.i c.requires.there in
-    let named : IsNamed k1.game z (k1.set c.in_ok-holds.holds) = assumption c.args.i (subst (λ h. IsAssumption h c.args.i) (sym c.holding.ensures.same.game) index_in) (is ∙ (found.1 ∙ ap (λ h. assumption_set h c.args.i) (sym c.holding.ensures.same.game))) in
-    past_one k k1 (kept c.not.new.self) (kept c.spend-in-Err.new.self) z c.in_ok-holds.holds (states_holding k.game (Assumption c.args.i)) c.in-Err.halt c.holding.ensures.same.game made (assumption c.args.i index_in found.1) c.spend-in-Err.ensures.spends.jam
+    let named : IsNamed k1.game z (k1.set c.in_ok-holds.holds) = assumption c.args.i (subst (λ h. IsAssumption h c.args.i) (sym c.holding.ensures.keeps.game) index_in) (is ∙ (found.1 ∙ ap (λ h. assumption_set h c.args.i) (sym c.holding.ensures.keeps.game))) in
+    past_one k k1 (kept c.not.new.self) (kept c.spend-in-Err.new.self) z c.in_ok-holds.holds (states_holding k.game (Assumption c.args.i)) c.in-Err.halt c.holding.ensures.keeps.game made (assumption c.args.i index_in found.1) c.spend-in-Err.ensures.spends.jam
     (told k1 (kept c.not.new.self) z Not (States (k1.set c.in_ok-holds.holds) ∷ []) c.in-Err.halt c.in-Err.ensures.halted.jam (named, tt) tt)

@@ -36,7 +36,7 @@ loop-i-preserved g c =
           (subst (MakesRegions first new (c.loop-i.rs.items ++ c.in-Ok-region_of.r ∷ [])) (sym (map_below-more f c.loop-i.i)) more);
       counted = c.push_reserved.ensures.len ∙ ap (λ n. n + 1) inv.counted;
       room = omega (arith, inv.room, c.push_reserved.ensures.capacity);
-      same = same_then first k new inv.same c.region_of.ensures.same;
+      same = same_then first k new inv.same c.region_of.ensures.keeps;
     }
 
 pub region_of-requires-clause-free : goal.region_of-requires-clause-free

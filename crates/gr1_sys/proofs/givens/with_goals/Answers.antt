@@ -34,5 +34,5 @@ returns-in-Err-clause-told g c = λ z.
     let kept = g.G.Regions.kept in
     let k = kept c.args.g.now in
     let k1 = kept c.regions_of.new.g in
-    past_many k k1 (kept c.none.new.self) (kept c.spend_all.new.g) z c.in_ok-lapses.lapses.items (wanted k.game Lapses) c.in-Err.halt c.regions_of.ensures.same.game c.in_ok-lapses.ensures.made (wanted_named k.game z Lapses) c.spend_all.ensures.spends.jam
+    past_many k k1 (kept c.none.new.self) (kept c.spend_all.new.g) z c.in_ok-lapses.lapses.items (wanted k.game Lapses) c.in-Err.halt c.regions_of.ensures.keeps.game c.in_ok-lapses.ensures.made (wanted_named k.game z Lapses) c.spend_all.ensures.spends.jam
     (told k1 (kept c.none.new.self) z NoStates [] c.in-Err.halt c.in-Err.ensures.halted.jam tt tt)

@@ -18,7 +18,7 @@ loop-next-init g c =
     let is = made_is first (kept c.all_states.new.g) c.in_ok-x.x _ (g.met.G.Regions.exact _) c.in_ok-x.ensures.made in
     record {
       made = is.1;
-      same = c.all_states.ensures.same;
+      same = c.all_states.ensures.keeps;
       falling = subst (IsFalling first.game (waiting first.game (first.set c.args.base.now) (first.set c.args.lapse.now))) (sym is.0) (waiting-first first.game (first.set c.args.base.now) (first.set c.args.lapse.now) (g.met.G.Regions.proper c.args.g.now c.args.base.now c.requires.base));
       iterates = (0, is.0);
     }
@@ -32,7 +32,7 @@ loop-next-preserved g c =
     let is = turned first k (kept c.next_part.new.g) c.loop-next.x c.in_ok-next.next c.args.base.now c.args.lapse.now (g.met.G.Regions.exact _) (g.met.G.Regions.exact _) inv.made inv.same c.requires.base c.requires.lapse c.in_ok-next.ensures.made in
     record {
       made = is.1;
-      same = same_then first k (kept c.next_part.new.g) inv.same c.next_part.ensures.same;
+      same = same_then first k (kept c.next_part.new.g) inv.same c.next_part.ensures.keeps;
       falling = subst (IsFalling first.game (waiting first.game (first.set c.args.base.now) (first.set c.args.lapse.now))) (sym is.0)
           (waiting-next first.game (first.set c.args.base.now) (first.set c.args.lapse.now) (g.met.G.Regions.proper c.args.g.now c.args.base.now c.requires.base) (k.set c.loop-next.x) inv.falling);
       iterates = (suc inv.iterates.0, is.0 ∙ ap (waiting first.game (first.set c.args.base.now) (first.set c.args.lapse.now)) inv.iterates.1);
@@ -48,7 +48,7 @@ loop-next-smaller g c =
     let value_is = still first k c.loop-next.x c.args.base.now c.args.lapse.now (g.met.G.Regions.exact _) inv.made inv.same c.requires.base c.requires.lapse in
     let unsettled : k.set c.loop-next.x ≡ waiting first.game (first.set c.args.base.now) (first.set c.args.lapse.now) (k.set c.loop-next.x) → ⊥ = λ e. false≢true (sym c.if-settled.false ∙ c.in_ok-next.ensures.settled.1 (e ∙ sym value_is)) in
     let fewer = waiting-fewer first.game (first.set c.args.base.now) (first.set c.args.lapse.now) (g.met.G.Regions.proper c.args.g.now c.args.base.now c.requires.base) (k.set c.loop-next.x) inv.falling unsettled in
-    rw (is.0, c.next_part.ensures.same.game, inv.same.game) fewer
+    rw (is.0, c.next_part.ensures.keeps.game, inv.same.game) fewer
 
 pub returns-then-settled-clause-made : goal.returns-then-settled-clause-made
 returns-then-settled-clause-made g c =

@@ -36,7 +36,7 @@ returns-in_err-waits-clause-told g c = λ z j r i n are is.
     let kept = g.G.Regions.kept in
     let k = kept c.args.g.now in
     handed_on c.from_residual-in_err-waits.result c.in_err-waits.field-0.0 (TellsHalt k (kept c.and_in.new.g) z) c.from_residual-in_err-waits.ensures.1
-    (joined_told k (kept c.pre_sys.new.self) (kept c.and_in.new.g) z c.in_ok-forced.forced c.args.lapse.now (pre_sys k.game (k.set c.args.x.now)) And c.in_err-waits.field-0.0 (g.met.G.Regions.exact _) c.pre_sys.ensures.same.game c.requires.lapse c.in_ok-forced.ensures.made
+    (joined_told k (kept c.pre_sys.new.self) (kept c.and_in.new.g) z c.in_ok-forced.forced c.args.lapse.now (pre_sys k.game (k.set c.args.x.now)) And c.in_err-waits.field-0.0 (g.met.G.Regions.exact _) c.pre_sys.ensures.keeps.game c.requires.lapse c.in_ok-forced.ensures.made
     (forced (k.set c.args.x.now) (part j r i n are.goal_in are.index_in is) refl) (lapse i are.index_in are.away_is) tt c.in_err-waits.ensures.told)
 
 pub returns-clause-told : goal.returns-clause-told
@@ -45,5 +45,5 @@ returns-clause-told g c = λ z j r i n are is.
     let k = kept c.args.g.now in
     let waits = replaced_as k (kept c.pre_sys.new.self) (kept c.and_in.new.g) c.in_ok-forced.forced c.in_ok-waits.waits c.args.lapse.now (pre_sys k.game (k.set c.args.x.now)) both (g.met.G.Regions.exact _) c.requires.lapse c.in_ok-forced.ensures.made c.in_ok-waits.ensures.made in
     IfErr-weaker c.or_in.result _ _
-    (λ halt jam. joined_told k (kept c.and_in.new.g) (kept c.or_in.new.g) z c.in_ok-waits.waits c.args.base.now (both (pre_sys k.game (k.set c.args.x.now)) (k.set c.args.lapse.now)) Or halt (g.met.G.Regions.exact _) (same_then k (kept c.pre_sys.new.self) (kept c.and_in.new.g) c.pre_sys.ensures.same c.and_in.ensures.same).game c.requires.base waits
+    (λ halt jam. joined_told k (kept c.and_in.new.g) (kept c.or_in.new.g) z c.in_ok-waits.waits c.args.base.now (both (pre_sys k.game (k.set c.args.x.now)) (k.set c.args.lapse.now)) Or halt (g.met.G.Regions.exact _) (same_then k (kept c.pre_sys.new.self) (kept c.and_in.new.g) c.pre_sys.ensures.keeps c.and_in.ensures.keeps).game c.requires.base waits
     (waited j r i n are.goal_in are.index_in (ap (λ t. both (pre_sys k.game t) (k.set c.args.lapse.now)) is ∙ ap (both (pre_sys k.game (part_iterate k.game z j r i n))) are.away_is)) (based j r are.goal_in are.base_is) tt jam) c.or_in.ensures.told

@@ -30,5 +30,5 @@ returns-clause-told g c = λ z j r goal_in reach_is low_is.
     let kept = g.G.Regions.kept in
     let k = kept c.args.g.now in
     IfErr-weaker c.or_in.result _ _
-    (λ halt jam. joined_told k (kept c.pre_sys.new.self) (kept c.or_in.new.g) z c.in_ok-forced.forced c.args.reach.now (pre_sys k.game (k.set c.args.below.now)) Or halt (g.met.G.Regions.exact _) c.pre_sys.ensures.same.game c.requires.reach c.in_ok-forced.ensures.made
+    (λ halt jam. joined_told k (kept c.pre_sys.new.self) (kept c.or_in.new.g) z c.in_ok-forced.forced c.args.reach.now (pre_sys k.game (k.set c.args.below.now)) Or halt (g.met.G.Regions.exact _) c.pre_sys.ensures.keeps.game c.requires.reach c.in_ok-forced.ensures.made
     (forced (k.set c.args.below.now) (layer j r goal_in low_is) refl) (reached j goal_in reach_is) tt jam) c.or_in.ensures.told

@@ -21,7 +21,7 @@ returns-in-Ok-clause-made g c = λ z j r reach_is low_is.
     let k = kept c.args.g.now in
     let k1 = kept c.base_above.new.g in
     let k2 = kept c.layer_on.new.g in
-    let sets = rank_made k k1 c.in_ok-base.base c.args.reach.now c.args.below.now c.args.given.now z j r (g.met.G.Regions.exact _) c.base_above.ensures.same c.requires.given c.in_ok-base.ensures.made reach_is low_is in
+    let sets = rank_made k k1 c.in_ok-base.base c.args.reach.now c.args.below.now c.args.given.now z j r (g.met.G.Regions.exact _) c.base_above.ensures.keeps c.requires.given c.in_ok-base.ensures.made reach_is low_is in
     let made = subst (λ (ls : List _). MakesRegions k1 k2 (layer_regions c.in-Ok.layer) (layer_sets (part_at k1 c.in_ok-base.base ls) (length ls))) c.deref.ensures.value c.in-Ok.ensures.made in
     made_above k k1 k2 (kept c.spend.new.self) c.in_ok-base.base _ (layer_regions c.in-Ok.layer) _ (g.met.G.Regions.exact _) c.in_ok-base.ensures.made
     (subst (MakesRegions k1 k2 (layer_regions c.in-Ok.layer)) sets made) c.spend.ensures.spends
@@ -54,8 +54,8 @@ returns-in-Err-clause-told g c = λ z j r goal_in reach_is low_is.
     let made = c.in_ok-base.ensures.made in
     let set = either (pre_sys k.game (k.set c.args.below.now)) (k.set c.args.reach.now) in
     let base_is = ap (λ t. either (pre_sys k.game t) (k.set c.args.reach.now)) low_is ∙ ap (either (pre_sys k.game (layer_of k.game z j r))) reach_is in
-    let base_now = set_is k1 c.in_ok-base.base set (g.met.G.Regions.exact _) (λ w. omega (arith, made.held w)) ∙ (base_is ∙ ap (λ h. base_of h z j r) (sym c.base_above.ensures.same.game)) in
-    let given = given_stays k k1 c.args.given.now (g.met.G.Regions.exact _) c.base_above.ensures.same (λ w. omega (arith, made.held w)) c.requires.given in
+    let base_now = set_is k1 c.in_ok-base.base set (g.met.G.Regions.exact _) (λ w. omega (arith, made.held w)) ∙ (base_is ∙ ap (λ h. base_of h z j r) (sym c.base_above.ensures.keeps.game)) in
+    let given = given_stays k k1 c.args.given.now (g.met.G.Regions.exact _) c.base_above.ensures.keeps (λ w. omega (arith, made.held w)) c.requires.given in
     let lapses = subst (λ (rs : List _). AreLapses k1.game (map k1.set rs)) (sym c.deref.ensures.value) given.lapse_sets in
-    past_one k k1 (kept c.layer_on.new.g) (kept c.spend-in-Err.new.self) z c.in_ok-base.base set c.in-Err.halt c.base_above.ensures.same.game made (based j r goal_in base_is) c.spend-in-Err.ensures.spends.jam
-    (c.in-Err.ensures.told z j r (subst (λ h. IsGoal h j) (sym c.base_above.ensures.same.game) goal_in) base_now lapses)
+    past_one k k1 (kept c.layer_on.new.g) (kept c.spend-in-Err.new.self) z c.in_ok-base.base set c.in-Err.halt c.base_above.ensures.keeps.game made (based j r goal_in base_is) c.spend-in-Err.ensures.spends.jam
+    (c.in-Err.ensures.told z j r (subst (λ h. IsGoal h j) (sym c.base_above.ensures.keeps.game) goal_in) base_now lapses)

@@ -57,10 +57,10 @@ returns-in-Err-clause-told g c = λ z j r goal_in base_is are.
     let m = length c.args.lapses.now in
     let sets = as_held k1 xs (map (part_at k c.args.base.now c.args.lapses.now) (below m)) (g.met.G.Regions.exact _) made.counted (λ w. omega (arith, made.held w)) ∙
     (map_below-same (part_at k c.args.base.now c.args.lapses.now) (part_of k.game z (layer_of k.game z j r) j) m (parts_are k z j r c.args.base.now c.args.lapses.now base_is are) ∙
-    ap (λ h. map (part_of h z (layer_of h z j r) j) (below m)) (sym c.solutions.ensures.same.game)) in
+    ap (λ h. map (part_of h z (layer_of h z j r) j) (below m)) (sym c.solutions.ensures.keeps.game)) in
     let now = ap (λ (rs : List _). map k1.set rs) c.deref.ensures.value ∙ sets in
     let counted : length xs ≡ m = made.counted ∙ (length_map (part_at k c.args.base.now c.args.lapses.now) (below m) ∙ length_below m) in
     let asked : length c.deref.result.now ≡ length xs = ap (λ (rs : List _). length rs) c.deref.ensures.value in
     let few : length c.deref.result.now ≤ length (assumption_sets k1.game) =
-    subst (λ h. length c.deref.result.now ≤ length (assumption_sets h)) (sym c.solutions.ensures.same.game) (omega (arith, asked, counted, lapse_count k c.args.lapses.now are)) in
-    past_many k k1 (kept c.union_of.new.g) (kept c.spend_all.new.g) z xs _ c.in-Err.halt c.solutions.ensures.same.game made (parts_named k z j r c.args.base.now c.args.lapses.now m goal_in base_is are (omega arith)) c.spend_all.ensures.spends.jam (c.in-Err.ensures.told z j r m (subst (λ h. IsGoal h j) (sym c.solutions.ensures.same.game) goal_in) few now)
+    subst (λ h. length c.deref.result.now ≤ length (assumption_sets h)) (sym c.solutions.ensures.keeps.game) (omega (arith, asked, counted, lapse_count k c.args.lapses.now are)) in
+    past_many k k1 (kept c.union_of.new.g) (kept c.spend_all.new.g) z xs _ c.in-Err.halt c.solutions.ensures.keeps.game made (parts_named k z j r c.args.base.now c.args.lapses.now m goal_in base_is are (omega arith)) c.spend_all.ensures.spends.jam (c.in-Err.ensures.told z j r m (subst (λ h. IsGoal h j) (sym c.solutions.ensures.keeps.game) goal_in) few now)

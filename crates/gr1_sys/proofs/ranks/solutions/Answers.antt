@@ -55,7 +55,7 @@ loop-lapse-preserved g c =
           (subst (MakesRegions first new (c.loop-lapse.xs.items ++ c.in-Ok-greatest_part.x ∷ [])) (sym (map_below-more f c.loop-lapse.lapse-index)) more);
       counted = c.push_reserved.ensures.len ∙ ap (λ n. n + 1) inv.counted;
       room = omega (arith, inv.room, c.push_reserved.ensures.capacity);
-      same = same_then first k new inv.same c.greatest_part.ensures.same;
+      same = same_then first k new inv.same c.greatest_part.ensures.keeps;
     }
 
 pub returns-in-Err-clause-told : goal.returns-in-Err-clause-told

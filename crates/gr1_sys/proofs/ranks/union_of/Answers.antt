@@ -33,7 +33,7 @@ loop-x-preserved g c =
     record {
       made = subst (λ n. MakesRegion first (kept c.or_in.new.g) c.in_ok-joined-2.joined (union (set_at first c.args.xs.now) n)) (sym next)
           (subst (λ t. MakesRegion first (kept c.or_in.new.g) c.in_ok-joined-2.joined (either sofar t)) (sym (set_at_is first c.args.xs.now c.loop-x.x-index c.x-item.result c.loop-x-test.true c.x-item.is)) made);
-      same = same_then first (kept c.loop-x.g) (kept c.or_in.new.g) c.loop-x.invariant.same c.or_in.ensures.same;
+      same = same_then first (kept c.loop-x.g) (kept c.or_in.new.g) c.loop-x.invariant.same c.or_in.ensures.keeps;
     }
 
 pub returns-in_err-joined-clause-told : goal.returns-in_err-joined-clause-told

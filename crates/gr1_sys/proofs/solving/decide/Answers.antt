@@ -14,19 +14,19 @@ start_sys-requires-clause-t g c = first_together (g.G.Regions.kept c.args.g.now)
 pub counted-requires : goal.counted-requires
 counted-requires g c =
     let kept = g.G.Regions.kept in
-    record { held = together_stays (kept c.args.g.now) (kept c.start_sys.new.self) (c.args.z ∷ all_regions c.args.goals.items) (g.met.G.Regions.exact _) (λ w. omega (arith, c.in-Ok-true.ensures.stays.held w)) c.requires.held }
+    record { held = together_stays (kept c.args.g.now) (kept c.start_sys.new.self) (c.args.z ∷ all_regions c.args.goals.items) (g.met.G.Regions.exact _) (λ w. omega (arith, c.in-Ok-true.ensures.held.held w)) c.requires.held }
 
 pub spend-requires : goal.spend-requires
 spend-requires g c =
     let kept = g.G.Regions.kept in
     first_together (kept c.start_sys.new.self) c.args.z (all_regions c.args.goals.items)
-    (together_stays (kept c.args.g.now) (kept c.start_sys.new.self) (c.args.z ∷ all_regions c.args.goals.items) (g.met.G.Regions.exact _) (λ w. omega (arith, c.in-Ok-false.ensures.stays.held w)) c.requires.held)
+    (together_stays (kept c.args.g.now) (kept c.start_sys.new.self) (c.args.z ∷ all_regions c.args.goals.items) (g.met.G.Regions.exact _) (λ w. omega (arith, c.in-Ok-false.ensures.held.held w)) c.requires.held)
 
 pub spend_goals-requires : goal.spend_goals-requires
 spend_goals-requires g c =
     let kept = g.G.Regions.kept in
     rest_together (kept c.start_sys.new.self) (kept c.spend.new.self) c.args.z (all_regions c.args.goals.items) (g.met.G.Regions.exact _)
-    (together_stays (kept c.args.g.now) (kept c.start_sys.new.self) (c.args.z ∷ all_regions c.args.goals.items) (g.met.G.Regions.exact _) (λ w. omega (arith, c.in-Ok-false.ensures.stays.held w)) c.requires.held) c.spend.ensures.spends
+    (together_stays (kept c.args.g.now) (kept c.start_sys.new.self) (c.args.z ∷ all_regions c.args.goals.items) (g.met.G.Regions.exact _) (λ w. omega (arith, c.in-Ok-false.ensures.held.held w)) c.requires.held) c.spend.ensures.spends
 
 pub spend-requires-in-Err : goal.spend-requires-in-Err
 spend-requires-in-Err g c =
@@ -43,14 +43,14 @@ spend_goals-requires-in-Err g c =
 pub returns-in-Err-counted-clause-halted : goal.returns-in-Err-counted-clause-halted
 returns-in-Err-counted-clause-halted g c =
     let kept = g.G.Regions.kept in
-    without_later (kept c.args.g.now) (kept c.start_sys.new.self) (kept c.counted.new.g) (c.args.z ∷ all_regions c.args.goals.items) (g.met.G.Regions.exact _) c.requires.held c.in-Ok-true.ensures.stays.held c.in-Err-counted.ensures.halted
+    without_later (kept c.args.g.now) (kept c.start_sys.new.self) (kept c.counted.new.g) (c.args.z ∷ all_regions c.args.goals.items) (g.met.G.Regions.exact _) c.requires.held c.in-Ok-true.ensures.held.held c.in-Err-counted.ensures.halted
 
 pub returns-in-Ok-false-clause-decided : goal.returns-in-Ok-false-clause-decided
 returns-in-Ok-false-clause-decided g c =
     let kept = g.G.Regions.kept in
     let k1 = kept c.start_sys.new.self in
-    let held = together_stays (kept c.args.g.now) k1 (c.args.z ∷ all_regions c.args.goals.items) (g.met.G.Regions.exact _) (λ w. omega (arith, c.in-Ok-false.ensures.stays.held w)) c.requires.held in (
-      spent_later (kept c.args.g.now) k1 (kept c.spend_goals.new.g) (c.args.z ∷ all_regions c.args.goals.items) (g.met.G.Regions.exact _) c.requires.held c.in-Ok-false.ensures.stays
+    let held = together_stays (kept c.args.g.now) k1 (c.args.z ∷ all_regions c.args.goals.items) (g.met.G.Regions.exact _) (λ w. omega (arith, c.in-Ok-false.ensures.held.held w)) c.requires.held in (
+      spent_later (kept c.args.g.now) k1 (kept c.spend_goals.new.g) (c.args.z ∷ all_regions c.args.goals.items) (g.met.G.Regions.exact _) c.requires.held c.in-Ok-false.ensures.held
           (first_and_rest k1 (kept c.spend.new.self) (kept c.spend_goals.new.g) c.args.z (all_regions c.args.goals.items) (g.met.G.Regions.exact _) held c.spend.ensures.spends c.spend_goals.ensures.spends),
       cc (c.in-Ok-false.ensures.answer, c.in-Ok-false.field-0-test),
     )
@@ -68,7 +68,7 @@ returns-in-Err-counted-clause-told g c =
     let kept = g.G.Regions.kept in
     let k = kept c.args.g.now in
     let refused = c.in-Err-counted.ensures.told in
-    subst (TellsHalt k (kept c.counted.new.g) (k.set c.args.z)) (sym refused.0) (refused.1 ∙ (c.in-Ok-true.ensures.stays.jam ∙ c.requires.free))
+    subst (TellsHalt k (kept c.counted.new.g) (k.set c.args.z)) (sym refused.0) (refused.1 ∙ (c.in-Ok-true.ensures.held.jam ∙ c.requires.free))
 
 pub returns-in-Err-clause-told : goal.returns-in-Err-clause-told
 returns-in-Err-clause-told g c =

@@ -15,7 +15,7 @@ use Rattle.gr1_sys.proofs.solving.solve_sys.Goals as goal
 pub winning-requires-clause-given : goal.winning-requires-clause-given
 winning-requires-clause-given g c =
     let kept = g.G.Regions.kept in
-    is_given (kept c.args.g.now) (kept c.give.new.g) c.in_ok-given.given (g.met.G.Regions.exact _) c.give.ensures.same c.in_ok-given.ensures.made c.in_ok-given.ensures.counted
+    is_given (kept c.args.g.now) (kept c.give.new.g) c.in_ok-given.given (g.met.G.Regions.exact _) c.give.ensures.keeps c.in_ok-given.ensures.made c.in_ok-given.ensures.counted
 
 pub spend_given-requires : goal.spend_given-requires
 spend_given-requires g c =
@@ -26,7 +26,7 @@ spend_given-requires g c =
 pub decide-requires-clause-held : goal.decide-requires-clause-held
 decide-requires-clause-held g c =
     let kept = g.G.Regions.kept in
-    let left = layers_left (kept c.args.g.now) (kept c.give.new.g) (kept c.winning.new.g) (kept c.spend_given.new.g) (given_regions c.in_ok-given.given) _ c.in-Ok.z c.in-Ok.goals.items (g.met.G.Regions.exact _) c.give.ensures.same.game c.in_ok-given.ensures.made c.in-Ok.ensures.won c.spend_given.ensures.spends in
+    let left = layers_left (kept c.args.g.now) (kept c.give.new.g) (kept c.winning.new.g) (kept c.spend_given.new.g) (given_regions c.in_ok-given.given) _ c.in-Ok.z c.in-Ok.goals.items (g.met.G.Regions.exact _) c.give.ensures.keeps.game c.in_ok-given.ensures.made c.in-Ok.ensures.won c.spend_given.ensures.spends in
     let set = (kept c.winning.new.g).set c.in-Ok.z in
     together_as (kept c.spend_given.new.g) (c.in-Ok.z ∷ all_regions c.in-Ok.goals.items) (set ∷ sets_of (rank_sets (kept c.args.g.now).game set) c.in-Ok.goals.items) (g.met.G.Regions.exact _) left.0.made.counted (λ w. omega (arith, left.0.made.held w))
 
@@ -42,8 +42,8 @@ returns-in-Ok-clause-solved g c =
     let k2 = kept c.winning.new.g in
     let k3 = kept c.spend_given.new.g in
     let k4 = kept c.decide.new.g in
-    let left = layers_left k (kept c.give.new.g) k2 k3 (given_regions c.in_ok-given.given) _ c.in-Ok.z c.in-Ok.goals.items (g.met.G.Regions.exact _) c.give.ensures.same.game c.in_ok-given.ensures.made c.in-Ok.ensures.won c.spend_given.ensures.spends in
-    let same = c.spend_given.ensures.same.game ∙ (c.winning.ensures.same.game ∙ c.give.ensures.same.game) in
+    let left = layers_left k (kept c.give.new.g) k2 k3 (given_regions c.in_ok-given.given) _ c.in-Ok.z c.in-Ok.goals.items (g.met.G.Regions.exact _) c.give.ensures.keeps.game c.in_ok-given.ensures.made c.in-Ok.ensures.won c.spend_given.ensures.spends in
+    let same = c.spend_given.ensures.keeps.game ∙ (c.winning.ensures.keeps.game ∙ c.give.ensures.keeps.game) in
     IfOk-weaker c.decide.result _ _ (λ o. match_weaker o _ _ _ _
     (lost k k3 k4 c.in-Ok.z (k2.set c.in-Ok.z) c.in-Ok.goals.items (g.met.G.Regions.exact _) same c.requires.free left.0 left.1)
     (λ l h. won k k3 k4 c.in-Ok.z l.z (k2.set c.in-Ok.z) c.in-Ok.goals.items l.goals.items (g.met.G.Regions.exact _) (g.met.G.Regions.exact _) same left.0 left.1 h.0 h.1.0 h.1.1)) c.decide.ensures.decided
@@ -51,7 +51,7 @@ returns-in-Ok-clause-solved g c =
 pub returns-in-Ok-clause-halted : goal.returns-in-Ok-clause-halted
 returns-in-Ok-clause-halted g c =
     let kept = g.G.Regions.kept in
-    let left = layers_left (kept c.args.g.now) (kept c.give.new.g) (kept c.winning.new.g) (kept c.spend_given.new.g) (given_regions c.in_ok-given.given) _ c.in-Ok.z c.in-Ok.goals.items (g.met.G.Regions.exact _) c.give.ensures.same.game c.in_ok-given.ensures.made c.in-Ok.ensures.won c.spend_given.ensures.spends in
+    let left = layers_left (kept c.args.g.now) (kept c.give.new.g) (kept c.winning.new.g) (kept c.spend_given.new.g) (given_regions c.in_ok-given.given) _ c.in-Ok.z c.in-Ok.goals.items (g.met.G.Regions.exact _) c.give.ensures.keeps.game c.in_ok-given.ensures.made c.in-Ok.ensures.won c.spend_given.ensures.spends in
     on_err_weaker c.decide.result (made_and_taken_all (kept c.args.g.now) (kept c.spend_given.new.g) (kept c.decide.new.g) (c.in-Ok.z ∷ all_regions c.in-Ok.goals.items) _ (g.met.G.Regions.exact _) left.0.made) c.decide.ensures.halted
 
 pub returns-in-Err-clause-halted : goal.returns-in-Err-clause-halted
@@ -72,7 +72,7 @@ pub returns-in-Err-clause-told : goal.returns-in-Err-clause-told
 returns-in-Err-clause-told g c =
     let kept = g.G.Regions.kept in
     let k = kept c.args.g.now in
-    moment_past k (kept c.give.new.g) (kept c.winning.new.g) (kept c.spend_given-in-Err.new.g) (given_regions c.in_ok-given.given) (given_sets k.game) c.in-Err.halt c.give.ensures.same.game c.in_ok-given.ensures.made (λ z. given_named k.game z) c.spend_given-in-Err.ensures.spends.jam c.in-Err.ensures.told
+    moment_past k (kept c.give.new.g) (kept c.winning.new.g) (kept c.spend_given-in-Err.new.g) (given_regions c.in_ok-given.given) (given_sets k.game) c.in-Err.halt c.give.ensures.keeps.game c.in_ok-given.ensures.made (λ z. given_named k.game z) c.spend_given-in-Err.ensures.spends.jam c.in-Err.ensures.told
 
 pub returns-in-Ok-clause-told : goal.returns-in-Ok-clause-told
 returns-in-Ok-clause-told g c =
@@ -83,11 +83,11 @@ returns-in-Ok-clause-told g c =
     let k4 = kept c.decide.new.g in
     let z = k2.set c.in-Ok.z in
     let goals = c.in-Ok.goals.items in
-    let left = layers_left k (kept c.give.new.g) k2 k3 (given_regions c.in_ok-given.given) _ c.in-Ok.z goals (g.met.G.Regions.exact _) c.give.ensures.same.game c.in_ok-given.ensures.made c.in-Ok.ensures.won c.spend_given.ensures.spends in
-    let game = c.spend_given.ensures.same.game ∙ (c.winning.ensures.same.game ∙ c.give.ensures.same.game) in
+    let left = layers_left k (kept c.give.new.g) k2 k3 (given_regions c.in_ok-given.given) _ c.in-Ok.z goals (g.met.G.Regions.exact _) c.give.ensures.keeps.game c.in_ok-given.ensures.made c.in-Ok.ensures.won c.spend_given.ensures.spends in
+    let game = c.spend_given.ensures.keeps.game ∙ (c.winning.ensures.keeps.game ∙ c.give.ensures.keeps.game) in
     let made = left.0.made in
     let z_is = first_is k k3 c.in-Ok.z (all_regions goals) z (sets_of (rank_sets k.game z) goals) (g.met.G.Regions.exact _) made in
-    let value = subst (λ h. IsValueOfZ h z) c.give.ensures.same.game c.in-Ok.ensures.value in
+    let value = subst (λ h. IsValueOfZ h z) c.give.ensures.keeps.game c.in-Ok.ensures.value in
     IfErr-weaker c.decide.result _ _
     (λ halt tells. of_value k k4 z halt value
     (past_many k k3 k4 k4 z (c.in-Ok.z ∷ all_regions goals) (z ∷ sets_of (rank_sets k.game z) goals) halt game made (iterated (this_value refl), layers_named k.game z goals (omega (arith, left.0.counted))) refl

@@ -20,7 +20,7 @@ loop-z-init g c =
     let is = made_is first (kept c.all_states.new.g) c.in_ok-z.z _ (g.met.G.Regions.exact _) c.in_ok-z.ensures.made in
     record {
       made = is.1;
-      same = c.all_states.ensures.same;
+      same = c.all_states.ensures.keeps;
       falling = subst (IsFalling first.game (following first.game)) (sym is.0) (falling-first first.game (following first.game) (following-grows first.game) (following-inside first.game));
       value = (0, is.0);
     }
@@ -42,7 +42,7 @@ loop-z-preserved g c =
     let next_is = is.0 ∙ ap (λ h. following h (k.set c.loop-z.z)) inv.same.game in
     record {
       made = is.1;
-      same = same_then first k new inv.same c.one_round.ensures.same;
+      same = same_then first k new inv.same c.one_round.ensures.keeps;
       falling = subst (IsFalling first.game (following first.game)) (sym next_is) (falling-next first.game (following first.game) (following-grows first.game) (following-inside first.game) (k.set c.loop-z.z) inv.falling);
       value = (suc inv.value.0, next_is ∙ ap (following first.game) inv.value.1);
     }
@@ -58,7 +58,7 @@ loop-z-smaller g c =
     let is = replaced_is first k new c.loop-z.z c.in-Next.next (following k.game (k.set c.loop-z.z)) (g.met.G.Regions.exact _) inv.made steps.0 in
     let next_is = is.0 ∙ ap (λ h. following h (k.set c.loop-z.z)) inv.same.game in
     let fewer = falling-fewer first.game (following first.game) (following-grows first.game) (following-inside first.game) (k.set c.loop-z.z) inv.falling (λ e. steps.1 (e ∙ ap (λ h. following h (k.set c.loop-z.z)) (sym inv.same.game))) in
-    rw (next_is, c.one_round.ensures.same.game, inv.same.game) fewer
+    rw (next_is, c.one_round.ensures.keeps.game, inv.same.game) fewer
 
 pub returns-in-Settled-clause-won : goal.returns-in-Settled-clause-won
 returns-in-Settled-clause-won g c =

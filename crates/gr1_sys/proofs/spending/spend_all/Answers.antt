@@ -16,7 +16,7 @@ loop-r-preserved g c =
     record {
       left = last_spent (kept c.args.g.now) (kept c.loop-r.g) (kept c.spend.new.self) c.args.rs.items c.pop.new.self.items (c.in-Some.r ∷ []) (g.met.G.Regions.exact _) c.requires is_left (one_spent _ _ c.in-Some.r c.spend.ensures.spends);
       jam = c.spend.ensures.spends.jam ∙ c.loop-r.invariant.jam;
-      same = same_then (kept c.args.g.now) (kept c.loop-r.g) (kept c.spend.new.self) c.loop-r.invariant.same c.spend.ensures.same;
+      same = same_then (kept c.args.g.now) (kept c.loop-r.g) (kept c.spend.new.self) c.loop-r.invariant.same c.spend.ensures.keeps;
     }
 
 pub returns-clause-spends : goal.returns-clause-spends

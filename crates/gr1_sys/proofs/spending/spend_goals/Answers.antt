@@ -17,7 +17,7 @@ loop-ls-preserved g c =
     record {
       left = last_spent (kept c.args.g.now) (kept c.loop-ls.g) (kept c.spend_layers.new.g) (all_regions c.args.goals.items) (all_regions c.pop.new.self.items) (goal_regions c.in-Some.ls.items) (g.met.G.Regions.exact _) c.requires is_left c.spend_layers.ensures.spends;
       jam = c.spend_layers.ensures.spends.jam ∙ c.loop-ls.invariant.jam;
-      same = same_then (kept c.args.g.now) (kept c.loop-ls.g) (kept c.spend_layers.new.g) c.loop-ls.invariant.same c.spend_layers.ensures.same;
+      same = same_then (kept c.args.g.now) (kept c.loop-ls.g) (kept c.spend_layers.new.g) c.loop-ls.invariant.same c.spend_layers.ensures.keeps;
     }
 
 pub returns-clause-spends : goal.returns-clause-spends

@@ -89,7 +89,7 @@ loop-goal-preserved g c =
           (more_climbed first.game first k new z c.loop-goal.goals.items c.in-Ok-layers_of.layers climbed (subst (λ j. HasClimbed first.game k new z j c.in-Ok-layers_of.layers.items) place last));
       counted = c.push_reserved.ensures.len ∙ ap (λ n. n + 1) inv.counted;
       room = omega (arith, inv.room, c.push_reserved.ensures.capacity);
-      same = same_then first k new inv.same c.layers_of.ensures.same;
+      same = same_then first k new inv.same c.layers_of.ensures.keeps;
     }
 
 pub returns-clause-climbed : goal.returns-clause-climbed

@@ -45,7 +45,7 @@ loop-layers-preserved g c =
     record {
       made = subst (λ n. MakesRegion first new c.in_ok-met-2.met (meet first.game (last_set first c.args.none.now c.args.goals.now) n)) (sym next)
           (subst (λ t. MakesRegion first new c.in_ok-met-2.met (both sofar t)) set_is made);
-      same = same_then first (kept c.loop-layers.g) new c.loop-layers.invariant.same c.and_in.ensures.same;
+      same = same_then first (kept c.loop-layers.g) new c.loop-layers.invariant.same c.and_in.ensures.keeps;
     }
 
 pub returns-in_err-met-clause-told : goal.returns-in_err-met-clause-told

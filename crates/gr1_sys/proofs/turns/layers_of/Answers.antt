@@ -14,27 +14,27 @@ goal_layers-requires-clause-reaches g c =
     let kept = g.G.Regions.kept in
     let j = c.requires.is_goal in
     let z = c.requires.is_ready in
-    (z.0, (j.0, reach_is (kept c.args.g.now) (kept c.and.new.self) c.in_ok-reach.reach c.args.goal.now c.args.ready.now z.0 j.0 (g.met.G.Regions.exact _) c.and.ensures.same c.in_ok-reach.ensures.made j.1 z.1))
+    (z.0, (j.0, reach_is (kept c.args.g.now) (kept c.and.new.self) c.in_ok-reach.reach c.args.goal.now c.args.ready.now z.0 j.0 (g.met.G.Regions.exact _) c.and.ensures.keeps c.in_ok-reach.ensures.made j.1 z.1))
 
 pub goal_layers-requires-clause-given : goal.goal_layers-requires-clause-given
 goal_layers-requires-clause-given g c =
     let kept = g.G.Regions.kept in
-    given_stays (kept c.args.g.now) (kept c.and.new.self) c.args.given.now (g.met.G.Regions.exact _) c.and.ensures.same (λ w. omega (arith, c.in_ok-reach.ensures.made.held w)) c.requires.given
+    given_stays (kept c.args.g.now) (kept c.and.new.self) c.args.given.now (g.met.G.Regions.exact _) c.and.ensures.keeps (λ w. omega (arith, c.in_ok-reach.ensures.made.held w)) c.requires.given
 
 pub spend-requires : goal.spend-requires
 spend-requires g c =
     let kept = g.G.Regions.kept in
     let j = c.requires.is_goal in
     let z = c.requires.is_ready in
-    let is = reach_is (kept c.args.g.now) (kept c.and.new.self) c.in_ok-reach.reach c.args.goal.now c.args.ready.now z.0 j.0 (g.met.G.Regions.exact _) c.and.ensures.same c.in_ok-reach.ensures.made j.1 z.1 in
+    let is = reach_is (kept c.args.g.now) (kept c.and.new.self) c.in_ok-reach.reach c.args.goal.now c.args.ready.now z.0 j.0 (g.met.G.Regions.exact _) c.and.ensures.keeps c.in_ok-reach.ensures.made j.1 z.1 in
     above_held (kept c.args.g.now) (kept c.and.new.self) (kept c.goal_layers.new.g) c.in_ok-reach.reach _ _ _ c.in_ok-reach.ensures.made (c.in-Ok.ensures.climbed z.0 j.0 is).made
 
 pub returns-in-Ok-clause-climbed : goal.returns-in-Ok-clause-climbed
 returns-in-Ok-clause-climbed g c = λ z j goal_is ready_is.
     let kept = g.G.Regions.kept in
     let k = kept c.args.g.now in
-    let is = reach_is k (kept c.and.new.self) c.in_ok-reach.reach c.args.goal.now c.args.ready.now z j (g.met.G.Regions.exact _) c.and.ensures.same c.in_ok-reach.ensures.made goal_is ready_is in
-    climbed_above k.game k (kept c.and.new.self) (kept c.goal_layers.new.g) (kept c.spend.new.self) c.in_ok-reach.reach _ z j c.in-Ok.layers.items (g.met.G.Regions.exact _) c.and.ensures.same.game c.in_ok-reach.ensures.made (c.in-Ok.ensures.climbed z j is) c.spend.ensures.spends
+    let is = reach_is k (kept c.and.new.self) c.in_ok-reach.reach c.args.goal.now c.args.ready.now z j (g.met.G.Regions.exact _) c.and.ensures.keeps c.in_ok-reach.ensures.made goal_is ready_is in
+    climbed_above k.game k (kept c.and.new.self) (kept c.goal_layers.new.g) (kept c.spend.new.self) c.in_ok-reach.reach _ z j c.in-Ok.layers.items (g.met.G.Regions.exact _) c.and.ensures.keeps.game c.in_ok-reach.ensures.made (c.in-Ok.ensures.climbed z j is) c.spend.ensures.spends
 
 pub returns-in-Err-clause-halted : goal.returns-in-Err-clause-halted
 returns-in-Err-clause-halted g c =
@@ -52,7 +52,7 @@ pub returns-in-Err-clause-told : goal.returns-in-Err-clause-told
 returns-in-Err-clause-told g c = λ z j goal_in goal_is ready_is.
     let kept = g.G.Regions.kept in
     let k = kept c.args.g.now in
-    let is = reach_is k (kept c.and.new.self) c.in_ok-reach.reach c.args.goal.now c.args.ready.now z j (g.met.G.Regions.exact _) c.and.ensures.same c.in_ok-reach.ensures.made goal_is ready_is in
+    let is = reach_is k (kept c.and.new.self) c.in_ok-reach.reach c.args.goal.now c.args.ready.now z j (g.met.G.Regions.exact _) c.and.ensures.keeps c.in_ok-reach.ensures.made goal_is ready_is in
     let set_is = ap (λ t. both t (k.set c.args.ready.now)) goal_is ∙ ap (both (goal_set k.game j)) ready_is in
-    past_one k (kept c.and.new.self) (kept c.goal_layers.new.g) (kept c.spend-in-Err.new.self) z c.in_ok-reach.reach (both (k.set c.args.goal.now) (k.set c.args.ready.now)) c.in-Err.halt c.and.ensures.same.game c.in_ok-reach.ensures.made (reached j goal_in set_is) c.spend-in-Err.ensures.spends.jam
-    (c.in-Err.ensures.told z j (subst (λ h. Moment.IsGoal h j) (sym c.and.ensures.same.game) goal_in) is)
+    past_one k (kept c.and.new.self) (kept c.goal_layers.new.g) (kept c.spend-in-Err.new.self) z c.in_ok-reach.reach (both (k.set c.args.goal.now) (k.set c.args.ready.now)) c.in-Err.halt c.and.ensures.keeps.game c.in_ok-reach.ensures.made (reached j goal_in set_is) c.spend-in-Err.ensures.spends.jam
+    (c.in-Err.ensures.told z j (subst (λ h. Moment.IsGoal h j) (sym c.and.ensures.keeps.game) goal_in) is)

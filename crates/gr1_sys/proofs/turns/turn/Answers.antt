@@ -36,7 +36,7 @@ returns-in-Ok-clause-turned g c =
     let given = c.requires.given in
     let empty = set_kept k k1 c.args.given.now.none (g.met.G.Regions.exact _) (λ w. omega (arith, climbed.0.made.held w)) given.none ∙ given.empty in
     let counted = climbed.1 ∙ (sym (length_map k.set c.args.given.now.goals.items) ∙ ap (λ (ss : List _). length ss) given.goal_sets) in
-    turns_to k k1 (kept c.common.new.g) c.args.given.now.none (k.set c.args.z.now) c.in_ok-goals.goals.items c.in-Ok.next (g.met.G.Regions.exact _) c.layers_for.ensures.same.game empty climbed.0 counted
+    turns_to k k1 (kept c.common.new.g) c.args.given.now.none (k.set c.args.z.now) c.in_ok-goals.goals.items c.in-Ok.next (g.met.G.Regions.exact _) c.layers_for.ensures.keeps.game empty climbed.0 counted
     (subst (λ (vs : List _). MakesRegion k1 (kept c.common.new.g) c.in-Ok.next (meet k1.game (last_set k1 c.args.given.now.none vs) (length vs))) c.deref.ensures.value c.in-Ok.ensures.made)
 
 pub returns-in-Err-clause-halted : goal.returns-in-Err-clause-halted
@@ -60,10 +60,10 @@ returns-in-Err-clause-told g c =
     let goals = c.in_ok-goals.goals.items in
     let climbed = c.in_ok-goals.ensures.climbed.0 in
     let empty = set_kept k k1 none (g.met.G.Regions.exact _) (λ w. omega (arith, climbed.made.held w)) c.requires.given.none ∙ c.requires.given.empty in
-    let stand = subst (λ h. (j : ℕ) → j < length goals → last_set k1 none goals j ≡ layer_of h z j (length (states_of h))) (sym c.layers_for.ensures.same.game) (last_sets_stand k.game k k1 none z goals (g.met.G.Regions.exact _) empty climbed) in
+    let stand = subst (λ h. (j : ℕ) → j < length goals → last_set k1 none goals j ≡ layer_of h z j (length (states_of h))) (sym c.layers_for.ensures.keeps.game) (last_sets_stand k.game k k1 none z goals (g.met.G.Regions.exact _) empty climbed) in
     let lasts = subst (λ (vs : List _). (j : ℕ) → j < length vs → last_set k1 none vs j ≡ layer_of k1.game z j (length (states_of k1.game))) (sym c.deref.ensures.value) stand in
     let counted = c.in_ok-goals.ensures.climbed.1 ∙ (sym (length_map k.set c.args.given.now.goals.items) ∙ ap (λ (ss : List _). length ss) c.requires.given.goal_sets) in
     let asked = ap (λ (vs : List _). length vs) c.deref.ensures.value in
-    let few = subst (λ h. length c.deref.result.now ≤ length (goal_sets h)) (sym c.layers_for.ensures.same.game) (omega (arith, asked, counted)) in
-    past_many k k1 (kept c.common.new.g) (kept c.spend_goals.new.g) z (all_regions goals) (sets_of (rank_sets k.game z) goals) c.in-Err.halt c.layers_for.ensures.same.game climbed.made (layers_named k.game z goals (omega (arith, counted))) c.spend_goals.ensures.spends.jam
+    let few = subst (λ h. length c.deref.result.now ≤ length (goal_sets h)) (sym c.layers_for.ensures.keeps.game) (omega (arith, asked, counted)) in
+    past_many k k1 (kept c.common.new.g) (kept c.spend_goals.new.g) z (all_regions goals) (sets_of (rank_sets k.game z) goals) c.in-Err.halt c.layers_for.ensures.keeps.game climbed.made (layers_named k.game z goals (omega (arith, counted))) c.spend_goals.ensures.spends.jam
     (c.in-Err.ensures.told z few lasts)

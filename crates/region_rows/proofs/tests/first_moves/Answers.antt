@@ -24,9 +24,9 @@ spend-requires g c = λ w.
     let inputs = IfOk-at_ok _ c.expect-moves-2.ensures c.in_moves.ensures.made in
     let first = c.requires.held w in
     let out_made = outputs.held (λ i m. w i) in
-    let out_read = c.first_out-has_output.ensures.stays.held (λ i m. w i) in
+    let out_read = c.first_out-has_output.ensures.held.held (λ i m. w i) in
     let out_spent = c.spend_move.ensures.spends.held (λ i m. w i) in
     let in_made = inputs.held (λ i m. w i) in
-    let in_read = c.first_in-has_input.ensures.stays.held (λ i m. w i) in
+    let in_read = c.first_in-has_input.ensures.held.held (λ i m. w i) in
     let in_spent = c.spend_move-2.ensures.spends.held (λ i m. w i) in
     omega (arith, first, out_made, out_read, out_spent, in_made, in_read, in_spent)

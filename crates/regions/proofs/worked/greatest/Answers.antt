@@ -16,8 +16,8 @@ loop-next-init g c =
     let is = made_is (kept c.args.g.now) k c.in_ok-z.z _ (g.met.G.Regions.exact c.all.new.self) c.in_ok-z.ensures.made in
     record {
       made = is.1;
-      same = c.all.ensures.same;
-      falling = rw (is.0, ← c.all.ensures.same.game) (falling-first k.game (pre_sys k.game) (pre_sys_grows k.game) (pre_sys-inside k.game));
+      same = c.all.ensures.keeps;
+      falling = rw (is.0, ← c.all.ensures.keeps.game) (falling-first k.game (pre_sys k.game) (pre_sys_grows k.game) (pre_sys-inside k.game));
     }
 
 pub loop-next-preserved : goal.loop-next-preserved
@@ -29,8 +29,8 @@ loop-next-preserved g c =
     let next = falling-next k.game (pre_sys k.game) (pre_sys_grows k.game) (pre_sys-inside k.game) (k.set c.loop-next.z) c.loop-next.invariant.falling in
     record {
       made = is.1;
-      same = record { game = c.forced_into.ensures.same.game ∙ c.loop-next.invariant.same.game; bound = c.forced_into.ensures.same.bound ∙ c.loop-next.invariant.same.bound };
-      falling = rw (is.0, c.forced_into.ensures.same.game) next;
+      same = record { game = c.forced_into.ensures.keeps.game ∙ c.loop-next.invariant.same.game; bound = c.forced_into.ensures.keeps.bound ∙ c.loop-next.invariant.same.bound };
+      falling = rw (is.0, c.forced_into.ensures.keeps.game) next;
     }
 
 pub loop-next-smaller : goal.loop-next-smaller
@@ -40,7 +40,7 @@ loop-next-smaller g c =
     let new = kept c.forced_into.new.g in
     let is = (replaced_is (kept c.args.g.now) k new c.loop-next.z c.in_ok-next.next _ (g.met.G.Regions.exact c.forced_into.new.g) c.loop-next.invariant.made c.in_ok-next.ensures.made).0 in
     let unsettled : k.set c.loop-next.z ≡ pre_sys k.game (k.set c.loop-next.z) → ⊥ = λ e. false≢true (sym c.if-settled.false ∙ c.in_ok-next.ensures.settled.1 e) in
-    rw (is, c.forced_into.ensures.same.game) (falling-fewer k.game (pre_sys k.game) (pre_sys_grows k.game) (pre_sys-inside k.game) (k.set c.loop-next.z) c.loop-next.invariant.falling unsettled)
+    rw (is, c.forced_into.ensures.keeps.game) (falling-fewer k.game (pre_sys k.game) (pre_sys_grows k.game) (pre_sys-inside k.game) (k.set c.loop-next.z) c.loop-next.invariant.falling unsettled)
 
 pub returns-then-settled-clause-made : goal.returns-then-settled-clause-made
 returns-then-settled-clause-made g c =
@@ -55,7 +55,7 @@ returns-then-settled-clause-greatest g c =
     let is = (replaced_is (kept c.args.g.now) k new c.loop-next.z c.in_ok-next.next _ (g.met.G.Regions.exact c.forced_into.new.g) c.loop-next.invariant.made c.in_ok-next.ensures.made).0 in
     let settled = c.in_ok-next.ensures.settled.0 c.if-settled.true in
     let found = falling-last k.game (pre_sys k.game) (pre_sys_grows k.game) (pre_sys-inside k.game) (k.set c.loop-next.z) c.loop-next.invariant.falling settled in
-    rw (c.forced_into.ensures.same.game, is, ← settled) found
+    rw (c.forced_into.ensures.keeps.game, is, ← settled) found
 
 pub returns-in_err-z-clause-told : goal.returns-in_err-z-clause-told
 returns-in_err-z-clause-told g c = λ is_budget.

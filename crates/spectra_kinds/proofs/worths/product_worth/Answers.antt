@@ -1,17 +1,17 @@
 use Rattle.std.proofs.Common.{◌*ℤ◌, w64, ◌∙◌, rules}
 use Rattle.std.proofs.lemmas.Int.{to_z-of_z}
-use Rattle.spectra_kinds.specs.Kinds.{held, multiplied}
+use Rattle.spectra_kinds.specs.Kinds.{capped, multiplied}
 use Rattle.spectra_kinds.proofs.Spans.{product_inside, is_inside, has_worth}
 use Rattle.spectra_kinds.proofs.worths.product_worth.Goals as goal
 
--- the value is held, and in its span
+-- the value is capped, and in its span
 pub worth_of-requires : goal.worth_of-requires
 worth_of-requires c =
     let a = c.args.a in
     let b = c.args.b in
     let first = to_z-of_z w64 a.value (search rules) in
     let second = to_z-of_z w64 b.value (search rules) in
-    let value = to_z-of_z w64 c.saturating_mul.result (search rules) ∙ c.saturating_mul.ensures ∙ (λ j. held (first j *ℤ second j)) in
+    let value = to_z-of_z w64 c.saturating_mul.result (search rules) ∙ c.saturating_mul.ensures ∙ (λ j. capped (first j *ℤ second j)) in
     let span = c.product_of.ensures ∙ (λ j. multiplied (c.span_of.ensures j) (c.span_of-2.ensures j)) in
     is_inside _ _ _ (a.value *ℤ b.value) span value (product_inside a.low a.high b.low b.high a.value b.value record { above = a.above; below = a.below } record { above = b.above; below = b.below })
 
@@ -21,6 +21,6 @@ returns c =
     let b = c.args.b in
     let first = to_z-of_z w64 a.value (search rules) in
     let second = to_z-of_z w64 b.value (search rules) in
-    let value = to_z-of_z w64 c.saturating_mul.result (search rules) ∙ c.saturating_mul.ensures ∙ (λ j. held (first j *ℤ second j)) in
+    let value = to_z-of_z w64 c.saturating_mul.result (search rules) ∙ c.saturating_mul.ensures ∙ (λ j. capped (first j *ℤ second j)) in
     let span = c.product_of.ensures ∙ (λ j. multiplied (c.span_of.ensures j) (c.span_of-2.ensures j)) in
     has_worth _ _ _ _ (a.value *ℤ b.value) span value (product_inside a.low a.high b.low b.high a.value b.value record { above = a.above; below = a.below } record { above = b.above; below = b.below }) c.worth_of.ensures

@@ -52,7 +52,7 @@ loop-r-preserved g c =
           (ap (map f) (take_next regions c.loop-r.r-index r c.loop-r-test.true c.r-item.is) ∙ map-append f (take c.loop-r.r-index regions) (r ∷ [])) made part;
       counted = c.push_reserved.ensures.len ∙ ap (λ n. n + 1) inv.counted;
       room = omega (arith, inv.room, c.push_reserved.ensures.capacity);
-      same = same_then first k new inv.same c.moves_to.ensures.same;
+      same = same_then first k new inv.same c.moves_to.ensures.keeps;
     }
 
 pub spend_moves-requires : goal.spend_moves-requires

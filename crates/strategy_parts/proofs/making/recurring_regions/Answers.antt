@@ -46,7 +46,7 @@ loop-i-preserved g c =
           inv.made (makes_one k new (Region r) (States (get_or (sets_wanted first.game c.args.kind) c.loop-i.i no_states)) one);
       counted = c.push_reserved.ensures.len ∙ ap (λ n. n + 1) inv.counted;
       room = omega (arith, inv.room, c.push_reserved.ensures.capacity);
-      same = same_then first k new inv.same c.region_of.ensures.same;
+      same = same_then first k new inv.same c.region_of.ensures.keeps;
     }
 
 pub spend_regions-requires : goal.spend_regions-requires

@@ -19,7 +19,7 @@ loop-m-preserved g c =
     record {
       left = last_spent (kept c.args.g.now) (kept c.loop-m.g) (kept c.spend_move.new.self) (move_items c.args.moves.items) (move_items c.pop.new.self.items) (Move c.in-Some.m ∷ []) (g.met.G.Regions.exact _) c.requires is_left (one_spent (kept c.loop-m.g) (kept c.spend_move.new.self) (Move c.in-Some.m) c.spend_move.ensures.spends);
       jam = c.spend_move.ensures.spends.jam ∙ c.loop-m.invariant.jam;
-      same = same_then (kept c.args.g.now) (kept c.loop-m.g) (kept c.spend_move.new.self) c.loop-m.invariant.same c.spend_move.ensures.same;
+      same = same_then (kept c.args.g.now) (kept c.loop-m.g) (kept c.spend_move.new.self) c.loop-m.invariant.same c.spend_move.ensures.keeps;
     }
 
 pub returns-clause-spends : goal.returns-clause-spends

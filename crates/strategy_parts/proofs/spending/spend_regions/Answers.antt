@@ -19,7 +19,7 @@ loop-r-preserved g c =
     record {
       left = last_spent (kept c.args.g.now) (kept c.loop-r.g) (kept c.spend.new.self) (region_items c.args.rs.items) (region_items c.pop.new.self.items) (Region c.in-Some.r ∷ []) (g.met.G.Regions.exact _) c.requires is_left (one_spent (kept c.loop-r.g) (kept c.spend.new.self) (Region c.in-Some.r) c.spend.ensures.spends);
       jam = c.spend.ensures.spends.jam ∙ c.loop-r.invariant.jam;
-      same = same_then (kept c.args.g.now) (kept c.loop-r.g) (kept c.spend.new.self) c.loop-r.invariant.same c.spend.ensures.same;
+      same = same_then (kept c.args.g.now) (kept c.loop-r.g) (kept c.spend.new.self) c.loop-r.invariant.same c.spend.ensures.keeps;
     }
 
 pub returns-clause-spends : goal.returns-clause-spends

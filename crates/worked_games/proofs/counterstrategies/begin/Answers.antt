@@ -7,15 +7,15 @@ pub make-requires-clause-lost : goal.make-requires-clause-lost
 make-requires-clause-lost g c =
     let kept = g.G.Regions.kept in
     let won = rw c.in-Ok-Some.field-0-is at c.in-Ok-Some.ensures.solved in
-    (won.0, solved_layers (kept c.args.g) (kept c.solve_env.new.g) _ won.0 c.requires.made c.solve_env.ensures.same won.1)
+    (won.0, solved_layers (kept c.args.g) (kept c.solve_env.new.g) _ won.0 c.requires.made c.solve_env.ensures.keeps won.1)
 
 pub returns-in-Ok : goal.returns-in-Ok
 returns-in-Ok g c =
     let kept = g.G.Regions.kept in
     let won = rw c.in-Ok-Some.field-0-is at c.in-Ok-Some.ensures.solved in
-    let begun = c.in-Ok.ensures.begins won.0 (solved_layers (kept c.args.g) (kept c.solve_env.new.g) _ won.0 c.requires.made c.solve_env.ensures.same won.1) in
+    let begun = c.in-Ok.ensures.begins won.0 (solved_layers (kept c.args.g) (kept c.solve_env.new.g) _ won.0 c.requires.made c.solve_env.ensures.keeps won.1) in
     record {
       stands = (won.0, _, _, _, _, begun.stands);
-      variables = ap (λ (h : GameData). h.variables) (begun.game.game ∙ c.solve_env.ensures.same.game) ∙ c.requires.variables;
+      variables = ap (λ (h : GameData). h.variables) (begun.game.game ∙ c.solve_env.ensures.keeps.game) ∙ c.requires.variables;
       fresh = begun.fresh;
     }

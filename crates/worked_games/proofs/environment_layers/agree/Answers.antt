@@ -18,6 +18,6 @@ loop-a-preserved g c =
     let kept = g.G.Regions.kept in
     let inv = c.loop-a.invariant in
     record {
-      stays = stays_then (kept c.args.g.now) (kept c.loop-a.g) (kept c.word_of.new.g) inv.stays c.word_of.ensures.stays;
-      same = same_then (kept c.args.g.now) (kept c.loop-a.g) (kept c.word_of.new.g) inv.same c.word_of.ensures.same;
+      stays = stays_then (kept c.args.g.now) (kept c.loop-a.g) (kept c.word_of.new.g) inv.stays c.word_of.ensures.held;
+      same = same_then (kept c.args.g.now) (kept c.loop-a.g) (kept c.word_of.new.g) inv.same c.word_of.ensures.keeps;
     }

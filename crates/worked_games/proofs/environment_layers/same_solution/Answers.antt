@@ -20,4 +20,4 @@ spend_all-requires g c =
     let k = kept c.args.g.now in
     let k1 = kept c.solve_env.new.g in
     let won = subst (λ (o : Option _). MatchOption o (IsLost k k1) (λ l. (sets : _) × WonByEnvironment k k1 l.layers.items sets)) c.in-Some.is c.in_ok-layers.ensures.solved in
-    together_still k1 (kept c.agree-same.new.g) (all_regions c.in-Some.layers.layers.items) (g.met.G.Regions.exact _) c.agree-same.ensures.stays (λ w. omega (arith, won.1.held w))
+    together_still k1 (kept c.agree-same.new.g) (all_regions c.in-Some.layers.layers.items) (g.met.G.Regions.exact _) c.agree-same.ensures.held (λ w. omega (arith, won.1.held w))

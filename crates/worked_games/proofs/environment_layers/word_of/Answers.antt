@@ -14,6 +14,6 @@ loop-s-preserved g c =
     let kept = g.G.Regions.kept in
     let inv = c.loop-s.invariant in
     record {
-      stays = stays_then (kept c.args.g.now) (kept c.loop-s.g) (kept c.has-inside.new.self) inv.stays c.has-inside.ensures.stays;
-      same = same_then (kept c.args.g.now) (kept c.loop-s.g) (kept c.has-inside.new.self) inv.same c.has-inside.ensures.same;
+      stays = stays_then (kept c.args.g.now) (kept c.loop-s.g) (kept c.has-inside.new.self) inv.stays c.has-inside.ensures.held;
+      same = same_then (kept c.args.g.now) (kept c.loop-s.g) (kept c.has-inside.new.self) inv.same c.has-inside.ensures.keeps;
     }

@@ -15,7 +15,7 @@ returns-clause-sound c = store_of_whole _ c.add_root.new.roots (invariant_of-sel
 
 pub returns-in_err-add_root-clause-sound : goal.returns-in_err-add_root-clause-sound
 returns-in_err-add_root-clause-sound c = store_of_whole _ c.add_root.new.roots
-    (whole_kept (the_view c.self.inside) c.self.inside.roots c.add_root.new.roots c.add_root.new.kept.items c.self.invariant (same_live (the_view c.self.inside) c.self.inside.roots c.add_root.new.kept.items c.self.invariant c.in_err-add_root.ensures.refused) c.add_root.ensures.counted (omega (arith, c.add_root.ensures.small)))
+    (whole_kept (the_view c.self.inside) c.self.inside.roots c.add_root.new.roots c.add_root.new.kept.items c.self.invariant (same_live (the_view c.self.inside) c.self.inside.roots c.add_root.new.kept.items c.self.invariant c.in_err-add_root.ensures.unchanged) c.add_root.ensures.counted (omega (arith, c.add_root.ensures.small)))
 
 pub returns-clause-kept : goal.returns-clause-kept
 returns-clause-kept c = is_root c.self.inside.kept.items c.add_root.new.kept.items c.args.e.0 c.in_ok-add_root.ensures.added

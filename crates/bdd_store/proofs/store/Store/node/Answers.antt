@@ -28,7 +28,7 @@ returns-clause-keeps c = rw (← c.self.view_is) (record { levels = c.find_or_ad
 pub returns-clause-made : goal.returns-clause-made
 returns-clause-made c =
     subst (λ s. MakesOnly s (record (the_view c.self.inside) { table = c.find_or_add.new.self }) (λ made. made ≡ branch c.args.level (diagram_of s c.args.low.0) (diagram_of s c.args.high.0))) c.self.view_is
-    (node_made (the_view c.self.inside) c.find_or_add.new.self c.args.level c.args.low.0 c.args.high.0 c.find_or_add.result c.find_or_add.ensures.keeps c.find_or_add.ensures.added c.find_or_add.ensures.meaning c.find_or_add.ensures.refused)
+    (node_made (the_view c.self.inside) c.find_or_add.new.self c.args.level c.args.low.0 c.args.high.0 c.find_or_add.result c.find_or_add.ensures.keeps c.find_or_add.ensures.added c.find_or_add.ensures.meaning c.find_or_add.ensures.unchanged)
 
 pub returns-clause-full : goal.returns-clause-full
 returns-clause-full c =

@@ -26,5 +26,5 @@ returns g c =
     record {
       spent = front_and_back (kept self.g) (kept c.spend_all.new.g) (kept c.spend_made.new.g) (layer_items self.z self.layers.items) (made_items self.first.items self.goals.items self.holds.items) (g.met.G.Regions.exact _) c.requires.5.owned
           (regions_spent (kept self.g) (kept c.spend_all.new.g) (self.z ∷ all_regions self.layers.items) c.spend_all.ensures.spends) c.spend_made.ensures.spends;
-      game = same_then (kept self.g) (kept c.spend_all.new.g) (kept c.spend_made.new.g) c.spend_all.ensures.same c.spend_made.ensures.same;
+      game = same_then (kept self.g) (kept c.spend_all.new.g) (kept c.spend_made.new.g) c.spend_all.ensures.keeps c.spend_made.ensures.keeps;
     }

@@ -37,7 +37,7 @@ returns-in-Ok-equip-clause-begins g c = λ l own.
     let first = c.in-Ok-equip.first.items in
     let goals = c.in-Ok-equip.later.items in
     let holds = c.in-Ok-equip.holds.items in
-    let same = c.equip.ensures.same in
+    let same = c.equip.ensures.keeps in
     let made = subst (λ (list : List _). MakesAll k new (made_items first goals holds) (made_meanings k list)) c.deref.ensures.value c.in-Ok-equip.ensures.made in
     let like_first = subst (λ (list : List _). AreLike First first (first_layers list)) c.deref.ensures.value c.in-Ok-equip.ensures.first in
     let like = subst (λ (list : List _). AreAllLike goals list) c.deref.ensures.value c.in-Ok-equip.ensures.alike in
@@ -76,5 +76,5 @@ returns-in-Err-clause-refused g c = λ l own.
           (c.in-Err.ensures.told targets
           (subst (λ (list : List _). AreTargets targets First k (regions_for First (first_layers list))) (sym c.deref.ensures.value) (every_in k.set (regions_for First (first_layers layers))))
           (subst (λ (list : List _). AreTargets targets Later k (all_regions list)) (sym c.deref.ensures.value) (every_in k.set (all_regions layers))));
-      game = same_then k k1 k2 c.equip.ensures.same c.spend_all-in-Err.ensures.same;
+      game = same_then k k1 k2 c.equip.ensures.keeps c.spend_all-in-Err.ensures.keeps;
     }

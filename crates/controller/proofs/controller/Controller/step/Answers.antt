@@ -82,7 +82,7 @@ lead-rank-requires-clause-turn g c =
     let aim = subst (λ (list : List _). (s : State) (m : Memory) → RegionsAre k list (goal_set k.game) → length list ≡ length (goal_sets k.game) → is_state k.game s ≡ true → listed s ≡ c.values.result.now → m.goal ≡ self.place.goal → (c.aimed-goal.result.0 ≡ goal_aimed k.game (Some s) m) × (c.aimed-goal.result.1 ≡ goal_stays k.game (Some s) m)) c.deref.ensures.value c.aimed-goal.ensures.aim in
     let k1 = kept c.aimed-goal.new.g in
     let are = ap (λ (list : List _). option_map (λ (v : Vec _ Global). v.items) (slice_get list c.aimed-goal.result.0)) (sym c.deref-2.ensures.value) ∙ c.aims_of.ensures in
-    let later = later_at k layers first goals holds z l st.sound b m x t.output t.next t.turn t.high c.values.result.now there self.place.goal c.aimed-goal.result.0 c.aimed-goal.result.1 last_is aim k1 c.aimed-goal.ensures.stays c.aimed-goal.ensures.same c.values-2.result.now (c.values.ensures ∙ sym c.values-2.ensures) c.aims_of.result.now are self.place.rank self.place.index (ap (λ (n : Memory). n.rank) (sym st.place.memory)) (ap (λ (n : Memory). n.index) (sym st.place.memory)) in
+    let later = later_at k layers first goals holds z l st.sound b m x t.output t.next t.turn t.high c.values.result.now there self.place.goal c.aimed-goal.result.0 c.aimed-goal.result.1 last_is aim k1 c.aimed-goal.ensures.held c.aimed-goal.ensures.keeps c.values-2.result.now (c.values.ensures ∙ sym c.values-2.ensures) c.aims_of.result.now are self.place.rank self.place.index (ap (λ (n : Memory). n.rank) (sym st.place.memory)) (ap (λ (n : Memory). n.index) (sym st.place.memory)) in
     (l, there.state, m, t.output, t.next, later)
 
 pub go_on-requires-clause-here : goal.go_on-requires-clause-here
@@ -109,12 +109,12 @@ go_on-requires-clause-here g c =
     let aim = subst (λ (list : List _). (s : State) (m : Memory) → RegionsAre k list (goal_set k.game) → length list ≡ length (goal_sets k.game) → is_state k.game s ≡ true → listed s ≡ c.values.result.now → m.goal ≡ self.place.goal → (c.aimed-goal.result.0 ≡ goal_aimed k.game (Some s) m) × (c.aimed-goal.result.1 ≡ goal_stays k.game (Some s) m)) c.deref.ensures.value c.aimed-goal.ensures.aim in
     let k1 = kept c.aimed-goal.new.g in
     let are = ap (λ (list : List _). option_map (λ (v : Vec _ Global). v.items) (slice_get list c.aimed-goal.result.0)) (sym c.deref-2.ensures.value) ∙ c.aims_of.ensures in
-    let later = later_at k layers first goals holds z l st.sound b m x t.output t.next t.turn t.high c.values.result.now there self.place.goal c.aimed-goal.result.0 c.aimed-goal.result.1 last_is aim k1 c.aimed-goal.ensures.stays c.aimed-goal.ensures.same c.values-2.result.now (c.values.ensures ∙ sym c.values-2.ensures) c.aims_of.result.now are self.place.rank self.place.index (ap (λ (n : Memory). n.rank) (sym st.place.memory)) (ap (λ (n : Memory). n.index) (sym st.place.memory)) in
+    let later = later_at k layers first goals holds z l st.sound b m x t.output t.next t.turn t.high c.values.result.now there self.place.goal c.aimed-goal.result.0 c.aimed-goal.result.1 last_is aim k1 c.aimed-goal.ensures.held c.aimed-goal.ensures.keeps c.values-2.result.now (c.values.ensures ∙ sym c.values-2.ensures) c.aims_of.result.now are self.place.rank self.place.index (ap (λ (n : Memory). n.rank) (sym st.place.memory)) (ap (λ (n : Memory). n.index) (sym st.place.memory)) in
     let k2 = kept c.lead-rank.new.g in
     let out = c.lead-rank.new.out in
     let led = c.lead-rank.ensures.chosen l there.state m t.output t.next later in
-    let same = same_then k k1 k2 c.aimed-goal.ensures.same c.lead-rank.ensures.same in
-    let stays = stays_then k k1 k2 c.aimed-goal.ensures.stays c.lead-rank.ensures.stays in
+    let same = same_then k k1 k2 c.aimed-goal.ensures.keeps c.lead-rank.ensures.keeps in
+    let stays = stays_then k k1 k2 c.aimed-goal.ensures.held c.lead-rank.ensures.held in
     let e = c.game.ensures ∙ same.game in
     let at = at_there k.game _ e l b m x t.output t.next t.turn out led.1 self.place st.place in
     let inside = closed_there k.game _ e l b m x t.output t.next t.turn out led.1 in
@@ -144,18 +144,18 @@ new_index-index-requires g c =
     let aim = subst (λ (list : List _). (s : State) (m : Memory) → RegionsAre k list (goal_set k.game) → length list ≡ length (goal_sets k.game) → is_state k.game s ≡ true → listed s ≡ c.values.result.now → m.goal ≡ self.place.goal → (c.aimed-goal.result.0 ≡ goal_aimed k.game (Some s) m) × (c.aimed-goal.result.1 ≡ goal_stays k.game (Some s) m)) c.deref.ensures.value c.aimed-goal.ensures.aim in
     let k1 = kept c.aimed-goal.new.g in
     let are = ap (λ (list : List _). option_map (λ (v : Vec _ Global). v.items) (slice_get list c.aimed-goal.result.0)) (sym c.deref-2.ensures.value) ∙ c.aims_of.ensures in
-    let later = later_at k layers first goals holds z l st.sound b m x t.output t.next t.turn t.high c.values.result.now there self.place.goal c.aimed-goal.result.0 c.aimed-goal.result.1 last_is aim k1 c.aimed-goal.ensures.stays c.aimed-goal.ensures.same c.values-2.result.now (c.values.ensures ∙ sym c.values-2.ensures) c.aims_of.result.now are self.place.rank self.place.index (ap (λ (n : Memory). n.rank) (sym st.place.memory)) (ap (λ (n : Memory). n.index) (sym st.place.memory)) in
+    let later = later_at k layers first goals holds z l st.sound b m x t.output t.next t.turn t.high c.values.result.now there self.place.goal c.aimed-goal.result.0 c.aimed-goal.result.1 last_is aim k1 c.aimed-goal.ensures.held c.aimed-goal.ensures.keeps c.values-2.result.now (c.values.ensures ∙ sym c.values-2.ensures) c.aims_of.result.now are self.place.rank self.place.index (ap (λ (n : Memory). n.rank) (sym st.place.memory)) (ap (λ (n : Memory). n.index) (sym st.place.memory)) in
     let k2 = kept c.lead-rank.new.g in
     let out = c.lead-rank.new.out in
     let led = c.lead-rank.ensures.chosen l there.state m t.output t.next later in
-    let same = same_then k k1 k2 c.aimed-goal.ensures.same c.lead-rank.ensures.same in
-    let stays = stays_then k k1 k2 c.aimed-goal.ensures.stays c.lead-rank.ensures.stays in
+    let same = same_then k k1 k2 c.aimed-goal.ensures.keeps c.lead-rank.ensures.keeps in
+    let stays = stays_then k k1 k2 c.aimed-goal.ensures.held c.lead-rank.ensures.held in
     let e = c.game.ensures ∙ same.game in
     let at = at_there k.game _ e l b m x t.output t.next t.turn out led.1 self.place st.place in
     let inside = closed_there k.game _ e l b m x t.output t.next t.turn out led.1 in
     let here = at_back k.game _ e l b m x t.output t.next t.turn out led.1 c.go_on.new.self (c.go_on.ensures b m at inside) in
     let aim_is = goal_is k layers first goals holds z l st.sound b m x t.output t.next t.turn t.high c.values.result.now there self.place.goal c.aimed-goal.result.0 c.aimed-goal.result.1 last_is aim in
-    let waited = waits_back k layers first goals holds z l st.sound b m x t.output t.next t.turn t.high c.values.result.now there self.place.goal c.aimed-goal.result.0 c.aimed-goal.result.1 last_is aim k1 c.aimed-goal.ensures.same c.lead-rank.result.1 led.2 in
+    let waited = waits_back k layers first goals holds z l st.sound b m x t.output t.next t.turn t.high c.values.result.now there self.place.goal c.aimed-goal.result.0 c.aimed-goal.result.1 last_is aim k1 c.aimed-goal.ensures.keeps c.lead-rank.result.1 led.2 in
     let settled =
     subst (λ (list : List _). Settles k2 list c.go_on.new.self c.aimed-goal.result.0 c.lead-rank.result.0 c.lead-rank.result.1 l b m x t.output t.next) (sym c.deref-3.ensures.value)
     (settles k k2 stays same layers first goals holds z l st.sound b m x t.output t.next t.turn t.high c.go_on.new.self c.aimed-goal.result.0 c.lead-rank.result.0 c.lead-rank.result.1 here aim_is led.0 waited) in
@@ -185,7 +185,7 @@ overflow_add-rank g c =
     let aim = subst (λ (list : List _). (s : State) (m : Memory) → RegionsAre k list (goal_set k.game) → length list ≡ length (goal_sets k.game) → is_state k.game s ≡ true → listed s ≡ c.values.result.now → m.goal ≡ self.place.goal → (c.aimed-goal.result.0 ≡ goal_aimed k.game (Some s) m) × (c.aimed-goal.result.1 ≡ goal_stays k.game (Some s) m)) c.deref.ensures.value c.aimed-goal.ensures.aim in
     let k1 = kept c.aimed-goal.new.g in
     let are = ap (λ (list : List _). option_map (λ (v : Vec _ Global). v.items) (slice_get list c.aimed-goal.result.0)) (sym c.deref-2.ensures.value) ∙ c.aims_of.ensures in
-    let later = later_at k layers first goals holds z l st.sound b m x t.output t.next t.turn t.high c.values.result.now there self.place.goal c.aimed-goal.result.0 c.aimed-goal.result.1 last_is aim k1 c.aimed-goal.ensures.stays c.aimed-goal.ensures.same c.values-2.result.now (c.values.ensures ∙ sym c.values-2.ensures) c.aims_of.result.now are self.place.rank self.place.index (ap (λ (n : Memory). n.rank) (sym st.place.memory)) (ap (λ (n : Memory). n.index) (sym st.place.memory)) in
+    let later = later_at k layers first goals holds z l st.sound b m x t.output t.next t.turn t.high c.values.result.now there self.place.goal c.aimed-goal.result.0 c.aimed-goal.result.1 last_is aim k1 c.aimed-goal.ensures.held c.aimed-goal.ensures.keeps c.values-2.result.now (c.values.ensures ∙ sym c.values-2.ensures) c.aims_of.result.now are self.place.rank self.place.index (ap (λ (n : Memory). n.rank) (sym st.place.memory)) (ap (λ (n : Memory). n.index) (sym st.place.memory)) in
     let led = c.lead-rank.ensures.chosen l there.state m t.output t.next later in
     omega (arith, led.0, rank_bound k layers first goals holds z l st.sound b m x t.output t.next t.turn t.high c.values.result.now there self.place.goal c.aimed-goal.result.0 c.aimed-goal.result.1 last_is aim c.aims_of.result.now are)
 
@@ -206,18 +206,18 @@ returns-clause-chosen g c = λ z l h b m st.
     let aim = subst (λ (list : List _). (s : State) (m : Memory) → RegionsAre k list (goal_set k.game) → length list ≡ length (goal_sets k.game) → is_state k.game s ≡ true → listed s ≡ c.values.result.now → m.goal ≡ self.place.goal → (c.aimed-goal.result.0 ≡ goal_aimed k.game (Some s) m) × (c.aimed-goal.result.1 ≡ goal_stays k.game (Some s) m)) c.deref.ensures.value c.aimed-goal.ensures.aim in
     let k1 = kept c.aimed-goal.new.g in
     let are = ap (λ (list : List _). option_map (λ (v : Vec _ Global). v.items) (slice_get list c.aimed-goal.result.0)) (sym c.deref-2.ensures.value) ∙ c.aims_of.ensures in
-    let later = later_at k layers first goals holds z l st.sound b m x t.output t.next t.turn t.high c.values.result.now there self.place.goal c.aimed-goal.result.0 c.aimed-goal.result.1 last_is aim k1 c.aimed-goal.ensures.stays c.aimed-goal.ensures.same c.values-2.result.now (c.values.ensures ∙ sym c.values-2.ensures) c.aims_of.result.now are self.place.rank self.place.index (ap (λ (n : Memory). n.rank) (sym st.place.memory)) (ap (λ (n : Memory). n.index) (sym st.place.memory)) in
+    let later = later_at k layers first goals holds z l st.sound b m x t.output t.next t.turn t.high c.values.result.now there self.place.goal c.aimed-goal.result.0 c.aimed-goal.result.1 last_is aim k1 c.aimed-goal.ensures.held c.aimed-goal.ensures.keeps c.values-2.result.now (c.values.ensures ∙ sym c.values-2.ensures) c.aims_of.result.now are self.place.rank self.place.index (ap (λ (n : Memory). n.rank) (sym st.place.memory)) (ap (λ (n : Memory). n.index) (sym st.place.memory)) in
     let k2 = kept c.lead-rank.new.g in
     let out = c.lead-rank.new.out in
     let led = c.lead-rank.ensures.chosen l there.state m t.output t.next later in
-    let same = same_then k k1 k2 c.aimed-goal.ensures.same c.lead-rank.ensures.same in
-    let stays = stays_then k k1 k2 c.aimed-goal.ensures.stays c.lead-rank.ensures.stays in
+    let same = same_then k k1 k2 c.aimed-goal.ensures.keeps c.lead-rank.ensures.keeps in
+    let stays = stays_then k k1 k2 c.aimed-goal.ensures.held c.lead-rank.ensures.held in
     let e = c.game.ensures ∙ same.game in
     let at = at_there k.game _ e l b m x t.output t.next t.turn out led.1 self.place st.place in
     let inside = closed_there k.game _ e l b m x t.output t.next t.turn out led.1 in
     let here = at_back k.game _ e l b m x t.output t.next t.turn out led.1 c.go_on.new.self (c.go_on.ensures b m at inside) in
     let aim_is = goal_is k layers first goals holds z l st.sound b m x t.output t.next t.turn t.high c.values.result.now there self.place.goal c.aimed-goal.result.0 c.aimed-goal.result.1 last_is aim in
-    let waited = waits_back k layers first goals holds z l st.sound b m x t.output t.next t.turn t.high c.values.result.now there self.place.goal c.aimed-goal.result.0 c.aimed-goal.result.1 last_is aim k1 c.aimed-goal.ensures.same c.lead-rank.result.1 led.2 in
+    let waited = waits_back k layers first goals holds z l st.sound b m x t.output t.next t.turn t.high c.values.result.now there self.place.goal c.aimed-goal.result.0 c.aimed-goal.result.1 last_is aim k1 c.aimed-goal.ensures.keeps c.lead-rank.result.1 led.2 in
     let settled =
     subst (λ (list : List _). Settles k2 list c.go_on.new.self c.aimed-goal.result.0 c.lead-rank.result.0 c.lead-rank.result.1 l b m x t.output t.next) (sym c.deref-3.ensures.value)
     (settles k k2 stays same layers first goals holds z l st.sound b m x t.output t.next t.turn t.high c.go_on.new.self c.aimed-goal.result.0 c.lead-rank.result.0 c.lead-rank.result.1 here aim_is led.0 waited) in
@@ -225,23 +225,23 @@ returns-clause-chosen g c = λ z l h b m st.
     let index = c.new_index-index.ensures.index l b m x t.output t.next settled in
     let rank : c.lead-rank.result.0 + 1 ≡ t.next.rank = let r = led.0 in omega (arith, r) in
     let place = subst (λ p. IsAt k.game p (Some (reached k.game b x t.output)) t.next) (sym c.remember.ensures) (remembered k.game c.go_on.new.self (Some (reached k.game b x t.output)) m c.aimed-goal.result.0 (c.lead-rank.result.0 + 1) c.new_index-index.result t.next here aim_is rank index) in
-    let all_stays = stays_then k k2 k3 stays c.new_index-index.ensures.stays in
+    let all_stays = stays_then k k2 k3 stays c.new_index-index.ensures.held in
     let owned = all_stay k k3 (items_of self) (g.met.G.Regions.exact _) (λ w. omega (arith, all_stays.held w)) st.owned in
     let gone =
-    has_gone k k3 all_stays (same_then k k2 k3 same c.new_index-index.ensures.same)
+    has_gone k k3 all_stays (same_then k k2 k3 same c.new_index-index.ensures.keeps)
     layers first goals holds z l st.sound h b m st.play x t.output t.next t.turn out led.1 c.remember.new.self place in
-    (t.next, record { chosen = gone.chosen; stands = record { sound = gone.sound; play = gone.play; whole = gone.whole; place = gone.place; owned = owned; few = st.few; judge = subst (λ (h : GameData). IsJudgeOf h self.judge) (sym (same_then k k2 k3 same c.new_index-index.ensures.same).game) st.judge } })
+    (t.next, record { chosen = gone.chosen; stands = record { sound = gone.sound; play = gone.play; whole = gone.whole; place = gone.place; owned = owned; few = st.few; judge = subst (λ (h : GameData). IsJudgeOf h self.judge) (sym (same_then k k2 k3 same c.new_index-index.ensures.keeps).game) st.judge } })
 
-pub returns-clause-same : goal.returns-clause-same
-returns-clause-same g c =
+pub returns-clause-keeps : goal.returns-clause-keeps
+returns-clause-keeps g c =
     let kept = g.G.Regions.kept in
     let k = kept c.args.self.now.g in
     let k1 = kept c.aimed-goal.new.g in
     let k2 = kept c.lead-rank.new.g in
     let k3 = kept c.new_index-index.new.g in
     record {
-      held = stays_then k k1 k3 c.aimed-goal.ensures.stays (stays_then k1 k2 k3 c.lead-rank.ensures.stays c.new_index-index.ensures.stays);
-      game = same_then k k1 k3 c.aimed-goal.ensures.same (same_then k1 k2 k3 c.lead-rank.ensures.same c.new_index-index.ensures.same);
+      held = stays_then k k1 k3 c.aimed-goal.ensures.held (stays_then k1 k2 k3 c.lead-rank.ensures.held c.new_index-index.ensures.held);
+      game = same_then k k1 k3 c.aimed-goal.ensures.keeps (same_then k1 k2 k3 c.lead-rank.ensures.keeps c.new_index-index.ensures.keeps);
       z = refl;
       layers = refl;
       first = refl;

@@ -24,5 +24,5 @@ returns g c =
     record {
       spent = front_and_back (kept self.g) (kept c.spend_all.new.g) (kept c.spend_kit.new.g) (layer_items self.layers.items) (kit_items self.kit) (g.met.G.Regions.exact _) c.requires.5.owned
           (regions_spent (kept self.g) (kept c.spend_all.new.g) (all_regions self.layers.items) c.spend_all.ensures.spends) c.spend_kit.ensures.spends;
-      game = same_then (kept self.g) (kept c.spend_all.new.g) (kept c.spend_kit.new.g) c.spend_all.ensures.same c.spend_kit.ensures.same;
+      game = same_then (kept self.g) (kept c.spend_all.new.g) (kept c.spend_kit.new.g) c.spend_all.ensures.keeps c.spend_kit.ensures.keeps;
     }

@@ -90,7 +90,7 @@ note-requires g c = λ on.
     let denied = was_false (goal_set k.game reply.0.goal (reached k.game b x y)) (sym reply.1.noted.denying ∙ (ap (λ (n : CounterMemory). n.denying) (sym memory) ∙ on)) in
     let inner = goal_there k.game reply.0.goal (reached k.game b x y) reply.1.goal_in reply.1.state denied in
     let is = ap (λ (n : CounterMemory). n.goal) memory in
-    let same = ap (λ (d : GameData). length d.goals) c.note_position.ensures.same.game in
+    let same = ap (λ (d : GameData). length d.goals) c.note_position.ensures.keeps.game in
     omega (arith, inner, is, same)
 
 pub returns-clause-completed : goal.returns-clause-completed
@@ -99,8 +99,8 @@ returns-clause-completed g c = λ e h notes b m st.
     let self = c.args.self.now in
     let k = kept self.g in
     let k1 = kept c.note_position.new.g in
-    let stays = c.note_position.ensures.stays in
-    let same = c.note_position.ensures.same in
+    let stays = c.note_position.ensures.held in
+    let same = c.note_position.ensures.keeps in
     let ls = self.layers.items in
     let given = st.given c.requires.given in
     let x = self.given.items in

@@ -36,7 +36,7 @@ returns-in-Ok-equip-clause-begins g c = λ e own.
     let new = kept c.equip.new.g in
     let ls = c.args.layers.layers.items in
     let kit = c.in-Ok-equip.kit in
-    let same = c.equip.ensures.same in
+    let same = c.equip.ensures.keeps in
     let made = subst (λ (list : List _). MakesAll k new (kit_items kit) (made_meanings k list)) c.deref.ensures.value c.in-Ok-equip.ensures.made in
     let equipped = subst (λ (list : List _). IsEquipped k.game kit list) c.deref.ensures.value c.in-Ok-equip.ensures.equipped in
     let to = c.game.ensures ∙ sym same.game in
@@ -70,5 +70,5 @@ returns-in-Err-clause-refused g c =
     record {
       held = regions_gone k k1 k2 (all_regions ls) (g.met.G.Regions.exact _) c.requires.lost.1.held c.in-Err.ensures.halted c.spend_all-in-Err.ensures.spends;
       told = told_still k k1 k2 (tale_of k ls) c.in-Err.halt c.spend_all-in-Err.ensures.spends.jam (subst (λ (list : List _). TellsHalt k k1 (tale_of k list) c.in-Err.halt) c.deref.ensures.value c.in-Err.ensures.told);
-      game = same_then k k1 k2 c.equip.ensures.same c.spend_all-in-Err.ensures.same;
+      game = same_then k k1 k2 c.equip.ensures.keeps c.spend_all-in-Err.ensures.keeps;
     }

@@ -33,7 +33,7 @@ first_free-n-requires-clause-taken c n less = rw c.deref-5.ensures.value (c.self
 
 pub invariant_of-self-in_err-settle : goal.invariant_of-self-in_err-settle
 invariant_of-self-in_err-settle c =
-    rw (c.in_err-settle.ensures.refused.0, c.in_err-settle.ensures.refused.1, c.in_err-settle.ensures.refused.2)
+    rw (c.in_err-settle.ensures.unchanged.0, c.in_err-settle.ensures.unchanged.1, c.in_err-settle.ensures.unchanged.2)
     (kept_over (the_view c.self.inside) c.self.inside.slots.items c.room_for.new.slots.items c.self.inside.count c.self.inside.free c.self.invariant
     (rw (← c.deref-3.ensures.value, ← c.deref-4.ensures.value) c.room_for.ensures.index) c.room_for.ensures.used (omega (arith, c.in_ok-at.ensures.room)))
 

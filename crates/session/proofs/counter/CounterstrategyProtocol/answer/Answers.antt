@@ -55,7 +55,7 @@ write_answer-requires g c =
     let y = read_of c.args.lines.now in
     let x' = shown_of c.complete-note.new.lines in
     let next = c.complete-note.ensures.answered p.place.layers st.play st.notes p.place.before p.place.memory p.place.stands in
-    let on = gives_next _ c.args.self.now c.complete-note.new.play s c.complete-note.ensures.same st.shifts st.denials st.play st.notes st.input p y c.complete-note.result next.0 x' next.1 in
+    let on = gives_next _ c.args.self.now c.complete-note.new.play s c.complete-note.ensures.play st.shifts st.denials st.play st.notes st.input p y c.complete-note.result next.0 x' next.1 in
     given_fits s _ x' _ (c.complete-note.ensures.keeps.shown ∙ some.suits.shown) (gives_legal _ c.complete-note.new.play s st.shifts st.denials _ _ x' on)
 
 pub returns-in-Some-clause-replies : goal.returns-in-Some-clause-replies
@@ -76,7 +76,7 @@ returns-in-Ok-clause-replies g c = λ s st suits p.
     let unbroken =
     names_given _ c.args.self.now s st.shifts st.denials st.play st.notes st.input p y c.broken_with.result told ∙ c.in_default.is in
     let next = c.complete-note.ensures.answered p.place.layers st.play st.notes p.place.before p.place.memory p.place.stands in
-    let on = gives_next _ c.args.self.now c.complete-note.new.play s c.complete-note.ensures.same st.shifts st.denials st.play st.notes st.input p y c.complete-note.result next.0 x' next.1 in
+    let on = gives_next _ c.args.self.now c.complete-note.new.play s c.complete-note.ensures.play st.shifts st.denials st.play st.notes st.input p y c.complete-note.result next.0 x' next.1 in
     let over = over_after c.args.lines.now c.complete-note.new.lines _ _ _ suits c.complete-note.ensures.keeps in (
       answer_by _ c.args.self.now c.complete-note.new.play s st y w x' unbroken on,
       subst (λ (l : List ℕ). Appends (g.O.Sink.written c.args.output.now) (g.O.Sink.written c.write_answer.new.output) l) (ap (λ (l : List ℕ). note_line w ++ l) (shown_as c.complete-note.new.lines s x' over)) c.in-Ok.ensures.whole,
@@ -91,7 +91,7 @@ returns-in-Err-clause-replies g c = λ s st suits p.
     let unbroken =
     names_given _ c.args.self.now s st.shifts st.denials st.play st.notes st.input p y c.broken_with.result told ∙ c.in_default.is in
     let next = c.complete-note.ensures.answered p.place.layers st.play st.notes p.place.before p.place.memory p.place.stands in
-    let on = gives_next _ c.args.self.now c.complete-note.new.play s c.complete-note.ensures.same st.shifts st.denials st.play st.notes st.input p y c.complete-note.result next.0 x' next.1 in
+    let on = gives_next _ c.args.self.now c.complete-note.new.play s c.complete-note.ensures.play st.shifts st.denials st.play st.notes st.input p y c.complete-note.result next.0 x' next.1 in
     let over = over_after c.args.lines.now c.complete-note.new.lines _ _ _ suits c.complete-note.ensures.keeps in (
       answer_by _ c.args.self.now c.complete-note.new.play s st y w x' unbroken on,
       subst (λ (l : List ℕ). AppendsFront (g.O.Sink.written c.args.output.now) (g.O.Sink.written c.write_answer.new.output) l) (ap (λ (l : List ℕ). note_line w ++ l) (shown_as c.complete-note.new.lines s x' over)) c.in-Err.ensures.part,

@@ -30,7 +30,7 @@ write_shown-requires g c =
     let st = some.state in
     let p = some.stands.place in
     let gives = c.begin.ensures.given p.layers st.play st.notes p.before p.memory p.stands in
-    let on = gives_in _ c.args.self.now c.begin.new.play s c.begin.ensures.same st.shifts st.denials st.play st.notes p p.layers st.play st.notes p.before p.memory (shown_of c.begin.new.lines) gives in
+    let on = gives_in _ c.args.self.now c.begin.new.play s c.begin.ensures.play st.shifts st.denials st.play st.notes p p.layers st.play st.notes p.before p.memory (shown_of c.begin.new.lines) gives in
     given_fits s st.play (shown_of c.begin.new.lines) _ (c.begin.ensures.keeps.shown ∙ some.suits.shown) (gives_legal _ c.begin.new.play s st.shifts st.denials st.play st.notes (shown_of c.begin.new.lines) on)
 
 pub returns-clause-opens : goal.returns-clause-opens
@@ -38,7 +38,7 @@ returns-clause-opens g c = λ s st suits waits.
     let p = waits.place in
     let x = shown_of c.begin.new.lines in
     let gives = c.begin.ensures.given p.layers st.play st.notes p.before p.memory p.stands in
-    let on = gives_in _ c.args.self.now c.begin.new.play s c.begin.ensures.same st.shifts st.denials st.play st.notes p p.layers st.play st.notes p.before p.memory x gives in
+    let on = gives_in _ c.args.self.now c.begin.new.play s c.begin.ensures.play st.shifts st.denials st.play st.notes p p.layers st.play st.notes p.before p.memory x gives in
     let line = shown_as c.begin.new.lines s x (over_after c.args.lines.now c.begin.new.lines _ _ _ suits c.begin.ensures.keeps) in
     record {
       text = shown_input s x;

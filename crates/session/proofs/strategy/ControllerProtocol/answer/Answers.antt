@@ -65,7 +65,7 @@ returns-in-Ok-clause-replies g c = λ s st suits p.
     let fits = input_fits s x _ suits.wanted c.requires.read in
     let next = c.choose.ensures.chosen p.z p.layers st.play p.before p.memory p.stands in
     let over = over_after c.args.lines.now c.choose.new.lines _ _ _ suits c.choose.ensures.keeps in (
-      answer_of _ c.args.self.now c.choose.new.play s st p c.choose.ensures.same x fits unbroken y next.0 next.1,
+      answer_of _ c.args.self.now c.choose.new.play s st p c.choose.ensures.play x fits unbroken y next.0 next.1,
       subst (λ (l : List ℕ). Appends (g.O.Sink.written c.args.output.now) (g.O.Sink.written c.write_shown.new.output) l) (shown_for c.choose.new.lines s y over) c.in-Ok.ensures.whole,
     )
 
@@ -77,7 +77,7 @@ returns-in-Err-clause-replies g c = λ s st suits p.
     let fits = input_fits s x _ suits.wanted c.requires.read in
     let next = c.choose.ensures.chosen p.z p.layers st.play p.before p.memory p.stands in
     let over = over_after c.args.lines.now c.choose.new.lines _ _ _ suits c.choose.ensures.keeps in (
-      answer_of _ c.args.self.now c.choose.new.play s st p c.choose.ensures.same x fits unbroken y next.0 next.1,
+      answer_of _ c.args.self.now c.choose.new.play s st p c.choose.ensures.play x fits unbroken y next.0 next.1,
       subst (λ (l : List ℕ). AppendsFront (g.O.Sink.written c.args.output.now) (g.O.Sink.written c.write_shown.new.output) l) (shown_for c.choose.new.lines s y over) c.in-Err.ensures.part,
       c.in-Err.ensures.cause.failed,
     )

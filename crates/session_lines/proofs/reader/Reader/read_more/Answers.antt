@@ -21,7 +21,7 @@ returns-in_err-count-clause-none g c =
       behind =
           ap (λ (l : List ℕ). take (r.end - r.start) (drop r.start l)) filled
           ∙ same r.buffer.items new r.start r.end c.move_to_front.ensures.front (c.in_err-count.ensures.front ∙ ap (take r.end) c.deref_mut.ensures.value)
-          ∙ c.move_to_front.ensures.same
+          ∙ c.move_to_front.ensures.keeps
           ∙ sym (append-nil (reader_pending c.args.self.now));
     })
 
@@ -38,5 +38,5 @@ returns-clause-grows g c =
       behind =
           ap (λ (l : List ℕ). take ((r.end + n) - r.start) (drop r.start l)) filled
           ∙ grown r.buffer.items new r.start r.end n c.move_to_front.ensures.front (c.in_ok-count.ensures.front ∙ ap (take r.end) c.deref_mut.ensures.value)
-          ∙ ap (λ (l : List ℕ). l ++ take n (drop r.end new)) c.move_to_front.ensures.same;
+          ∙ ap (λ (l : List ℕ). l ++ take n (drop r.end new)) c.move_to_front.ensures.keeps;
     }

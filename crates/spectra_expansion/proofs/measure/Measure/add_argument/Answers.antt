@@ -1,5 +1,5 @@
 use Rattle.std.proofs.Common.{◌≡◌, ◌+◌, ◌==◌, max, if◌then◌else◌, subst, arith, length-set}
-use Rattle.spectra_expansion.specs.Measuring.{held}
+use Rattle.spectra_expansion.specs.Measuring.{capped}
 use Rattle.spectra_expansion.proofs.Adding.{argument_nodes-set, argument_levels-set}
 use Rattle.spectra_expansion.proofs.measure.Measure.add_argument.Goals as goal
 
@@ -8,7 +8,7 @@ returns c parameters =
     let us = c.args.self.now.uses.items in
     let u = c.with.result in
     let was = c.index.result.now in
-    let times = subst (λ v. u.times ≡ held (v.times + c.args.times)) c.index.ensures c.with.ensures.times in
+    let times = subst (λ v. u.times ≡ capped (v.times + c.args.times)) c.index.ensures c.with.ensures.times in
     let above = subst (λ v. u.above ≡ (if v.times == 0 then c.args.above else max v.above c.args.above)) c.index.ensures c.with.ensures.above in
     record {
       size = length-set _ _ _;

@@ -1,5 +1,0 @@
-pub mod Depths
-pub mod Chained
-pub mod Lists
-pub mod Deep
-pub mod Used
