@@ -5,9 +5,9 @@ use Rattle.std.specs.declared.alloc.Global.{Global}
 use Rattle.std.proofs.Common.{Vec, vec_len, is_ok}
 use Rattle.std.proofs.lemmas.Bool.Decides.{nat_tests}
 use Rattle.std.proofs.lemmas.Bool.{eq-eqb, false≢true}
-use Rattle.node_table.specs.Table.{diagram_at, count_of}
+use Rattle.node_table.specs.Table.{diagram_at}
 use Rattle.spec_model.specs.Diagrams.{Function, value}
-use Rattle.bdd_store.specs.State.{State, IsRoot, roots_at, AddsRoot}
+use Rattle.bdd_store.specs.State.{State, IsRoot, roots_at, AddsRoot, IsFilled}
 use Rattle.bdd_ops.specs.Contents.{Contents, function_at}
 use Rattle.bdd_ops.specs.Calls.{KeepsRoots}
 use Rattle.regions.specs.declared.types.Halt.{Halt}
@@ -100,7 +100,7 @@ module _ (old mid whole new : Contents) (extra : ℕ → ℕ) (first : Between o
         added = tt;
         refused = λ n. (let one = back n in let two = makes.refused n in let three = first.added n in omega (arith, one, two, three));
         keeps = keeps_between makes.keeps;
-        full = λ e. subst (λ t. count_of t ≡ t.budget) (sym table) (makes.full e);
+        full = λ e. subst IsFilled (sym table) (makes.full e);
       }
 
   pub leaves_between : {V : Type 0} (r : Result V Halt) → Leaves mid whole r → Leaves old new r
@@ -108,13 +108,13 @@ module _ (old mid whole new : Contents) (extra : ℕ → ℕ) (first : Between o
       record {
         refused = tt;
         keeps = keeps_between leaves.keeps;
-        full = λ e. subst (λ t. count_of t ≡ t.budget) (sym table) (leaves.full e);
+        full = λ e. subst IsFilled (sym table) (leaves.full e);
       }
   leaves_between (Err h) leaves =
       record {
         refused = λ n. (let one = back n in let two = leaves.refused n in let three = first.added n in omega (arith, one, two, three));
         keeps = keeps_between leaves.keeps;
-        full = λ e. subst (λ t. count_of t ≡ t.budget) (sym table) (leaves.full e);
+        full = λ e. subst IsFilled (sym table) (leaves.full e);
       }
 
   pub adds_between : (xs : List CaseRoot) (cs : List Case) → AddsCases mid whole xs cs → AddsCases old new xs cs

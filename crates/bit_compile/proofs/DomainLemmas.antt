@@ -1,9 +1,11 @@
 -- How many values a domain has, and the places of whole numbers.
-use Rattle.std.proofs.Common.{◌≡◌, ℕ, zero, suc, ◌+◌, ◌-◌, ◌<◌, ℤ, pos, ◌+ℤ◌, ◌-ℤ◌, ◌≤ℤ◌, nat_abs, int_le, Bool, true, false, not, ◌==◌, map, drop, get_or, Some, None, is_some, neg_ℤ, Result, Ok, Err, IfOk, ◌++◌, append_assoc, int_lt, nat_lt, ◌^◌, ◌&&◌, List, [], ◌∷◌, length, refl, ◌∙◌, ap, subst, arith, cond}
+use Rattle.std.proofs.Common.{◌≡◌, ℕ, zero, suc, ◌+◌, ◌-◌, ◌<◌, ℤ, pos, ◌+ℤ◌, ◌-ℤ◌, ◌≤ℤ◌, nat_abs, int_le, Bool, true, false, not, ◌==◌, map, drop, get_or, Some, None, is_some, neg_ℤ, Result, Ok, Err, IfOk, ◌++◌, append_assoc, int_lt, nat_lt, ◌^◌, ◌&&◌, List, [], ◌∷◌, length, refl, sym, ◌∙◌, ap, subst, arith, cond}
 use Rattle.std.proofs.lemmas.Int.{ints}
 use Rattle.std.proofs.lemmas.Bool.Decides.{Decides-int_eq}
 use Rattle.std.specs.Ordering.{int_eq}
-use Rattle.std.specs.List.{position_or_len}
+use Rattle.std.specs.List.{position_or_len, list_any}
+use Rattle.std.proofs.lemmas.List.Folds.{list_any_at}
+use Rattle.std.proofs.lemmas.Bool.Decides.{nat_tests}
 use Rattle.spec_model.specs.declared.value.Value.{Value}
 use Rattle.spec_model.specs.declared.value.Value.TheVariants as value
 use Rattle.std.proofs.lemmas.Bool.{false≢true, and_parts, and_from}
@@ -12,7 +14,7 @@ use borrow.Author.Tests.{ltb-true, lt-ltb}
 use Rattle.spec_model.specs.Typing.{Scope, Whole}
 use Rattle.spec_model.specs.Moves.{is_env, domains_of}
 use Rattle.spec_model.specs.Games.{HiddenData, GameData}
-use Rattle.spec_model.specs.WellMade.{is_domain, is_table, are_tables}
+use Rattle.spec_model.specs.WellMade.{all_differ, is_domain, is_table, are_tables}
 use Rattle.game_values.proofs.Lists.{map_drop}
 use Rattle.bit_compile.specs.Domains.{IsCountable, table_domain, state_domains}
 use Rattle.spec_model.specs.Values.{DomainData, TruthValues, Enumeration, WholeNumbers, rising_from, same_value, rank_of}
@@ -48,6 +50,21 @@ pub place-names : (n : ℕ) (names : List ℕ) → position_or_len (same_value (
 place-names n [] = refl
 place-names n (m ∷ names) = ap (λ k. cond (not (n == m)) (1 + k) 0) (place-names n names)
 
+-- among different names one is at its place and at no other
+pub place_at : (names : List ℕ) (i n : ℕ) → all_differ (λ a b. a == b) names ≡ true → i < length names → get_or names i 0 ≡ n → position_or_len (λ m. n == m) names ≡ i
+place_at [] i n differ h e = absurd (omega arith)
+place_at (x ∷ xs) zero n differ h e = let here : (n == x) ≡ true = grind (arith, nat_tests, e) in rw here refl
+place_at (x ∷ xs) (suc i) n differ h e =
+    let parts = and_parts (not (list_any (λ m. x == m) xs)) (all_differ (λ a b. a == b) xs) differ in
+    let rest = place_at xs i n parts.1 (omega arith) e in
+    at (n == x) refl rest parts.0
+  where
+    at : (b : Bool) → (n == x) ≡ b → position_or_len (λ m. n == m) xs ≡ i → not (list_any (λ m. x == m) xs) ≡ true → position_or_len (λ m. n == m) (x ∷ xs) ≡ suc i
+    at false other rest none = rw other (ap (λ k. 1 + k) rest ∙ omega arith)
+    at true same rest none =
+        let equal : (x == get_or xs i 0) ≡ true = grind (arith, nat_tests, e, same) in
+        absurd (false≢true (sym (ap not (list_any_at (λ m. x == m) xs i 0 (omega arith) equal)) ∙ none))
+
 -- a domain that is well made has few whole numbers, none of them far out
 pub domain_countable : (d : DomainData) → is_domain d ≡ true → IsCountable d
 domain_countable TruthValues e = tt
@@ -61,7 +78,7 @@ domain_countable (WholeNumbers lo hi) e =
     bounded true ea true eb e = (grind (arith, ints), grind (arith, ints))
     bounded true ea false eb e = absurd (false≢true e)
     bounded false ea b eb e = absurd (false≢true e)
-domain_countable (Enumeration names) e = tt
+domain_countable (Enumeration names) e = (and_parts (nat_lt 0 (length names)) _ e).1
 
 pub tables_filled : (sc : Scope) (hs : List HiddenData) → are_tables sc hs ≡ true → list_all (λ h. nat_lt 0 h.values) hs ≡ true
 tables_filled sc [] e = refl

@@ -7,6 +7,7 @@ pub mod LawLemmas
 pub mod MakingLemmas
 pub mod Between
 pub mod Folding
+pub mod BlockLemmas
 pub mod Describing
 pub mod Intervals
 pub mod Meanings

@@ -2,12 +2,12 @@
 use Rattle.std.proofs.Common.{◌≡◌, ℕ, ◌+◌, ◌<◌, Bool, true, false, Result, Ok, Err, is_ok, not, ◌&&◌, ◌-◌, ◌^◌, nat_le, zero, suc, refl, sym, ◌∙◌, ap, subst, arith, inl, inr, ◌⊎◌, cond, ◌==◌}
 use Rattle.std.proofs.lemmas.Bool.{false≢true}
 use Rattle.std.proofs.lemmas.Bool.Decides.{nat_tests}
-use Rattle.node_table.specs.Table.{diagram_at, count_of}
+use Rattle.node_table.specs.Table.{diagram_at}
 use Rattle.bdd_ops.specs.Functions.{joined, join_of}
 use Rattle.spec_model.specs.Diagrams.{Diagram, Function, IsPartOf, value}
 use Rattle.bdd_store.specs.declared.fault.StoreFault.{StoreFault}
 use Rattle.bdd_store.specs.declared.fault.StoreFault.TheVariants as fault
-use Rattle.bdd_store.specs.State.{State, IsEdge, IsRoot, IsReached, diagram_of, AddsRoot, SameRoots, WasThere}
+use Rattle.bdd_store.specs.State.{State, IsEdge, IsRoot, IsReached, diagram_of, AddsRoot, SameRoots, WasThere, IsFilled}
 use Rattle.bdd_ops.specs.Contents.{Contents}
 use Rattle.bdd_ops.specs.Calls.{GivesRoot, KeepsRoots}
 use Rattle.regions.specs.declared.types.Halt.{Halt}
@@ -169,7 +169,7 @@ module _ (old mid whole new : Contents) (b : ℕ) (g f : Function) (first : Make
         added = tt;
         refused = λ n. (let one = back n in let two = makes.refused n in let three = first.added n in omega (arith, one, two, three));
         keeps = keeps_back makes.keeps;
-        full = λ e. subst (λ t. count_of t ≡ t.budget) (sym table) (makes.full e);
+        full = λ e. subst IsFilled (sym table) (makes.full e);
       }
 
 -- a digit before others

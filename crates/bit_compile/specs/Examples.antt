@@ -1,7 +1,7 @@
 -- The games of the tests.
 use Rattle.std.specs.Prelude.{pos, [], ◌∷◌, codes}
 use Rattle.spec_model.specs.declared.value.Owner.TheVariants.{Env, Sys}
-use Rattle.spec_model.specs.declared.expr.Compare.TheVariants.{Eq}
+use Rattle.spec_model.specs.declared.expr.Compare.TheVariants.{Eq, Ge}
 use Rattle.spec_model.specs.declared.value.Value.TheVariants as value
 use Rattle.spec_model.specs.Values.{TruthValues, WholeNumbers}
 use Rattle.spec_model.specs.Syntax.{Formula, Constant, Variable, Comparison}
@@ -24,6 +24,10 @@ example =
 -- x = 2
 abbrev pub x_is_two : Formula
 x_is_two = Comparison Eq (Variable 1) (Constant (value.Int (pos 2)))
+
+-- x >= 2
+abbrev pub at_least_two : Formula
+at_least_two = Comparison Ge (Variable 1) (Constant (value.Int (pos 2)))
 
 -- an output g, and a hidden table that tells whether g was true at an odd number of earlier positions
 abbrev pub parity : GameData

@@ -8,11 +8,12 @@ ghost use Rattle.bit_compile.specs.Making.{Makes};
 ghost use Rattle.bit_compile.specs.Compiled.{both_truths};
 ghost use Rattle.bit_compile.specs.CaseRoots.{HasTogether, AddsCases, Leaves, IsReady, had_by, truth_had, cases_by, roots_in};
 
+use crate::blocks::pair_root;
 use crate::codes::Codes;
 use crate::domains::code;
 use crate::letters::letter_root;
 use crate::operation::Operation;
-use crate::pairs::{Test, pair_root};
+use crate::pairs::Test;
 use crate::steps::{constant, keep, not};
 use bdd_ops::{Diagrams, Root};
 use game_values::seen::At;
@@ -71,8 +72,13 @@ fn truth_root(diagrams: &mut Diagrams, root: &Root, value: Value) -> Result<Root
     }
 }
 
-/// Where a value is had.
-fn case_root(diagrams: &mut Diagrams, source: &Source, value: Value) -> Result<Root, Halt>
+/// Where a value is had, which stands at the place `near` of its domain, if it is listed with all of that.
+fn case_root(
+    diagrams: &mut Diagrams,
+    source: &Source,
+    value: Value,
+    near: usize,
+) -> Result<Root, Halt>
     requires { IsReady diagrams.old source.now value }
     ensures { Makes diagrams.old diagrams.new result (had_by diagrams.old source.now value) }
 {
@@ -80,7 +86,7 @@ fn case_root(diagrams: &mut Diagrams, source: &Source, value: Value) -> Result<R
         Source::Everywhere => constant(diagrams, true),
         Source::Truth(root) => truth_root(diagrams, root, value),
         Source::Coded(codes, at, k, domain) => {
-            codes.has_code(diagrams, *at, *k, code(domain, value))
+            codes.has_code(diagrams, *at, *k, code(domain, value, near))
         }
         Source::Pairs(op, xs, ys) => pair_root(diagrams, &Test::Gives(*op, value), xs, ys),
         Source::Leads(next, letters, values, had) => {
@@ -105,7 +111,7 @@ pub fn cases_from(
         return Err(Halt::Memory);
     };
     for value in values {
-        match case_root(diagrams, source, *value) {
+        match case_root(diagrams, source, *value, cases.len()) {
             Ok(root) => cases.push_reserved(CaseRoot {
                 value: *value,
                 root,

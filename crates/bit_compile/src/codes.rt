@@ -1,4 +1,4 @@
-ghost use Rattle.std.specs.Prelude.{◌≡◌, ◌≢◌, ◌+◌, ◌*◌, ◌^◌, ◌<◌, ◌≤◌, ◌∷◌, ◌++◌, [], ℕ, List, map, take, length, nat_lt, true, false, slice_index_or, IfOk, OnOk};
+ghost use Rattle.std.specs.Prelude.{◌≡◌, ◌≢◌, ◌+◌, ◌*◌, ◌^◌, ◌<◌, ◌≤◌, ◌∷◌, ◌++◌, [], ℕ, List, map, take, length, nat_lt, true, false, slice_index_or, IfOk};
 ghost use Rattle.std.specs.List.{list_all, list_any};
 ghost use Rattle.spec_model.specs.declared.value.Value.{Value};
 ghost use Rattle.spec_model.specs.Views.{domain_data, variable_data};
@@ -205,7 +205,7 @@ impl Codes {
         ensures written { has_number (level_at self.now at k) (width_at self.now k) (rank_of (domain_in self.now k) value) (bits_of bits.new) ≡ true }
         ensures others { (m : ℕ) → IsOutside self.now at k m → slice_index_or bits.new m false ≡ slice_index_or bits.old m false }
     {
-        let n = code(&self.domains[k], value);
+        let n = code(&self.domains[k], value, 0);
         write_number(bits, self.level(at, k) as usize, self.width(k), n);
     }
 

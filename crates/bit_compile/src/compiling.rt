@@ -14,10 +14,11 @@ ghost use Rattle.bit_compile.specs.CaseRoots.{AreKept, AddsCases, Leaves, cases_
 ghost use Rattle.bit_compile.specs.Scenes.{IsScene, codes_seen, entries_seen, game_seen};
 ghost use Rattle.bit_compile.specs.Known.{IsKnown, AreKnown, operated_cases};
 
+use crate::blocks::pair_root;
 use crate::cases::{CaseRoot, Source, cases_from, cases_of_truth, release_all};
 use crate::folds::{Fold, folded};
 use crate::operation::Operation;
-use crate::pairs::{Test, pair_root};
+use crate::pairs::Test;
 use crate::reading::{variable_cases, variable_root};
 use crate::scenes::Scene;
 use crate::spans::{operation_cases, remainder_cases, same_root, table_root};

@@ -1,11 +1,12 @@
 //! The values of domains: how many there are, and the place of each.
 
-ghost use Rattle.std.specs.Prelude.{◌≡◌, ◌==◌, ◌+◌, ◌<◌, ◌≤ℤ◌, ◌-ℤ◌, ◌^◌, pos, nat_abs, true, length, map, ◌+ℤ◌, IfOk};
+ghost use Rattle.std.specs.Prelude.{◌≡◌, ◌==◌, ◌+◌, ◌<◌, ◌≤ℤ◌, ◌-ℤ◌, ◌^◌, pos, nat_abs, true, map, ◌+ℤ◌, IfOk};
 ghost use Rattle.std.specs.List.{list_any, position_or_len};
 ghost use Rattle.spec_model.specs.Views.{domain_data};
 ghost use Rattle.spec_model.specs.GameViews.{hidden_data};
 ghost use Rattle.spec_model.specs.Values.{same_value, values_of, rank_of, rising_from};
 ghost use Rattle.spec_model.specs.Sizes.{domain_size};
+ghost use Rattle.spec_model.specs.WellMade.{all_differ};
 ghost use Rattle.bit_compile.specs.Domains.{IsCountable, table_domain};
 
 use crate::OutOfMemory;
@@ -35,10 +36,14 @@ pub fn size(domain: &Domain) -> usize
     }
 }
 
-/// The place of a name.
-fn place(names: &[u16], n: u16) -> usize
+/// The place of a name among different ones, found at once where it is the one to look at first.
+fn place(names: &[u16], n: u16, near: usize) -> usize
+    requires { all_differ (λ a b. a == b) names.now ≡ true }
     ensures { result ≡ position_or_len (λ m. n == m) names.now }
 {
+    if near < names.len() && names[near] == n {
+        return near;
+    }
     for (i, m) in names.iter().enumerate() {
         if *m == n {
             return i;
@@ -57,8 +62,8 @@ fn offset(lo: i64, hi: i64, z: i64) -> usize
     (z - lo) as usize
 }
 
-/// The code of a value: its place in its domain.
-pub fn code(domain: &Domain, value: Value) -> usize
+/// The code of a value: its place in its domain. A name is looked for at the place `near` first.
+pub fn code(domain: &Domain, value: Value, near: usize) -> usize
     requires countable { IsCountable (domain_data domain.now) }
     requires among { list_any (same_value value) (values_of (domain_data domain.now)) ≡ true }
     ensures { result ≡ rank_of (domain_data domain.now) value }
@@ -73,7 +78,7 @@ pub fn code(domain: &Domain, value: Value) -> usize
             Value::Bool(_) | Value::Name(_) => unreachable!(),
         },
         Domain::Names(names) => match value {
-            Value::Name(n) => place(names, n),
+            Value::Name(n) => place(names, n, near),
             Value::Bool(_) | Value::Int(_) => unreachable!(),
         },
     }

@@ -1,10 +1,11 @@
 //! Several functions joined.
 
-ghost use Rattle.std.specs.Prelude.{◌≡◌, map};
+ghost use Rattle.std.specs.Prelude.{◌≡◌, ◌&&◌, map};
 ghost use Rattle.bdd_store.specs.State.{IsRoot};
 ghost use Rattle.bdd_ops.specs.Contents.{function_at};
 ghost use Rattle.bdd_ops.specs.Functions.{joined, join_of};
 ghost use Rattle.bit_compile.specs.Making.{Makes};
+ghost use Rattle.bit_compile.specs.Compiled.{some_of};
 ghost use Rattle.bit_compile.specs.CaseRoots.{AreKept, folded as folded_lem, is_all};
 
 use crate::cases::CaseRoot;
@@ -57,4 +58,17 @@ pub fn folded(diagrams: &mut Diagrams, fold: Fold, cases: &[CaseRoot]) -> Result
         whole = next;
     }
     Ok(whole)
+}
+
+/// Where a root is true, and some value is had.
+pub fn and_some(diagrams: &mut Diagrams, first: &Root, cases: &[CaseRoot]) -> Result<Root, Halt>
+    requires first_kept { IsRoot diagrams.old.state first.now }
+    requires kept { AreKept diagrams.old.state cases.now }
+    ensures { let c = diagrams.old in
+        Makes c diagrams.new result (λ s. function_at c first.now s && some_of (map (λ x. function_at c x.root) cases.now) s) }
+{
+    let second = folded(diagrams, Fold::Some, cases)?;
+    let whole = and(diagrams, first, &second);
+    diagrams.release(second);
+    whole
 }

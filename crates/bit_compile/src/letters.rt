@@ -1,7 +1,6 @@
 //! Where the atoms of a hidden table have a letter.
 
-ghost use Rattle.std.specs.Prelude.{◌≡◌, ◌==◌, ◌&&◌, ◌%◌, map};
-ghost use Rattle.spec_model.specs.Games.{letter_of};
+ghost use Rattle.std.specs.Prelude.{◌==◌, ◌&&◌, ◌%◌, map};
 ghost use Rattle.bdd_store.specs.State.{IsRoot};
 ghost use Rattle.bdd_ops.specs.Contents.{function_at};
 ghost use Rattle.bit_compile.specs.Making.{Makes};

@@ -13,6 +13,7 @@
 //! Path: game, operations → **codes** → regions as diagrams.
 #![tactic(auto)]
 
+mod blocks;
 pub mod cases;
 mod codes;
 mod compiling;

@@ -1,12 +1,13 @@
-//! Where some value of one list and some of another pass a test. Each set on the way is that of the first several pairs.
+//! Where some value of one list and some of another pass a test, pair by pair. Each set on the way is that of the first
+//! several pairs.
 
-ghost use Rattle.std.specs.Prelude.{◌≡◌, ◌<◌, ◌&&◌, ◌||◌, ◌+◌, ◌*◌, ◌^◌, pos, nat_abs, true, false, get_or, SomeIff};
+ghost use Rattle.std.specs.Prelude.{◌≡◌, ◌<◌, ◌&&◌, ◌||◌, ◌+◌, ◌*◌, ◌^◌, nat_abs, false, SomeIff};
 ghost use Rattle.std.specs.List.{list_any};
 ghost use Rattle.spec_model.specs.Values.{number_of};
 ghost use Rattle.bdd_store.specs.State.{IsRoot};
 ghost use Rattle.bdd_ops.specs.Contents.{function_at};
 ghost use Rattle.bit_compile.specs.Making.{Makes};
-ghost use Rattle.bit_compile.specs.Compiled.{some_pair, gives as gives_lem, in_table as in_table_lem, leads as leads_lem};
+ghost use Rattle.bit_compile.specs.Compiled.{some_pair, in_table as in_table_lem, leads as leads_lem};
 ghost use Rattle.bit_compile.specs.CaseRoots.{AreKept, cases_at, passes as passes_lem};
 
 use crate::cases::CaseRoot;
@@ -66,7 +67,8 @@ fn leads(next: &[u16], letters: usize, to: Value, value: Value, letter: Value) -
     u64::from(reached) == number(to).unsigned_abs()
 }
 
-fn passes(test: &Test, x: Value, y: Value) -> bool
+/// Whether two values pass.
+pub fn passes(test: &Test, x: Value, y: Value) -> bool
     ensures { result ≡ passes_lem test.now x y }
 {
     match test {
@@ -135,7 +137,7 @@ fn or_row(
 }
 
 /// Where some value of the first list is had and some of the second, and the two pass.
-pub fn pair_root(
+pub fn pair_by_pair(
     diagrams: &mut Diagrams,
     test: &Test,
     xs: &[CaseRoot],

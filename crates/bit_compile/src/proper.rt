@@ -1,34 +1,22 @@
 //! The diagram of the bits that are states, and the next bits in place of the present ones.
 
-ghost use Rattle.std.specs.Prelude.{◌≡◌, ◌<◌, ◌≤◌, ◌&&◌, length, IfOk};
+ghost use Rattle.std.specs.Prelude.{◌<◌, ◌≤◌, ◌&&◌, length};
 ghost use Rattle.bdd_store.specs.State.{IsRoot};
 ghost use Rattle.bdd_ops.specs.Contents.{function_at};
 ghost use Rattle.bit_compile.specs.Domains.{level_count};
 ghost use Rattle.bit_compile.specs.Making.{Makes};
-ghost use Rattle.bit_compile.specs.Proper.{proper as proper_lem, has_some_value, next_levels as next_levels_lem};
+ghost use Rattle.bit_compile.specs.Proper.{proper as proper_lem, has_some_value};
 
 use crate::OutOfMemory;
 use crate::cases::release_all;
 use crate::codes::Codes;
-use crate::folds::{Fold, folded};
+use crate::folds::and_some;
 use crate::spans::coded_cases;
-use crate::steps::{and, constant};
+use crate::steps::constant;
 use bdd_ops::{Diagrams, Root};
 use game_values::seen::At;
 use regions::Halt;
 use std::alloc::Global;
-
-/// Where the bits at this place of a state are some value's code.
-fn some_value(diagrams: &mut Diagrams, codes: &Codes, at: At, k: usize) -> Result<Root, Halt>
-    requires known { k < length codes.now }
-    requires levels { level_count codes.now ≤ diagrams.old.state.table.levels }
-    ensures { Makes diagrams.old diagrams.new result (has_some_value codes.now at k) }
-{
-    let cases = coded_cases(diagrams, codes, at, k, codes.domain(k), codes.alloc())?;
-    let root = folded(diagrams, Fold::Some, &cases);
-    release_all(diagrams, cases);
-    root
-}
 
 /// Where the product is true, and the bits at this place of a state are some value's code.
 fn and_some_value(
@@ -43,9 +31,9 @@ fn and_some_value(
     requires kept { IsRoot diagrams.old.state product.now }
     ensures { Makes diagrams.old diagrams.new result (λ s. function_at diagrams.old product.now s && has_some_value codes.now at k s) }
 {
-    let value = some_value(diagrams, codes, at, k)?;
-    let whole = and(diagrams, product, &value);
-    diagrams.release(value);
+    let cases = coded_cases(diagrams, codes, at, k, codes.domain(k), codes.alloc())?;
+    let whole = and_some(diagrams, product, &cases);
+    release_all(diagrams, cases);
     whole
 }
 

@@ -13,11 +13,12 @@ ghost use Rattle.bit_compile.specs.Making.{Makes};
 ghost use Rattle.bit_compile.specs.Compiled.{least as least_lem, greatest as greatest_lem, least_product, greatest_product, span_of as span_of_lem, results, only, same_truth, both_truths, some_pair, in_table, lettered, numbers_below, table_truth, coded};
 ghost use Rattle.bit_compile.specs.CaseRoots.{AreKept, AddsCases, Leaves, cases_at};
 
+use crate::blocks::pair_root;
 use crate::cases::{CaseRoot, Source, cases_from, cases_of_truth, release_all};
 use crate::codes::Codes;
 use crate::domains::{domain_of, values};
 use crate::operation::Operation;
-use crate::pairs::{Test, pair_root};
+use crate::pairs::Test;
 use bdd_ops::{Diagrams, Root};
 use game_values::cells::letters;
 use game_values::seen::At;

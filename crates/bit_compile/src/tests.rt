@@ -2,15 +2,15 @@
 //! the next ones 3 to 5, the most significant first, and g has 6 and 7. The other has an output g, and a hidden table that
 //! tells whether g was true at an odd number of earlier positions: the table has the levels 0 and 1, and g has 2 and 3.
 
-ghost use Rattle.std.specs.Prelude.{◌≡◌, length, IfOk, [], ◌∷◌, map};
+ghost use Rattle.std.specs.Prelude.{◌≡◌, length, IfOk};
 ghost use Rattle.spec_model.specs.Diagrams.{Function};
-ghost use Rattle.spec_model.specs.Views.{formula, variable_data};
+ghost use Rattle.spec_model.specs.Views.{formula};
 ghost use Rattle.bdd_store.specs.State.{IsRoot};
 ghost use Rattle.bdd_ops.specs.Contents.{Contents};
 ghost use Rattle.bit_compile.specs.Making.{Makes};
 ghost use Rattle.spec_model.specs.GameViews.{game_data};
 ghost use Rattle.bit_compile.specs.Domains.{state_domains};
-ghost use Rattle.bit_compile.specs.Examples.{example, x_is_two as x_is_two_lem, parity as parity_lem};
+ghost use Rattle.bit_compile.specs.Examples.{example, x_is_two as x_is_two_lem, at_least_two as at_least_two_lem, parity as parity_lem};
 
 use crate::proper::proper;
 use crate::*;
@@ -98,6 +98,14 @@ fn x_is_two(alloc: Global) -> Result<Expr, AllocError>
     Ok(Expr::Cmp(Compare::Eq, x, two))
 }
 
+fn at_least_two(alloc: Global) -> Result<Expr, AllocError>
+    ensures { IfOk result (λ e. formula e ≡ at_least_two_lem) }
+{
+    let x = Box::new(alloc, Expr::Var(1))?;
+    let two = Box::new(alloc, Expr::Const(Value::Int(2)))?;
+    Ok(Expr::Cmp(Compare::Ge, x, two))
+}
+
 fn parity(alloc: Global) -> Result<Game, AllocError>
     ensures { IfOk result (λ g. game_data g ≡ parity_lem) }
 {
@@ -166,6 +174,19 @@ fn a_comparison_is_true_of_one_code(rt: HostRuntime) -> Result<(), Fail> {
     let made = compile(&mut diagrams, &codes, &game, &two);
     let truths = truths_of(&mut diagrams, made);
     assert_eq!(rt; truths, Some(0b0000_0100), "x = 2");
+    Ok(())
+}
+
+// The codes 5 to 7 are of no value.
+#[test]
+fn unused_codes_compare_with_nothing(rt: HostRuntime) -> Result<(), Fail> {
+    let game = game(rt.alloc())?;
+    let codes = Codes::make(rt.alloc(), &game)?;
+    let more = at_least_two(rt.alloc())?;
+    let mut diagrams = Diagrams::make(rt.alloc(), 8, 64)?;
+    let made = compile(&mut diagrams, &codes, &game, &more);
+    let truths = truths_of(&mut diagrams, made);
+    assert_eq!(rt; truths, Some(0b0001_1100), "x >= 2");
     Ok(())
 }
 

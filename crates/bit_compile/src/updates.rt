@@ -12,11 +12,12 @@ ghost use Rattle.bit_compile.specs.Compiled.{never, coded, some_pair, lettered, 
 ghost use Rattle.bit_compile.specs.CaseRoots.{AreKept, AddsCases, Leaves, cases_at};
 ghost use Rattle.bit_compile.specs.CompileLaws.{IsUpdateOf};
 
+use crate::blocks::pair_root;
 use crate::cases::{CaseRoot, Source, cases_from, release_all};
 use crate::codes::Codes;
 use crate::compiling::truth_cases;
 use crate::domains::{domain_of, values};
-use crate::pairs::{Test, pair_root};
+use crate::pairs::Test;
 use crate::scenes::Scene;
 use crate::spans::{coded_cases, letter_cases};
 use bdd_ops::{Diagrams, Root};

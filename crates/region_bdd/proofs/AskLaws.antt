@@ -9,6 +9,7 @@ use Rattle.regions.specs.declared.types.Halt.{Halt}
 use Rattle.regions.specs.declared.types.Halt.TheVariants as halt
 use Rattle.regions.specs.declared.types.When.TheVariants.{First}
 use Rattle.bdd_store.specs.State.{IsRoot, IsFull}
+use Rattle.region_bdd.proofs.FewNodes.{few_nodes}
 use Rattle.bdd_ops.specs.Contents.{Contents}
 use Rattle.bit_compile.specs.Making.{Makes}
 use Rattle.bit_compile.proofs.MakingLemmas.{is_root}
@@ -21,7 +22,7 @@ use Rattle.region_bdd.specs.declared.own.Refused.{Refused}
 use Rattle.region_bdd.specs.Slots.{shown_of}
 use Rattle.region_bdd.specs.Asking.{Answers, SettlesAnswer}
 use Rattle.region_bdd.specs.Object.{IsObject, call_of, argument_in, kept_of}
-use Rattle.region_bdd.proofs.ObjectLaws.{none_refused, sound_same, stays_same, halts_memory, halts_budget}
+use Rattle.region_bdd.proofs.ObjectLaws.{none_refused, sound_same, stays_same, halts_memory, halts_budget, early_fits}
 
 -- what is told before the first move is one truth value
 module _ (g : GameData) (f h : Function) (r : Before → Bool) (told : TellsBefore g First f r) (nothing : h ≡ (λ b. false)) where
@@ -61,7 +62,7 @@ pub record Told (g : GameData) (own : Own) (lists : NextLevels) (c c' : Contents
 module _ (g : GameData) (own : Own) (lists : NextLevels) (c c' : Contents) (slots : List Slot) (object : IsObject g c own lists slots None) (fact : Type 0) (why : Refused) (arguments : List Meaning)
     (arguments_are : argument_in g (map (shown_of c) slots) why.first ++ argument_in g (map (shown_of c) slots) why.second ≡ arguments) where
   still : Answers c c' (Err halt.Memory) fact → IsObject g c' own lists slots None
-  still asked = record { made = object.made; levels = asked.keeps.levels ∙ object.levels; lists_are = object.lists_are; sound = sound_same g own c c' slots object.sound asked.keeps asked.roots; unspent = object.unspent }
+  still asked = record { made = object.made; levels = asked.keeps.levels ∙ object.levels; lists_are = object.lists_are; early = early_fits g own c c' slots object.sound asked.keeps lists object.early; sound = sound_same g own c c' slots object.sound asked.keeps asked.roots; unspent = object.unspent; tight = tt }
 
   told_plain : (made : Result Bool Halt) → Answers c c' made fact → (result : Result Bool Halt) (refused : Option Refused) → SettlesAnswer refused made result why → Told g own lists c c' slots None refused result fact (call_of why.asked) arguments
   told_plain (Ok said) asked result refused settles =
@@ -73,7 +74,7 @@ module _ (g : GameData) (own : Own) (lists : NextLevels) (c c' : Contents) (slot
         halted = tt;
         same = record { game = refl; bound = asked.keeps.budget };
         cause = asked.full;
-        object = record { made = object.made; levels = asked.keeps.levels ∙ object.levels; lists_are = object.lists_are; sound = sound_same g own c c' slots object.sound asked.keeps asked.roots; unspent = object.unspent };
+        object = record { made = object.made; levels = asked.keeps.levels ∙ object.levels; lists_are = object.lists_are; early = early_fits g own c c' slots object.sound asked.keeps lists object.early; sound = sound_same g own c c' slots object.sound asked.keeps asked.roots; unspent = object.unspent; tight = tt };
       }))
   told_plain (Err halt.Memory) asked result refused settles =
       subst (λ (r : Result Bool Halt). Told g own lists c c' slots None refused r fact (call_of why.asked) arguments) (sym settles.0)
@@ -95,7 +96,7 @@ module _ (g : GameData) (own : Own) (lists : NextLevels) (c c' : Contents) (slot
         halted = halts_budget g own c c' slots object.sound asked.keeps why (call_of why.asked) arguments object.unspent refl arguments_are;
         same = record { game = refl; bound = asked.keeps.budget };
         cause = asked.full;
-        object = record { made = object.made; levels = asked.keeps.levels ∙ object.levels; lists_are = object.lists_are; sound = sound_same g own c c' slots object.sound asked.keeps asked.roots; unspent = tt };
+        object = record { made = object.made; levels = asked.keeps.levels ∙ object.levels; lists_are = object.lists_are; early = early_fits g own c c' slots object.sound asked.keeps lists object.early; sound = sound_same g own c c' slots object.sound asked.keeps asked.roots; unspent = tt; tight = few_nodes c'.state.table (asked.full refl) };
       }))
 
 pub told : (g : GameData) (own : Own) (lists : NextLevels) (c c' : Contents) (slots : List Slot) (was refused : Option Refused) (object : IsObject g c own lists slots was) → (kept_of g c slots was).jam ≡ None → (fact : Type 0) (why : Refused) (arguments : List Meaning) →

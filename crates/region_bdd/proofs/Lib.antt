@@ -12,3 +12,5 @@ pub mod LeadingLaws
 pub mod FindLaws
 pub mod FindCalls
 pub mod MakingLaws
+pub mod FewNodes
+pub mod NeedLaws

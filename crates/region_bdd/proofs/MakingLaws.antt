@@ -1,5 +1,5 @@
 -- Parts of the object's own diagrams, made one after the other.
-use Rattle.std.proofs.Common.{◌≡◌, ℕ, ◌+◌, ◌<◌, ◌≤◌, false, Vec, Result, Ok, Err, IfOk, IsErrAnd, is_ok, List, [], Option, None, refl, sym, ◌∙◌, ap, subst, arith, cond, ◌==◌}
+use Rattle.std.proofs.Common.{◌≡◌, ℕ, ◌+◌, ◌<◌, ◌≤◌, false, Vec, Result, Ok, Err, IfOk, IsErrAnd, is_ok, List, [], Option, None, refl, sym, ◌∙◌, ap, subst, arith, cond, ◌==◌, slice_index}
 use Rattle.std.proofs.lemmas.Bool.{false≢true}
 use Rattle.std.specs.declared.alloc.Global.{Global}
 use Rattle.node_table.specs.Table.{diagram_at, count_of}
@@ -19,19 +19,23 @@ use Rattle.bdd_ops.specs.Contents.{Contents, function_at}
 use Rattle.bdd_ops.specs.Calls.{KeepsRoots}
 use Rattle.bit_compile.specs.Making.{Makes}
 use Rattle.state_diagrams.specs.declared.moves.Members.{Members}
-use Rattle.state_diagrams.specs.Members.{MoveFunctions, functions_at, move_functions}
+use Rattle.state_diagrams.specs.Members.{MoveFunctions, AreMembers, functions_at, move_functions}
 use Rattle.state_diagrams.specs.Lists.{MakesList, one_at}
 use Rattle.state_diagrams.specs.Lines.{MakesMembers, roots_of_members}
 use Rattle.state_diagrams.specs.Goals.{TellGoals}
 use Rattle.state_diagrams.specs.Forcing.{FitMoves, AreLevelsOf}
 use Rattle.state_diagrams.specs.StateBits.{Tells}
 use Rattle.state_diagrams.specs.declared.moves.NextLevels.{NextLevels}
+use Rattle.regions.specs.declared.types.When.TheVariants.{First, Later}
+use Rattle.early_products.specs.declared.early.Early.{Early}
+use Rattle.early_products.specs.Early.{FitsEarly, roots_of_early}
+use Rattle.early_products.proofs.EarlyLemmas.{members_kept}
 use Rattle.state_diagrams.proofs.ProperLemmas.{proper_tells}
-use Rattle.state_diagrams.proofs.ListLemmas.{one_itself}
+use Rattle.state_diagrams.proofs.ListLemmas.{one_itself, times_here}
 use Rattle.region_bdd.specs.declared.own.Own.{Own}
 use Rattle.region_bdd.specs.declared.slots.Slot.{Slot}
-use Rattle.region_bdd.specs.Object.{roots_of_own, IsObject}
-use Rattle.region_bdd.specs.Making.{MakesPart, in_both, FitBoth, FitNothing, FitProper, times_in_sets, FitSets, listed_times, FitGoals, FitLines, times_in_formulas, FitFormulas, FitOwn}
+use Rattle.region_bdd.specs.Object.{roots_of_own, FitsOwnEarly, IsObject}
+use Rattle.region_bdd.specs.Making.{MakesPart, in_both, FitBoth, FitNothing, FitProper, times_in_sets, FitSets, listed_times, FitGoals, times_in_goals, FitAllGoals, FitLines, times_in_lines, FitAllLines, times_in_formulas, FitFormulas, FitOwn}
 use Rattle.region_bdd.proofs.ObjectLaws.{list_same, members_same}
 
 -- ---- parts that are one root, a list of goals, or members
@@ -98,13 +102,27 @@ module _ {V : Type 0} (tv : ℕ → V → ℕ) (FV : Contents → V → Type 0) 
 
 -- ---- the object
 
-pub own_made : (g : GameData) (ds : List DomainData) (old mid new : Contents) (nothing all : ℕ) (p : (Vec ℕ Global × Vec ℕ Global) × (Members × Members)) → ds ≡ state_domains g →
-    MakesPart times_in_sets (FitSets ds) old mid (Ok (nothing, all)) → MakesPart times_in_formulas (FitFormulas g) mid new (Ok p) →
-    MakesPart roots_of_own (FitOwn g) old new (Ok (record { step = record { nothing = nothing; proper = all; later = p.1.1 }; assume = p.0.0; goals = p.0.1; first = p.1.0 }))
-own_made g ds old mid new nothing all p same first second =
+-- the goals and lines stay
+formulas_stay : (g : GameData) → Stays times_in_formulas (FitFormulas g)
+formulas_stay g =
+    both_stay times_in_goals times_in_lines (FitAllGoals g) (FitAllLines g)
+    (both_stay listed_times listed_times (FitGoals g g.assume) (FitGoals g g.goals) (goals_stay g g.assume) (goals_stay g g.goals))
+    (both_stay roots_of_members roots_of_members (FitLines g First) (FitLines g Later) (lines_stay g First) (lines_stay g Later))
+
+-- the products come after the other parts
+early_part : (mid new : Contents) (e : Option Early) → ((n : ℕ) → roots_at new.state n ≡ roots_at mid.state n + roots_of_early n e) → KeepsRoots mid new → MakesPart roots_of_early (λ c e. Unit {0}) mid new (Ok e)
+early_part mid new e added keeps = record { fit = tt; added = added; refused = tt; keeps = keeps; full = λ e. absurd (false≢true (sym (ap is_ok e))) }
+
+pub own_made : (g : GameData) (ds : List DomainData) (old mid made new : Contents) (nothing all : ℕ) (p : (Vec ℕ Global × Vec ℕ Global) × (Members × Members)) (early : Option Early) → ds ≡ state_domains g →
+    MakesPart times_in_sets (FitSets ds) old mid (Ok (nothing, all)) → MakesPart times_in_formulas (FitFormulas g) mid made (Ok p) →
+    ((n : ℕ) → roots_at new.state n ≡ roots_at made.state n + roots_of_early n early) → KeepsRoots made new →
+    MakesPart roots_of_own (FitOwn g) old new (Ok (record { step = record { nothing = nothing; proper = all; later = p.1.1 }; assume = p.0.0; goals = p.0.1; first = p.1.0; early = early }))
+own_made g ds old mid made new nothing all p early same first second added keeps =
     let stays = both_stay one_at one_at FitNothing (FitProper ds) (root_stays (λ b. false)) (root_stays (proper ds Now)) in
-    let both = both_made times_in_sets (FitSets ds) old mid (nothing, all) first times_in_formulas (FitFormulas g) new p second stays in
-    let fit = both.fit in
+    let parts = both_made times_in_sets (FitSets ds) old mid (nothing, all) first times_in_formulas (FitFormulas g) made p second stays in
+    let all_stay = both_stay times_in_sets times_in_formulas (FitSets ds) (FitFormulas g) stays (formulas_stay g) in
+    let both = both_made (in_both times_in_sets times_in_formulas) (FitBoth (FitSets ds) (FitFormulas g)) old made ((nothing, all), p) parts roots_of_early (λ c e. Unit {0}) new early (early_part made new early added keeps) all_stay in
+    let fit = both.fit.0 in
     let is = fit.0.1 ∙ ap (λ es. proper es Now) same in
     record {
       fit = record {
@@ -121,17 +139,32 @@ own_made g ds old mid new nothing all p same first second =
       full = λ e. absurd (false≢true (sym (ap is_ok e)));
     }
 
+-- the lines of later moves are kept
+pub later_members : (g : GameData) (mid made : Contents) (p : (Vec ℕ Global × Vec ℕ Global) × (Members × Members)) → MakesPart times_in_formulas (FitFormulas g) mid made (Ok p) → AreMembers made p.1.1
+later_members g mid made p part =
+    record {
+      inputs = λ i below. (let here = times_here p.1.1.inputs.items i below in let all = part.added (slice_index p.1.1.inputs.items i) in omega (arith, here, all));
+      outputs = λ i below. (let here = times_here p.1.1.outputs.items i below in let all = part.added (slice_index p.1.1.outputs.items i) in omega (arith, here, all));
+      update = λ i below. (let here = times_here p.1.1.update.items i below in let all = part.added (slice_index p.1.1.update.items i) in omega (arith, here, all));
+    }
+
+-- and the products still fit them
+pub early_after : (g : GameData) (mid made new : Contents) (p : (Vec ℕ Global × Vec ℕ Global) × (Members × Members)) (lists : NextLevels) (e : Option Early) → MakesPart times_in_formulas (FitFormulas g) mid made (Ok p) → KeepsRoots made new → FitsEarly (move_functions made p.1.1) lists new e → FitsEarly (move_functions new p.1.1) lists new e
+early_after g mid made new p lists e part keeps fits = subst (λ (m : MoveFunctions). FitsEarly m lists new e) (sym (members_kept made new p.1.1 keeps (later_members g mid made p part))) fits
+
 pub object_made : (g : GameData) (levels budget : ℕ) (made new : Contents) (own : Own) (lists : NextLevels) (slots : List Slot) → slots ≡ [] → WellMade g → levels ≡ level_count (state_domains g) → AreLevelsOf g lists → IsNewStore made.state levels budget →
-    MakesPart roots_of_own (FitOwn g) made new (Ok own) → IsObject g new own lists slots None
-object_made g levels budget made new own lists slots empty well many are store part =
+    MakesPart roots_of_own (FitOwn g) made new (Ok own) → FitsOwnEarly lists new own → IsObject g new own lists slots None
+object_made g levels budget made new own lists slots empty well many are store part early =
     subst (λ (ss : List Slot). IsObject g new own lists ss None) (sym empty) (record {
       made = well;
       levels = part.keeps.levels ∙ (store.has_levels ∙ many);
       lists_are = are;
+      early = early;
       sound = record {
         counted = λ n. (let all = part.added n in let none = store.no_root n in omega (arith, all, none));
         own_fits = part.fit;
         slots_fit = tt;
       };
       unspent = tt;
+      tight = tt;
     })

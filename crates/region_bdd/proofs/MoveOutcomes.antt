@@ -9,7 +9,8 @@ use Rattle.regions.specs.Kept.{Move, Outputs as OutputMoves, Inputs as InputMove
 use Rattle.regions.specs.declared.types.When.{When}
 use Rattle.regions.specs.declared.types.Halt.{Halt}
 use Rattle.regions.specs.declared.types.Halt.TheVariants as halt
-use Rattle.bdd_store.specs.State.{roots_at, SameRoots}
+use Rattle.bdd_store.specs.State.{roots_at, SameRoots, IsFull}
+use Rattle.region_bdd.proofs.FewNodes.{few_nodes}
 use Rattle.bdd_ops.specs.Contents.{Contents, function_at}
 use Rattle.bdd_ops.specs.Calls.{KeepsRoots}
 use Rattle.bit_compile.specs.Making.{Makes}
@@ -27,10 +28,11 @@ use Rattle.region_bdd.specs.Slots.{shown_in, shown_of, roots_within, TakesSlot}
 use Rattle.region_bdd.specs.Held.{Weights, slot_weighs}
 use Rattle.region_bdd.specs.Keeping.{SettlesOutputs}
 use Rattle.region_bdd.specs.Leading.{MakesTwo, SettlesInputs}
+use Rattle.region_bdd.specs.Needs.{IsTight}
 use Rattle.region_bdd.specs.Object.{ShownFits, IsObject, IsOpen, call_of, argument_in, kept_of}
 use Rattle.region_bdd.proofs.OutcomeLaws.{is_memory}
 use Rattle.region_bdd.proofs.SlotLaws.{open_taken}
-use Rattle.region_bdd.proofs.ObjectLaws.{none_refused, sound_same, sound_taken, makes_item, halts_memory, halts_budget}
+use Rattle.region_bdd.proofs.ObjectLaws.{none_refused, sound_same, sound_taken, makes_item, halts_memory, halts_budget, early_fits}
 
 -- what the call answers and leaves
 pub record MoveOutcome (g : GameData) (own : Own) (lists : NextLevels) (c c' : Contents) (slots new : List Slot) (was refused : Option Refused) (result : Result BddMove Halt) (meaning : Meaning) (asked : Call) (arguments : List Meaning) : Type 0 where
@@ -54,8 +56,10 @@ module _ (g : GameData) (own : Own) (lists : NextLevels) (c c' : Contents) (slot
           made = object.made;
           levels = keeps.levels ∙ object.levels;
           lists_are = object.lists_are;
+          early = early_fits g own c c' slots object.sound keeps lists object.early;
           sound = sound_taken g own c c' slots object.sound keeps new r.slot content adds takes fits;
           unspent = subst (λ (o : Option Refused). IsOpen o new) (sym unspent) (open_taken slots new r.slot content takes object.unspent);
+          tight = subst (λ (o : Option Refused). IsTight o c'.state.table) (sym unspent) tt;
         };
       }
 
@@ -68,19 +72,19 @@ module _ (g : GameData) (own : Own) (lists : NextLevels) (c c' : Contents) (slot
         made = tt;
         halted = halts_memory g own c c' slots object.sound keeps (call_of why.asked) arguments;
         same = record { game = refl; bound = keeps.budget };
-        object = record { made = object.made; levels = keeps.levels ∙ object.levels; lists_are = object.lists_are; sound = sound_same g own c c' slots object.sound keeps roots; unspent = object.unspent };
+        object = record { made = object.made; levels = keeps.levels ∙ object.levels; lists_are = object.lists_are; early = early_fits g own c c' slots object.sound keeps lists object.early; sound = sound_same g own c c' slots object.sound keeps roots; unspent = object.unspent; tight = tt };
       }))
 
   -- or for want of budget
-  none_budget : SameRoots c.state c'.state → new ≡ slots → refused ≡ Some why → MoveOutcome g own lists c c' slots new None refused (Err halt.Budget) meaning (call_of why.asked) arguments
-  none_budget roots same told =
+  none_budget : SameRoots c.state c'.state → IsFull c'.state → new ≡ slots → refused ≡ Some why → MoveOutcome g own lists c c' slots new None refused (Err halt.Budget) meaning (call_of why.asked) arguments
+  none_budget roots full same told =
       subst (λ (ss : List Slot). MoveOutcome g own lists c c' slots ss None refused (Err halt.Budget) meaning (call_of why.asked) arguments) (sym same)
       (subst (λ (o : Option Refused). MoveOutcome g own lists c c' slots slots None o (Err halt.Budget) meaning (call_of why.asked) arguments) (sym told)
       (record {
         made = tt;
         halted = halts_budget g own c c' slots object.sound keeps why (call_of why.asked) arguments object.unspent refl arguments_are;
         same = record { game = refl; bound = keeps.budget };
-        object = record { made = object.made; levels = keeps.levels ∙ object.levels; lists_are = object.lists_are; sound = sound_same g own c c' slots object.sound keeps roots; unspent = tt };
+        object = record { made = object.made; levels = keeps.levels ∙ object.levels; lists_are = object.lists_are; early = early_fits g own c c' slots object.sound keeps lists object.early; sound = sound_same g own c c' slots object.sound keeps roots; unspent = tt; tight = few_nodes c'.state.table full };
       }))
 
 module _ (g : GameData) (own : Own) (when : When) (lists : NextLevels) (c c' : Contents) (slots new : List Slot) (refused : Option Refused) (object : IsObject g c own lists slots None) (t : StateSet) (why : Refused) (arguments : List Meaning)
@@ -92,7 +96,7 @@ module _ (g : GameData) (own : Own) (when : When) (lists : NextLevels) (c c' : C
       let is : set_at g Next (function_at c' root) ≡ t = ap (set_at g Next) told ∙ tells.set in
       taken g own lists c c' slots new refused object (OutputMoves when t) why arguments arguments_are makes.keeps (Outputs when root) r makes.added fits (λ w. ap (λ u. w (Move r) (OutputMoves when u)) is) settles.0 settles.1
   outputs_outcome f tells (Err halt.Memory) (Err halt.Memory) makes settles = none_memory g own lists c c' slots new refused object (OutputMoves when t) why arguments arguments_are makes.keeps makes.refused settles.0 settles.1
-  outputs_outcome f tells (Err halt.Budget) (Err halt.Budget) makes settles = none_budget g own lists c c' slots new refused object (OutputMoves when t) why arguments arguments_are makes.keeps makes.refused settles.0 settles.1
+  outputs_outcome f tells (Err halt.Budget) (Err halt.Budget) makes settles = none_budget g own lists c c' slots new refused object (OutputMoves when t) why arguments arguments_are makes.keeps makes.refused (makes.full refl) settles.0 settles.1
   outputs_outcome f tells (Ok root) (Err halt.Memory) makes settles = absurd settles
   outputs_outcome f tells (Ok root) (Err halt.Budget) makes settles = absurd settles
   outputs_outcome f tells (Err halt.Memory) (Ok r) makes settles = absurd settles
@@ -108,7 +112,7 @@ module _ (g : GameData) (own : Own) (when : When) (lists : NextLevels) (c c' : C
       let out' : TellsMoves g when (function_at c' p.1) (λ b s. not (some_leads g (λ s. not (set_at g Now (function_at c' p.0) s)) b s.position.input)) = subst (λ (u : StateSet). TellsMoves g when (function_at c' p.1) (λ b s. not (some_leads g (λ s. not (u s)) b s.position.input))) (sym is) out in
       taken g own lists c c' slots new refused object (InputMoves when t) why arguments arguments_are makes.keeps (Inputs when p.0 p.1) r makes.added (states, out') (λ w. ap (λ u. w (Move r) (InputMoves when u)) is) settles.0 settles.1
   inputs_outcome f h tells leads (Err halt.Memory) (Err halt.Memory) makes settles = none_memory g own lists c c' slots new refused object (InputMoves when t) why arguments arguments_are makes.keeps makes.refused settles.0 settles.1
-  inputs_outcome f h tells leads (Err halt.Budget) (Err halt.Budget) makes settles = none_budget g own lists c c' slots new refused object (InputMoves when t) why arguments arguments_are makes.keeps makes.refused settles.0 settles.1
+  inputs_outcome f h tells leads (Err halt.Budget) (Err halt.Budget) makes settles = none_budget g own lists c c' slots new refused object (InputMoves when t) why arguments arguments_are makes.keeps makes.refused (makes.full refl) settles.0 settles.1
   inputs_outcome f h tells leads (Ok p) (Err halt.Memory) makes settles = absurd settles
   inputs_outcome f h tells leads (Ok p) (Err halt.Budget) makes settles = absurd settles
   inputs_outcome f h tells leads (Err halt.Memory) (Ok r) makes settles = absurd settles

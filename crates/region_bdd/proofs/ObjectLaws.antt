@@ -12,7 +12,7 @@ use Rattle.bdd_ops.specs.Contents.{Contents, function_at}
 use Rattle.bdd_ops.specs.Calls.{KeepsRoots}
 use Rattle.state_diagrams.specs.declared.moves.Members.{Members}
 use Rattle.state_diagrams.specs.StateBits.{set_at}
-use Rattle.state_diagrams.specs.Members.{functions_at, move_functions, all_true}
+use Rattle.state_diagrams.specs.Members.{MoveFunctions, functions_at, move_functions, all_true}
 use Rattle.region_bdd.specs.declared.slots.Content.{Content}
 use Rattle.region_bdd.specs.declared.slots.Content.TheVariants.{Region, Outputs, Inputs}
 use Rattle.region_bdd.specs.declared.slots.Slot.{Slot}
@@ -22,10 +22,14 @@ use Rattle.region_bdd.specs.declared.slots.BddMove.{BddMove}
 use Rattle.region_bdd.specs.declared.own.Own.{Own}
 use Rattle.region_bdd.specs.declared.own.Refused.{Refused}
 use Rattle.state_diagrams.specs.Lists.{one_at, times_in}
-use Rattle.state_diagrams.proofs.ListLemmas.{one_itself}
+use Rattle.state_diagrams.proofs.ListLemmas.{one_itself, times_here}
+use Rattle.state_diagrams.specs.declared.moves.NextLevels.{NextLevels}
+use Rattle.early_products.specs.declared.early.Early.{Early}
+use Rattle.early_products.specs.Early.{FitsEarly, AreRootsOfEarly, roots_of_early}
+use Rattle.early_products.proofs.EarlyLemmas.{early_stays}
 use Rattle.region_bdd.specs.Slots.{Shown, Nothing, Set, OutputsInto, InputsInto, shown_in, shown_of, shown_once, shown_meaning, set_of, shown_at, items_from, meanings_in, kept_in, HasContent, HasRegionRoot, TakesSlot, FreesSlot, MarksSpent, roots_within, roots_of_slots}
 use Rattle.region_bdd.specs.Held.{Weights, weight_is, takes, clears, slot_weighs, region_content}
-use Rattle.region_bdd.specs.Object.{own_functions, OwnFits, roots_of_own, roots_of_members, ShownFits, AllFit, NoneSpent, IsSound, call_of, argument_in, jam_in, kept_of}
+use Rattle.region_bdd.specs.Object.{own_functions, OwnFits, FitsOwnEarly, roots_of_own, roots_of_members, ShownFits, AllFit, NoneSpent, IsSound, call_of, argument_in, jam_in, kept_of}
 use Rattle.region_bdd.proofs.SlotLaws.{map-get, place_of, get_here, takes_place, clears_place, marks_place, once_marked, once_open, roots_taken, roots_freed, roots_marked, roots_among, shown_same, once_same, fit_same, fit_taken, fit_freed, fit_marked, open_freed}
 
 -- ---- the same functions
@@ -98,6 +102,23 @@ module _ (g : GameData) (own : Own) where
 
     slots_stay : AllFit g c' slots
     slots_stay = fit_same c c' g slots (λ n some. kept_same n (slot_root c slots sound n some)) sound.slots_fit
+
+    early_kept : (e : Option Early) → ((n : ℕ) → 0 < roots_of_early n e → IsRoot c.state n) → AreRootsOfEarly c e
+    early_kept None some = tt
+    early_kept (Some e) some =
+        record {
+          replies = λ i below. some _ (let here = times_here e.replies.lines.items i below in omega (arith, here));
+          inputs = λ i below. some _ (let here = times_here e.inputs.lines.items i below in omega (arith, here));
+        }
+
+    pub early_roots : AreRootsOfEarly c own.early
+    early_roots = early_kept own.early (λ n some. own_root c slots sound n (omega (arith, some)))
+
+    -- products that fit go on to
+    pub early_fits : (lists : NextLevels) → FitsOwnEarly lists c own → FitsOwnEarly lists c' own
+    early_fits lists fits =
+        let later = members_same c c' own.step.later (λ n some. kept_same n (own_root c slots sound n (omega (arith, some)))) in
+        subst (λ (m : MoveFunctions). FitsEarly m lists c' own.early) (sym later) (early_stays c c' (move_functions c own.step.later) lists own.early keeps early_roots fits)
 
     -- nothing came and nothing went
     pub sound_same : SameRoots c.state c'.state → IsSound g c' own slots
@@ -255,6 +276,10 @@ module _ (g : GameData) (own : Own) (c c' : Contents) (slots new : List Slot) (a
       slots_fit = fit_marked g c slots new a.slot marked sound.slots_fit;
     },
   )
+
+-- the same nodes keep what is kept
+pub same_table : (c c' : Contents) → c'.state.table ≡ c.state.table → KeepsRoots c c'
+same_table c c' table = record { levels = ap (λ (t : Table). t.levels) table; budget = ap (λ (t : Table). t.budget) table; meaning = λ n root. ap (λ (t : Table). diagram_at t n) table }
 
 pub some_refused : (o : Option Refused) → is_some o ≡ true → (r : Refused) × (o ≡ Some r)
 some_refused None e = absurd (false≢true e)

@@ -21,9 +21,11 @@ use Rattle.region_bdd.specs.declared.own.Own.{Own}
 use Rattle.region_bdd.specs.declared.own.Refused.{Refused}
 use Rattle.region_bdd.specs.Slots.{shown_of}
 use Rattle.region_bdd.specs.Keeping.{Settles}
+use Rattle.region_bdd.proofs.FewNodes.{few_nodes}
+use Rattle.region_bdd.specs.Needs.{IsTight}
 use Rattle.region_bdd.specs.Object.{IsObject, IsOpen, call_of, argument_in, kept_of}
 use Rattle.region_bdd.proofs.SlotLaws.{open_taken}
-use Rattle.region_bdd.proofs.ObjectLaws.{none_refused, sound_same, sound_taken, makes_item, halts_memory, halts_budget}
+use Rattle.region_bdd.proofs.ObjectLaws.{none_refused, sound_same, sound_taken, makes_item, halts_memory, halts_budget, early_fits}
 
 -- whether a result is a refusal for want of memory
 abbrev pub is_memory : {T : Type 0} → Result T Halt → Bool
@@ -54,8 +56,10 @@ module _ (g : GameData) (own : Own) (lists : NextLevels) (c c' : Contents) (slot
           made = object.made;
           levels = makes.keeps.levels ∙ object.levels;
           lists_are = object.lists_are;
+          early = early_fits g own c c' slots object.sound makes.keeps lists object.early;
           sound = sound_taken g own c c' slots object.sound makes.keeps new r.slot (Region root) makes.added settles.0 fits;
           unspent = subst (λ (o : Option Refused). IsOpen o new) (sym settles.1) (open_taken slots new r.slot (Region root) settles.0 object.unspent);
+          tight = subst (λ (o : Option Refused). IsTight o c'.state.table) (sym settles.1) tt;
         };
       }
   outcome (Err halt.Memory) (Err halt.Memory) makes settles = at_rest new refused settles.0 settles.1
@@ -68,7 +72,7 @@ module _ (g : GameData) (own : Own) (lists : NextLevels) (c c' : Contents) (slot
             made = tt;
             halted = halts_memory g own c c' slots object.sound makes.keeps (call_of why.asked) arguments;
             same = record { game = refl; bound = makes.keeps.budget };
-            object = record { made = object.made; levels = makes.keeps.levels ∙ object.levels; lists_are = object.lists_are; sound = sound_same g own c c' slots object.sound makes.keeps makes.refused; unspent = object.unspent };
+            object = record { made = object.made; levels = makes.keeps.levels ∙ object.levels; lists_are = object.lists_are; early = early_fits g own c c' slots object.sound makes.keeps lists object.early; sound = sound_same g own c c' slots object.sound makes.keeps makes.refused; unspent = object.unspent; tight = tt };
           }))
   outcome (Err halt.Budget) (Err halt.Budget) makes settles = at_rest new refused settles.0 settles.1
     where
@@ -80,7 +84,7 @@ module _ (g : GameData) (own : Own) (lists : NextLevels) (c c' : Contents) (slot
             made = tt;
             halted = halts_budget g own c c' slots object.sound makes.keeps why (call_of why.asked) arguments object.unspent refl arguments_are;
             same = record { game = refl; bound = makes.keeps.budget };
-            object = record { made = object.made; levels = makes.keeps.levels ∙ object.levels; lists_are = object.lists_are; sound = sound_same g own c c' slots object.sound makes.keeps makes.refused; unspent = tt };
+            object = record { made = object.made; levels = makes.keeps.levels ∙ object.levels; lists_are = object.lists_are; early = early_fits g own c c' slots object.sound makes.keeps lists object.early; sound = sound_same g own c c' slots object.sound makes.keeps makes.refused; unspent = tt; tight = few_nodes c'.state.table (makes.full refl) };
           }))
   outcome (Ok root) (Err halt.Memory) makes settles = absurd settles
   outcome (Ok root) (Err halt.Budget) makes settles = absurd settles

@@ -1,5 +1,6 @@
 pub mod Slots
 pub mod Held
+pub mod Needs
 pub mod Object
 pub mod Keeping
 pub mod TraitLaws

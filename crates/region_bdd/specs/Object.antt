@@ -19,6 +19,7 @@ use Rattle.state_diagrams.specs.declared.moves.NextLevels.{NextLevels}
 use Rattle.state_diagrams.specs.Members.{MoveFunctions, move_functions, functions_at}
 use Rattle.state_diagrams.specs.Lists.{one_at, times_in}
 use Rattle.state_diagrams.specs.Goals.{TellGoals}
+use Rattle.early_products.specs.Early.{FitsEarly, roots_of_early}
 use Rattle.region_bdd.specs.declared.slots.Slot.{Slot}
 use Rattle.region_bdd.specs.declared.slots.Slot.TheVariants.{Free, Taken, Spent}
 use Rattle.region_bdd.specs.declared.slots.BddRegion.{BddRegion}
@@ -27,6 +28,7 @@ use Rattle.region_bdd.specs.declared.own.Own.{Own}
 use Rattle.region_bdd.specs.declared.own.Asked.{Asked}
 use Rattle.region_bdd.specs.declared.own.Asked.TheVariants as asked
 use Rattle.region_bdd.specs.declared.own.Refused.{Refused}
+use Rattle.region_bdd.specs.Needs.{IsTight}
 use Rattle.region_bdd.specs.Slots.{Shown, Nothing, Set, OutputsInto, InputsInto, shown_of, shown_once, shown_meaning, shown_at, meanings_in, kept_in, roots_of_slots}
 
 -- ---- what the object keeps for itself
@@ -63,7 +65,11 @@ roots_of_members n m = times_in n m.inputs.items + (times_in n m.outputs.items +
 
 -- how often the object keeps the root for itself
 abbrev pub roots_of_own : ℕ → Own → ℕ
-roots_of_own n own = one_at n own.step.nothing + (one_at n own.step.proper + (times_in n own.assume.items + (times_in n own.goals.items + (roots_of_members n own.first + roots_of_members n own.step.later))))
+roots_of_own n own = one_at n own.step.nothing + (one_at n own.step.proper + (times_in n own.assume.items + (times_in n own.goals.items + (roots_of_members n own.first + (roots_of_members n own.step.later + roots_of_early n own.early)))))
+
+-- the products, if there are any, are of the lines of later moves
+abbrev pub FitsOwnEarly : NextLevels → Contents → Own → Type 0
+FitsOwnEarly lists c own = FitsEarly (move_functions c own.step.later) lists c own.early
 
 -- ---- what slots hold
 
@@ -128,8 +134,10 @@ pub record IsObject (g : GameData) (c : Contents) (own : Own) (lists : NextLevel
   pub made : WellMade g
   pub levels : c.state.table.levels ≡ level_count (state_domains g)
   pub lists_are : AreLevelsOf g lists
+  pub early : FitsOwnEarly lists c own
   pub sound : IsSound g c own slots
   pub unspent : IsOpen refused slots
+  pub tight : IsTight refused c.state.table
 
 abbrev pub kept_of : GameData → Contents → List Slot → Option Refused → Kept BddRegion BddMove
 kept_of g c slots refused = kept_in g c.state.table.budget (jam_in g (map (shown_once c) slots) refused) (map (shown_of c) slots)

@@ -23,14 +23,19 @@ use Rattle.bit_compile.proofs.LawLemmas.{one_state, state_listed}
 use Rattle.state_diagrams.specs.declared.moves.NextLevels.{NextLevels}
 use Rattle.state_diagrams.specs.StateBits.{bits_for, set_at, HasState, TellsStates, Tells}
 use Rattle.state_diagrams.specs.MoveBits.{TellsMoves, IsOfNext, AreNextOf, LeadsToNext}
-use Rattle.state_diagrams.specs.Members.{MoveFunctions}
+use Rattle.state_diagrams.specs.Members.{MoveFunctions, move_functions}
+use Rattle.early_products.specs.declared.early.Early.{Early}
+use Rattle.early_products.specs.Products.{NoneReads, AreInOrder, IsProductOf}
+use Rattle.early_products.specs.Early.{FitsEarly}
 use Rattle.state_diagrams.specs.Forcing.{FitMoves, AreLevelsOf}
 use Rattle.region_bdd.specs.declared.slots.Slot.{Slot}
 use Rattle.region_bdd.specs.declared.slots.Slot.TheVariants.{Free, Taken, Spent}
 use Rattle.region_bdd.specs.declared.own.Own.{Own}
 use Rattle.region_bdd.specs.declared.own.Refused.{Refused}
 use Rattle.region_bdd.specs.declared.search.Search.{Search}
+use Rattle.node_table.specs.Table.{Table}
 use Rattle.region_bdd.specs.Room.{IsRoom}
+use Rattle.region_bdd.specs.Needs.{IsTight}
 use Rattle.region_bdd.specs.Slots.{Shown, Nothing, Set, OutputsInto, InputsInto, shown_of}
 use Rattle.state_diagrams.specs.Goals.{TellGoals}
 use Rattle.region_bdd.specs.Object.{OwnFunctions, OwnFits, ShownFits, AllFit, NoneSpent, IsSound, IsOpen, IsObject}
@@ -145,6 +150,10 @@ open_one : (refused : Option Refused) (slots : List Slot) → IsProp (IsOpen ref
 open_one None slots = none_one slots
 open_one (Some r) slots = λ x y. refl
 
+tight_one : (refused : Option Refused) (t : Table) → IsProp (IsTight refused t)
+tight_one None t = λ x y. refl
+tight_one (Some r) t = λ x y i. le_prop x y i
+
 next_of_one : (g : GameData) (test : ℕ → Bool) (levels : List ℕ) → IsProp (AreNextOf g test levels)
 next_of_one g test levels = λ x y i. record { has = λ k m known on level. Bool-set _ _ (x.has k m known on level) (y.has k m known on level) i; leaves = λ k m known off level. Bool-set _ _ (x.leaves k m known off level) (y.leaves k m known off level) i; leaves_present = λ k m known level. Bool-set _ _ (x.leaves_present k m known level) (y.leaves_present k m known level) i }
 
@@ -154,11 +163,28 @@ leads_one g to = λ x y i. record { long = ℕ_set _ _ x.long y.long i; to_next 
 lists_one : (g : GameData) (lists : NextLevels) → IsProp (AreLevelsOf g lists)
 lists_one g lists = λ x y i. record { all = next_of_one g _ _ x.all y.all i; reply = next_of_one g _ _ x.reply y.reply i; to = leads_one g _ x.to y.to i }
 
+none_reads_one : (levels : List ℕ) (fs : List Function) → IsProp (NoneReads levels fs)
+none_reads_one levels [] = λ x y. refl
+none_reads_one levels (f ∷ fs) = ×_prop (λ x y i m among s b. Bool-set _ _ (x m among s b) (y m among s b) i) (none_reads_one levels fs)
+
+order_one : (fs : List Function) (outs : List (List ℕ)) → IsProp (AreInOrder fs outs)
+order_one [] [] = λ x y. refl
+order_one [] (out ∷ outs) = λ x y. absurd x
+order_one (f ∷ fs) [] = λ x y. absurd x
+order_one (f ∷ fs) (out ∷ outs) = ×_prop (none_reads_one out fs) (order_one fs outs)
+
+product_one : (whole : Function) (out : List ℕ) (fs : List Function) (outs : List (List ℕ)) → IsProp (IsProductOf whole out fs outs)
+product_one whole out fs outs = λ x y i. record { conjunction = λ j b. Bool-set _ _ (λ k. x.conjunction k b) (λ k. y.conjunction k b) i j; in_order = order_one fs outs x.in_order y.in_order i; levels = λ m. Bool-set _ _ (x.levels m) (y.levels m) i }
+
+early_one : (m : MoveFunctions) (lists : NextLevels) (c : Contents) (e : Option Early) → IsProp (FitsEarly m lists c e)
+early_one m lists c None = λ x y. refl
+early_one m lists c (Some e) = λ x y i. record { replies = product_one _ _ _ _ x.replies y.replies i; inputs = product_one _ _ _ _ x.inputs y.inputs i }
+
 well_made_one : (g : GameData) → IsProp (WellMade g)
 well_made_one g = λ x y i. record { few_variables = le_prop x.few_variables y.few_variables i; names = Bool-set _ true x.names y.names i; domains = Bool-set _ true x.domains y.domains i; hidden = Bool-set _ true x.hidden y.hidden i; initial_asm = Bool-set _ true x.initial_asm y.initial_asm i; initial_gar = Bool-set _ true x.initial_gar y.initial_gar i; safe_asm = Bool-set _ true x.safe_asm y.safe_asm i; safe_gar = Bool-set _ true x.safe_gar y.safe_gar i; assume = Bool-set _ true x.assume y.assume i; goals = Bool-set _ true x.goals y.goals i }
 
 pub object_is_one : (g : GameData) (c : Contents) (own : Own) (lists : NextLevels) (slots : List Slot) (refused : Option Refused) → IsProp (IsObject g c own lists slots refused)
-object_is_one g c own lists slots refused = λ x y i. record { made = well_made_one g x.made y.made i; levels = ℕ_set _ _ x.levels y.levels i; lists_are = lists_one g lists x.lists_are y.lists_are i; sound = sound_one g c own slots x.sound y.sound i; unspent = open_one refused slots x.unspent y.unspent i }
+object_is_one g c own lists slots refused = λ x y i. record { made = well_made_one g x.made y.made i; levels = ℕ_set _ _ x.levels y.levels i; lists_are = lists_one g lists x.lists_are y.lists_are i; early = early_one (move_functions c own.step.later) lists c own.early x.early y.early i; sound = sound_one g c own slots x.sound y.sound i; unspent = open_one refused slots x.unspent y.unspent i; tight = tight_one refused c.state.table x.tight y.tight i }
 
 pub room_is_one : (levels : ℕ) (own : Own) (search : Search) → IsProp (IsRoom levels own search)
 room_is_one levels own search = λ x y i. record { bits = ℕ_set _ _ x.bits y.bits i; fixed = ℕ_set _ _ x.fixed y.fixed i; levels_are = ℕ_set _ _ x.levels_are y.levels_are i; first = le_prop x.first y.first i; later = le_prop x.later y.later i }

@@ -10,6 +10,7 @@ use crate::giving_back::give_back;
 use crate::own::Own;
 use crate::slots::{Slot, Slots};
 use bdd_ops::Diagrams;
+use early_products::early::release_early;
 use state_diagrams::forcing::StepRoots;
 use state_diagrams::lists::release_list;
 use state_diagrams::moves::Members;
@@ -40,6 +41,7 @@ pub fn release_own(diagrams: &mut Diagrams, own: Own)
         assume,
         goals,
         first,
+        early,
     } = own;
     let StepRoots {
         nothing,
@@ -52,6 +54,7 @@ pub fn release_own(diagrams: &mut Diagrams, own: Own)
     release_list(diagrams, goals);
     release_members(diagrams, first);
     release_members(diagrams, later);
+    release_early(diagrams, early);
 }
 
 /// Gives back each root of a slot.

@@ -1,11 +1,9 @@
 //! What a search for a first move asks for and what it fixes.
 
-ghost use Rattle.std.specs.Prelude.{◌≡◌, ◌<◌, ◌≤◌, ◌↔◌, length, List, IsTrue};
+ghost use Rattle.std.specs.Prelude.{◌≡◌, ◌<◌, ◌≤◌, ◌↔◌, length, IsTrue};
 ghost use Rattle.spec_model.specs.declared.value.Value.{Value};
-ghost use Rattle.spec_model.specs.Diagrams.{Bits};
 ghost use Rattle.game_values.specs.declared.seen.At.{At};
 ghost use Rattle.bdd_store.specs.State.{IsRoot};
-ghost use Rattle.bdd_ops.specs.Paths.{Agrees};
 ghost use Rattle.bit_compile.specs.Domains.{level_count};
 ghost use Rattle.state_diagrams.specs.Members.{AreMembers};
 ghost use Rattle.state_search.specs.Parts.{ArePart, AreFixed, AllowsValues, KeepsOtherBits};

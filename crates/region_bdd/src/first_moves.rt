@@ -22,8 +22,8 @@ impl RegionBdd {
         requires a { HasRegion (seen self.old) a.now }
         ensures answer { let k = seen self.old in (s : State) → IsTrue (is_state k.game s) →
             listed s ≡ state.now → result ≡ k.set a.now s }
-        ensures stays { Stays (seen self.old) (seen self.new) }
-        ensures same { IsSameGame (seen self.old) (seen self.new) }
+        ensures held { Stays (seen self.old) (seen self.new) }
+        ensures keeps { IsSameGame (seen self.old) (seen self.new) }
     {
         if !fit(&self.codes, 0, self.codes.count(), state) {
             return false;
@@ -47,8 +47,8 @@ impl RegionBdd {
         ensures first { let k = seen self.old in (when : When) (t : StateSet) (b : Before) →
             k.choice m.now ≡ Outputs when t → AreBefore k.game when b state.now →
             Found result out.new (find (outputs_into k.game when t b input.now) (outputs_of k.game)) }
-        ensures stays { Stays (seen self.old) (seen self.new) }
-        ensures same { IsSameGame (seen self.old) (seen self.new) }
+        ensures held { Stays (seen self.old) (seen self.new) }
+        ensures keeps { IsSameGame (seen self.old) (seen self.new) }
     {
         let Content::Outputs(when, target) = self.slots.content(m.slot) else {
             unreachable!()
@@ -88,8 +88,8 @@ impl RegionBdd {
         ensures first { let k = seen self.old in (when : When) (t : StateSet) (b : Before) →
             k.choice m.now ≡ Inputs when t → AreBefore k.game when b state.now →
             Found result input.new (find (inputs_into k.game when t b) (inputs_of k.game)) }
-        ensures stays { Stays (seen self.old) (seen self.new) }
-        ensures same { IsSameGame (seen self.old) (seen self.new) }
+        ensures held { Stays (seen self.old) (seen self.new) }
+        ensures keeps { IsSameGame (seen self.old) (seen self.new) }
     {
         let Content::Inputs(when, _, leads) = self.slots.content(m.slot) else {
             unreachable!()

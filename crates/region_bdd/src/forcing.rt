@@ -10,8 +10,8 @@ use crate::keeping::settle;
 use crate::object::RegionBdd;
 use crate::own::{Asked, Refused};
 use crate::slots::BddRegion;
+use early_products::early::{environment_states, system_states};
 use regions::Halt;
-use state_diagrams::forcing::{environment_states, system_states};
 
 impl RegionBdd {
     /// The states from which every legal next input has a legal output that leads into `t`.
@@ -22,7 +22,7 @@ impl RegionBdd {
             IfOk result (λ r. MakesRegion k (seen self.new) r (pre_sys_lem k.game (k.set t.now))) }
         ensures halted { let k = seen self.old in
             IfErr result (Halts k (seen self.new) PreSys (States (k.set t.now) ∷ [])) }
-        ensures same { IsSameGame (seen self.old) (seen self.new) }
+        ensures keeps { IsSameGame (seen self.old) (seen self.new) }
         ensures cause { result ≡ Err Halt.Budget → IsFull self.new.diagrams.state }
     {
         let Ok(()) = self.slots.room() else {
@@ -33,6 +33,7 @@ impl RegionBdd {
             self.slots.region(t),
             &self.own.step,
             &self.levels,
+            &self.own.early,
         );
         let why = Refused {
             asked: Asked::PreSys,
@@ -50,7 +51,7 @@ impl RegionBdd {
             IfOk result (λ r. MakesRegion k (seen self.new) r (pre_env_lem k.game (k.set t.now))) }
         ensures halted { let k = seen self.old in
             IfErr result (Halts k (seen self.new) PreEnv (States (k.set t.now) ∷ [])) }
-        ensures same { IsSameGame (seen self.old) (seen self.new) }
+        ensures keeps { IsSameGame (seen self.old) (seen self.new) }
         ensures cause { result ≡ Err Halt.Budget → IsFull self.new.diagrams.state }
     {
         let Ok(()) = self.slots.room() else {
@@ -61,6 +62,7 @@ impl RegionBdd {
             self.slots.region(t),
             &self.own.step,
             &self.levels,
+            &self.own.early,
         );
         let why = Refused {
             asked: Asked::PreEnv,

@@ -5,8 +5,9 @@
 //! object tells from then on which call it was and all that was held.
 //!
 //! Contract: `RegionBdd::make` gives an object that holds nothing, and `RegionBdd` meets the trait `Regions` whole. A call of
-//! an object answers `Budget` only where its store then holds exactly its budget of nodes (`cause`); of `make`, whose store
-//! is gone after a refusal, no clause says so. Which sets fill the budget isn't said yet.
+//! an object answers `Budget` only where its store then holds exactly its budget of nodes (`cause`), each for a diagram of its
+//! own; so the budget is then below the need of the game, and `make` answers it only there too. Which sets fill the budget
+//! isn't said yet.
 //! Path: game → sets as diagrams → **regions as diagrams** → layers.
 #![tactic(auto)]
 

@@ -1,6 +1,6 @@
 //! Making the object: its own diagrams, part by part. Where a part is refused, those before it are given back.
 
-ghost use Rattle.std.specs.Prelude.{◌≡◌, ◌<◌, ◌≤◌, [], None, IfOk, IfSome};
+ghost use Rattle.std.specs.Prelude.{◌≡◌, ◌<◌, ◌≤◌, [], None, Err, IfOk, IfSome};
 ghost use Rattle.spec_model.specs.GameViews.{game_data};
 ghost use Rattle.spec_model.specs.WellMade.{WellMade};
 ghost use Rattle.bit_compile.specs.Domains.{state_domains, level_count};
@@ -9,6 +9,8 @@ ghost use Rattle.region_bdd.specs.Slots.{kept_in};
 ghost use Rattle.region_bdd.specs.Object.{roots_of_own};
 ghost use Rattle.region_bdd.specs.Making.{MakesPart, times_in_sets, FitSets, times_in_goals, FitAllGoals};
 ghost use Rattle.region_bdd.specs.Making.{times_in_lines, FitAllLines, times_in_formulas, FitFormulas, FitOwn};
+ghost use Rattle.region_bdd.specs.Needs.{need_of_game};
+ghost use Rattle.region_bdd.specs.Object.{FitsOwnEarly};
 ghost use Rattle.region_bdd.specs.Room.{IsRoom, member_count};
 ghost use Rattle.region_bdd.specs.Seen.{seen};
 
@@ -21,6 +23,7 @@ use bdd_ops::{Diagrams, Root};
 use bit_compile::proper::proper;
 use bit_compile::steps::constant;
 use bit_compile::{Codes, OutOfMemory};
+use early_products::early::Early;
 use game_values::seen::At;
 use regions::{Halt, When};
 use spec_model::game::Game;
@@ -118,10 +121,12 @@ fn formulas(
     }
 }
 
-/// The diagrams that an object keeps for itself. `Budget`: at the second try of an operation, after the store was
-/// reclaimed, it held its budget of nodes. `Memory`: none was given. Neither changes what is kept.
+/// The diagrams that an object keeps for itself, with the products of later lines where there is room. `Budget`: at the
+/// second try of an operation, after the store was reclaimed, it held its budget of nodes. `Memory`: none was given.
+/// Neither changes what is kept.
 fn own(
     diagrams: &mut Diagrams,
+    alloc: Global,
     codes: &Codes,
     game: &Game,
     levels: &NextLevels,
@@ -130,12 +135,14 @@ fn own(
     requires codes { codes.now ≡ state_domains (game_data game.now) }
     requires levels { diagrams.old.state.table.levels ≡ level_count (state_domains (game_data game.now)) }
     requires lists { AreLevelsOf (game_data game.now) levels.now }
-    ensures { MakesPart roots_of_own (FitOwn (game_data game.now)) diagrams.old diagrams.new result }
+    ensures part { MakesPart roots_of_own (FitOwn (game_data game.now)) diagrams.old diagrams.new result }
+    ensures early { IfOk result (λ own. FitsOwnEarly levels.now diagrams.new own) }
 {
     let (nothing, all) = sets(diagrams, codes)?;
     match formulas(diagrams, codes, game, levels) {
         Ok(parts) => {
             let ((assume, guaranteed), (first, later)) = parts;
+            let early = Early::make(diagrams, alloc, &later, levels);
             Ok(Own {
                 step: StepRoots {
                     nothing,
@@ -145,6 +152,7 @@ fn own(
                 assume,
                 goals: guaranteed,
                 first,
+                early,
             })
         }
         Err(halt) => {
@@ -179,7 +187,8 @@ impl RegionBdd {
     pub fn make(alloc: Global, game: Game, budget: u32) -> Result<RegionBdd, Halt>
         requires made { WellMade (game_data game) }
         requires budget { 2 ≤ budget }
-        ensures { IfOk result (λ r. seen r ≡ kept_in (game_data game) budget None []) }
+        ensures made { IfOk result (λ r. seen r ≡ kept_in (game_data game) budget None []) }
+        ensures cause { result ≡ Err Halt.Budget → budget < need_of_game (game_data game) }
     {
         let Ok(codes) = Codes::make(alloc, &game) else {
             return Err(Halt::Memory);
@@ -190,7 +199,7 @@ impl RegionBdd {
         let Ok(levels) = next_levels(alloc, &codes, &game) else {
             return Err(Halt::Memory);
         };
-        let own = own(&mut diagrams, &codes, &game, &levels)?;
+        let own = own(&mut diagrams, alloc, &codes, &game, &levels)?;
         let Ok(search) = room(alloc, codes.levels(), &own) else {
             release_own(&mut diagrams, own);
             return Err(Halt::Memory);

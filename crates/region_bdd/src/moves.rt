@@ -23,7 +23,7 @@ impl RegionBdd {
             IfOk result (λ m. Makes k (seen self.new) (Move m) (Outputs when (k.set t.now))) }
         ensures halted { let k = seen self.old in
             IfErr result (Halts k (seen self.new) (OutMoves when) (States (k.set t.now) ∷ [])) }
-        ensures same { IsSameGame (seen self.old) (seen self.new) }
+        ensures keeps { IsSameGame (seen self.old) (seen self.new) }
         ensures cause { result ≡ Err Halt.Budget → IsFull self.new.diagrams.state }
     {
         let Ok(()) = self.slots.room() else {
@@ -46,7 +46,7 @@ impl RegionBdd {
             IfOk result (λ m. Makes k (seen self.new) (Move m) (Inputs when (k.set t.now))) }
         ensures halted { let k = seen self.old in
             IfErr result (Halts k (seen self.new) (InMoves when) (States (k.set t.now) ∷ [])) }
-        ensures same { IsSameGame (seen self.old) (seen self.new) }
+        ensures keeps { IsSameGame (seen self.old) (seen self.new) }
         ensures cause { result ≡ Err Halt.Budget → IsFull self.new.diagrams.state }
     {
         let Ok(()) = self.slots.room() else {
@@ -70,7 +70,7 @@ impl RegionBdd {
     pub fn spend_move(&mut self, m: BddMove)
         requires { HasMove (seen self.old) m }
         ensures spends { Spends (seen self.old) (seen self.new) (Move m) }
-        ensures same { IsSameGame (seen self.old) (seen self.new) }
+        ensures keeps { IsSameGame (seen self.old) (seen self.new) }
     {
         let BddMove { slot } = m;
         if self.refused.is_some() {

@@ -6,6 +6,7 @@ ghost use Rattle.region_bdd.specs.Goals.{goal_roots};
 ghost use Rattle.region_bdd.specs.Leading.{members_at};
 
 use bdd_ops::Root;
+use early_products::early::Early;
 use regions::{Recur, When};
 use state_diagrams::forcing::StepRoots;
 use state_diagrams::moves::Members;
@@ -21,6 +22,8 @@ pub struct Own {
     pub goals: Vec<Root>,
     /// The lines of the first moves, at the next bits.
     pub first: Members,
+    /// The lines of later moves as products, if there was room.
+    pub early: Option<Early>,
 }
 
 /// A call that may be refused for want of budget.

@@ -21,7 +21,7 @@ impl RegionBdd {
         requires { (seen self.old).jam ≡ None }
         ensures made { IfOk result (λ r. MakesRegion (seen self.old) (seen self.new) r (all_states (seen self.old).game)) }
         ensures halted { IfErr result (Halts (seen self.old) (seen self.new) All []) }
-        ensures same { IsSameGame (seen self.old) (seen self.new) }
+        ensures keeps { IsSameGame (seen self.old) (seen self.new) }
         ensures never { result ≡ Err Halt.Budget → ⊥ }
     {
         let Ok(()) = self.slots.room() else {
@@ -41,7 +41,7 @@ impl RegionBdd {
         requires { (seen self.old).jam ≡ None }
         ensures made { IfOk result (λ r. MakesRegion (seen self.old) (seen self.new) r no_states) }
         ensures halted { IfErr result (Halts (seen self.old) (seen self.new) NoStates []) }
-        ensures same { IsSameGame (seen self.old) (seen self.new) }
+        ensures keeps { IsSameGame (seen self.old) (seen self.new) }
         ensures never { result ≡ Err Halt.Budget → ⊥ }
     {
         let Ok(()) = self.slots.room() else {
@@ -62,7 +62,7 @@ impl RegionBdd {
         requires a { HasRegion (seen self.old) a.now }
         ensures made { IfOk result (λ r. MakesRegion (seen self.old) (seen self.new) r ((seen self.old).set a.now)) }
         ensures halted { IfErr result (Halts (seen self.old) (seen self.new) CopyCall (States ((seen self.old).set a.now) ∷ [])) }
-        ensures same { IsSameGame (seen self.old) (seen self.new) }
+        ensures keeps { IsSameGame (seen self.old) (seen self.new) }
         ensures never { result ≡ Err Halt.Budget → ⊥ }
     {
         let Ok(()) = self.slots.room() else {
@@ -86,7 +86,7 @@ impl RegionBdd {
             IfOk result (λ r. MakesRegion (seen self.old) (seen self.new) r (both (set a.now) (set b.now))) }
         ensures halted { let set = (seen self.old).set in
             IfErr result (Halts (seen self.old) (seen self.new) And (States (set a.now) ∷ States (set b.now) ∷ [])) }
-        ensures same { IsSameGame (seen self.old) (seen self.new) }
+        ensures keeps { IsSameGame (seen self.old) (seen self.new) }
         ensures cause { result ≡ Err Halt.Budget → IsFull self.new.diagrams.state }
     {
         let Ok(()) = self.slots.room() else {
@@ -114,7 +114,7 @@ impl RegionBdd {
             IfOk result (λ r. MakesRegion (seen self.old) (seen self.new) r (either (set a.now) (set b.now))) }
         ensures halted { let set = (seen self.old).set in
             IfErr result (Halts (seen self.old) (seen self.new) Or (States (set a.now) ∷ States (set b.now) ∷ [])) }
-        ensures same { IsSameGame (seen self.old) (seen self.new) }
+        ensures keeps { IsSameGame (seen self.old) (seen self.new) }
         ensures cause { result ≡ Err Halt.Budget → IsFull self.new.diagrams.state }
     {
         let Ok(()) = self.slots.room() else {
@@ -141,7 +141,7 @@ impl RegionBdd {
             IfOk result (λ r. MakesRegion k (seen self.new) r (rest k.game (k.set a.now))) }
         ensures halted { let k = seen self.old in
             IfErr result (Halts k (seen self.new) Not (States (k.set a.now) ∷ [])) }
-        ensures same { IsSameGame (seen self.old) (seen self.new) }
+        ensures keeps { IsSameGame (seen self.old) (seen self.new) }
         ensures cause { result ≡ Err Halt.Budget → IsFull self.new.diagrams.state }
     {
         let Ok(()) = self.slots.room() else {
@@ -168,7 +168,7 @@ impl RegionBdd {
         ensures made { let k = seen self.old in
             IfOk result (λ r. MakesRegion k (seen self.new) r (states_holding k.game what)) }
         ensures halted { IfErr result (Halts (seen self.old) (seen self.new) Holding []) }
-        ensures same { IsSameGame (seen self.old) (seen self.new) }
+        ensures keeps { IsSameGame (seen self.old) (seen self.new) }
         ensures cause { result ≡ Err Halt.Budget → IsFull self.new.diagrams.state }
     {
         let Ok(()) = self.slots.room() else {

@@ -1,6 +1,6 @@
 //! What is held, each in a slot of its own; a slot that is freed is used again.
 
-ghost use Rattle.std.specs.Prelude.{◌≡◌, ◌<◌, slice_get, Some, OnOk, vec_len, vec_capacity};
+ghost use Rattle.std.specs.Prelude.{◌≡◌, ◌<◌, OnOk, vec_len, vec_capacity};
 ghost use Rattle.region_bdd.specs.Slots.{TakesSlot, FreesSlot, MarksSpent, HasContent, HasRegionRoot};
 
 use bdd_ops::Root;
@@ -52,7 +52,7 @@ impl Slots {
     /// Makes room for one content more.
     pub fn room(&mut self) -> Result<(), AllocError>
         ensures room { OnOk result (vec_len self.new.slots < vec_capacity self.new.slots) }
-        ensures same { self.new.slots.items ≡ self.old.slots.items }
+        ensures keeps { self.new.slots.items ≡ self.old.slots.items }
     {
         self.slots.reserve(1)
     }

@@ -11,7 +11,7 @@ impl RegionBdd {
     pub fn spend(&mut self, a: BddRegion)
         requires { HasRegion (seen self.old) a }
         ensures spends { Spends (seen self.old) (seen self.new) (Region a) }
-        ensures same { IsSameGame (seen self.old) (seen self.new) }
+        ensures keeps { IsSameGame (seen self.old) (seen self.new) }
     {
         let BddRegion { slot } = a;
         if self.refused.is_some() {

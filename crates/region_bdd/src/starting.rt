@@ -23,7 +23,7 @@ impl RegionBdd {
             IfOk result (λ yes. (yes ≡ forces) × Stays k (seen self.new)) }
         ensures halted { let k = seen self.old in
             IfErr result (Halts k (seen self.new) StartSys (States (k.set t.now) ∷ [])) }
-        ensures same { IsSameGame (seen self.old) (seen self.new) }
+        ensures keeps { IsSameGame (seen self.old) (seen self.new) }
         ensures cause { result ≡ Err Halt.Budget → IsFull self.new.diagrams.state }
     {
         let made = avoiding_set(
@@ -50,7 +50,7 @@ impl RegionBdd {
             IfOk result (λ yes. (yes ≡ forces) × Stays k (seen self.new)) }
         ensures halted { let k = seen self.old in
             IfErr result (Halts k (seen self.new) StartEnv (States (k.set t.now) ∷ [])) }
-        ensures same { IsSameGame (seen self.old) (seen self.new) }
+        ensures keeps { IsSameGame (seen self.old) (seen self.new) }
         ensures cause { result ≡ Err Halt.Budget → IsFull self.new.diagrams.state }
     {
         let made = avoiding_rest(

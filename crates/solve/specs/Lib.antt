@@ -1,4 +1,5 @@
 pub mod Spaces
+pub mod Budgets
 pub mod Winners
 pub mod Solved
 pub mod Verdicts

@@ -15,7 +15,6 @@ use Rattle.hidden_game.proofs.Agreed.{game_agrees}
 use Rattle.gr1_law.specs.CoreLaws.{IsSolvable}
 use Rattle.gr1_law.proofs.CoreTrials.{part_stays}
 use Rattle.core_min.specs.Sets.{IsPartOf, PartsWin}
-use Rattle.regions.specs.declared.types.Halt.{Halt}
 
 -- the numbers of a list that stand at these places
 abbrev pub at_places : List ℕ → List ℕ → List ℕ
@@ -24,10 +23,6 @@ at_places numbers places = map (λ place. slice_index numbers place) places
 -- the specification with those of its guarantees alone that stand at these places
 abbrev pub part_at : Specification → List ℕ → Specification
 part_at s places = with_guarantees s (at_places (guarantees_of s) places)
-
--- why a specification may get no verdict: the budget or memory may run out at any
-abbrev pub MayHalt : Specification → Halt → Type 0
-MayHalt s halt = Unit {0}
 
 -- ---- the law
 

@@ -1,9 +1,10 @@
 //! The core of an unrealizable specification: guarantees that can't be kept together, and can without any one of them.
 
-ghost use Rattle.std.specs.Prelude.{◌≤◌, IfOk, IfSome, MatchOption};
+ghost use Rattle.std.specs.Prelude.{◌≤◌, IfOk, IfErr, IfSome, MatchOption};
 ghost use Rattle.spec_model.specs.Views.{spec_data};
 ghost use Rattle.spec_model.specs.WellTyped.{WellTyped};
 ghost use Rattle.spec_model.specs.Cores.{Realizable, Unrealizable, IsLeft, IsCore};
+ghost use Rattle.solve.specs.Budgets.{MayHalt, MayFail};
 
 use crate::answers::Numbers;
 use crate::deciding::whole_numbers;
@@ -22,6 +23,7 @@ pub fn core_of(alloc: Global, spec: &Spec, budget: u32) -> Result<Option<Vec<u32
     ensures answer { let s = spec_data spec.now in IfOk result (λ core. MatchOption core (Realizable s) (λ _. Unrealizable s)) }
     ensures left { IfOk result (λ core. IfSome core (λ left. IsLeft (spec_data spec.now) left.items)) }
     ensures core { IfOk result (λ core. IfSome core (λ left. IsCore (spec_data spec.now) left.items)) }
+    ensures cause { IfErr result (MayHalt budget (spec_data spec.now)) }
 {
     match whole_numbers(alloc, spec, budget)? {
         Numbers::Realizable { .. } => Ok(None),
@@ -39,6 +41,7 @@ pub fn core_of_lost(alloc: Global, spec: &Spec, budget: u32) -> Result<Vec<u32>,
     requires lost { Unrealizable (spec_data spec.now) }
     ensures left { IfOk result (λ left. IsLeft (spec_data spec.now) left.items) }
     ensures core { IfOk result (λ left. IsCore (spec_data spec.now) left.items) }
+    ensures cause { IfErr result (MayHalt budget (spec_data spec.now)) }
 {
     match tried_core(alloc, spec, budget) {
         Ok(core) => Ok(core),
@@ -54,6 +57,7 @@ fn tried_core(alloc: Global, spec: &Spec, budget: u32) -> Result<Vec<u32>, CoreF
     requires lost { Unrealizable (spec_data spec.now) }
     ensures left { IfOk result (λ left. IsLeft (spec_data spec.now) left.items) }
     ensures core { IfOk result (λ left. IsCore (spec_data spec.now) left.items) }
+    ensures cause { IfErr result (MayFail budget (spec_data spec.now)) }
 {
     let numbers = guarantee_numbers(alloc, &spec.lines)?;
     let mut parts = Parts::make(alloc, spec, &numbers, budget)?;

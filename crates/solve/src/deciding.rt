@@ -1,9 +1,10 @@
 //! The verdict on a specification, and on one with a part of its guarantees.
 
-ghost use Rattle.std.specs.Prelude.{◌≤◌, IfOk};
+ghost use Rattle.std.specs.Prelude.{◌≤◌, IfOk, IfErr};
 ghost use Rattle.spec_model.specs.Views.{spec_data};
 ghost use Rattle.spec_model.specs.WellTyped.{WellTyped};
 ghost use Rattle.spec_model.specs.Cores.{with_guarantees};
+ghost use Rattle.solve.specs.Budgets.{MayHalt};
 ghost use Rattle.solve.specs.Verdicts.{AreNumbersOf, IsVerdictOn};
 
 use crate::answers::{Numbers, Verdict};
@@ -20,6 +21,7 @@ pub fn whole_numbers(alloc: Global, spec: &Spec, budget: u32) -> Result<Numbers,
     requires typed { WellTyped (spec_data spec.now) }
     requires budget { 2 ≤ budget }
     ensures numbers { IfOk result (AreNumbersOf (spec_data spec.now)) }
+    ensures cause { IfErr result (MayHalt budget (spec_data spec.now)) }
 {
     let mut g = space_of(alloc, spec, budget)?;
     game_numbers(alloc, &mut g)
@@ -31,6 +33,7 @@ pub fn whole_verdict(alloc: Global, spec: &Spec, budget: u32) -> Result<Verdict,
     requires typed { WellTyped (spec_data spec.now) }
     requires budget { 2 ≤ budget }
     ensures verdict { IfOk result (IsVerdictOn (spec_data spec.now)) }
+    ensures cause { IfErr result (MayHalt budget (spec_data spec.now)) }
 {
     let mut g = space_of(alloc, spec, budget)?;
     match solve_game(alloc, &mut g)? {
@@ -51,6 +54,7 @@ pub fn numbers(alloc: Global, spec: &Spec, kept: &[u32], budget: u32) -> Result<
     requires typed { WellTyped (spec_data spec.now) }
     requires budget { 2 ≤ budget }
     ensures numbers { IfOk result (AreNumbersOf (with_guarantees (spec_data spec.now) kept.now)) }
+    ensures cause { IfErr result (MayHalt budget (with_guarantees (spec_data spec.now) kept.now)) }
 {
     let Ok(part) = without(alloc, spec, kept) else {
         return Err(Halt::Memory);
@@ -64,6 +68,7 @@ pub fn verdict(alloc: Global, spec: &Spec, kept: &[u32], budget: u32) -> Result<
     requires typed { WellTyped (spec_data spec.now) }
     requires budget { 2 ≤ budget }
     ensures verdict { IfOk result (IsVerdictOn (with_guarantees (spec_data spec.now) kept.now)) }
+    ensures cause { IfErr result (MayHalt budget (with_guarantees (spec_data spec.now) kept.now)) }
 {
     let Ok(part) = without(alloc, spec, kept) else {
         return Err(Halt::Memory);

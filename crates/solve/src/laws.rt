@@ -1,6 +1,5 @@
 //! What holds of every verdict. These functions do nothing: their contracts are the laws.
 
-ghost use Rattle.std.specs.Prelude.{◌≡◌};
 ghost use Rattle.spec_model.specs.Syntax.{Specification};
 ghost use Rattle.spec_model.specs.WellTyped.{WellTyped};
 ghost use Rattle.solve.specs.Winners.{NeverBoth, OneOfBoth};

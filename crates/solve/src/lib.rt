@@ -2,7 +2,7 @@
 //!
 //! The game of a specification is solved over sets of its states, first for the system, and where it doesn't win, for the
 //! environment. One of the two wins each game (Bloem et al. 2012, solving GR(1) games). Each call has a budget of nodes;
-//! where it runs out who wins is open, and no clause says yet what filled it.
+//! where it runs out who wins is open, and it is below the specification's need (`cause`).
 //!
 //! Contract: `verdict`, whose numbers are true of all plays, and whose strategy is fresh and of that specification; `numbers`
 //! says the same and makes no strategy. `core_of` gives what is left of the guarantees of an unrealizable specification, tried

@@ -1,6 +1,6 @@
 //! Parts of a specification's guarantees, which are judged by solving.
 
-ghost use Rattle.std.specs.Prelude.{◌≡◌, ◌≤◌, ◌<◌, length, map, filter, All, vec_len, vec_capacity, IfOk};
+ghost use Rattle.std.specs.Prelude.{◌≡◌, ◌≤◌, ◌<◌, length, map, filter, All, vec_capacity, IfOk};
 ghost use Rattle.std.proofs.Props.{props};
 ghost use Rattle.spec_model.specs.Views.{line_data, spec_data};
 ghost use Rattle.spec_model.specs.Moves.{is_guarantee};
@@ -52,7 +52,8 @@ impl<'a> Parts<'a> {
         requires typed { WellTyped (spec_data spec.now) }
         requires budget { 2 ≤ budget }
         requires numbers { numbers.now ≡ guarantees_of (spec_data spec.now) }
-        ensures { IfOk result (λ p. whole_of p ≡ spec_data spec.now) }
+        ensures whole { IfOk result (λ p. whole_of p ≡ spec_data spec.now) }
+        ensures budget { IfOk result (λ p. p.budget ≡ budget) }
     {
         Ok(Parts {
             alloc,
@@ -70,7 +71,8 @@ impl<'a> Parts<'a> {
 impl Judge for Parts<'_> {
     ghost use Rattle.spec_model.specs.Cores.{Realizable};
     ghost use Rattle.solve.specs.Judged.{whole_of, last_of};
-    ghost use Rattle.solve.specs.Places.{part_at, parts_win, MayHalt};
+    ghost use Rattle.solve.specs.Budgets.{MayHalt};
+    ghost use Rattle.solve.specs.Places.{part_at, parts_win};
 
     type Fault = Halt;
 
@@ -78,7 +80,7 @@ impl Judge for Parts<'_> {
 
     ghost IsWinning = { λ p places. Realizable (part_at (whole_of p) places) };
 
-    ghost MayFail = { λ p places halt. MayHalt (part_at (whole_of p) places) halt };
+    ghost MayFail = { λ p places halt. MayHalt p.budget (part_at (whole_of p) places) halt };
 
     ghost faults = { λ p. p.faults };
 

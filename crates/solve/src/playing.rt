@@ -1,12 +1,13 @@
 //! The winner's strategy, by its layers.
 
-ghost use Rattle.std.specs.Prelude.{◌≡◌, None, IfOk};
+ghost use Rattle.std.specs.Prelude.{◌≡◌, None, IfOk, IfErr};
 ghost use Rattle.spec_model.specs.Syntax.{Specification};
 ghost use Rattle.spec_model.specs.Agreement.{Agrees};
 ghost use Rattle.spec_model.specs.Laws.{NumbersRise};
 ghost use Rattle.gr1_law.specs.Layers.{LayerSets};
 ghost use Rattle.gr1_law.specs.EnvLayers.{EnvLayerSets};
 ghost use Rattle.controller.specs.Made.{AreLayersOf};
+ghost use Rattle.solve.specs.Budgets.{IsHalt};
 ghost use Rattle.solve.specs.Winners.{IsWonGame, IsLostGame};
 ghost use Rattle.solve.specs.Solved.{AreEnvLayersOf};
 ghost use Rattle.solve.specs.Verdicts.{IsPlayFor, IsCounterplayFor};
@@ -26,6 +27,7 @@ pub fn system_play<G: Regions + Drop>(
 ) -> Result<(u64, Controller<G>), Halt>
     requires free { (G.kept g).jam ≡ None }
     requires won { (l : LayerSets) × AreLayersOf (G.kept g) layers.z layers.goals.items l }
+    ensures cause { IfErr result (IsHalt G.kept (G.kept g)) }
     ensures won { IfOk result (λ p. IsWonGame (G.kept g).game p.0) }
     ensures plays { IfOk result (λ p. (s : Specification) → Agrees s (G.kept g).game → IsPlayFor G.kept s p.0 p.1) }
 {
@@ -44,6 +46,7 @@ pub fn environment_play<G: Regions + Drop>(
 ) -> Result<(u64, u64, Counterstrategy<G>), Halt>
     requires free { (G.kept g).jam ≡ None }
     requires lost { (e : EnvLayerSets) × AreEnvLayersOf (G.kept g) layers.layers.items e }
+    ensures cause { IfErr result (IsHalt G.kept (G.kept g)) }
     ensures lost { IfOk result (λ p. IsLostGame (G.kept g).game p.0 p.1) }
     ensures plays { IfOk result (λ p. (s : Specification) → Agrees s (G.kept g).game → NumbersRise s.lines → IsCounterplayFor G.kept s p.0 p.1 p.2) }
 {

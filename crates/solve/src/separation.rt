@@ -1,9 +1,10 @@
 //! Whether the environment can meet its assumptions whatever the system does.
 
-ghost use Rattle.std.specs.Prelude.{◌≤◌, IfOk};
+ghost use Rattle.std.specs.Prelude.{◌≤◌, IfOk, IfErr};
 ghost use Rattle.spec_model.specs.Views.{spec_data};
 ghost use Rattle.spec_model.specs.WellTyped.{WellTyped};
-ghost use Rattle.spec_model.specs.Cores.{HasRoomForOne};
+ghost use Rattle.spec_model.specs.Cores.{HasRoomForOne, forced as forced_lem};
+ghost use Rattle.solve.specs.Budgets.{MayHalt};
 ghost use Rattle.solve.specs.Separations.{IsSeparationOf};
 
 use crate::answers::Numbers;
@@ -29,6 +30,7 @@ pub fn separated(alloc: Global, spec: &Spec, budget: u32) -> Result<Separation, 
     requires budget { 2 ≤ budget }
     requires room { HasRoomForOne (spec_data spec.now) }
     ensures separation { IfOk result (IsSeparationOf (spec_data spec.now)) }
+    ensures cause { IfErr result (MayHalt budget (forced_lem (spec_data spec.now))) }
 {
     let Ok(forced_spec) = forced(alloc, spec) else {
         return Err(Halt::Memory);

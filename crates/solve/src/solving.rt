@@ -1,9 +1,10 @@
 //! The layers of the side that wins a game.
 
-ghost use Rattle.std.specs.Prelude.{◌≡◌, None, IfOk, OnOk, SomeIff};
+ghost use Rattle.std.specs.Prelude.{◌≡◌, None, IfOk, IfErr, OnOk};
 ghost use Rattle.spec_model.specs.WellMade.{WellMade};
 ghost use Rattle.regions.specs.Kept.{IsSameGame};
 ghost use Rattle.gr1_law.specs.EnvLayers.{EnvLayerSets};
+ghost use Rattle.solve.specs.Budgets.{IsHalt};
 ghost use Rattle.solve.specs.Winners.{EnvironmentForces};
 ghost use Rattle.solve.specs.Solved.{AreEnvLayersOf, HoldsLayers};
 ghost use Rattle.solve.specs.Verdicts.{AreNumbersOfGame};
@@ -29,7 +30,8 @@ fn environment_layers<G: Regions>(alloc: Global, g: &mut G) -> Result<EnvLayers<
     requires forces { EnvironmentForces (G.kept g.old).game }
     ensures solved { IfOk result (λ l. (e : EnvLayerSets) × AreEnvLayersOf (G.kept g.new) l.layers.items e) }
     ensures free { OnOk result ((G.kept g.new).jam ≡ None) }
-    ensures same { IsSameGame (G.kept g.old) (G.kept g.new) }
+    ensures cause { IfErr result (IsHalt G.kept (G.kept g.old)) }
+    ensures keeps { IsSameGame (G.kept g.old) (G.kept g.new) }
 {
     match solve_env(alloc, g) {
         Ok(Some(layers)) => Ok(layers),
@@ -45,7 +47,8 @@ pub fn solve_game<G: Regions>(alloc: Global, g: &mut G) -> Result<Solved<G>, Hal
     requires made { WellMade (G.kept g.old).game }
     ensures holds { IfOk result (HoldsLayers (G.kept g.new)) }
     ensures free { OnOk result ((G.kept g.new).jam ≡ None) }
-    ensures same { IsSameGame (G.kept g.old) (G.kept g.new) }
+    ensures cause { IfErr result (IsHalt G.kept (G.kept g.old)) }
+    ensures keeps { IsSameGame (G.kept g.old) (G.kept g.new) }
 {
     match solve_sys(alloc, g) {
         Ok(Some(layers)) => Ok(Solved::BySystem(layers)),
@@ -79,6 +82,7 @@ pub fn game_numbers<G: Regions>(alloc: Global, g: &mut G) -> Result<Numbers, Hal
     requires free { (G.kept g.old).jam ≡ None }
     requires made { WellMade (G.kept g.old).game }
     ensures numbers { IfOk result (AreNumbersOfGame (G.kept g.old).game) }
+    ensures cause { IfErr result (IsHalt G.kept (G.kept g.old)) }
 {
     let solved = solve_game(alloc, g)?;
     Ok(counted(g, solved))

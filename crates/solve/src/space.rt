@@ -1,9 +1,10 @@
 //! The sets of states that specifications are solved over.
 
-ghost use Rattle.std.specs.Prelude.{◌≡◌, ◌≤◌, IfOk};
+ghost use Rattle.std.specs.Prelude.{◌≤◌, IfOk, IfErr};
 ghost use Rattle.spec_model.specs.Views.{spec_data};
 ghost use Rattle.spec_model.specs.WellTyped.{WellTyped};
 ghost use Rattle.hidden_game.specs.GameOf.{game_of};
+ghost use Rattle.solve.specs.Budgets.{MayHalt};
 ghost use Rattle.solve.specs.Spaces.{space_kept, IsNewOf};
 
 use hidden_game::expand;
@@ -19,7 +20,8 @@ pub type Space = RegionBdd;
 pub fn space_of(alloc: Global, spec: &Spec, budget: u32) -> Result<Space, Halt>
     requires typed { WellTyped (spec_data spec.now) }
     requires budget { 2 ≤ budget }
-    ensures made { IfOk result (λ r. IsNewOf (game_of (spec_data spec.now)) (space_kept r)) }
+    ensures made { IfOk result (λ r. IsNewOf (game_of (spec_data spec.now)) budget (space_kept r)) }
+    ensures cause { IfErr result (MayHalt budget (spec_data spec.now)) }
 {
     let Ok(game) = expand(alloc, spec) else {
         return Err(Halt::Memory);

@@ -79,7 +79,7 @@ module _ (failed : Type 0) (before after : Moment) where
     by_deciding s status (top.separates n m is loses writes) = by_writing _ Done status tt writes
     by_deciding s status (top.separates_not k is wins writes) = by_writing _ Other status tt writes
     by_deciding s status (top.audits is audit) = by_closing (audit_ending_after audit.end) before.written status (by_audit s audit.end audit.talk) audit.closes
-    by_deciding s status (top.budget decides writes) = by_writing _ Budget status tt writes
+    by_deciding s status (top.budget decides short writes) = by_writing _ Budget status tt writes
     by_deciding s status (top.no_memory wants) = by_wanting status wants
 
     module _ (name : List ℕ) where

@@ -12,6 +12,7 @@ use Rattle.spectra_parser.specs.Texts.{Explains}
 use Rattle.spectra_lexer.specs.Faults.{IsNotUtf8At, IsBadAt, IsTooLong}
 use Rattle.regions.specs.declared.types.Halt.{Halt}
 use Rattle.regions.specs.declared.types.Halt.TheVariants.{Budget, Memory as NoMemory}
+use Rattle.solve.specs.Budgets.{MayHalt}
 use Rattle.solve.specs.Winners.{IsWonBySystem, IsWonByEnvironment}
 use Rattle.spectra_words.specs.declared.words.Command.{Command}
 use Rattle.spectra_words.specs.declared.words.Command.TheVariants.{Synth, Run, Core, Separate, Counter, Audit}
@@ -23,7 +24,7 @@ use Rattle.spectra.specs.Endings.{usage, no_file, shelf_fault, refused, realizab
 use Rattle.spectra.specs.Streams.{Moment, moment, Ends, WantsMemory, SaysNoVerdict, Heads}
 use Rattle.spectra.specs.Sessions.{Holds, Counters, Audits}
 use Rattle.spectra.specs.Reading.{HasTypeFault}
-use Rattle.spectra.specs.Top.{won, held, lost, won_instead, countered, has_core, separates, separates_not, audits, IsSaidOfSyntax, Decides, ServesText, ServesFile, ServesWords, ServesArbiter, arbiter_name}
+use Rattle.spectra.specs.Top.{solved_for, won, held, lost, won_instead, countered, has_core, separates, separates_not, audits, IsSaidOfSyntax, Decides, ServesText, ServesFile, ServesWords, ServesArbiter, arbiter_name}
 use Rattle.spectra.specs.Top as top
 
 -- nothing was done: no memory was given
@@ -75,10 +76,10 @@ module _ (command : Command) (nodes : ℕ) (s : Specification) (before after : M
   is_audited is (inr wants) = top.no_memory wants
 
   -- there is no verdict
-  pub not_decided : (halt : Halt) → ¬ (command ≡ Audit) → SaysNoVerdict halt nodes before after status → Decides command nodes s before after status
-  not_decided Budget decides (inl writes) = top.budget decides writes
-  not_decided Budget decides (inr wants) = top.no_memory wants
-  not_decided NoMemory decides wants = top.no_memory wants
+  pub not_decided : (halt : Halt) → ¬ (command ≡ Audit) → MayHalt nodes (solved_for command s) halt → SaysNoVerdict halt nodes before after status → Decides command nodes s before after status
+  not_decided Budget decides short (inl writes) = top.budget decides short writes
+  not_decided Budget decides short (inr wants) = top.no_memory wants
+  not_decided NoMemory decides short wants = top.no_memory wants
 
 -- the commands other than `audit`
 pub synth_decides : ¬ (Synth ≡ Audit)

@@ -1,6 +1,7 @@
 -- How the program ends: its statuses, and the lines that it may write last.
 use Rattle.std.specs.Prelude.{◌≡◌, ◌⊎◌, ℕ, ◌==◌, List, [], ◌∷◌, ◌++◌, length, codes, if◌then◌else◌}
 use Rattle.std.specs.Fmt.{decimal}
+use Rattle.spectra_trees.specs.Faults.{fault_text}
 use Rattle.spectra.specs.declared.status.Status.{Status}
 use Rattle.spectra.specs.declared.status.Status.TheVariants.{Done, Other, Words, Refused, Assumption, Budget, BadLine, ShelfFault, InputFault, OutputFault, Memory, NoFile, Limit}
 
@@ -35,31 +36,6 @@ IsUnlessCut expected status = (status ≡ expected) ⊎ IsCutShort status
 -- the status is this one, where nothing that lies outside failed
 abbrev pub IsUnlessFault : Status → Status → Type 0
 IsUnlessFault expected status = (status ≡ expected) ⊎ ((status ≡ ShelfFault) ⊎ IsCutShort status)
-
--- ---- faults of texts
-
--- the number and the word of each fault
-unfoldable pub fault_text : ℕ → List ℕ
-fault_text n =
-    if n == 1 then codes "1 NotUtf8"
-    else if n == 2 then codes "2 BadCharacter"
-    else if n == 3 then codes "3 TooLong"
-    else if n == 4 then codes "4 Unexpected"
-    else if n == 5 then codes "5 TooDeep"
-    else if n == 6 then codes "6 Parentheses"
-    else if n == 7 then codes "7 Unknown"
-    else if n == 8 then codes "8 Twice"
-    else if n == 9 then codes "9 WrongType"
-    else if n == 10 then codes "10 NextHere"
-    else if n == 11 then codes "11 NextNested"
-    else if n == 12 then codes "12 NextOfSystem"
-    else if n == 13 then codes "13 SystemInInitial"
-    else if n == 14 then codes "14 WideInt"
-    else if n == 15 then codes "15 Cycle"
-    else if n == 16 then codes "16 Arity"
-    else if n == 18 then codes "18 TooMany"
-    else if n == 19 then codes "19 TooLarge"
-    else codes "23 Unsupported"
 
 -- ---- verdicts and cores
 

@@ -1,4 +1,5 @@
 -- Which specification a text means, if it means one.
+use Rattle.spectra_trees.specs.declared.faults.TheConstants.{PARENTHESES, TOO_DEEP, UNEXPECTED, UNSUPPORTED}
 use Rattle.std.specs.Prelude.{◌≡◌, ℕ, List, Option, Some, None, option_map, unwrap_or, slice_get}
 use Rattle.spec_model.specs.Syntax.{Specification}
 use Rattle.spectra_lexer.specs.declared.token.Token.{Token}
@@ -43,10 +44,10 @@ Explains text tokens Memory = Unit {0}
 
 -- the token that a fault names, and the fault's number; want of memory names none
 abbrev pub named_by : SyntaxFault → Option (ℕ × ℕ)
-named_by (syntax.Unexpected at) = Some (at, 4)
-named_by (syntax.TooDeep at) = Some (at, 5)
-named_by (syntax.Parentheses at) = Some (at, 6)
-named_by (syntax.Unsupported at) = Some (at, 23)
+named_by (syntax.Unexpected at) = Some (at, UNEXPECTED)
+named_by (syntax.TooDeep at) = Some (at, TOO_DEEP)
+named_by (syntax.Parentheses at) = Some (at, PARENTHESES)
+named_by (syntax.Unsupported at) = Some (at, UNSUPPORTED)
 named_by syntax.Memory = None
 
 -- the line and the column of a token, by its number

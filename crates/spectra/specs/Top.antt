@@ -1,9 +1,11 @@
 -- What the program does for words and files.
-use Rattle.std.specs.Prelude.{◌≡◌, ◌⊎◌, ℕ, List, codes, Option, Some, None}
+use Rattle.spectra_trees.specs.declared.faults.TheConstants.{BAD_CHARACTER, NOT_UTF8, TOO_LONG}
+use Rattle.std.specs.Prelude.{◌≡◌, ◌⊎◌, ◌<◌, ℕ, List, codes, Option, Some, None}
 use Rattle.sp_outside.specs.Causes.{Rose}
 use Rattle.sp_outside.specs.Files.{Files, told_file, HasNoFile, HasFile}
 use Rattle.spec_model.specs.Syntax.{Specification}
 use Rattle.spec_model.specs.Cores.{forced, IsLeft, IsCore}
+use Rattle.spec_model.specs.Needs.{need_of}
 use Rattle.spectra_lexer.specs.declared.token.Token.{Token}
 use Rattle.spectra_lexer.specs.Tokens.{AreTokens}
 use Rattle.spectra_trees.specs.Lexemes.{lexemes}
@@ -33,11 +35,17 @@ IsSaidOfSyntax written faults name tokens fault old new status = OverOutput writ
 
 -- ---- what is done for a command, with so many nodes
 
+-- the specification that a command solves: `separate` the one whose one guarantee can never be met
+abbrev pub solved_for : Command → Specification → Specification
+solved_for Separate s = forced s
+solved_for _ s = s
+
 module _ (command : Command) (nodes : ℕ) where
   -- By who wins. `synth` writes the verdict, and so do `run`, `counter` and `core` where the other side wins than they are for.
   -- Where the system wins, `run` holds a session; where the environment does, `counter` holds one, and `core` writes what
   -- trying the guarantees in order leaves, which is a core. `separate` says who wins with a guarantee that can never be met alone. `audit` reads a log,
-  -- whoever wins, so that the nodes never run out there.
+  -- whoever wins, so that the nodes never run out there. They run out only where there are fewer than the specification that
+  -- is solved needs.
   module _ (s : Specification) (before after : Moment) where
     pub data Decides : Status → Type 0 where
       won : {status : Status} (k : ℕ) → command ≡ Synth → IsWonBySystem s k → Ends (realizable k) before after status → Decides status
@@ -49,16 +57,16 @@ module _ (command : Command) (nodes : ℕ) where
       separates : {status : Status} (n m : ℕ) → command ≡ Separate → IsWonByEnvironment (forced s) n m → Ends (separated n m) before after status → Decides status
       separates_not : {status : Status} (k : ℕ) → command ≡ Separate → IsWonBySystem (forced s) k → Ends (not_separated k) before after status → Decides status
       audits : {status : Status} → command ≡ Audit → Audits s before after status → Decides status
-      budget : {status : Status} → ¬ (command ≡ Audit) → Ends (node_budget nodes) before after status → Decides status
+      budget : {status : Status} → ¬ (command ≡ Audit) → nodes < need_of (solved_for command s) → Ends (node_budget nodes) before after status → Decides status
       no_memory : {status : Status} → WantsMemory before after status → Decides status
 
   module _ (name : List ℕ) (before after : Moment) where
     -- for a text, in a file of this name: one that has no tokens, or whose tokens are no text of the grammar or have a form that
     -- isn't built, is refused by its fault, and so is one whose tree has a fault of names or types
     pub data ServesText (text : List ℕ) : Status → Type 0 where
-      not_utf8 : {status : Status} (line column : ℕ) → IsNotUtf8At text line column → Ends (refused name line column 1) before after status → ServesText text status
-      bad_character : {status : Status} (line column : ℕ) → IsBadAt text line column → Ends (refused name line column 2) before after status → ServesText text status
-      too_long : {status : Status} → IsTooLong text → Ends (refused name 1 1 3) before after status → ServesText text status
+      not_utf8 : {status : Status} (line column : ℕ) → IsNotUtf8At text line column → Ends (refused name line column NOT_UTF8) before after status → ServesText text status
+      bad_character : {status : Status} (line column : ℕ) → IsBadAt text line column → Ends (refused name line column BAD_CHARACTER) before after status → ServesText text status
+      too_long : {status : Status} → IsTooLong text → Ends (refused name 1 1 TOO_LONG) before after status → ServesText text status
       ungrammatical : {status : Status} (tokens : List Token) (fault : SyntaxFault) → AreTokens text tokens → Explains (lexemes text tokens) fault → RefusesSyntax name tokens fault before after status → ServesText text status
       mistyped : {status : Status} (number line column : ℕ) → HasTypeFault text number line column → Ends (refused name line column number) before after status → ServesText text status
       means : {status : Status} (s : Specification) → Reads text s → Decides s before after status → ServesText text status

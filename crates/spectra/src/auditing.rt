@@ -1,7 +1,6 @@
 //! An audit: a log is read, and the first line that a position of it breaks is told.
 
 ghost use Rattle.std.specs.Prelude.{◌≡◌, ◌⊎◌, [], IfOk};
-ghost use Rattle.sp_outside.specs.Causes.{Rose};
 ghost use Rattle.spec_model.specs.Syntax.{Specification};
 ghost use Rattle.spec_model.specs.Views.{spec_data};
 ghost use Rattle.spec_model.specs.GameViews.{game_data};

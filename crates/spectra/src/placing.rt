@@ -9,6 +9,7 @@ use crate::status::Status;
 use sp_outside::Sink;
 use spectra_lexer::Token;
 use spectra_parser::SyntaxFault;
+use spectra_trees::faults::{PARENTHESES, TOO_DEEP, UNEXPECTED, UNSUPPORTED};
 use std::alloc::Global;
 
 // The token that a fault names, and the fault's number.
@@ -16,10 +17,10 @@ fn named_by(fault: SyntaxFault) -> Option<(u32, u8)>
     ensures { option_map (λ t. (t.0, t.1)) result ≡ named_by_lem fault }
 {
     match fault {
-        SyntaxFault::Unexpected(at) => Some((at, 4)),
-        SyntaxFault::TooDeep(at) => Some((at, 5)),
-        SyntaxFault::Parentheses(at) => Some((at, 6)),
-        SyntaxFault::Unsupported(at) => Some((at, 23)),
+        SyntaxFault::Unexpected(at) => Some((at, UNEXPECTED)),
+        SyntaxFault::TooDeep(at) => Some((at, TOO_DEEP)),
+        SyntaxFault::Parentheses(at) => Some((at, PARENTHESES)),
+        SyntaxFault::Unsupported(at) => Some((at, UNSUPPORTED)),
         SyntaxFault::Memory => None,
     }
 }

@@ -1,6 +1,6 @@
 //! From the tokens of a text to the specification that it means.
 
-ghost use Rattle.std.specs.Prelude.{◌≡◌, List, IfOk, IfErr};
+ghost use Rattle.std.specs.Prelude.{◌≡◌, IfOk, IfErr};
 ghost use Rattle.spec_model.specs.Views.{spec_data};
 ghost use Rattle.spectra_lexer.specs.Tokens.{AreTokens};
 ghost use Rattle.spectra_trees.specs.Lexemes.{lexemes};

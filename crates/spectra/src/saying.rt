@@ -2,11 +2,12 @@
 
 ghost use Rattle.std.specs.Prelude.{◌≡◌, ◌++◌, [], ◌∷◌, IfOk, codes, string_bytes};
 ghost use Rattle.std.specs.Fmt.{decimal};
-ghost use Rattle.spectra.specs.Endings.{line_of, fault_text as fault_text_lem, usage, no_file, shelf_fault, refused, realizable, unrealizable, realizable_instead, with_core, separated, not_separated, node_budget, arbiter_line as arbiter_line_lem};
+ghost use Rattle.spectra.specs.Endings.{line_of, usage, no_file, shelf_fault, refused, realizable, unrealizable, realizable_instead, with_core, separated, not_separated, node_budget, arbiter_line as arbiter_line_lem};
 ghost use Rattle.spectra.specs.Streams.{Writes, IsSaid, OverOutput};
 
 use crate::status::Status;
 use sp_outside::{OutOfMemory, Sink, write_line};
+use spectra_trees::faults::fault_text;
 use std::alloc::Global;
 
 // Writes a line, and says with which status. It takes no memory.
@@ -67,34 +68,6 @@ pub fn say_fault<O: Sink>(
     match format!(in alloc; "{name}:{line}:{column}: fault {fault}\n") {
         Ok(line) => say(output, line.as_bytes(), Status::Refused),
         Err(_) => Status::Memory,
-    }
-}
-
-// The number and the word of a fault.
-#[tactic(auto, unfolding(crate::specs::Endings::fault_text))]
-fn fault_text(number: u8) -> &'static str
-    ensures { result.now ≡ fault_text_lem number }
-{
-    match number {
-        1 => "1 NotUtf8",
-        2 => "2 BadCharacter",
-        3 => "3 TooLong",
-        4 => "4 Unexpected",
-        5 => "5 TooDeep",
-        6 => "6 Parentheses",
-        7 => "7 Unknown",
-        8 => "8 Twice",
-        9 => "9 WrongType",
-        10 => "10 NextHere",
-        11 => "11 NextNested",
-        12 => "12 NextOfSystem",
-        13 => "13 SystemInInitial",
-        14 => "14 WideInt",
-        15 => "15 Cycle",
-        16 => "16 Arity",
-        18 => "18 TooMany",
-        19 => "19 TooLarge",
-        _ => "23 Unsupported",
     }
 }
 

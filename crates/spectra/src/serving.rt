@@ -14,6 +14,7 @@ use crate::saying::{say_fault, say_no_file, say_shelf_fault};
 use crate::status::Status;
 use sp_outside::{FileFault, Shelf, Sink, Source, read_file};
 use spectra_lexer::{LexFault, MAX_BYTES, Token, lex};
+use spectra_trees::faults::{BAD_CHARACTER, NOT_UTF8, TOO_LONG};
 use spectra_words::Request;
 use std::alloc::Global;
 
@@ -60,12 +61,12 @@ pub fn serve_text<I: Source, O: Sink>(
     match lex(alloc, text) {
         Ok(tokens) => serve_tokens(alloc, request, text, &tokens, input, output),
         Err(LexFault::NotUtf8 { line, column }) => {
-            say_fault(alloc, request.file, line, column, 1, output)
+            say_fault(alloc, request.file, line, column, NOT_UTF8, output)
         }
         Err(LexFault::BadCharacter { line, column }) => {
-            say_fault(alloc, request.file, line, column, 2, output)
+            say_fault(alloc, request.file, line, column, BAD_CHARACTER, output)
         }
-        Err(LexFault::TooLong) => say_fault(alloc, request.file, 1, 1, 3, output),
+        Err(LexFault::TooLong) => say_fault(alloc, request.file, 1, 1, TOO_LONG, output),
         Err(LexFault::Memory) => Status::Memory,
     }
 }

@@ -1,6 +1,6 @@
 //! Lists of roots, made one after the other: where one is refused, all so far are given back.
 
-ghost use Rattle.std.specs.Prelude.{◌≡◌, ◌+◌, ◌≤◌, ◌++◌, ◌∷◌, [], ℕ, Ok, List, IfOk};
+ghost use Rattle.std.specs.Prelude.{◌≡◌, ◌+◌, ◌≤◌, ◌++◌, ◌∷◌, [], ℕ, Ok, List};
 ghost use Rattle.spec_model.specs.Diagrams.{Function};
 ghost use Rattle.bdd_store.specs.State.{roots_at};
 ghost use Rattle.bdd_ops.specs.Contents.{Contents};

@@ -42,7 +42,11 @@ fn side_roots(
 }
 
 /// The list with a second root of each of several diagrams, which were kept before the list was begun.
-fn with_kept(diagrams: &mut Diagrams, so_far: Vec<Root>, roots: &[Root]) -> Result<Vec<Root>, Halt>
+pub fn with_kept(
+    diagrams: &mut Diagrams,
+    so_far: Vec<Root>,
+    roots: &[Root],
+) -> Result<Vec<Root>, Halt>
     requires { (base : Contents) × (fs : List Function) ×
         MakesList base diagrams.old (Ok so_far) fs × AreRoots base roots.now }
     ensures { (base : Contents) (fs : List Function) →

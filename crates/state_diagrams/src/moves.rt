@@ -1,7 +1,7 @@
 //! Where inputs avoid a set, the plain way: what is held between operations are the target, the conjunctions of lines and
 //! what a player can force, and nothing else.
 
-ghost use Rattle.std.specs.Prelude.{◌≡◌, Ok, Err, IfOk};
+ghost use Rattle.std.specs.Prelude.{Ok};
 ghost use Rattle.spec_model.specs.Diagrams.{Function};
 ghost use Rattle.bdd_ops.specs.Contents.{Contents};
 ghost use Rattle.bdd_ops.specs.Calls.{negated};

@@ -3,7 +3,7 @@
 //! What a call leaves is told from the time before its arguments were made: against that time the result is all that is
 //! new, and after a refusal nothing is.
 
-ghost use Rattle.std.specs.Prelude.{◌≡◌, ◌<◌, ℕ, true, Ok, Err, IfOk, IfErr};
+ghost use Rattle.std.specs.Prelude.{◌≡◌, ◌<◌, true, Ok, Err, IfOk, IfErr};
 ghost use Rattle.spec_model.specs.Diagrams.{Function, ite, and_exists_over, shifted};
 ghost use Rattle.bdd_store.specs.State.{IsRoot, roots_at};
 ghost use Rattle.bdd_ops.specs.Functions.{joined, join_of};

@@ -1,6 +1,6 @@
 //! Further operations, tried once more after reclaiming where the store is full.
 
-ghost use Rattle.std.specs.Prelude.{◌≡◌, true, false};
+ghost use Rattle.std.specs.Prelude.{false};
 ghost use Rattle.spec_model.specs.Diagrams.{ite, and_exists_over, shifted};
 ghost use Rattle.bdd_store.specs.State.{IsRoot, diagram_of};
 ghost use Rattle.bdd_ops.specs.Functions.{join_of};

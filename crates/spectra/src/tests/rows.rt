@@ -44,7 +44,7 @@ fn each_text_with_few_states_has_its_verdict_over_rows(rt: HostRuntime) -> Resul
             None => large.push(statements)?,
         }
     }
-    // Eleven Booleans, and a variable of 1,025 or 4,096 numbers.
-    assert_eq!(rt; large.len(), 3usize);
+    // Eleven Booleans, a variable of 1,025 or 4,096 numbers, and two ranges compared.
+    assert_eq!(rt; large.len(), 5usize);
     Ok(())
 }

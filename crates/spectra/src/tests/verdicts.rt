@@ -1,7 +1,7 @@
 //! Texts with their verdicts, worked out by hand from the rules of reading, of first moves and of layers.
 
 // The statements after `spec X`, and the line.
-pub const VERDICTS: [&str; 56] = [
+pub const VERDICTS: [&str; 61] = [
     "env boolean a; sys boolean g; gar ini a & g; => unrealizable N=0 M=1",
     "env boolean a; sys boolean g; gar ini g; => realizable K=2",
     "env boolean a; asm ini a & !a; gar ini false; => realizable K=2",
@@ -21,6 +21,10 @@ pub const VERDICTS: [&str; 56] = [
     "sys boolean a; sys boolean b; sys boolean c; sys boolean d; sys boolean e; env boolean f; env boolean h; env boolean i; env boolean j; env boolean k; env boolean l; => realizable K=2",
     "sys Int(0..1024) x; => realizable K=2",
     "sys Int(0..4095) x; => realizable K=2",
+    // Wide ranges compared, and one that counts up. No output is above the greatest input.
+    "env Int(0..4095) x; sys Int(0..4095) y; gar alw y >= x; => realizable K=2",
+    "env Int(0..255) x; sys Int(0..255) y; gar alw y > x; => unrealizable N=1 M=2",
+    "sys Int(0..255) x; gar alw x < 255 -> next(x) = x + 1; => realizable K=2",
     "sys boolean g; // a comment => realizable K=2",
     "sys boolean né; gar ini né; -- c => realizable K=2",
     "sys boolean g; gar ini !!(g); => realizable K=2",
@@ -37,6 +41,10 @@ pub const VERDICTS: [&str; 56] = [
     "sys boolean g; gar GF g; gar alwaysEventually !g; => realizable K=5",
     // Where the input is false the assumption is, and the state can wait for ever: one rank.
     "env boolean a; asm alwEv a; gar alwEv a; => realizable K=2",
+    // Where g is, the goal is met; from the other states it is at the next position.
+    "env boolean r; sys boolean g; gar alw r -> g; gar alwEv g; => realizable K=3",
+    // The states with g, and those that wait for a, which is assumed to recur; then all.
+    "env boolean a; sys boolean g; asm alwEv a; gar alw g -> a; gar alwEv g; => realizable K=3",
     // The system may keep the assumption false; from g the goal is reached at the next position.
     "sys boolean g; asm alwEv g; gar alwEv !g; => realizable K=3",
     // The goal is never legal: the state without g is held at the first layer, and that with g leads into it.

@@ -5,6 +5,7 @@ use Rattle.gr1_law.specs.EnvLayers.{denial_count}
 use Rattle.gr1_env.specs.declared.layers.EnvLayer.{EnvLayer}
 use Rattle.gr1_env.specs.Solved.{counts_of}
 use Rattle.solve.proofs.Found.{lost_game}
+use Rattle.solve.proofs.Budgets.{play_halt}
 use Rattle.solve.proofs.playing.environment_play.Goals as goal
 
 pub make-requires-clause-lost : goal.make-requires-clause-lost
@@ -25,3 +26,6 @@ returns-in-Ok-clause-plays g c =
       shifts = c.n-n.ensures ∙ ap (λ layers. length layers) (sym begins.same_layers);
       denials = c.m-m.ensures ∙ (c.requires.lost.1.denials ∙ (ap (λ layers. denial_count (g.G.Regions.kept c.args.g).game (length layers) (counts_of layers)) (sym begins.same_layers) ∙ ap (λ (game : GameData). denial_count game (length c.in-Ok.play.layers.items) (counts_of c.in-Ok.play.layers.items)) (sym begins.game.game)));
     }
+
+pub returns-in-Err-clause-cause : goal.returns-in-Err-clause-cause
+returns-in-Err-clause-cause g c = play_halt g.G.Regions.kept (g.G.Regions.kept c.args.g) c.in-Err.field-0.g c.in-Err.ensures.refused.game _ c.in-Err.field-0.halt c.in-Err.ensures.refused.told

@@ -2,6 +2,7 @@ use Rattle.std.proofs.Common.{sym, ap, subst, ◌∙◌}
 use Rattle.spec_model.specs.Agreement.{Agrees}
 use Rattle.gr1_law.specs.Layers.{round_count}
 use Rattle.gr1_sys.specs.Held.{ranks_of}
+use Rattle.solve.proofs.Budgets.{play_halt}
 use Rattle.solve.proofs.playing.system_play.Goals as goal
 
 pub returns-in-Ok-clause-plays : goal.returns-in-Ok-clause-plays
@@ -13,3 +14,8 @@ returns-in-Ok-clause-plays g c =
       agrees = subst (Agrees s) (sym begins.game.game) agrees;
       rounds = c.k-k.ensures ∙ ap (λ layers. round_count (ranks_of layers)) (sym begins.same_layers);
     }
+
+pub returns-in-Err-clause-cause : goal.returns-in-Err-clause-cause
+returns-in-Err-clause-cause g c =
+    let refused = c.in-Err.ensures.refused c.requires.won.0 c.requires.won.1 in
+    play_halt g.G.Regions.kept (g.G.Regions.kept c.args.g) c.in-Err.field-0.g refused.game _ c.in-Err.field-0.halt refused.told

@@ -8,4 +8,4 @@ returns-in-Ok-Realizable g c =
     λ left faults. is_kept _ _ _ _ _ _ _ (inl refl) h.numbers (c.say_realizable_instead.ensures left faults)
 
 pub returns-in-Err : goal.returns-in-Err
-returns-in-Err g c = λ left faults. not_decided _ _ _ _ _ _ _ core_decides (c.say_no_verdict.ensures left faults)
+returns-in-Err g c = λ left faults. not_decided _ _ _ _ _ _ _ core_decides c.in-Err.ensures.cause (c.say_no_verdict.ensures left faults)

@@ -13,4 +13,4 @@ returns-in-Ok-Unrealizable g c =
     is_countered _ _ _ _ _ _ _ _ refl h.verdict.0 c.counter.ensures.holds
 
 pub returns-in-Err : goal.returns-in-Err
-returns-in-Err g c = not_decided _ _ _ _ _ _ _ counter_decides (c.say_no_verdict.ensures _ _)
+returns-in-Err g c = not_decided _ _ _ _ _ _ _ counter_decides c.in-Err.ensures.cause (c.say_no_verdict.ensures _ _)

@@ -12,4 +12,4 @@ returns-in-Ok g c = λ left faults.
 
 pub returns-in-Err : goal.returns-in-Err
 returns-in-Err g c = λ left faults.
-    not_decided _ _ _ _ _ _ _ core_decides (c.say_no_verdict.ensures left faults)
+    not_decided _ _ _ _ _ _ _ core_decides c.in-Err.ensures.cause (c.say_no_verdict.ensures left faults)

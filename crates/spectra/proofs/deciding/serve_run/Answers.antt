@@ -13,4 +13,4 @@ returns-in-Ok-Unrealizable g c =
     is_lost _ _ _ _ _ _ _ _ (inr refl) h.verdict.0 (c.say_unrealizable.ensures _ _)
 
 pub returns-in-Err : goal.returns-in-Err
-returns-in-Err g c = not_decided _ _ _ _ _ _ _ run_decides (c.say_no_verdict.ensures _ _)
+returns-in-Err g c = not_decided _ _ _ _ _ _ _ run_decides c.in-Err.ensures.cause (c.say_no_verdict.ensures _ _)

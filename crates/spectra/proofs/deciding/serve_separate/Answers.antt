@@ -13,4 +13,4 @@ returns-in-Ok-Forced g c =
     λ left faults. is_not_separated _ _ _ _ _ _ _ refl h.separation (c.say_not_separated.ensures left faults)
 
 pub returns-in-Err : goal.returns-in-Err
-returns-in-Err g c = λ left faults. not_decided _ _ _ _ _ _ _ separate_decides (c.say_no_verdict.ensures left faults)
+returns-in-Err g c = λ left faults. not_decided _ _ _ _ _ _ _ separate_decides c.in-Err.ensures.cause (c.say_no_verdict.ensures left faults)

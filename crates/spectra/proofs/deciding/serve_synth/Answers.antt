@@ -13,4 +13,4 @@ returns-in-Ok-Unrealizable g c =
     λ left faults. is_lost _ _ _ _ _ _ _ _ (inl refl) h.numbers (c.say_unrealizable.ensures left faults)
 
 pub returns-in-Err : goal.returns-in-Err
-returns-in-Err g c = λ left faults. not_decided _ _ _ _ _ _ _ synth_decides (c.say_no_verdict.ensures left faults)
+returns-in-Err g c = λ left faults. not_decided _ _ _ _ _ _ _ synth_decides c.in-Err.ensures.cause (c.say_no_verdict.ensures left faults)

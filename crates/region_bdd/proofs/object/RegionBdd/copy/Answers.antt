@@ -22,7 +22,7 @@ region-requires c =
     let g = game_data o.game in
     let slots = o.slots.slots.items in
     let d = o.diagrams in
-    subst (λ (ss : List Slot). HasRegionRoot ss c.args.a.now.slot) (sym c.room.ensures.same) (region_root g d slots o.refused c.args.a.now c.requires.a)
+    subst (λ (ss : List Slot). HasRegionRoot ss c.args.a.now.slot) (sym c.room.ensures.keeps) (region_root g d slots o.refused c.args.a.now c.requires.a)
 
 pub keep-requires : goal.keep-requires
 keep-requires c =
@@ -30,7 +30,7 @@ keep-requires c =
     let g = game_data o.game in
     let slots = o.slots.slots.items in
     let d = o.diagrams in
-    let here_a = subst (λ (ss : List Slot). HasContent ss c.args.a.now.slot (Region c.region.result.now)) c.room.ensures.same c.region.ensures in
+    let here_a = subst (λ (ss : List Slot). HasContent ss c.args.a.now.slot (Region c.region.result.now)) c.room.ensures.keeps c.region.ensures in
     held_root g o.own o.levels d slots o.refused c.args.self.now.whole c.args.a.now c.region.result.now here_a
 
 pub returns-clause-made : goal.returns-clause-made
@@ -39,10 +39,10 @@ returns-clause-made c =
     let g = game_data o.game in
     let slots = o.slots.slots.items in
     let d = o.diagrams in
-    let here_a = subst (λ (ss : List Slot). HasContent ss c.args.a.now.slot (Region c.region.result.now)) c.room.ensures.same c.region.ensures in
+    let here_a = subst (λ (ss : List Slot). HasContent ss c.args.a.now.slot (Region c.region.result.now)) c.room.ensures.keeps c.region.ensures in
     let now = kept_of g d slots o.refused in
     let why : Refused = record { asked = asked.Copy; first = Some c.args.a.now.slot; second = None } in
-    let done = answered g o.own o.levels d slots c.keep.new.self c.room.new.self.slots.items c.settle.new.slots.slots.items o.refused c.settle.new.refused c.args.self.now.whole c.requires.free c.room.ensures.same (function_at d c.region.result.now) (now.set c.args.a.now) ((region_tells g o.own o.levels d slots o.refused c.args.self.now.whole c.args.a.now c.region.result.now here_a)) why (States (now.set c.args.a.now) ∷ []) (one_argument g o.own o.levels d slots o.refused c.args.self.now.whole c.args.a.now c.region.result.now here_a) c.told-made.result c.settle.result (subst (λ r. Makes d c.keep.new.self r (function_at d c.region.result.now)) (sym c.told-made.ensures) (told_makes d c.keep.new.self c.keep.result (function_at d c.region.result.now) (λ (made : Diagram). ⊥) c.keep.ensures.given)) c.settle.ensures in
+    let done = answered g o.own o.levels d slots c.keep.new.self c.room.new.self.slots.items c.settle.new.slots.slots.items o.refused c.settle.new.refused c.args.self.now.whole c.requires.free c.room.ensures.keeps (function_at d c.region.result.now) (now.set c.args.a.now) ((region_tells g o.own o.levels d slots o.refused c.args.self.now.whole c.args.a.now c.region.result.now here_a)) why (States (now.set c.args.a.now) ∷ []) (one_argument g o.own o.levels d slots o.refused c.args.self.now.whole c.args.a.now c.region.result.now here_a) c.told-made.result c.settle.result (subst (λ r. Makes d c.keep.new.self r (function_at d c.region.result.now)) (sym c.told-made.ensures) (told_makes d c.keep.new.self c.keep.result (function_at d c.region.result.now) (λ (made : Diagram). ⊥) c.keep.ensures.given)) c.settle.ensures in
     done.made
 
 pub returns-clause-halted : goal.returns-clause-halted
@@ -51,10 +51,10 @@ returns-clause-halted c =
     let g = game_data o.game in
     let slots = o.slots.slots.items in
     let d = o.diagrams in
-    let here_a = subst (λ (ss : List Slot). HasContent ss c.args.a.now.slot (Region c.region.result.now)) c.room.ensures.same c.region.ensures in
+    let here_a = subst (λ (ss : List Slot). HasContent ss c.args.a.now.slot (Region c.region.result.now)) c.room.ensures.keeps c.region.ensures in
     let now = kept_of g d slots o.refused in
     let why : Refused = record { asked = asked.Copy; first = Some c.args.a.now.slot; second = None } in
-    let done = answered g o.own o.levels d slots c.keep.new.self c.room.new.self.slots.items c.settle.new.slots.slots.items o.refused c.settle.new.refused c.args.self.now.whole c.requires.free c.room.ensures.same (function_at d c.region.result.now) (now.set c.args.a.now) ((region_tells g o.own o.levels d slots o.refused c.args.self.now.whole c.args.a.now c.region.result.now here_a)) why (States (now.set c.args.a.now) ∷ []) (one_argument g o.own o.levels d slots o.refused c.args.self.now.whole c.args.a.now c.region.result.now here_a) c.told-made.result c.settle.result (subst (λ r. Makes d c.keep.new.self r (function_at d c.region.result.now)) (sym c.told-made.ensures) (told_makes d c.keep.new.self c.keep.result (function_at d c.region.result.now) (λ (made : Diagram). ⊥) c.keep.ensures.given)) c.settle.ensures in
+    let done = answered g o.own o.levels d slots c.keep.new.self c.room.new.self.slots.items c.settle.new.slots.slots.items o.refused c.settle.new.refused c.args.self.now.whole c.requires.free c.room.ensures.keeps (function_at d c.region.result.now) (now.set c.args.a.now) ((region_tells g o.own o.levels d slots o.refused c.args.self.now.whole c.args.a.now c.region.result.now here_a)) why (States (now.set c.args.a.now) ∷ []) (one_argument g o.own o.levels d slots o.refused c.args.self.now.whole c.args.a.now c.region.result.now here_a) c.told-made.result c.settle.result (subst (λ r. Makes d c.keep.new.self r (function_at d c.region.result.now)) (sym c.told-made.ensures) (told_makes d c.keep.new.self c.keep.result (function_at d c.region.result.now) (λ (made : Diagram). ⊥) c.keep.ensures.given)) c.settle.ensures in
     done.halted
 
 pub invariant_of-self-2 : goal.invariant_of-self-2
@@ -63,10 +63,10 @@ invariant_of-self-2 c =
     let g = game_data o.game in
     let slots = o.slots.slots.items in
     let d = o.diagrams in
-    let here_a = subst (λ (ss : List Slot). HasContent ss c.args.a.now.slot (Region c.region.result.now)) c.room.ensures.same c.region.ensures in
+    let here_a = subst (λ (ss : List Slot). HasContent ss c.args.a.now.slot (Region c.region.result.now)) c.room.ensures.keeps c.region.ensures in
     let now = kept_of g d slots o.refused in
     let why : Refused = record { asked = asked.Copy; first = Some c.args.a.now.slot; second = None } in
-    let done = answered g o.own o.levels d slots c.keep.new.self c.room.new.self.slots.items c.settle.new.slots.slots.items o.refused c.settle.new.refused c.args.self.now.whole c.requires.free c.room.ensures.same (function_at d c.region.result.now) (now.set c.args.a.now) ((region_tells g o.own o.levels d slots o.refused c.args.self.now.whole c.args.a.now c.region.result.now here_a)) why (States (now.set c.args.a.now) ∷ []) (one_argument g o.own o.levels d slots o.refused c.args.self.now.whole c.args.a.now c.region.result.now here_a) c.told-made.result c.settle.result (subst (λ r. Makes d c.keep.new.self r (function_at d c.region.result.now)) (sym c.told-made.ensures) (told_makes d c.keep.new.self c.keep.result (function_at d c.region.result.now) (λ (made : Diagram). ⊥) c.keep.ensures.given)) c.settle.ensures in
+    let done = answered g o.own o.levels d slots c.keep.new.self c.room.new.self.slots.items c.settle.new.slots.slots.items o.refused c.settle.new.refused c.args.self.now.whole c.requires.free c.room.ensures.keeps (function_at d c.region.result.now) (now.set c.args.a.now) ((region_tells g o.own o.levels d slots o.refused c.args.self.now.whole c.args.a.now c.region.result.now here_a)) why (States (now.set c.args.a.now) ∷ []) (one_argument g o.own o.levels d slots o.refused c.args.self.now.whole c.args.a.now c.region.result.now here_a) c.told-made.result c.settle.result (subst (λ r. Makes d c.keep.new.self r (function_at d c.region.result.now)) (sym c.told-made.ensures) (told_makes d c.keep.new.self c.keep.result (function_at d c.region.result.now) (λ (made : Diagram). ⊥) c.keep.ensures.given)) c.settle.ensures in
     record { whole = done.object; coded = o.coded; room = o.room }
 
 pub returns-clause-never : goal.returns-clause-never

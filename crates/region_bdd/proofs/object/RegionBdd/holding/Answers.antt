@@ -37,7 +37,7 @@ returns-clause-made c =
     let d = o.diagrams in
     let now = kept_of g d slots o.refused in
     let why : Refused = record { asked = asked.Holding; first = None; second = None } in
-    let done = answered g o.own o.levels d slots c.and-made.new.diagrams c.room.new.self.slots.items c.settle.new.slots.slots.items o.refused c.settle.new.refused c.args.self.now.whole c.requires.free c.room.ensures.same (joined (join_of true) (function_at d c.goal.result.now) (function_at d o.own.step.proper)) (states_holding g c.args.what) (subst (λ (n : ℕ). Tells g Now (joined (join_of true) (function_at d n) (function_at d o.own.step.proper)) (states_holding g c.args.what)) c.goal.ensures (tells_goal g o.own o.levels d slots o.refused c.args.self.now.whole c.args.what c.requires.there)) why ([]) (refl) c.and-made.result c.settle.result (c.and-made.ensures.makes) c.settle.ensures in
+    let done = answered g o.own o.levels d slots c.and-made.new.diagrams c.room.new.self.slots.items c.settle.new.slots.slots.items o.refused c.settle.new.refused c.args.self.now.whole c.requires.free c.room.ensures.keeps (joined (join_of true) (function_at d c.goal.result.now) (function_at d o.own.step.proper)) (states_holding g c.args.what) (subst (λ (n : ℕ). Tells g Now (joined (join_of true) (function_at d n) (function_at d o.own.step.proper)) (states_holding g c.args.what)) c.goal.ensures (tells_goal g o.own o.levels d slots o.refused c.args.self.now.whole c.args.what c.requires.there)) why ([]) (refl) c.and-made.result c.settle.result (c.and-made.ensures.makes) c.settle.ensures in
     done.made
 
 pub returns-clause-halted : goal.returns-clause-halted
@@ -48,7 +48,7 @@ returns-clause-halted c =
     let d = o.diagrams in
     let now = kept_of g d slots o.refused in
     let why : Refused = record { asked = asked.Holding; first = None; second = None } in
-    let done = answered g o.own o.levels d slots c.and-made.new.diagrams c.room.new.self.slots.items c.settle.new.slots.slots.items o.refused c.settle.new.refused c.args.self.now.whole c.requires.free c.room.ensures.same (joined (join_of true) (function_at d c.goal.result.now) (function_at d o.own.step.proper)) (states_holding g c.args.what) (subst (λ (n : ℕ). Tells g Now (joined (join_of true) (function_at d n) (function_at d o.own.step.proper)) (states_holding g c.args.what)) c.goal.ensures (tells_goal g o.own o.levels d slots o.refused c.args.self.now.whole c.args.what c.requires.there)) why ([]) (refl) c.and-made.result c.settle.result (c.and-made.ensures.makes) c.settle.ensures in
+    let done = answered g o.own o.levels d slots c.and-made.new.diagrams c.room.new.self.slots.items c.settle.new.slots.slots.items o.refused c.settle.new.refused c.args.self.now.whole c.requires.free c.room.ensures.keeps (joined (join_of true) (function_at d c.goal.result.now) (function_at d o.own.step.proper)) (states_holding g c.args.what) (subst (λ (n : ℕ). Tells g Now (joined (join_of true) (function_at d n) (function_at d o.own.step.proper)) (states_holding g c.args.what)) c.goal.ensures (tells_goal g o.own o.levels d slots o.refused c.args.self.now.whole c.args.what c.requires.there)) why ([]) (refl) c.and-made.result c.settle.result (c.and-made.ensures.makes) c.settle.ensures in
     done.halted
 
 pub invariant_of-self-2 : goal.invariant_of-self-2
@@ -59,7 +59,7 @@ invariant_of-self-2 c =
     let d = o.diagrams in
     let now = kept_of g d slots o.refused in
     let why : Refused = record { asked = asked.Holding; first = None; second = None } in
-    let done = answered g o.own o.levels d slots c.and-made.new.diagrams c.room.new.self.slots.items c.settle.new.slots.slots.items o.refused c.settle.new.refused c.args.self.now.whole c.requires.free c.room.ensures.same (joined (join_of true) (function_at d c.goal.result.now) (function_at d o.own.step.proper)) (states_holding g c.args.what) (subst (λ (n : ℕ). Tells g Now (joined (join_of true) (function_at d n) (function_at d o.own.step.proper)) (states_holding g c.args.what)) c.goal.ensures (tells_goal g o.own o.levels d slots o.refused c.args.self.now.whole c.args.what c.requires.there)) why ([]) (refl) c.and-made.result c.settle.result (c.and-made.ensures.makes) c.settle.ensures in
+    let done = answered g o.own o.levels d slots c.and-made.new.diagrams c.room.new.self.slots.items c.settle.new.slots.slots.items o.refused c.settle.new.refused c.args.self.now.whole c.requires.free c.room.ensures.keeps (joined (join_of true) (function_at d c.goal.result.now) (function_at d o.own.step.proper)) (states_holding g c.args.what) (subst (λ (n : ℕ). Tells g Now (joined (join_of true) (function_at d n) (function_at d o.own.step.proper)) (states_holding g c.args.what)) c.goal.ensures (tells_goal g o.own o.levels d slots o.refused c.args.self.now.whole c.args.what c.requires.there)) why ([]) (refl) c.and-made.result c.settle.result (c.and-made.ensures.makes) c.settle.ensures in
     record { whole = done.object; coded = o.coded; room = o.room }
 
 pub returns-clause-cause : goal.returns-clause-cause

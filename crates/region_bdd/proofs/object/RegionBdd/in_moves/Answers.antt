@@ -24,7 +24,7 @@ region-requires c =
     let g = game_data o.game in
     let slots = o.slots.slots.items in
     let d = o.diagrams in
-    subst (λ (ss : List Slot). HasRegionRoot ss c.args.t.now.slot) (sym c.room.ensures.same) (region_root g d slots o.refused c.args.t.now c.requires.t)
+    subst (λ (ss : List Slot). HasRegionRoot ss c.args.t.now.slot) (sym c.room.ensures.keeps) (region_root g d slots o.refused c.args.t.now c.requires.t)
 
 pub with_leading-made-requires-clause-t : goal.with_leading-made-requires-clause-t
 with_leading-made-requires-clause-t c =
@@ -32,7 +32,7 @@ with_leading-made-requires-clause-t c =
     let g = game_data o.game in
     let slots = o.slots.slots.items in
     let d = o.diagrams in
-    let here = subst (λ (ss : List Slot). HasContent ss c.args.t.now.slot (Region c.region.result.now)) c.room.ensures.same c.region.ensures in
+    let here = subst (λ (ss : List Slot). HasContent ss c.args.t.now.slot (Region c.region.result.now)) c.room.ensures.keeps c.region.ensures in
     held_root g o.own o.levels d slots o.refused o.whole c.args.t.now c.region.result.now here
 
 pub with_leading-made-requires-clause-members : goal.with_leading-made-requires-clause-members
@@ -41,7 +41,7 @@ with_leading-made-requires-clause-members c =
     let g = game_data o.game in
     let slots = o.slots.slots.items in
     let d = o.diagrams in
-    let here = subst (λ (ss : List Slot). HasContent ss c.args.t.now.slot (Region c.region.result.now)) c.room.ensures.same c.region.ensures in
+    let here = subst (λ (ss : List Slot). HasContent ss c.args.t.now.slot (Region c.region.result.now)) c.room.ensures.keeps c.region.ensures in
     subst (λ (m : Members). AreMembers d m) (sym c.members.ensures) (members_kept g o.own o.levels d slots o.refused o.whole c.args.when)
 
 pub with_leading-made-requires-clause-rising : goal.with_leading-made-requires-clause-rising
@@ -50,7 +50,7 @@ with_leading-made-requires-clause-rising c =
     let g = game_data o.game in
     let slots = o.slots.slots.items in
     let d = o.diagrams in
-    let here = subst (λ (ss : List Slot). HasContent ss c.args.t.now.slot (Region c.region.result.now)) c.room.ensures.same c.region.ensures in
+    let here = subst (λ (ss : List Slot). HasContent ss c.args.t.now.slot (Region c.region.result.now)) c.room.ensures.keeps c.region.ensures in
     let tells = region_tells g o.own o.levels d slots o.refused o.whole c.args.t.now c.region.result.now here in
     rises_to_next g (function_at d c.region.result.now) tells.states d.state.table.levels o.levels.to.items o.whole.levels o.whole.lists_are.to
 
@@ -60,13 +60,13 @@ invariant_of-self-2 c =
     let g = game_data o.game in
     let slots = o.slots.slots.items in
     let d = o.diagrams in
-    let here = subst (λ (ss : List Slot). HasContent ss c.args.t.now.slot (Region c.region.result.now)) c.room.ensures.same c.region.ensures in
+    let here = subst (λ (ss : List Slot). HasContent ss c.args.t.now.slot (Region c.region.result.now)) c.room.ensures.keeps c.region.ensures in
     let f = function_at d c.region.result.now in
     let h = leading_in (move_functions d (members_at o.own c.args.when)) o.levels f in
     let now = kept_of g d slots o.refused in
     let why : Refused = record { asked = asked.InMoves c.args.when; first = Some c.args.t.now.slot; second = None } in
     let makes = subst (λ (m : Members). MakesTwo d c.with_leading-made.new.diagrams c.with_leading-made.result f (leading_in (move_functions d m) o.levels f)) c.members.ensures c.with_leading-made.ensures in
-    let done = inputs_answered g o.own c.args.when o.levels d c.with_leading-made.new.diagrams slots c.room.new.self.slots.items c.settle_inputs.new.slots.slots.items o.refused c.settle_inputs.new.refused o.whole c.requires.free c.room.ensures.same (now.set c.args.t.now) why (States (now.set c.args.t.now) ∷ []) (one_argument g o.own o.levels d slots o.refused o.whole c.args.t.now c.region.result.now here) f h (region_tells g o.own o.levels d slots o.refused o.whole c.args.t.now c.region.result.now here) (leading_tells g o.own o.levels d slots o.refused o.whole c.args.when c.args.t.now c.region.result.now here) c.with_leading-made.result c.settle_inputs.result makes c.settle_inputs.ensures in
+    let done = inputs_answered g o.own c.args.when o.levels d c.with_leading-made.new.diagrams slots c.room.new.self.slots.items c.settle_inputs.new.slots.slots.items o.refused c.settle_inputs.new.refused o.whole c.requires.free c.room.ensures.keeps (now.set c.args.t.now) why (States (now.set c.args.t.now) ∷ []) (one_argument g o.own o.levels d slots o.refused o.whole c.args.t.now c.region.result.now here) f h (region_tells g o.own o.levels d slots o.refused o.whole c.args.t.now c.region.result.now here) (leading_tells g o.own o.levels d slots o.refused o.whole c.args.when c.args.t.now c.region.result.now here) c.with_leading-made.result c.settle_inputs.result makes c.settle_inputs.ensures in
     record { whole = done.object; coded = o.coded; room = o.room }
 
 pub returns-clause-made : goal.returns-clause-made
@@ -75,13 +75,13 @@ returns-clause-made c =
     let g = game_data o.game in
     let slots = o.slots.slots.items in
     let d = o.diagrams in
-    let here = subst (λ (ss : List Slot). HasContent ss c.args.t.now.slot (Region c.region.result.now)) c.room.ensures.same c.region.ensures in
+    let here = subst (λ (ss : List Slot). HasContent ss c.args.t.now.slot (Region c.region.result.now)) c.room.ensures.keeps c.region.ensures in
     let f = function_at d c.region.result.now in
     let h = leading_in (move_functions d (members_at o.own c.args.when)) o.levels f in
     let now = kept_of g d slots o.refused in
     let why : Refused = record { asked = asked.InMoves c.args.when; first = Some c.args.t.now.slot; second = None } in
     let makes = subst (λ (m : Members). MakesTwo d c.with_leading-made.new.diagrams c.with_leading-made.result f (leading_in (move_functions d m) o.levels f)) c.members.ensures c.with_leading-made.ensures in
-    let done = inputs_answered g o.own c.args.when o.levels d c.with_leading-made.new.diagrams slots c.room.new.self.slots.items c.settle_inputs.new.slots.slots.items o.refused c.settle_inputs.new.refused o.whole c.requires.free c.room.ensures.same (now.set c.args.t.now) why (States (now.set c.args.t.now) ∷ []) (one_argument g o.own o.levels d slots o.refused o.whole c.args.t.now c.region.result.now here) f h (region_tells g o.own o.levels d slots o.refused o.whole c.args.t.now c.region.result.now here) (leading_tells g o.own o.levels d slots o.refused o.whole c.args.when c.args.t.now c.region.result.now here) c.with_leading-made.result c.settle_inputs.result makes c.settle_inputs.ensures in
+    let done = inputs_answered g o.own c.args.when o.levels d c.with_leading-made.new.diagrams slots c.room.new.self.slots.items c.settle_inputs.new.slots.slots.items o.refused c.settle_inputs.new.refused o.whole c.requires.free c.room.ensures.keeps (now.set c.args.t.now) why (States (now.set c.args.t.now) ∷ []) (one_argument g o.own o.levels d slots o.refused o.whole c.args.t.now c.region.result.now here) f h (region_tells g o.own o.levels d slots o.refused o.whole c.args.t.now c.region.result.now here) (leading_tells g o.own o.levels d slots o.refused o.whole c.args.when c.args.t.now c.region.result.now here) c.with_leading-made.result c.settle_inputs.result makes c.settle_inputs.ensures in
     done.made
 
 pub returns-clause-halted : goal.returns-clause-halted
@@ -90,28 +90,28 @@ returns-clause-halted c =
     let g = game_data o.game in
     let slots = o.slots.slots.items in
     let d = o.diagrams in
-    let here = subst (λ (ss : List Slot). HasContent ss c.args.t.now.slot (Region c.region.result.now)) c.room.ensures.same c.region.ensures in
+    let here = subst (λ (ss : List Slot). HasContent ss c.args.t.now.slot (Region c.region.result.now)) c.room.ensures.keeps c.region.ensures in
     let f = function_at d c.region.result.now in
     let h = leading_in (move_functions d (members_at o.own c.args.when)) o.levels f in
     let now = kept_of g d slots o.refused in
     let why : Refused = record { asked = asked.InMoves c.args.when; first = Some c.args.t.now.slot; second = None } in
     let makes = subst (λ (m : Members). MakesTwo d c.with_leading-made.new.diagrams c.with_leading-made.result f (leading_in (move_functions d m) o.levels f)) c.members.ensures c.with_leading-made.ensures in
-    let done = inputs_answered g o.own c.args.when o.levels d c.with_leading-made.new.diagrams slots c.room.new.self.slots.items c.settle_inputs.new.slots.slots.items o.refused c.settle_inputs.new.refused o.whole c.requires.free c.room.ensures.same (now.set c.args.t.now) why (States (now.set c.args.t.now) ∷ []) (one_argument g o.own o.levels d slots o.refused o.whole c.args.t.now c.region.result.now here) f h (region_tells g o.own o.levels d slots o.refused o.whole c.args.t.now c.region.result.now here) (leading_tells g o.own o.levels d slots o.refused o.whole c.args.when c.args.t.now c.region.result.now here) c.with_leading-made.result c.settle_inputs.result makes c.settle_inputs.ensures in
+    let done = inputs_answered g o.own c.args.when o.levels d c.with_leading-made.new.diagrams slots c.room.new.self.slots.items c.settle_inputs.new.slots.slots.items o.refused c.settle_inputs.new.refused o.whole c.requires.free c.room.ensures.keeps (now.set c.args.t.now) why (States (now.set c.args.t.now) ∷ []) (one_argument g o.own o.levels d slots o.refused o.whole c.args.t.now c.region.result.now here) f h (region_tells g o.own o.levels d slots o.refused o.whole c.args.t.now c.region.result.now here) (leading_tells g o.own o.levels d slots o.refused o.whole c.args.when c.args.t.now c.region.result.now here) c.with_leading-made.result c.settle_inputs.result makes c.settle_inputs.ensures in
     done.halted
 
-pub returns-clause-same : goal.returns-clause-same
-returns-clause-same c =
+pub returns-clause-keeps : goal.returns-clause-keeps
+returns-clause-keeps c =
     let o = c.args.self.now in
     let g = game_data o.game in
     let slots = o.slots.slots.items in
     let d = o.diagrams in
-    let here = subst (λ (ss : List Slot). HasContent ss c.args.t.now.slot (Region c.region.result.now)) c.room.ensures.same c.region.ensures in
+    let here = subst (λ (ss : List Slot). HasContent ss c.args.t.now.slot (Region c.region.result.now)) c.room.ensures.keeps c.region.ensures in
     let f = function_at d c.region.result.now in
     let h = leading_in (move_functions d (members_at o.own c.args.when)) o.levels f in
     let now = kept_of g d slots o.refused in
     let why : Refused = record { asked = asked.InMoves c.args.when; first = Some c.args.t.now.slot; second = None } in
     let makes = subst (λ (m : Members). MakesTwo d c.with_leading-made.new.diagrams c.with_leading-made.result f (leading_in (move_functions d m) o.levels f)) c.members.ensures c.with_leading-made.ensures in
-    let done = inputs_answered g o.own c.args.when o.levels d c.with_leading-made.new.diagrams slots c.room.new.self.slots.items c.settle_inputs.new.slots.slots.items o.refused c.settle_inputs.new.refused o.whole c.requires.free c.room.ensures.same (now.set c.args.t.now) why (States (now.set c.args.t.now) ∷ []) (one_argument g o.own o.levels d slots o.refused o.whole c.args.t.now c.region.result.now here) f h (region_tells g o.own o.levels d slots o.refused o.whole c.args.t.now c.region.result.now here) (leading_tells g o.own o.levels d slots o.refused o.whole c.args.when c.args.t.now c.region.result.now here) c.with_leading-made.result c.settle_inputs.result makes c.settle_inputs.ensures in
+    let done = inputs_answered g o.own c.args.when o.levels d c.with_leading-made.new.diagrams slots c.room.new.self.slots.items c.settle_inputs.new.slots.slots.items o.refused c.settle_inputs.new.refused o.whole c.requires.free c.room.ensures.keeps (now.set c.args.t.now) why (States (now.set c.args.t.now) ∷ []) (one_argument g o.own o.levels d slots o.refused o.whole c.args.t.now c.region.result.now here) f h (region_tells g o.own o.levels d slots o.refused o.whole c.args.t.now c.region.result.now here) (leading_tells g o.own o.levels d slots o.refused o.whole c.args.when c.args.t.now c.region.result.now here) c.with_leading-made.result c.settle_inputs.result makes c.settle_inputs.ensures in
     done.same
 
 pub returns-clause-cause : goal.returns-clause-cause

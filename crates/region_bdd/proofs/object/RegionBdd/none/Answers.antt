@@ -20,7 +20,7 @@ returns-clause-made c =
     let d = o.diagrams in
     let now = kept_of g d slots o.refused in
     let why : Refused = record { asked = asked.NoStates; first = None; second = None } in
-    let done = answered g o.own o.levels d slots c.keep.new.self c.room.new.self.slots.items c.settle.new.slots.slots.items o.refused c.settle.new.refused c.args.self.now.whole c.requires c.room.ensures.same (function_at d o.own.step.nothing) (no_states) (tells_nothing g o.own o.levels d slots o.refused c.args.self.now.whole) why ([]) (refl) c.told-made.result c.settle.result (subst (λ r. Makes d c.keep.new.self r (function_at d o.own.step.nothing)) (sym c.told-made.ensures) (told_makes d c.keep.new.self c.keep.result (function_at d o.own.step.nothing) (λ (made : Diagram). ⊥) c.keep.ensures.given)) c.settle.ensures in
+    let done = answered g o.own o.levels d slots c.keep.new.self c.room.new.self.slots.items c.settle.new.slots.slots.items o.refused c.settle.new.refused c.args.self.now.whole c.requires c.room.ensures.keeps (function_at d o.own.step.nothing) (no_states) (tells_nothing g o.own o.levels d slots o.refused c.args.self.now.whole) why ([]) (refl) c.told-made.result c.settle.result (subst (λ r. Makes d c.keep.new.self r (function_at d o.own.step.nothing)) (sym c.told-made.ensures) (told_makes d c.keep.new.self c.keep.result (function_at d o.own.step.nothing) (λ (made : Diagram). ⊥) c.keep.ensures.given)) c.settle.ensures in
     done.made
 
 pub returns-clause-halted : goal.returns-clause-halted
@@ -31,7 +31,7 @@ returns-clause-halted c =
     let d = o.diagrams in
     let now = kept_of g d slots o.refused in
     let why : Refused = record { asked = asked.NoStates; first = None; second = None } in
-    let done = answered g o.own o.levels d slots c.keep.new.self c.room.new.self.slots.items c.settle.new.slots.slots.items o.refused c.settle.new.refused c.args.self.now.whole c.requires c.room.ensures.same (function_at d o.own.step.nothing) (no_states) (tells_nothing g o.own o.levels d slots o.refused c.args.self.now.whole) why ([]) (refl) c.told-made.result c.settle.result (subst (λ r. Makes d c.keep.new.self r (function_at d o.own.step.nothing)) (sym c.told-made.ensures) (told_makes d c.keep.new.self c.keep.result (function_at d o.own.step.nothing) (λ (made : Diagram). ⊥) c.keep.ensures.given)) c.settle.ensures in
+    let done = answered g o.own o.levels d slots c.keep.new.self c.room.new.self.slots.items c.settle.new.slots.slots.items o.refused c.settle.new.refused c.args.self.now.whole c.requires c.room.ensures.keeps (function_at d o.own.step.nothing) (no_states) (tells_nothing g o.own o.levels d slots o.refused c.args.self.now.whole) why ([]) (refl) c.told-made.result c.settle.result (subst (λ r. Makes d c.keep.new.self r (function_at d o.own.step.nothing)) (sym c.told-made.ensures) (told_makes d c.keep.new.self c.keep.result (function_at d o.own.step.nothing) (λ (made : Diagram). ⊥) c.keep.ensures.given)) c.settle.ensures in
     done.halted
 
 pub invariant_of-self-2 : goal.invariant_of-self-2
@@ -42,7 +42,7 @@ invariant_of-self-2 c =
     let d = o.diagrams in
     let now = kept_of g d slots o.refused in
     let why : Refused = record { asked = asked.NoStates; first = None; second = None } in
-    let done = answered g o.own o.levels d slots c.keep.new.self c.room.new.self.slots.items c.settle.new.slots.slots.items o.refused c.settle.new.refused c.args.self.now.whole c.requires c.room.ensures.same (function_at d o.own.step.nothing) (no_states) (tells_nothing g o.own o.levels d slots o.refused c.args.self.now.whole) why ([]) (refl) c.told-made.result c.settle.result (subst (λ r. Makes d c.keep.new.self r (function_at d o.own.step.nothing)) (sym c.told-made.ensures) (told_makes d c.keep.new.self c.keep.result (function_at d o.own.step.nothing) (λ (made : Diagram). ⊥) c.keep.ensures.given)) c.settle.ensures in
+    let done = answered g o.own o.levels d slots c.keep.new.self c.room.new.self.slots.items c.settle.new.slots.slots.items o.refused c.settle.new.refused c.args.self.now.whole c.requires c.room.ensures.keeps (function_at d o.own.step.nothing) (no_states) (tells_nothing g o.own o.levels d slots o.refused c.args.self.now.whole) why ([]) (refl) c.told-made.result c.settle.result (subst (λ r. Makes d c.keep.new.self r (function_at d o.own.step.nothing)) (sym c.told-made.ensures) (told_makes d c.keep.new.self c.keep.result (function_at d o.own.step.nothing) (λ (made : Diagram). ⊥) c.keep.ensures.given)) c.settle.ensures in
     record { whole = done.object; coded = o.coded; room = o.room }
 
 pub returns-clause-never : goal.returns-clause-never

@@ -21,7 +21,7 @@ region-requires c =
     let g = game_data o.game in
     let slots = o.slots.slots.items in
     let d = o.diagrams in
-    subst (λ (ss : List Slot). HasRegionRoot ss c.args.a.now.slot) (sym c.room.ensures.same) (region_root g d slots o.refused c.args.a.now c.requires.a)
+    subst (λ (ss : List Slot). HasRegionRoot ss c.args.a.now.slot) (sym c.room.ensures.keeps) (region_root g d slots o.refused c.args.a.now c.requires.a)
 
 pub ite-made-requires-clause-a_kept : goal.ite-made-requires-clause-a_kept
 ite-made-requires-clause-a_kept c =
@@ -29,7 +29,7 @@ ite-made-requires-clause-a_kept c =
     let g = game_data o.game in
     let slots = o.slots.slots.items in
     let d = o.diagrams in
-    let here_a = subst (λ (ss : List Slot). HasContent ss c.args.a.now.slot (Region c.region.result.now)) c.room.ensures.same c.region.ensures in
+    let here_a = subst (λ (ss : List Slot). HasContent ss c.args.a.now.slot (Region c.region.result.now)) c.room.ensures.keeps c.region.ensures in
     held_root g o.own o.levels d slots o.refused c.args.self.now.whole c.args.a.now c.region.result.now here_a
 
 pub returns-clause-made : goal.returns-clause-made
@@ -38,10 +38,10 @@ returns-clause-made c =
     let g = game_data o.game in
     let slots = o.slots.slots.items in
     let d = o.diagrams in
-    let here_a = subst (λ (ss : List Slot). HasContent ss c.args.a.now.slot (Region c.region.result.now)) c.room.ensures.same c.region.ensures in
+    let here_a = subst (λ (ss : List Slot). HasContent ss c.args.a.now.slot (Region c.region.result.now)) c.room.ensures.keeps c.region.ensures in
     let now = kept_of g d slots o.refused in
     let why : Refused = record { asked = asked.Not; first = Some c.args.a.now.slot; second = None } in
-    let done = answered g o.own o.levels d slots c.ite-made.new.diagrams c.room.new.self.slots.items c.settle.new.slots.slots.items o.refused c.settle.new.refused c.args.self.now.whole c.requires.free c.room.ensures.same (choice (function_at d c.region.result.now) (function_at d o.own.step.nothing) (function_at d o.own.step.proper)) (rest g (now.set c.args.a.now)) (tells_not g o.own o.levels d slots o.refused c.args.self.now.whole c.args.a.now c.region.result.now here_a) why (States (now.set c.args.a.now) ∷ []) (one_argument g o.own o.levels d slots o.refused c.args.self.now.whole c.args.a.now c.region.result.now here_a) c.ite-made.result c.settle.result (c.ite-made.ensures.makes) c.settle.ensures in
+    let done = answered g o.own o.levels d slots c.ite-made.new.diagrams c.room.new.self.slots.items c.settle.new.slots.slots.items o.refused c.settle.new.refused c.args.self.now.whole c.requires.free c.room.ensures.keeps (choice (function_at d c.region.result.now) (function_at d o.own.step.nothing) (function_at d o.own.step.proper)) (rest g (now.set c.args.a.now)) (tells_not g o.own o.levels d slots o.refused c.args.self.now.whole c.args.a.now c.region.result.now here_a) why (States (now.set c.args.a.now) ∷ []) (one_argument g o.own o.levels d slots o.refused c.args.self.now.whole c.args.a.now c.region.result.now here_a) c.ite-made.result c.settle.result (c.ite-made.ensures.makes) c.settle.ensures in
     done.made
 
 pub returns-clause-halted : goal.returns-clause-halted
@@ -50,10 +50,10 @@ returns-clause-halted c =
     let g = game_data o.game in
     let slots = o.slots.slots.items in
     let d = o.diagrams in
-    let here_a = subst (λ (ss : List Slot). HasContent ss c.args.a.now.slot (Region c.region.result.now)) c.room.ensures.same c.region.ensures in
+    let here_a = subst (λ (ss : List Slot). HasContent ss c.args.a.now.slot (Region c.region.result.now)) c.room.ensures.keeps c.region.ensures in
     let now = kept_of g d slots o.refused in
     let why : Refused = record { asked = asked.Not; first = Some c.args.a.now.slot; second = None } in
-    let done = answered g o.own o.levels d slots c.ite-made.new.diagrams c.room.new.self.slots.items c.settle.new.slots.slots.items o.refused c.settle.new.refused c.args.self.now.whole c.requires.free c.room.ensures.same (choice (function_at d c.region.result.now) (function_at d o.own.step.nothing) (function_at d o.own.step.proper)) (rest g (now.set c.args.a.now)) (tells_not g o.own o.levels d slots o.refused c.args.self.now.whole c.args.a.now c.region.result.now here_a) why (States (now.set c.args.a.now) ∷ []) (one_argument g o.own o.levels d slots o.refused c.args.self.now.whole c.args.a.now c.region.result.now here_a) c.ite-made.result c.settle.result (c.ite-made.ensures.makes) c.settle.ensures in
+    let done = answered g o.own o.levels d slots c.ite-made.new.diagrams c.room.new.self.slots.items c.settle.new.slots.slots.items o.refused c.settle.new.refused c.args.self.now.whole c.requires.free c.room.ensures.keeps (choice (function_at d c.region.result.now) (function_at d o.own.step.nothing) (function_at d o.own.step.proper)) (rest g (now.set c.args.a.now)) (tells_not g o.own o.levels d slots o.refused c.args.self.now.whole c.args.a.now c.region.result.now here_a) why (States (now.set c.args.a.now) ∷ []) (one_argument g o.own o.levels d slots o.refused c.args.self.now.whole c.args.a.now c.region.result.now here_a) c.ite-made.result c.settle.result (c.ite-made.ensures.makes) c.settle.ensures in
     done.halted
 
 pub invariant_of-self-2 : goal.invariant_of-self-2
@@ -62,10 +62,10 @@ invariant_of-self-2 c =
     let g = game_data o.game in
     let slots = o.slots.slots.items in
     let d = o.diagrams in
-    let here_a = subst (λ (ss : List Slot). HasContent ss c.args.a.now.slot (Region c.region.result.now)) c.room.ensures.same c.region.ensures in
+    let here_a = subst (λ (ss : List Slot). HasContent ss c.args.a.now.slot (Region c.region.result.now)) c.room.ensures.keeps c.region.ensures in
     let now = kept_of g d slots o.refused in
     let why : Refused = record { asked = asked.Not; first = Some c.args.a.now.slot; second = None } in
-    let done = answered g o.own o.levels d slots c.ite-made.new.diagrams c.room.new.self.slots.items c.settle.new.slots.slots.items o.refused c.settle.new.refused c.args.self.now.whole c.requires.free c.room.ensures.same (choice (function_at d c.region.result.now) (function_at d o.own.step.nothing) (function_at d o.own.step.proper)) (rest g (now.set c.args.a.now)) (tells_not g o.own o.levels d slots o.refused c.args.self.now.whole c.args.a.now c.region.result.now here_a) why (States (now.set c.args.a.now) ∷ []) (one_argument g o.own o.levels d slots o.refused c.args.self.now.whole c.args.a.now c.region.result.now here_a) c.ite-made.result c.settle.result (c.ite-made.ensures.makes) c.settle.ensures in
+    let done = answered g o.own o.levels d slots c.ite-made.new.diagrams c.room.new.self.slots.items c.settle.new.slots.slots.items o.refused c.settle.new.refused c.args.self.now.whole c.requires.free c.room.ensures.keeps (choice (function_at d c.region.result.now) (function_at d o.own.step.nothing) (function_at d o.own.step.proper)) (rest g (now.set c.args.a.now)) (tells_not g o.own o.levels d slots o.refused c.args.self.now.whole c.args.a.now c.region.result.now here_a) why (States (now.set c.args.a.now) ∷ []) (one_argument g o.own o.levels d slots o.refused c.args.self.now.whole c.args.a.now c.region.result.now here_a) c.ite-made.result c.settle.result (c.ite-made.ensures.makes) c.settle.ensures in
     record { whole = done.object; coded = o.coded; room = o.room }
 
 pub returns-clause-cause : goal.returns-clause-cause

@@ -23,7 +23,7 @@ region-requires c =
     let g = game_data o.game in
     let slots = o.slots.slots.items in
     let d = o.diagrams in
-    subst (λ (ss : List Slot). HasRegionRoot ss c.args.a.now.slot) (sym c.room.ensures.same) (region_root g d slots o.refused c.args.a.now c.requires.a)
+    subst (λ (ss : List Slot). HasRegionRoot ss c.args.a.now.slot) (sym c.room.ensures.keeps) (region_root g d slots o.refused c.args.a.now c.requires.a)
 
 pub region-requires-2 : goal.region-requires-2
 region-requires-2 c =
@@ -31,7 +31,7 @@ region-requires-2 c =
     let g = game_data o.game in
     let slots = o.slots.slots.items in
     let d = o.diagrams in
-    subst (λ (ss : List Slot). HasRegionRoot ss c.args.b.now.slot) (sym c.room.ensures.same) (region_root g d slots o.refused c.args.b.now c.requires.b)
+    subst (λ (ss : List Slot). HasRegionRoot ss c.args.b.now.slot) (sym c.room.ensures.keeps) (region_root g d slots o.refused c.args.b.now c.requires.b)
 
 pub or-made-requires-clause-a_kept : goal.or-made-requires-clause-a_kept
 or-made-requires-clause-a_kept c =
@@ -39,8 +39,8 @@ or-made-requires-clause-a_kept c =
     let g = game_data o.game in
     let slots = o.slots.slots.items in
     let d = o.diagrams in
-    let here_a = subst (λ (ss : List Slot). HasContent ss c.args.a.now.slot (Region c.region.result.now)) c.room.ensures.same c.region.ensures in
-    let here_b = subst (λ (ss : List Slot). HasContent ss c.args.b.now.slot (Region c.region-2.result.now)) c.room.ensures.same c.region-2.ensures in
+    let here_a = subst (λ (ss : List Slot). HasContent ss c.args.a.now.slot (Region c.region.result.now)) c.room.ensures.keeps c.region.ensures in
+    let here_b = subst (λ (ss : List Slot). HasContent ss c.args.b.now.slot (Region c.region-2.result.now)) c.room.ensures.keeps c.region-2.ensures in
     held_root g o.own o.levels d slots o.refused c.args.self.now.whole c.args.a.now c.region.result.now here_a
 
 pub or-made-requires-clause-b_kept : goal.or-made-requires-clause-b_kept
@@ -49,8 +49,8 @@ or-made-requires-clause-b_kept c =
     let g = game_data o.game in
     let slots = o.slots.slots.items in
     let d = o.diagrams in
-    let here_a = subst (λ (ss : List Slot). HasContent ss c.args.a.now.slot (Region c.region.result.now)) c.room.ensures.same c.region.ensures in
-    let here_b = subst (λ (ss : List Slot). HasContent ss c.args.b.now.slot (Region c.region-2.result.now)) c.room.ensures.same c.region-2.ensures in
+    let here_a = subst (λ (ss : List Slot). HasContent ss c.args.a.now.slot (Region c.region.result.now)) c.room.ensures.keeps c.region.ensures in
+    let here_b = subst (λ (ss : List Slot). HasContent ss c.args.b.now.slot (Region c.region-2.result.now)) c.room.ensures.keeps c.region-2.ensures in
     held_root g o.own o.levels d slots o.refused c.args.self.now.whole c.args.b.now c.region-2.result.now here_b
 
 pub returns-clause-made : goal.returns-clause-made
@@ -59,11 +59,11 @@ returns-clause-made c =
     let g = game_data o.game in
     let slots = o.slots.slots.items in
     let d = o.diagrams in
-    let here_a = subst (λ (ss : List Slot). HasContent ss c.args.a.now.slot (Region c.region.result.now)) c.room.ensures.same c.region.ensures in
-    let here_b = subst (λ (ss : List Slot). HasContent ss c.args.b.now.slot (Region c.region-2.result.now)) c.room.ensures.same c.region-2.ensures in
+    let here_a = subst (λ (ss : List Slot). HasContent ss c.args.a.now.slot (Region c.region.result.now)) c.room.ensures.keeps c.region.ensures in
+    let here_b = subst (λ (ss : List Slot). HasContent ss c.args.b.now.slot (Region c.region-2.result.now)) c.room.ensures.keeps c.region-2.ensures in
     let now = kept_of g d slots o.refused in
     let why : Refused = record { asked = asked.Or; first = Some c.args.a.now.slot; second = Some c.args.b.now.slot } in
-    let done = answered g o.own o.levels d slots c.or-made.new.diagrams c.room.new.self.slots.items c.settle.new.slots.slots.items o.refused c.settle.new.refused c.args.self.now.whole c.requires.free c.room.ensures.same (joined (join_of false) (function_at d c.region.result.now) (function_at d c.region-2.result.now)) (either (now.set c.args.a.now) (now.set c.args.b.now)) (tells_either g Now _ _ _ _ (region_tells g o.own o.levels d slots o.refused c.args.self.now.whole c.args.a.now c.region.result.now here_a) (region_tells g o.own o.levels d slots o.refused c.args.self.now.whole c.args.b.now c.region-2.result.now here_b)) why (States (now.set c.args.a.now) ∷ States (now.set c.args.b.now) ∷ []) (two_arguments g o.own o.levels d slots o.refused c.args.self.now.whole c.args.a.now c.args.b.now c.region.result.now c.region-2.result.now here_a here_b) c.or-made.result c.settle.result (c.or-made.ensures.makes) c.settle.ensures in
+    let done = answered g o.own o.levels d slots c.or-made.new.diagrams c.room.new.self.slots.items c.settle.new.slots.slots.items o.refused c.settle.new.refused c.args.self.now.whole c.requires.free c.room.ensures.keeps (joined (join_of false) (function_at d c.region.result.now) (function_at d c.region-2.result.now)) (either (now.set c.args.a.now) (now.set c.args.b.now)) (tells_either g Now _ _ _ _ (region_tells g o.own o.levels d slots o.refused c.args.self.now.whole c.args.a.now c.region.result.now here_a) (region_tells g o.own o.levels d slots o.refused c.args.self.now.whole c.args.b.now c.region-2.result.now here_b)) why (States (now.set c.args.a.now) ∷ States (now.set c.args.b.now) ∷ []) (two_arguments g o.own o.levels d slots o.refused c.args.self.now.whole c.args.a.now c.args.b.now c.region.result.now c.region-2.result.now here_a here_b) c.or-made.result c.settle.result (c.or-made.ensures.makes) c.settle.ensures in
     done.made
 
 pub returns-clause-halted : goal.returns-clause-halted
@@ -72,11 +72,11 @@ returns-clause-halted c =
     let g = game_data o.game in
     let slots = o.slots.slots.items in
     let d = o.diagrams in
-    let here_a = subst (λ (ss : List Slot). HasContent ss c.args.a.now.slot (Region c.region.result.now)) c.room.ensures.same c.region.ensures in
-    let here_b = subst (λ (ss : List Slot). HasContent ss c.args.b.now.slot (Region c.region-2.result.now)) c.room.ensures.same c.region-2.ensures in
+    let here_a = subst (λ (ss : List Slot). HasContent ss c.args.a.now.slot (Region c.region.result.now)) c.room.ensures.keeps c.region.ensures in
+    let here_b = subst (λ (ss : List Slot). HasContent ss c.args.b.now.slot (Region c.region-2.result.now)) c.room.ensures.keeps c.region-2.ensures in
     let now = kept_of g d slots o.refused in
     let why : Refused = record { asked = asked.Or; first = Some c.args.a.now.slot; second = Some c.args.b.now.slot } in
-    let done = answered g o.own o.levels d slots c.or-made.new.diagrams c.room.new.self.slots.items c.settle.new.slots.slots.items o.refused c.settle.new.refused c.args.self.now.whole c.requires.free c.room.ensures.same (joined (join_of false) (function_at d c.region.result.now) (function_at d c.region-2.result.now)) (either (now.set c.args.a.now) (now.set c.args.b.now)) (tells_either g Now _ _ _ _ (region_tells g o.own o.levels d slots o.refused c.args.self.now.whole c.args.a.now c.region.result.now here_a) (region_tells g o.own o.levels d slots o.refused c.args.self.now.whole c.args.b.now c.region-2.result.now here_b)) why (States (now.set c.args.a.now) ∷ States (now.set c.args.b.now) ∷ []) (two_arguments g o.own o.levels d slots o.refused c.args.self.now.whole c.args.a.now c.args.b.now c.region.result.now c.region-2.result.now here_a here_b) c.or-made.result c.settle.result (c.or-made.ensures.makes) c.settle.ensures in
+    let done = answered g o.own o.levels d slots c.or-made.new.diagrams c.room.new.self.slots.items c.settle.new.slots.slots.items o.refused c.settle.new.refused c.args.self.now.whole c.requires.free c.room.ensures.keeps (joined (join_of false) (function_at d c.region.result.now) (function_at d c.region-2.result.now)) (either (now.set c.args.a.now) (now.set c.args.b.now)) (tells_either g Now _ _ _ _ (region_tells g o.own o.levels d slots o.refused c.args.self.now.whole c.args.a.now c.region.result.now here_a) (region_tells g o.own o.levels d slots o.refused c.args.self.now.whole c.args.b.now c.region-2.result.now here_b)) why (States (now.set c.args.a.now) ∷ States (now.set c.args.b.now) ∷ []) (two_arguments g o.own o.levels d slots o.refused c.args.self.now.whole c.args.a.now c.args.b.now c.region.result.now c.region-2.result.now here_a here_b) c.or-made.result c.settle.result (c.or-made.ensures.makes) c.settle.ensures in
     done.halted
 
 pub invariant_of-self-2 : goal.invariant_of-self-2
@@ -85,11 +85,11 @@ invariant_of-self-2 c =
     let g = game_data o.game in
     let slots = o.slots.slots.items in
     let d = o.diagrams in
-    let here_a = subst (λ (ss : List Slot). HasContent ss c.args.a.now.slot (Region c.region.result.now)) c.room.ensures.same c.region.ensures in
-    let here_b = subst (λ (ss : List Slot). HasContent ss c.args.b.now.slot (Region c.region-2.result.now)) c.room.ensures.same c.region-2.ensures in
+    let here_a = subst (λ (ss : List Slot). HasContent ss c.args.a.now.slot (Region c.region.result.now)) c.room.ensures.keeps c.region.ensures in
+    let here_b = subst (λ (ss : List Slot). HasContent ss c.args.b.now.slot (Region c.region-2.result.now)) c.room.ensures.keeps c.region-2.ensures in
     let now = kept_of g d slots o.refused in
     let why : Refused = record { asked = asked.Or; first = Some c.args.a.now.slot; second = Some c.args.b.now.slot } in
-    let done = answered g o.own o.levels d slots c.or-made.new.diagrams c.room.new.self.slots.items c.settle.new.slots.slots.items o.refused c.settle.new.refused c.args.self.now.whole c.requires.free c.room.ensures.same (joined (join_of false) (function_at d c.region.result.now) (function_at d c.region-2.result.now)) (either (now.set c.args.a.now) (now.set c.args.b.now)) (tells_either g Now _ _ _ _ (region_tells g o.own o.levels d slots o.refused c.args.self.now.whole c.args.a.now c.region.result.now here_a) (region_tells g o.own o.levels d slots o.refused c.args.self.now.whole c.args.b.now c.region-2.result.now here_b)) why (States (now.set c.args.a.now) ∷ States (now.set c.args.b.now) ∷ []) (two_arguments g o.own o.levels d slots o.refused c.args.self.now.whole c.args.a.now c.args.b.now c.region.result.now c.region-2.result.now here_a here_b) c.or-made.result c.settle.result (c.or-made.ensures.makes) c.settle.ensures in
+    let done = answered g o.own o.levels d slots c.or-made.new.diagrams c.room.new.self.slots.items c.settle.new.slots.slots.items o.refused c.settle.new.refused c.args.self.now.whole c.requires.free c.room.ensures.keeps (joined (join_of false) (function_at d c.region.result.now) (function_at d c.region-2.result.now)) (either (now.set c.args.a.now) (now.set c.args.b.now)) (tells_either g Now _ _ _ _ (region_tells g o.own o.levels d slots o.refused c.args.self.now.whole c.args.a.now c.region.result.now here_a) (region_tells g o.own o.levels d slots o.refused c.args.self.now.whole c.args.b.now c.region-2.result.now here_b)) why (States (now.set c.args.a.now) ∷ States (now.set c.args.b.now) ∷ []) (two_arguments g o.own o.levels d slots o.refused c.args.self.now.whole c.args.a.now c.args.b.now c.region.result.now c.region-2.result.now here_a here_b) c.or-made.result c.settle.result (c.or-made.ensures.makes) c.settle.ensures in
     record { whole = done.object; coded = o.coded; room = o.room }
 
 pub returns-clause-cause : goal.returns-clause-cause

@@ -23,7 +23,7 @@ region-requires c =
     let g = game_data o.game in
     let slots = o.slots.slots.items in
     let d = o.diagrams in
-    subst (λ (ss : List Slot). HasRegionRoot ss c.args.t.now.slot) (sym c.room.ensures.same) (region_root g d slots o.refused c.args.t.now c.requires.t)
+    subst (λ (ss : List Slot). HasRegionRoot ss c.args.t.now.slot) (sym c.room.ensures.keeps) (region_root g d slots o.refused c.args.t.now c.requires.t)
 
 pub shift-made-requires-clause-kept : goal.shift-made-requires-clause-kept
 shift-made-requires-clause-kept c =
@@ -31,7 +31,7 @@ shift-made-requires-clause-kept c =
     let g = game_data o.game in
     let slots = o.slots.slots.items in
     let d = o.diagrams in
-    let here_t = subst (λ (ss : List Slot). HasContent ss c.args.t.now.slot (Region c.region.result.now)) c.room.ensures.same c.region.ensures in
+    let here_t = subst (λ (ss : List Slot). HasContent ss c.args.t.now.slot (Region c.region.result.now)) c.room.ensures.keeps c.region.ensures in
     let f = function_at d c.region.result.now in
     let tells = region_tells g o.own o.levels d slots o.refused o.whole c.args.t.now c.region.result.now here_t in
     held_root g o.own o.levels d slots o.refused o.whole c.args.t.now c.region.result.now here_t
@@ -42,7 +42,7 @@ shift-made-requires-clause-rising c =
     let g = game_data o.game in
     let slots = o.slots.slots.items in
     let d = o.diagrams in
-    let here_t = subst (λ (ss : List Slot). HasContent ss c.args.t.now.slot (Region c.region.result.now)) c.room.ensures.same c.region.ensures in
+    let here_t = subst (λ (ss : List Slot). HasContent ss c.args.t.now.slot (Region c.region.result.now)) c.room.ensures.keeps c.region.ensures in
     let f = function_at d c.region.result.now in
     let tells = region_tells g o.own o.levels d slots o.refused o.whole c.args.t.now c.region.result.now here_t in
     subst (λ (to : List ℕ). RisesOver d.state.table.levels to f) (sym c.deref.ensures.value) (rises_to_next g f tells.states d.state.table.levels o.levels.to.items o.whole.levels o.whole.lists_are.to)
@@ -53,13 +53,13 @@ invariant_of-self-2 c =
     let g = game_data o.game in
     let slots = o.slots.slots.items in
     let d = o.diagrams in
-    let here_t = subst (λ (ss : List Slot). HasContent ss c.args.t.now.slot (Region c.region.result.now)) c.room.ensures.same c.region.ensures in
+    let here_t = subst (λ (ss : List Slot). HasContent ss c.args.t.now.slot (Region c.region.result.now)) c.room.ensures.keeps c.region.ensures in
     let f = function_at d c.region.result.now in
     let tells = region_tells g o.own o.levels d slots o.refused o.whole c.args.t.now c.region.result.now here_t in
     let now = kept_of g d slots o.refused in
     let why : Refused = record { asked = asked.OutMoves c.args.when; first = Some c.args.t.now.slot; second = None } in
     let makes = subst (λ (to : List ℕ). Makes d c.shift-made.new.diagrams c.shift-made.result (shifted to f)) c.deref.ensures.value c.shift-made.ensures.makes in
-    let done = outputs_answered g o.own c.args.when o.levels d c.shift-made.new.diagrams slots c.room.new.self.slots.items c.settle_outputs.new.slots.slots.items o.refused c.settle_outputs.new.refused o.whole c.requires.free c.room.ensures.same (now.set c.args.t.now) why (States (now.set c.args.t.now) ∷ []) (one_argument g o.own o.levels d slots o.refused o.whole c.args.t.now c.region.result.now here_t) (shifted o.levels.to.items f) (tells_next g o.levels.to.items o.whole.lists_are.to f (now.set c.args.t.now) tells) c.shift-made.result c.settle_outputs.result makes c.settle_outputs.ensures in
+    let done = outputs_answered g o.own c.args.when o.levels d c.shift-made.new.diagrams slots c.room.new.self.slots.items c.settle_outputs.new.slots.slots.items o.refused c.settle_outputs.new.refused o.whole c.requires.free c.room.ensures.keeps (now.set c.args.t.now) why (States (now.set c.args.t.now) ∷ []) (one_argument g o.own o.levels d slots o.refused o.whole c.args.t.now c.region.result.now here_t) (shifted o.levels.to.items f) (tells_next g o.levels.to.items o.whole.lists_are.to f (now.set c.args.t.now) tells) c.shift-made.result c.settle_outputs.result makes c.settle_outputs.ensures in
     record { whole = done.object; coded = o.coded; room = o.room }
 
 pub returns-clause-made : goal.returns-clause-made
@@ -68,13 +68,13 @@ returns-clause-made c =
     let g = game_data o.game in
     let slots = o.slots.slots.items in
     let d = o.diagrams in
-    let here_t = subst (λ (ss : List Slot). HasContent ss c.args.t.now.slot (Region c.region.result.now)) c.room.ensures.same c.region.ensures in
+    let here_t = subst (λ (ss : List Slot). HasContent ss c.args.t.now.slot (Region c.region.result.now)) c.room.ensures.keeps c.region.ensures in
     let f = function_at d c.region.result.now in
     let tells = region_tells g o.own o.levels d slots o.refused o.whole c.args.t.now c.region.result.now here_t in
     let now = kept_of g d slots o.refused in
     let why : Refused = record { asked = asked.OutMoves c.args.when; first = Some c.args.t.now.slot; second = None } in
     let makes = subst (λ (to : List ℕ). Makes d c.shift-made.new.diagrams c.shift-made.result (shifted to f)) c.deref.ensures.value c.shift-made.ensures.makes in
-    let done = outputs_answered g o.own c.args.when o.levels d c.shift-made.new.diagrams slots c.room.new.self.slots.items c.settle_outputs.new.slots.slots.items o.refused c.settle_outputs.new.refused o.whole c.requires.free c.room.ensures.same (now.set c.args.t.now) why (States (now.set c.args.t.now) ∷ []) (one_argument g o.own o.levels d slots o.refused o.whole c.args.t.now c.region.result.now here_t) (shifted o.levels.to.items f) (tells_next g o.levels.to.items o.whole.lists_are.to f (now.set c.args.t.now) tells) c.shift-made.result c.settle_outputs.result makes c.settle_outputs.ensures in
+    let done = outputs_answered g o.own c.args.when o.levels d c.shift-made.new.diagrams slots c.room.new.self.slots.items c.settle_outputs.new.slots.slots.items o.refused c.settle_outputs.new.refused o.whole c.requires.free c.room.ensures.keeps (now.set c.args.t.now) why (States (now.set c.args.t.now) ∷ []) (one_argument g o.own o.levels d slots o.refused o.whole c.args.t.now c.region.result.now here_t) (shifted o.levels.to.items f) (tells_next g o.levels.to.items o.whole.lists_are.to f (now.set c.args.t.now) tells) c.shift-made.result c.settle_outputs.result makes c.settle_outputs.ensures in
     done.made
 
 pub returns-clause-halted : goal.returns-clause-halted
@@ -83,13 +83,13 @@ returns-clause-halted c =
     let g = game_data o.game in
     let slots = o.slots.slots.items in
     let d = o.diagrams in
-    let here_t = subst (λ (ss : List Slot). HasContent ss c.args.t.now.slot (Region c.region.result.now)) c.room.ensures.same c.region.ensures in
+    let here_t = subst (λ (ss : List Slot). HasContent ss c.args.t.now.slot (Region c.region.result.now)) c.room.ensures.keeps c.region.ensures in
     let f = function_at d c.region.result.now in
     let tells = region_tells g o.own o.levels d slots o.refused o.whole c.args.t.now c.region.result.now here_t in
     let now = kept_of g d slots o.refused in
     let why : Refused = record { asked = asked.OutMoves c.args.when; first = Some c.args.t.now.slot; second = None } in
     let makes = subst (λ (to : List ℕ). Makes d c.shift-made.new.diagrams c.shift-made.result (shifted to f)) c.deref.ensures.value c.shift-made.ensures.makes in
-    let done = outputs_answered g o.own c.args.when o.levels d c.shift-made.new.diagrams slots c.room.new.self.slots.items c.settle_outputs.new.slots.slots.items o.refused c.settle_outputs.new.refused o.whole c.requires.free c.room.ensures.same (now.set c.args.t.now) why (States (now.set c.args.t.now) ∷ []) (one_argument g o.own o.levels d slots o.refused o.whole c.args.t.now c.region.result.now here_t) (shifted o.levels.to.items f) (tells_next g o.levels.to.items o.whole.lists_are.to f (now.set c.args.t.now) tells) c.shift-made.result c.settle_outputs.result makes c.settle_outputs.ensures in
+    let done = outputs_answered g o.own c.args.when o.levels d c.shift-made.new.diagrams slots c.room.new.self.slots.items c.settle_outputs.new.slots.slots.items o.refused c.settle_outputs.new.refused o.whole c.requires.free c.room.ensures.keeps (now.set c.args.t.now) why (States (now.set c.args.t.now) ∷ []) (one_argument g o.own o.levels d slots o.refused o.whole c.args.t.now c.region.result.now here_t) (shifted o.levels.to.items f) (tells_next g o.levels.to.items o.whole.lists_are.to f (now.set c.args.t.now) tells) c.shift-made.result c.settle_outputs.result makes c.settle_outputs.ensures in
     done.halted
 
 pub returns-clause-cause : goal.returns-clause-cause

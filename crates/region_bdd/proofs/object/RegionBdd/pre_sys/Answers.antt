@@ -12,7 +12,8 @@ use Rattle.region_bdd.specs.declared.own.Refused.{Refused}
 use Rattle.region_bdd.specs.declared.own.Asked.TheVariants as asked
 use Rattle.region_bdd.specs.Slots.{HasContent, HasRegionRoot}
 use Rattle.region_bdd.specs.Object.{kept_of}
-use Rattle.region_bdd.proofs.ObjectLaws.{region_root}
+use Rattle.early_products.proofs.KeepingLemmas.{keeps_itself}
+use Rattle.region_bdd.proofs.ObjectLaws.{region_root, early_roots}
 use Rattle.region_bdd.proofs.OutcomeLaws.{answered, budget_cause}
 use Rattle.region_bdd.proofs.SetCalls.{later_roots, held_root, region_tells, one_argument, tells_forced}
 use Rattle.region_bdd.proofs.object.RegionBdd.pre_sys.Goals as goal
@@ -23,7 +24,7 @@ region-requires c =
     let g = game_data o.game in
     let slots = o.slots.slots.items in
     let d = o.diagrams in
-    subst (λ (ss : List Slot). HasRegionRoot ss c.args.t.now.slot) (sym c.room.ensures.same) (region_root g d slots o.refused c.args.t.now c.requires.t)
+    subst (λ (ss : List Slot). HasRegionRoot ss c.args.t.now.slot) (sym c.room.ensures.keeps) (region_root g d slots o.refused c.args.t.now c.requires.t)
 
 pub system_states-made-requires-clause-t : goal.system_states-made-requires-clause-t
 system_states-made-requires-clause-t c =
@@ -31,7 +32,7 @@ system_states-made-requires-clause-t c =
     let g = game_data o.game in
     let slots = o.slots.slots.items in
     let d = o.diagrams in
-    let here_t = subst (λ (ss : List Slot). HasContent ss c.args.t.now.slot (Region c.region.result.now)) c.room.ensures.same c.region.ensures in
+    let here_t = subst (λ (ss : List Slot). HasContent ss c.args.t.now.slot (Region c.region.result.now)) c.room.ensures.keeps c.region.ensures in
     held_root g o.own o.levels d slots o.refused c.args.self.now.whole c.args.t.now c.region.result.now here_t
 
 pub system_states-made-requires-clause-later : goal.system_states-made-requires-clause-later
@@ -40,7 +41,7 @@ system_states-made-requires-clause-later c =
     let g = game_data o.game in
     let slots = o.slots.slots.items in
     let d = o.diagrams in
-    let here_t = subst (λ (ss : List Slot). HasContent ss c.args.t.now.slot (Region c.region.result.now)) c.room.ensures.same c.region.ensures in
+    let here_t = subst (λ (ss : List Slot). HasContent ss c.args.t.now.slot (Region c.region.result.now)) c.room.ensures.keeps c.region.ensures in
     later_roots g o.own o.levels d slots o.refused c.args.self.now.whole
 
 pub system_states-made-requires-clause-rising : goal.system_states-made-requires-clause-rising
@@ -49,7 +50,7 @@ system_states-made-requires-clause-rising c =
     let g = game_data o.game in
     let slots = o.slots.slots.items in
     let d = o.diagrams in
-    let here_t = subst (λ (ss : List Slot). HasContent ss c.args.t.now.slot (Region c.region.result.now)) c.room.ensures.same c.region.ensures in
+    let here_t = subst (λ (ss : List Slot). HasContent ss c.args.t.now.slot (Region c.region.result.now)) c.room.ensures.keeps c.region.ensures in
     rises_to_next g (function_at d c.region.result.now) (region_tells g o.own o.levels d slots o.refused c.args.self.now.whole c.args.t.now c.region.result.now here_t).states d.state.table.levels o.levels.to.items c.args.self.now.whole.levels c.args.self.now.whole.lists_are.to
 
 pub returns-clause-made : goal.returns-clause-made
@@ -58,10 +59,10 @@ returns-clause-made c =
     let g = game_data o.game in
     let slots = o.slots.slots.items in
     let d = o.diagrams in
-    let here_t = subst (λ (ss : List Slot). HasContent ss c.args.t.now.slot (Region c.region.result.now)) c.room.ensures.same c.region.ensures in
+    let here_t = subst (λ (ss : List Slot). HasContent ss c.args.t.now.slot (Region c.region.result.now)) c.room.ensures.keeps c.region.ensures in
     let now = kept_of g d slots o.refused in
     let why : Refused = record { asked = asked.PreSys; first = Some c.args.t.now.slot; second = None } in
-    let done = answered g o.own o.levels d slots c.system_states-made.new.diagrams c.room.new.self.slots.items c.settle.new.slots.slots.items o.refused c.settle.new.refused c.args.self.now.whole c.requires.free c.room.ensures.same (choice (avoiding (move_functions d o.own.step.later) o.levels.reply.items o.levels.all.items (shifted o.levels.to.items (function_at d c.region.result.now))) (function_at d o.own.step.nothing) (function_at d o.own.step.proper)) (system_forces_set g (now.set c.args.t.now)) (tells_forced g o.own o.levels d slots o.refused c.args.self.now.whole c.args.t.now c.region.result.now here_t) why (States (now.set c.args.t.now) ∷ []) (one_argument g o.own o.levels d slots o.refused c.args.self.now.whole c.args.t.now c.region.result.now here_t) c.system_states-made.result c.settle.result (c.system_states-made.ensures.made) c.settle.ensures in
+    let done = answered g o.own o.levels d slots c.system_states-made.new.diagrams c.room.new.self.slots.items c.settle.new.slots.slots.items o.refused c.settle.new.refused c.args.self.now.whole c.requires.free c.room.ensures.keeps (choice (avoiding (move_functions d o.own.step.later) o.levels.reply.items o.levels.all.items (shifted o.levels.to.items (function_at d c.region.result.now))) (function_at d o.own.step.nothing) (function_at d o.own.step.proper)) (system_forces_set g (now.set c.args.t.now)) (tells_forced g o.own o.levels d slots o.refused c.args.self.now.whole c.args.t.now c.region.result.now here_t) why (States (now.set c.args.t.now) ∷ []) (one_argument g o.own o.levels d slots o.refused c.args.self.now.whole c.args.t.now c.region.result.now here_t) c.system_states-made.result c.settle.result (c.system_states-made.ensures) c.settle.ensures in
     done.made
 
 pub returns-clause-halted : goal.returns-clause-halted
@@ -70,10 +71,10 @@ returns-clause-halted c =
     let g = game_data o.game in
     let slots = o.slots.slots.items in
     let d = o.diagrams in
-    let here_t = subst (λ (ss : List Slot). HasContent ss c.args.t.now.slot (Region c.region.result.now)) c.room.ensures.same c.region.ensures in
+    let here_t = subst (λ (ss : List Slot). HasContent ss c.args.t.now.slot (Region c.region.result.now)) c.room.ensures.keeps c.region.ensures in
     let now = kept_of g d slots o.refused in
     let why : Refused = record { asked = asked.PreSys; first = Some c.args.t.now.slot; second = None } in
-    let done = answered g o.own o.levels d slots c.system_states-made.new.diagrams c.room.new.self.slots.items c.settle.new.slots.slots.items o.refused c.settle.new.refused c.args.self.now.whole c.requires.free c.room.ensures.same (choice (avoiding (move_functions d o.own.step.later) o.levels.reply.items o.levels.all.items (shifted o.levels.to.items (function_at d c.region.result.now))) (function_at d o.own.step.nothing) (function_at d o.own.step.proper)) (system_forces_set g (now.set c.args.t.now)) (tells_forced g o.own o.levels d slots o.refused c.args.self.now.whole c.args.t.now c.region.result.now here_t) why (States (now.set c.args.t.now) ∷ []) (one_argument g o.own o.levels d slots o.refused c.args.self.now.whole c.args.t.now c.region.result.now here_t) c.system_states-made.result c.settle.result (c.system_states-made.ensures.made) c.settle.ensures in
+    let done = answered g o.own o.levels d slots c.system_states-made.new.diagrams c.room.new.self.slots.items c.settle.new.slots.slots.items o.refused c.settle.new.refused c.args.self.now.whole c.requires.free c.room.ensures.keeps (choice (avoiding (move_functions d o.own.step.later) o.levels.reply.items o.levels.all.items (shifted o.levels.to.items (function_at d c.region.result.now))) (function_at d o.own.step.nothing) (function_at d o.own.step.proper)) (system_forces_set g (now.set c.args.t.now)) (tells_forced g o.own o.levels d slots o.refused c.args.self.now.whole c.args.t.now c.region.result.now here_t) why (States (now.set c.args.t.now) ∷ []) (one_argument g o.own o.levels d slots o.refused c.args.self.now.whole c.args.t.now c.region.result.now here_t) c.system_states-made.result c.settle.result (c.system_states-made.ensures) c.settle.ensures in
     done.halted
 
 pub invariant_of-self-2 : goal.invariant_of-self-2
@@ -82,13 +83,21 @@ invariant_of-self-2 c =
     let g = game_data o.game in
     let slots = o.slots.slots.items in
     let d = o.diagrams in
-    let here_t = subst (λ (ss : List Slot). HasContent ss c.args.t.now.slot (Region c.region.result.now)) c.room.ensures.same c.region.ensures in
+    let here_t = subst (λ (ss : List Slot). HasContent ss c.args.t.now.slot (Region c.region.result.now)) c.room.ensures.keeps c.region.ensures in
     let now = kept_of g d slots o.refused in
     let why : Refused = record { asked = asked.PreSys; first = Some c.args.t.now.slot; second = None } in
-    let done = answered g o.own o.levels d slots c.system_states-made.new.diagrams c.room.new.self.slots.items c.settle.new.slots.slots.items o.refused c.settle.new.refused c.args.self.now.whole c.requires.free c.room.ensures.same (choice (avoiding (move_functions d o.own.step.later) o.levels.reply.items o.levels.all.items (shifted o.levels.to.items (function_at d c.region.result.now))) (function_at d o.own.step.nothing) (function_at d o.own.step.proper)) (system_forces_set g (now.set c.args.t.now)) (tells_forced g o.own o.levels d slots o.refused c.args.self.now.whole c.args.t.now c.region.result.now here_t) why (States (now.set c.args.t.now) ∷ []) (one_argument g o.own o.levels d slots o.refused c.args.self.now.whole c.args.t.now c.region.result.now here_t) c.system_states-made.result c.settle.result (c.system_states-made.ensures.made) c.settle.ensures in
+    let done = answered g o.own o.levels d slots c.system_states-made.new.diagrams c.room.new.self.slots.items c.settle.new.slots.slots.items o.refused c.settle.new.refused c.args.self.now.whole c.requires.free c.room.ensures.keeps (choice (avoiding (move_functions d o.own.step.later) o.levels.reply.items o.levels.all.items (shifted o.levels.to.items (function_at d c.region.result.now))) (function_at d o.own.step.nothing) (function_at d o.own.step.proper)) (system_forces_set g (now.set c.args.t.now)) (tells_forced g o.own o.levels d slots o.refused c.args.self.now.whole c.args.t.now c.region.result.now here_t) why (States (now.set c.args.t.now) ∷ []) (one_argument g o.own o.levels d slots o.refused c.args.self.now.whole c.args.t.now c.region.result.now here_t) c.system_states-made.result c.settle.result (c.system_states-made.ensures) c.settle.ensures in
     record { whole = done.object; coded = o.coded; room = o.room }
 
 pub returns-clause-cause : goal.returns-clause-cause
 returns-clause-cause c =
     let why : Refused = record { asked = asked.PreSys; first = Some c.args.t.now.slot; second = None } in
-    budget_cause c.room.new.self.slots.items c.settle.new.slots.slots.items c.settle.new.refused c.system_states-made.result c.settle.result why _ c.settle.ensures c.system_states-made.ensures.made.full
+    budget_cause c.room.new.self.slots.items c.settle.new.slots.slots.items c.settle.new.refused c.system_states-made.result c.settle.result why _ c.settle.ensures c.system_states-made.ensures.full
+
+pub system_states-made-requires-clause-kept : goal.system_states-made-requires-clause-kept
+system_states-made-requires-clause-kept c =
+    let o = c.args.self.now in
+    early_roots (game_data o.game) o.own o.diagrams o.diagrams o.slots.slots.items o.whole.sound (keeps_itself o.diagrams)
+
+pub system_states-made-requires-clause-fits : goal.system_states-made-requires-clause-fits
+system_states-made-requires-clause-fits c = c.args.self.now.whole.early

@@ -3,8 +3,9 @@ use Rattle.spec_model.specs.GameViews.{game_data}
 use Rattle.regions.specs.Kept.{Region as RegionItem, Spends}
 use Rattle.region_bdd.specs.declared.slots.Content.TheVariants.{Region}
 use Rattle.region_bdd.specs.declared.own.Refused.{Refused}
+use Rattle.region_bdd.specs.Needs.{IsTight}
 use Rattle.region_bdd.specs.Object.{IsOpen, kept_of}
-use Rattle.region_bdd.proofs.ObjectLaws.{region_root, spends_freed, spends_marked, some_refused, not_refused}
+use Rattle.region_bdd.proofs.ObjectLaws.{region_root, spends_freed, spends_marked, some_refused, not_refused, early_fits, same_table}
 use Rattle.region_bdd.proofs.SetCalls.{held_root}
 use Rattle.region_bdd.proofs.object.RegionBdd.spend.Goals as goal
 
@@ -40,8 +41,10 @@ invariant_of-self c =
             made = c.args.self.now.whole.made;
             levels = c.args.self.now.whole.levels;
             lists_are = c.args.self.now.whole.lists_are;
+            early = c.args.self.now.whole.early;
             sound = spent.1;
             unspent = subst (λ (r : Option Refused). IsOpen r new) (sym some.1) tt;
+            tight = c.args.self.now.whole.tight;
           };
       coded = c.args.self.now.coded;
       room = c.args.self.now.room;
@@ -83,8 +86,10 @@ invariant_of-self-2 c =
             made = c.args.self.now.whole.made;
             levels = ap (λ t. t.levels) c.release.ensures.table ∙ c.args.self.now.whole.levels;
             lists_are = c.args.self.now.whole.lists_are;
+            early = early_fits g o.own o.diagrams c.release.new.self slots o.whole.sound (same_table o.diagrams c.release.new.self c.release.ensures.table) o.levels o.whole.early;
             sound = spent.1;
             unspent = subst (λ (r : Option Refused). IsOpen r new) (sym none) spent.2;
+            tight = subst (λ (r : Option Refused). IsTight r c.release.new.self.state.table) (sym none) tt;
           };
       coded = c.args.self.now.coded;
       room = c.args.self.now.room;

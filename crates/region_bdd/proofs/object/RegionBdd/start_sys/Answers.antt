@@ -95,8 +95,8 @@ returns-clause-halted c =
     let done = told g o.own o.levels d c.is_empty-asked.new.diagrams slots o.refused c.settle_answer.new.refused o.whole c.requires.free (f ≡ function_at d o.own.step.nothing) why (States (now.set c.args.t.now) ∷ []) (one_argument g o.own o.levels d slots o.refused o.whole c.args.t.now c.region.result.now here) c.is_empty-asked.result c.settle_answer.result (c.is_empty-asked.ensures d f c.avoiding_set-made.ensures (nothing_root g o.own o.levels d slots o.refused o.whole)) c.settle_answer.ensures in
     done.halted
 
-pub returns-clause-same : goal.returns-clause-same
-returns-clause-same c =
+pub returns-clause-keeps : goal.returns-clause-keeps
+returns-clause-keeps c =
     let o = c.args.self.now in
     let g = game_data o.game in
     let slots = o.slots.slots.items in

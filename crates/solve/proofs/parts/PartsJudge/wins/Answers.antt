@@ -3,6 +3,7 @@ use Rattle.std.proofs.lemmas.Bool.{false≢true}
 use Rattle.spec_model.specs.Cores.{with_guarantees, guarantees_of}
 use Rattle.core_min.proofs.Few.{few}
 use Rattle.solve.specs.Winners.{IsWonBySystem, IsWonByEnvironment}
+use Rattle.solve.specs.Budgets.{MayHalt}
 use Rattle.solve.specs.Verdicts.{AreNumbersOf}
 use Rattle.solve.specs.Judged.{whole_of}
 use Rattle.solve.specs.Places.{at_places, part_at}
@@ -59,11 +60,12 @@ returns-in-Err-clause-cause c =
     let room = c.args.self.now.asked_room in
     let capacity = c.clear.ensures.capacity in
     let none = c.clear.ensures.len in
+    let part : c.deref.result.now ≡ at_places (guarantees_of s) c.args.kept.now = c.deref.ensures.value ∙ (c.pick.ensures.picked ∙ ap (λ ns. at_places ns c.args.kept.now) c.args.self.now.numbered) in
     record {
       rose = omega (arith, c.saturating_add-self.ensures);
       latest =
           ap (λ (items : List ℕ). Some (c.in-Err.halt, items))
           (kept_now c.extend_from_slice.result c.extend_from_slice.new.self.items c.clear.new.self.items c.args.kept.now
           (c.extend_from_slice.ensures.succeeds (omega (arith, short, same, room, capacity, none))) c.extend_from_slice.ensures.items c.clear.ensures.items);
-      allowed = tt;
+      allowed = subst (λ (ns : List ℕ). MayHalt c.args.self.now.budget (with_guarantees s ns) c.in-Err.halt) part c.in-Err.ensures.cause;
     }

@@ -4,7 +4,7 @@ use Rattle.bdd_ops.specs.Contents.{function_at}
 use Rattle.bit_compile.specs.Making.{Makes}
 use Rattle.bit_compile.specs.Compiled.{some_pair}
 use Rattle.bit_compile.specs.CaseRoots.{AreKept, cases_at, passes}
-use Rattle.bit_compile.proofs.pairs.pair_root.Given as goal
+use Rattle.bit_compile.proofs.pairs.pair_by_pair.Given as goal
 
 -- the rows so far, and those that are left
 abbrev pub invariant-loop-x : goal.invariant-loop-x

@@ -9,7 +9,7 @@ use Rattle.bit_compile.specs.CaseRoots.{case_at, cases_at, passes}
 use Rattle.game_values.proofs.Lists.{map_drop}
 use Rattle.bit_compile.proofs.Between.{function_stays, cases_stay, root_after}
 use Rattle.bit_compile.proofs.Folding.{row_of, rows_step, rows_done, finished, own, turn, all_next, past_end, refused_makes, so_far_kept, still_root, all_still}
-use Rattle.bit_compile.proofs.pairs.pair_root.Goals as goal
+use Rattle.bit_compile.proofs.pairs.pair_by_pair.Goals as goal
 
 pub loop-x-init : goal.loop-x-init
 loop-x-init c =

@@ -1,0 +1,36 @@
+-- The lines of a game's moves as products.
+use Rattle.std.specs.Prelude.{ℕ, ◌+◌, true, Option, Some, None}
+use Rattle.bdd_ops.specs.Functions.{joined, join_of}
+use Rattle.bdd_ops.specs.Contents.{Contents}
+use Rattle.state_diagrams.specs.declared.moves.NextLevels.{NextLevels}
+use Rattle.state_diagrams.specs.Members.{MoveFunctions, AreRoots}
+use Rattle.state_diagrams.specs.Lists.{times_in}
+use Rattle.early_products.specs.declared.early.Early.{Early}
+use Rattle.early_products.specs.Products.{IsProduct}
+
+-- the products are of the legal outputs with the update, and of the legal inputs
+pub record IsEarly (m : MoveFunctions) (levels : NextLevels) (c : Contents) (e : Early) : Type 0 where
+  pub replies : IsProduct (joined (join_of true) m.outputs m.update) levels.reply.items c e.replies
+  pub inputs : IsProduct m.inputs levels.all.items c e.inputs
+
+-- if there are any
+abbrev pub FitsEarly : MoveFunctions → NextLevels → Contents → Option Early → Type 0
+FitsEarly m levels c None = Unit {0}
+FitsEarly m levels c (Some e) = IsEarly m levels c e
+
+-- each of their lines is kept
+pub record AreEarlyRoots (c : Contents) (e : Early) : Type 0 where
+  pub replies : AreRoots c e.replies.lines.items
+  pub inputs : AreRoots c e.inputs.lines.items
+
+abbrev pub AreRootsOfEarly : Contents → Option Early → Type 0
+AreRootsOfEarly c None = Unit {0}
+AreRootsOfEarly c (Some e) = AreEarlyRoots c e
+
+-- how often their lines have the root
+abbrev pub roots_of_products : ℕ → Early → ℕ
+roots_of_products n e = times_in n e.replies.lines.items + times_in n e.inputs.lines.items
+
+abbrev pub roots_of_early : ℕ → Option Early → ℕ
+roots_of_early n None = 0
+roots_of_early n (Some e) = roots_of_products n e
