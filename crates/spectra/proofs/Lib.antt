@@ -12,3 +12,4 @@ mod Exchanges
 mod Decided
 mod Causes
 mod Statuses
+mod Enough

@@ -1,6 +1,6 @@
 -- What the program does for words and files.
 use Rattle.spectra_trees.specs.declared.faults.TheConstants.{BAD_CHARACTER, NOT_UTF8, TOO_LONG}
-use Rattle.std.specs.Prelude.{◌≡◌, ◌⊎◌, ◌<◌, ℕ, List, codes, Option, Some, None}
+use Rattle.std.specs.Prelude.{◌≡◌, ◌⊎◌, ◌<◌, ◌≤◌, ℕ, List, codes, Option, Some, None}
 use Rattle.sp_outside.specs.Causes.{Rose}
 use Rattle.sp_outside.specs.Files.{Files, told_file, HasNoFile, HasFile}
 use Rattle.spec_model.specs.Syntax.{Specification}
@@ -18,7 +18,7 @@ use Rattle.spectra_words.specs.declared.words.Command.{Command}
 use Rattle.spectra_words.specs.declared.words.Command.TheVariants.{Synth, Run, Core, Separate, Counter, Audit}
 use Rattle.spectra_words.specs.Commands.{Asks, AsksArbiter, AskNothing}
 use Rattle.spectra.specs.declared.status.Status.{Status}
-use Rattle.spectra.specs.declared.status.Status.TheVariants.{Words, Refused, ShelfFault, InputFault, OutputFault, Memory, NoFile}
+use Rattle.spectra.specs.declared.status.Status.TheVariants.{Budget, Words, Refused, ShelfFault, InputFault, OutputFault, Memory, NoFile}
 use Rattle.spectra.specs.Endings.{IsUnlessCut, IsUnlessFault, usage, no_file, shelf_fault, refused, realizable, unrealizable, realizable_instead, with_core, separated, not_separated, node_budget, arbiter_line}
 use Rattle.spectra.specs.Streams.{Moment, Ends, WantsMemory, OverOutput, IsHeaded, Heads}
 use Rattle.spectra.specs.Sessions.{Holds, Counters, Audits}
@@ -59,6 +59,10 @@ module _ (command : Command) (nodes : ℕ) where
       audits : {status : Status} → command ≡ Audit → Audits s before after status → Decides status
       budget : {status : Status} → ¬ (command ≡ Audit) → nodes < need_of (solved_for command s) → Ends (node_budget nodes) before after status → Decides status
       no_memory : {status : Status} → WantsMemory before after status → Decides status
+
+    -- with as many nodes as the specification that is solved needs, they don't run out
+    abbrev pub NeverRunsOut : Type 0
+    NeverRunsOut = need_of (solved_for command s) ≤ nodes → ¬ Decides Budget
 
   module _ (name : List ℕ) (before after : Moment) where
     -- for a text, in a file of this name: one that has no tokens, or whose tokens are no text of the grammar or have a form that

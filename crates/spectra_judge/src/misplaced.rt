@@ -31,12 +31,8 @@ fn report_in_next(findings: &mut Findings, names: &[Spot], next: Option<Spot>, a
 fn report_in_past(findings: &mut Findings, around: Around, at: Spot)
     ensures { found_in findings.new ≡ with_faults (found_in findings.old) (in_past around at) }
 {
-    report_if(
-        findings,
-        around.past,
-        NEXT_NESTED,
-        around.brought.unwrap_or(at),
-    );
+    let first = around.brought.unwrap_or(at);
+    report_if(findings, around.past, NEXT_NESTED, first);
 }
 
 #[tactic(auto, using(spectra_resolved::proofs::First::with_faults_append))]
@@ -114,14 +110,8 @@ pub fn report_variable(
     let names = setting.known.brought;
     report_if(findings, bans.variable, WRONG_TYPE, at);
     report_if(findings, bans.system && system, SYSTEM_IN_INITIAL, at);
-    report_shifted(
-        findings,
-        names,
-        bans.shifted_system && system,
-        NEXT_OF_SYSTEM,
-        next,
-        at,
-    );
+    let banned = bans.shifted_system && system;
+    report_shifted(findings, names, banned, NEXT_OF_SYSTEM, next, at);
 }
 
 #[tactic(auto, using(spectra_resolved::proofs::First::with_faults_append))]
@@ -137,12 +127,6 @@ pub fn report_parameter(
 {
     let bans = setting.bans;
     report_if(findings, bans.parameter, WRONG_TYPE, at);
-    report_shifted(
-        findings,
-        setting.known.brought,
-        bans.shifted_parameter,
-        NEXT_HERE,
-        next,
-        at,
-    );
+    let (names, banned) = (setting.known.brought, bans.shifted_parameter);
+    report_shifted(findings, names, banned, NEXT_HERE, next, at);
 }
