@@ -87,13 +87,8 @@ pub fn report_binary(
         ++ fault_if (is_wide_lem (binary_kind_lem word (kind_data a.entry) (kind_data b.entry))) WIDE_INT at) }
 {
     report_wrong(findings, moved, takes(word, a, b), at);
-    report_placed(
-        findings,
-        moved,
-        is_wide(binary_kind(word, a, b)),
-        WIDE_INT,
-        at,
-    );
+    let wide = is_wide(binary_kind(word, a, b));
+    report_placed(findings, moved, wide, WIDE_INT, at);
 }
 
 #[tactic(auto, using(crate::proofs::Placing::found_with_append))]
