@@ -14,11 +14,18 @@ sys.path.insert(0, str(Path(__file__).resolve().parent))
 
 from reference.game import Game  # noqa: E402
 from reference.talks import answer, lines_of, show  # noqa: E402
-from reference.text import Text  # noqa: E402
+from reference.text import Shelf, Text  # noqa: E402
 
 COMMANDS = ("synth", "run", "counter", "core", "separate", "audit")
 DOMAINS = ("boolean", "boolean", "boolean", "Int(0..2)", "Int(-1..1)", "{RED, GREEN, BLUE}")
 ROWS = ("asm ini", "asm alw", "asm alw", "asm alwEv", "gar ini", "gar alw", "gar alw", "gar alw", "gar alwEv", "gar alwEv")
+PATTERN = """pattern responds(cause, effect) {
+  var {IDLE, WAITING} state;
+  ini state = IDLE;
+  alw next(state) = WAITING <-> !effect & (state = WAITING | cause);
+  alwEv state = IDLE;
+}"""
+MOST_STATES = 2000
 
 
 class Maker:
@@ -50,16 +57,38 @@ class Maker:
             return f"({name} {sign} {self.number(variables)})"
         return f"({name} {self.random.choice(('=', '!='))} {self.random.choice(('RED', 'GREEN', 'BLUE'))})"
 
-    def formula(self, now, later, depth):
+    def formula(self, now, later, depth, past=True):
         """A Boolean expression over these at present, and those at the next position; None: there is no next."""
         if later is not None and self.random.random() < 0.35:
-            return f"next({self.formula(later, None, depth - 1)})"
+            return f"next({self.formula(later, None, depth - 1, past=False)})"
         if depth <= 0 or self.random.random() < 0.25:
             return self.atom(now)
+        if past and self.random.random() < 0.12:
+            return self.past(now, depth)
         if self.random.random() < 0.25:
-            return f"!({self.formula(now, later, depth - 1)})"
+            return f"!({self.formula(now, later, depth - 1, past)})"
         sign = self.random.choice(("&", "|", "->", "<->"))
-        return f"({self.formula(now, later, depth - 1)}) {sign} ({self.formula(now, later, depth - 1)})"
+        return f"({self.formula(now, later, depth - 1, past)}) {sign} ({self.formula(now, later, depth - 1, past)})"
+
+    def past(self, now, depth):
+        """A past operator over these, or one more in another one."""
+        word = self.random.choice(("PREV", "ONCE", "HISTORICALLY", "SINCE", "TRIGGERED"))
+        first, second = (self.formula(now, None, depth - 2) for _ in range(2))
+        return f"({first}) {word} ({second})" if word in ("SINCE", "TRIGGERED") else f"{word} ({first})"
+
+    def monitor(self, both):
+        """A monitor that follows some formula."""
+        return f"monitor boolean m {{ ini {self.random.choice(('m', '!m'))}; alw next(m) <-> ({self.formula(both, None, 2)}); }}"
+
+    def owed(self, both):
+        """A use of the pattern, or a trigger, of either player."""
+        role = self.random.choice(("asm", "gar", "gar"))
+        cause, effect = (self.formula(both, None, 1) for _ in range(2))
+        if self.random.random() < 0.5:
+            return f"{role} responds({cause}, {effect});"
+        begin = self.random.choice(("", "[true]* ", "([true] [true])* "))
+        repeat = self.random.choice(("", "?", "+", "*", "{2}", "{0,2}"))
+        return f"{role} trig {begin}[{cause}] |=> [true]{repeat} [{effect}];"
 
     def line(self, inputs, outputs):
         row = self.random.choice(ROWS)
@@ -78,8 +107,16 @@ class Maker:
         declared = self.declared("env", 2) + self.declared("sys", 2)
         inputs = [(name, kind) for name, owner, kind in declared if owner == "env"]
         outputs = [(name, kind) for name, owner, kind in declared if owner == "sys"]
+        more = []
+        if self.random.random() < 0.25:
+            more.append(self.monitor(inputs + outputs))
+            outputs.append(("m", "boolean"))
         lines = [self.line(inputs, outputs) for _ in range(self.random.randint(1, 6))]
-        return "\n".join(["spec X"] + [f"{owner} {kind} {name};" for name, owner, kind in declared] + lines) + "\n"
+        if self.random.random() < 0.35:
+            lines.insert(self.random.randint(0, len(lines)), self.owed(inputs + outputs))
+        self.random.shuffle(lines)
+        variables = [f"{owner} {kind} {name};" for name, owner, kind in declared]
+        return "\n".join(["import \"responds.spectra\"", "spec X"] + variables + more + lines) + "\n"
 
     def given(self, variables, count):
         """Lines for some variables, now and then a bad one."""
@@ -117,11 +154,15 @@ def main():
 def compare(program, maker, count, folder):
     """1 at the first difference, whose text and input are left in the folder; else 0."""
     said = dict.fromkeys(COMMANDS, 0)
+    library = f"module Responds\n{PATTERN}\n"
+    (folder / "responds.spectra").write_text(library)
     for number in range(count):
         source = maker.text()
         (folder / "compare.spectra").write_text(source)
-        text = Text(source)
+        text = Text("compare.spectra", Shelf({"compare.spectra": source.encode(), "responds.spectra": library.encode()}))
         game = Game(text)
+        if len(game.states) > MOST_STATES:
+            continue
         for command in COMMANDS:
             given = maker.given(reads(command, game), 12)
             lines, status = answer(command, text, lines_of(given))

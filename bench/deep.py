@@ -40,7 +40,7 @@ def doubling(count):
     return chain(first, lambda k, j: f"predicate p{k}(boolean x, Int(1..1) n): p{j}(p{j}(x, n + 1), n * 2);\n", count, f"gar alw g | p{count}(e, 1);\n")
 
 
-CASES = [(defines, 8_000), (defines, 20_000), (calls, 8_000), (calls, 20_000), (handed, 8_000), (handed, 20_000), (ring, 4_000), (ring, 8_000), (doubling, 16), (doubling, 20)]
+CASES = [(defines, 1_000), (defines, 2_000), (calls, 500), (calls, 1_000), (handed, 500), (handed, 1_000), (ring, 4_000), (ring, 8_000), (doubling, 16), (doubling, 20)]
 
 
 def main():

@@ -1,15 +1,17 @@
 #!/usr/bin/env python3
-"""plain.py COMMAND FILE [INPUT]: what the program should write for a text without faults, by plain sets of states.
+"""plain.py COMMAND FILE [INPUT]: what the program should write, by plain sets of states.
 
-COMMAND is one of the program's, or `layers`. It shares nothing with the crates: a state is a pair of tuples of values, a set
-is a Python set, and each greatest or least set is found by going on until nothing changes (reference/). It is slow: try it
-on texts of a few hundred states. It reads what docs/LANGUAGE.md has as built, and looks for no faults.
+COMMAND is one of the program's, or `layers`. It shares nothing with the crates: a state is some tuples of values, a set is a
+Python set, and each greatest or least set is found by going on until nothing changes (reference/). It is slow: try it on
+texts of a few hundred states. It reads the whole language of docs/LANGUAGE.md, with what FILE imports, and tells the fault of
+a text that is refused.
 
 `layers` writes Z, and for each goal and rank the layer `y` and its parts `x`, one for each assumption. Goals and
-assumptions count from 0, ranks from 1. A set has a digit for each state: inputs and then outputs, each in declared order,
-the first variable slowest; a `_` stands where the input changes. The last line has K and who wins.
+assumptions count from 0, ranks from 1. A set has a digit for each state: hidden values, inputs and then outputs, each in
+declared order, the first one slowest; a `_` stands where the input changes. The last line has K and who wins.
 """
 import sys
+import threading
 from pathlib import Path
 
 sys.path.insert(0, str(Path(__file__).resolve().parent))
@@ -17,9 +19,16 @@ sys.path.insert(0, str(Path(__file__).resolve().parent))
 from reference.game import Game  # noqa: E402
 from reference.layers import round_count, winning  # noqa: E402
 from reference.talks import answer, lines_of  # noqa: E402
-from reference.text import Text  # noqa: E402
+from reference.text import NoText, Shelf, Text  # noqa: E402
 
 COMMANDS = ("synth", "run", "counter", "core", "separate", "audit", "layers")
+
+
+class Disk(Shelf):
+    """The files of the machine."""
+
+    def bytes_of(self, name):
+        return Path(name).read_bytes() if Path(name).is_file() else None
 
 
 def digits(game, states):
@@ -44,7 +53,11 @@ def write_layers(game):
 def main():
     if len(sys.argv) not in (3, 4) or sys.argv[1] not in COMMANDS:
         sys.exit("usage: plain.py COMMAND FILE [INPUT]")
-    text = Text(Path(sys.argv[2]).read_text(encoding="utf-8"))
+    try:
+        text = Text(sys.argv[2], Disk())
+    except NoText as refused:
+        print(refused.line)
+        return refused.status
     if sys.argv[1] == "layers":
         write_layers(Game(text))
         return 0
@@ -54,5 +67,15 @@ def main():
     return status
 
 
+def deep(call):
+    """What a call gives, with room for texts whose formulas are deep."""
+    threading.stack_size(512 * 1024 * 1024)
+    given = []
+    thread = threading.Thread(target=lambda: given.append(call()))
+    thread.start()
+    thread.join()
+    return given[0] if given else 1
+
+
 if __name__ == "__main__":
-    sys.exit(main())
+    sys.exit(deep(main))

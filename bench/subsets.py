@@ -13,7 +13,7 @@ sys.path.insert(0, str(Path(__file__).resolve().parent))
 
 from reference.game import Game  # noqa: E402
 from reference.layers import Verdict  # noqa: E402
-from reference.text import Text  # noqa: E402
+from reference.text import text_of  # noqa: E402
 
 FIVE_OF_TWELVE = """spec FiveOfTwelve
 sys boolean p; sys boolean q; sys boolean r; sys boolean s;
@@ -73,7 +73,7 @@ def main():
     program = Path(sys.argv[1]).resolve()
     for source in (FIVE_OF_TWELVE, GOALS_ALONE, MIXED):
         core = core_of(program, source)
-        found = judged(Text(source))
+        found = judged(text_of(source))
         assert not found[frozenset(core)], core
         for some, realizable in found.items():
             assert realizable or not some < core, (core, some)

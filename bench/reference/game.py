@@ -1,10 +1,13 @@
 """The states of a text, the legal moves from each, and what the players can force.
 
-A state is a pair of tuples of values, of the inputs and of the outputs; None stands for the time before the first.
+A state has three tuples of values: of the hidden tables, of the inputs and of the outputs; None stands for the time before the
+first.
 """
+import functools
 import itertools
 
-from .text import has_next, present, value
+from .formulas import Remembered, has_next, present
+from .hidden import tables_of
 
 
 class Game:
@@ -13,58 +16,95 @@ class Game:
     def __init__(self, text, lines=None):
         self.lines = text.lines if lines is None else lines
         self.inputs = [(name, domain) for name, owner, domain in text.variables if owner == "env"]
-        self.outputs = [(name, domain) for name, owner, domain in text.variables if owner == "sys"]
-        self.input_names = [name for name, _ in self.inputs]
-        self.output_names = [name for name, _ in self.outputs]
-        self.all_inputs = list(itertools.product(*(domain for _, domain in self.inputs)))
-        self.all_outputs = list(itertools.product(*(domain for _, domain in self.outputs)))
-        self.states = [(x, y) for x in self.all_inputs for y in self.all_outputs]
-        self.labels, self.goals = self.recurring("gar")
-        _, self.assumptions = self.recurring("asm")
+        self.outputs = [(name, domain) for name, owner, domain in text.variables if owner != "env"]
+        self.input_keys = [("variable", name) for name, _ in self.inputs]
+        self.output_keys = [("variable", name) for name, _ in self.outputs]
+        self.tables = tables_of(self.lines)
+        self.hidden_keys = [table.key for table in self.tables]
+        self.first_hidden = tuple(table.first for table in self.tables)
+        self.says = {line: Remembered(line.says) for line in self.lines if line.time in ("ini", "alw")}
+        self.waits = {line: self.waits_for_output(line) for line in self.says}
         self.known = {}
 
+    @functools.cached_property
+    def all_inputs(self):
+        return list(itertools.product(*(domain for _, domain in self.inputs)))
+
+    @functools.cached_property
+    def all_outputs(self):
+        return list(itertools.product(*(domain for _, domain in self.outputs)))
+
+    @functools.cached_property
+    def states(self):
+        """All states, which a log isn't judged by."""
+        all_hidden = itertools.product(*(table.values for table in self.tables))
+        return [(h, x, y) for h in all_hidden for x in self.all_inputs for y in self.all_outputs]
+
+    @functools.cached_property
+    def labels(self):
+        return self.recurring("gar")[0]
+
+    @functools.cached_property
+    def goals(self):
+        return self.recurring("gar")[1]
+
+    @functools.cached_property
+    def assumptions(self):
+        return self.recurring("asm")[1]
+
+    def waits_for_output(self, line):
+        """Whether a line is judged on the position before, at the move to the next one."""
+        reads_output = line.role == "asm" and bool(present(line.says) & set(self.output_keys))
+        return line.time == "alw" and (has_next(line.says) or reads_output)
+
     def recurring(self, role):
-        """The numbers and the states of the recurring lines; all states where there is no such line."""
-        found = [line for line in self.lines if (line.role, line.time) == (role, "alwEv")]
-        sets = [{s for s in self.states if value(line.says, self.named(s), None)} for line in found]
-        return [line.number for line in found], sets or [set(self.states)]
+        """The labels and the states of the recurring goals; all states where there is no such goal."""
+        labels, tests = [], []
+        own = {table.key: table for table in self.tables}
+        for line in self.lines:
+            goals = line.goals(own.get(("line", line.number))) if line.role == role else []
+            tests += goals
+            labels += [f"{line.number}" if len(goals) == 1 else f"{line.number}.{part}" for part in range(1, len(goals) + 1)]
+        return labels, [{s for s in self.states if test(self.named(s))} for test in tests] or [set(self.states)]
 
     def named(self, state):
-        return dict(zip(self.input_names + self.output_names, state[0] + state[1]))
+        """What is known at a state."""
+        return dict(zip(self.hidden_keys + self.input_keys + self.output_keys, state[0] + state[1] + state[2]))
 
-    def holds(self, line, before, here, waits):
-        """Whether a line holds at the move that makes a position; `waits`: it is judged on the position before."""
+    def hidden_after(self, before):
+        """The hidden values of the position behind a state."""
+        if before is None:
+            return self.first_hidden
+        now = self.named(before)
+        return tuple(table.following(now) for table in self.tables)
+
+    def holds(self, line, before, here):
+        """Whether a line holds at the move that makes a position."""
         if line.time == "ini":
-            return before is not None or value(line.says, here, None)
-        if waits:
-            return before is None or value(line.says, self.named(before), here)
-        return value(line.says, here, None)
+            return before is not None or self.says[line].value(here, None)
+        if self.waits[line]:
+            return before is None or self.says[line].value(self.named(before), here)
+        return self.says[line].value(here, None)
 
     def broken_by_input(self, before, x):
         """The number of the first assumption that an input breaks."""
-        here = dict(zip(self.input_names, x))
-        for line in self.lines:
-            if line.role == "asm" and line.time != "alwEv":
-                waits = has_next(line.says) or bool(present(line.says) & set(self.output_names))
-                if not self.holds(line, before, here, waits):
-                    return line.number
-        return None
+        here = dict(zip(self.hidden_keys + self.input_keys, self.hidden_after(before) + x))
+        broken = (line.number for line in self.says if line.role == "asm" and not self.holds(line, before, here))
+        return next(broken, None)
 
     def broken_by_output(self, before, x, y):
-        """The number of the first guarantee that an output breaks after an input."""
-        here = self.named((x, y))
-        for line in self.lines:
-            if line.role == "gar" and line.time != "alwEv":
-                if not self.holds(line, before, here, has_next(line.says)):
-                    return line.number
-        return None
+        """The number of the first guarantee or line of a monitor that an output breaks after an input."""
+        here = self.named((self.hidden_after(before), x, y))
+        broken = (line.number for line in self.says if line.role != "asm" and not self.holds(line, before, here))
+        return next(broken, None)
 
     def moves(self, before):
         """For each legal input the states that the legal outputs lead to, in order."""
         if before not in self.known:
+            hidden = self.hidden_after(before)
             legal = [x for x in self.all_inputs if self.broken_by_input(before, x) is None]
             self.known[before] = {
-                x: [(x, y) for y in self.all_outputs if self.broken_by_output(before, x, y) is None] for x in legal
+                x: [(hidden, x, y) for y in self.all_outputs if self.broken_by_output(before, x, y) is None] for x in legal
             }
         return self.known[before]
 

@@ -60,7 +60,7 @@ def run(game, verdict, lines):
             state = next(s for s in reached if s in layer)
             index = next(i for i, states in enumerate(parts) if state in states)
         goal, rank = aim, least
-        out.append(show(game.outputs, state[1]))
+        out.append(show(game.outputs, state[2]))
     return out, 0
 
 
@@ -86,7 +86,7 @@ def counter(game, verdict, lines):
         broken = game.broken_by_output(state, x, y)
         if broken is not None:
             return out + [f"guarantee broken #{broken}"], 0
-        state = (x, y)
+        state = (game.hidden_after(state), x, y)
         if not denying:
             a = next(a for a, z in enumerate(zs) if state in z)
             holds = verdict.layers[a - 1][1]
@@ -116,7 +116,7 @@ def audit(game, lines):
             broken = game.broken_by_output(state, x, y)
         if broken is not None:
             return [f"audit broken #{broken} line {p}"], 1
-        state = (x, y)
+        state = (game.hidden_after(state), x, y)
     return [f"audit ok {len(lines)}"], 0
 
 
@@ -139,7 +139,7 @@ def core(text, verdict):
 def separate(text):
     last = max((line.number for line in text.lines), default=0)
     lines = [line for line in text.lines if line.role != "gar"]
-    verdict = Verdict(Game(text, lines + [Line(last + 1, "gar", "alwEv", ("value", False))]))
+    verdict = Verdict(Game(text, lines + [Line(last + 1, "gar", "alwEv", ("truth", False))]))
     if verdict.realizable:
         return ["not separated " + verdict.numbers], 1
     return ["separated " + verdict.numbers], 0

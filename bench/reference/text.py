@@ -1,265 +1,145 @@
-"""Texts without faults: their variables with domains, and their numbered lines, with all definitions put in.
+"""Files as a specification: its variables with domains, and its numbered lines, with everything put in; or why it is refused."""
+import sys
 
-An expression is a tuple of its operator and its operands. A value is a truth value, a whole number or an enum name.
-"""
-import re
+from .faults import Faults, values_of
+from .formulas import erased, regex_of, value
+from .grammar import check
+from .hidden import PatternTable, TriggerTable
+from .names import Declared
+from .tokens import MOST_BYTES, Refused, tokens_of
+from .trees import Reader
 
-SIGNS = {"not": "!", "and": "&", "or": "|", "implies": "->", "iff": "<->"}
-ROLES = {"asm": "asm", "assumption": "asm", "gar": "gar", "guarantee": "gar"}
-TIMES = {"ini": "ini", "initially": "ini"}
-TIMES |= dict.fromkeys(["alw", "always", "G", "trans"], "alw")
-TIMES |= dict.fromkeys(["alwEv", "alwaysEventually", "GF"], "alwEv")
-COMPARED = ("=", "!=", "<", "<=", ">", ">=")
+WORDS = {
+    1: "NotUtf8", 2: "BadCharacter", 3: "TooLong", 4: "Unexpected", 5: "TooDeep", 6: "Parentheses", 7: "Unknown", 8: "Twice",
+    9: "WrongType", 10: "NextHere", 11: "NextNested", 12: "NextOfSystem", 13: "SystemInInitial", 14: "WideInt", 15: "Cycle",
+    16: "Arity", 17: "ImportedLine", 18: "TooMany", 19: "TooLarge", 20: "PatternOpen", 21: "PatternWide", 22: "TriggerWide",
+}  # fmt: skip
+sys.setrecursionlimit(400_000)
+sys.set_int_max_str_digits(0)
 
 
-def tokens_of(text):
-    """The words, numbers and signs of a text; a word for a sign is that sign."""
-    text = re.sub(r"//[^\n]*|--[^\n]*|/\*.*?\*/", " ", text, flags=re.S)
-    found = re.findall(r"<->|->|:=|\.\.|!=|<=|>=|\d+|[^\W\d]\w*|[^\s]", text)
-    return [SIGNS.get(token, token) for token in found]
+class NoText(Exception):
+    """Why there is no specification: the line that says so, and the status."""
+
+    def __init__(self, line, status):
+        super().__init__(line, status)
+        self.line, self.status = line, status
+
+
+class Shelf:
+    """Files by name, as bytes. Each is read by two calls, of which the second finds its end; those of these numbers fail."""
+
+    def __init__(self, files=None, fails=()):
+        self.files, self.fails, self.calls = files or {}, set(fails), 0
+
+    def bytes_of(self, name):
+        """The bytes of a file; None where there is no such file."""
+        return self.files.get(name)
+
+    def call(self, name):
+        self.calls += 1
+        if self.calls in self.fails:
+            raise NoText(f"file fault: {name}", 7)
+
+    def read(self, name):
+        self.call(name)
+        found = self.bytes_of(name)
+        if found is None:
+            raise NoText(f"no such file: {name}", 11)
+        if len(found) <= MOST_BYTES:
+            self.call(name)
+        return found
 
 
 class Line:
-    """A line: its number, whose it is, when it is judged, and its expression."""
+    """A line: its number, whose it is, when it is judged, and what it says."""
 
-    def __init__(self, number, role, time, says):
+    def __init__(self, number, role, time, says=None):
         self.number, self.role, self.time, self.says = number, role, time, says
+
+    def formulas(self):
+        """Its formulas in text order: the arguments of a pattern, or the brackets of a trigger."""
+        if self.time == "pattern":
+            return self.arguments
+        return self.atoms if self.time == "trig" else [self.says]
+
+    def table(self):
+        """The hidden table of a pattern or trigger."""
+        if self.time == "pattern":
+            return PatternTable(self)
+        return TriggerTable(("line", self.number), self.cause, self.effect)
+
+    def goals(self, table):
+        """What is to hold again and again, each a test of what is known at a position."""
+        if self.time == "alwEv":
+            return [lambda now: value(self.says, now, None)]
+        if self.time == "trig":
+            return [lambda now: not table.is_pending(now)]
+        if self.time == "pattern":
+            return [lambda now, e=e: value(e, table.known(now), None) for e in self.pattern.goals]
+        return []
+
+
+class SpecPattern:
+    """A pattern: how many parameters it has, the domains of its own variables, and its lines of each kind."""
+
+    def __init__(self, pattern, kinds):
+        self.arity, self.domains = pattern.arity, [values_of(kind) for kind in kinds]
+        says = {time: [erased(line.says) for line in pattern.lines if line.time == time] for time in ("ini", "alw", "alwEv")}
+        self.first, self.step, self.goals = says["ini"], says["alw"], says["alwEv"]
 
 
 class Text:
-    """What a text declares. `variables` has a name, an owner and a domain each, in text order."""
+    """What files say, the main one of this name. `variables` has a name, an owner and a domain each, in text order."""
 
-    def __init__(self, source):
-        self.tokens, self.at = tokens_of(source), 0
-        self.types, self.defines, self.predicates = {}, {}, {}
-        self.declared, self.written = [], []
-        self.want("spec")
-        self.take()
-        while self.peek() is not None:
-            self.item()
-        self.names = {name for name, _, _ in self.declared}
-        self.variables = [(name, owner, self.domain(kind)) for name, owner, kind in self.declared]
-        self.lines = [
-            Line(number, role, time, self.put_in(e, {})) for number, (role, time, e) in enumerate(self.written, 1)
-        ]
+    def __init__(self, name, shelf):
+        names, trees = self.files(name, shelf)
+        declared = Declared(trees)
+        faults = Faults(declared)
+        if faults.found:
+            (file, line, column), number = min(faults.found)
+            raise refusal(names[file], number, line, column)
+        kinds = faults.facts
+        self.variables = [(v.name.text, v.owner, values_of(kinds.variable_kind(v))) for v in declared.variables]
+        patterns = {id(p): SpecPattern(p, kinds.inside_pattern(p)["own"]) for p in declared.all_patterns}
+        self.lines = [self.line(line, faults.put[id(line)], patterns) for line in declared.lines]
 
-    # ---- reading
+    @staticmethod
+    def files(main, shelf):
+        """The names and trees of all files, the main one last."""
+        folder = main[: main.rfind("/") + 1]
+        main_tokens = read_tokens(main, shelf)
+        wanted = [folder + named.text for named in Reader(main_tokens, 0).tree().imports]
+        trees = [Reader(read_tokens(name, shelf), k).tree() for k, name in enumerate(wanted)]
+        return [*wanted, main], [*trees, Reader(main_tokens, len(wanted)).tree()]
 
-    def peek(self, ahead=0):
-        return self.tokens[self.at + ahead] if self.at + ahead < len(self.tokens) else None
-
-    def take(self):
-        token = self.peek()
-        self.at += 1
-        return token
-
-    def want(self, token):
-        found = self.take()
-        if found != token:
-            raise SyntaxError(f"{token} is wanted in place of {found}, before {self.tokens[self.at:self.at + 5]}")
-
-    def accept(self, token):
-        if self.peek() == token:
-            self.at += 1
-            return True
-        return False
-
-    def item(self):
-        word = self.take()
-        if word in ("env", "sys", "aux"):
-            kind = self.kind()
-            self.declared.append((self.take(), "env" if word == "env" else "sys", kind))
-        elif word == "type":
-            name = self.take()
-            self.want("=")
-            self.types[name] = self.kind()
-        elif word == "define":
-            self.definitions()
-            return
-        elif word == "predicate":
-            self.predicate()
+    @staticmethod
+    def line(line, formulas, patterns):
+        made = Line(line.number, line.role, line.time)
+        if line.time == "pattern":
+            made.pattern, made.arguments = patterns[id(line.pattern)], formulas
+        elif line.time == "trig":
+            brackets = iter(formulas)
+            made.atoms, made.cause, made.effect = formulas, regex_of(line.cause, brackets), regex_of(line.effect, brackets)
         else:
-            if self.peek(1) == ":":
-                self.at += 2
-            time = TIMES[self.take()]
-            self.written.append((ROLES[word], time, self.expression()))
-        self.want(";")
-
-    def definitions(self):
-        while self.peek(1) == ":=":
-            name = self.take()
-            self.want(":=")
-            self.defines[name] = self.expression()
-            self.want(";")
-
-    def predicate(self):
-        name, parameters = self.take(), []
-        self.want("(")
-        while not self.accept(")"):
-            self.kind()
-            parameters.append(self.take())
-            self.accept(",")
-        self.want(":")
-        self.predicates[name] = (parameters, self.expression())
-
-    def kind(self):
-        word = self.take()
-        if word == "Int":
-            self.want("(")
-            low = self.sum()
-            self.want("..")
-            high = self.sum()
-            self.want(")")
-            return ("Int", low, high)
-        if word == "{":
-            names = [self.take()]
-            while self.accept(","):
-                names.append(self.take())
-            self.want("}")
-            return ("names", *names)
-        return ("boolean",) if word == "boolean" else ("named", word)
-
-    def expression(self):
-        left = self.disjunction()
-        if self.peek() in ("->", "<->"):
-            return (self.take(), left, self.disjunction())
-        return left
-
-    def disjunction(self):
-        return self.several("|", lambda: self.several("&", self.comparison))
-
-    def several(self, sign, operand):
-        operands = [operand()]
-        while self.accept(sign):
-            operands.append(operand())
-        return operands[0] if len(operands) == 1 else (sign, *operands)
-
-    def comparison(self):
-        if self.peek() == "!":
-            return self.prefixed()
-        left = self.sum()
-        if self.peek() in COMPARED:
-            sign = self.take()
-            return (sign, left, self.prefixed() if self.peek() == "!" else self.sum())
-        return left
-
-    def prefixed(self):
-        self.want("!")
-        return ("!", self.prefixed() if self.peek() == "!" else self.primary())
-
-    def sum(self):
-        left = self.product()
-        if self.accept("mod"):
-            return ("mod", left, ("value", int(self.take())))
-        while self.peek() in ("+", "-"):
-            left = (self.take(), left, self.product())
-        return left
-
-    def product(self):
-        left = self.primary()
-        while self.accept("*"):
-            left = ("*", left, self.primary())
-        return left
-
-    def primary(self):
-        token = self.take()
-        if token == "next" or token == "(":
-            if token == "next":
-                self.want("(")
-            inner = self.expression()
-            self.want(")")
-            return ("next", inner) if token == "next" else inner
-        if token in ("true", "false"):
-            return ("value", token == "true")
-        if token == "-":
-            return ("value", -int(self.take()))
-        if token.isdigit():
-            return ("value", int(token))
-        if not self.accept("("):
-            return ("name", token)
-        arguments = []
-        while not self.accept(")"):
-            arguments.append(self.expression())
-            self.accept(",")
-        return ("call", token, *arguments)
-
-    # ---- meaning
-
-    def domain(self, kind):
-        """The values of a type, in order."""
-        if kind[0] == "named":
-            return self.domain(self.types[kind[1]])
-        if kind[0] == "boolean":
-            return [False, True]
-        if kind[0] == "names":
-            return list(kind[1:])
-        low, high = (value(self.put_in(bound, {}), {}, {}) for bound in kind[1:])
-        return list(range(low, high + 1))
-
-    def put_in(self, e, given):
-        """The expression with definitions put in, and what is given for parameters."""
-        if e[0] == "value":
-            return e
-        if e[0] == "name":
-            name = e[1]
-            if name in given:
-                return given[name]
-            if name in self.defines:
-                return self.put_in(self.defines[name], {})
-            return ("variable", name) if name in self.names else ("value", name)
-        if e[0] == "call":
-            parameters, body = self.predicates[e[1]]
-            arguments = [self.put_in(a, given) for a in e[2:]]
-            return self.put_in(body, dict(zip(parameters, arguments)))
-        return (e[0], *(self.put_in(operand, given) for operand in e[1:]))
+            made.says = formulas[0]
+        return made
 
 
-def value(e, now, later):
-    """The value of an expression at a state, and the next where it has `next`."""
-    kind, operands = e[0], e[1:]
-    if kind == "value":
-        return operands[0]
-    if kind == "variable":
-        return now[operands[0]]
-    if kind == "next":
-        return value(operands[0], later, None)
-    v = [value(operand, now, later) for operand in operands]
-    if kind == "!":
-        return not v[0]
-    if kind == "&":
-        return all(v)
-    if kind == "|":
-        return any(v)
-    if kind == "->":
-        return not v[0] or v[1]
-    if kind in ("<->", "="):
-        return v[0] == v[1]
-    return OPERATIONS[kind](*v)
+def text_of(source):
+    """One file that imports nothing."""
+    return Text("t.spectra", Shelf({"t.spectra": source.encode()}))
 
 
-OPERATIONS = {
-    "!=": lambda a, b: a != b,
-    "<": lambda a, b: a < b,
-    "<=": lambda a, b: a <= b,
-    ">": lambda a, b: a > b,
-    ">=": lambda a, b: a >= b,
-    "+": lambda a, b: a + b,
-    "-": lambda a, b: a - b,
-    "*": lambda a, b: a * b,
-    "mod": lambda a, b: a % b,
-}
+def refusal(name, number, line, column):
+    return NoText(f"{name}:{line}:{column}: fault {number} {WORDS[number]}", 3)
 
 
-def operands_of(e):
-    return () if e[0] in ("value", "variable") else e[1:]
-
-
-def has_next(e):
-    return e[0] == "next" or any(has_next(operand) for operand in operands_of(e))
-
-
-def present(e):
-    """The variables that an expression reads outside `next`."""
-    if e[0] == "variable":
-        return {e[1]}
-    return set() if e[0] == "next" else set().union(*(present(operand) for operand in operands_of(e)))
+def read_tokens(name, shelf):
+    """The tokens of a file, which are a text of the grammar."""
+    try:
+        tokens = tokens_of(shelf.read(name))
+        check(tokens)
+        return tokens
+    except Refused as fault:
+        raise refusal(name, fault.number, fault.line, fault.column) from None

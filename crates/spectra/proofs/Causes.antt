@@ -1,7 +1,8 @@
 -- What causes the statuses that tell of a failure.
-use Rattle.std.proofs.Common.{◌⊎◌, ℕ, List, Option, inl, inr, sym, subst, arith}
+use Rattle.std.proofs.Common.{◌⊎◌, ℕ, List, [], ◌∷◌, ◌++◌, Option, inl, inr, sym, subst, arith}
 use Rattle.sp_outside.specs.Causes.{Rose}
-use Rattle.sp_outside.specs.Files.{Files}
+use Rattle.sp_outside.specs.Files.{Files, told_file}
+use Rattle.spectra_trees.specs.Data.{TreeData}
 use Rattle.spec_model.specs.Syntax.{Specification}
 use Rattle.session.specs.declared.talking.End.{End}
 use Rattle.session.specs.declared.talking.End.TheVariants as ends
@@ -15,11 +16,12 @@ use Rattle.spec_gen.specs.Arbiter.{arbiter_text}
 use Rattle.spectra.specs.declared.status.Status.{Status}
 use Rattle.spectra.specs.declared.status.Status.TheVariants.{Done, Other, Words, Refused, Assumption, Budget, BadLine, ShelfFault, InputFault, OutputFault, Memory, NoFile, Limit}
 use Rattle.spectra.specs.Endings.{Ending, status_of, realizable, unrealizable}
-use Rattle.spectra.specs.Streams.{Moment, Writes, whole, cut, WantsMemory, headed, no_room}
+use Rattle.spectra.specs.Streams.{Moment, Writes, Ends, whole, cut, WantsMemory, headed, no_room}
 use Rattle.spectra.specs.Streams as headings
 use Rattle.spectra.specs.Sessions as sessions
 use Rattle.spectra.specs.Sessions.{Talk, Closes, HoldsSession, session, cut_at_once, ending_after, RunTalks, counter_ending_after, CounterTalks, most_positions, audit_ending_after}
-use Rattle.spectra.specs.Top.{Decides, ServesText, ServesFile, ServesWords, ServesArbiter, arbiter_name, HasCause, StopsBelowLine, IsCaused}
+use Rattle.spectra.specs.Reading.{Told, import_names}
+use Rattle.spectra.specs.Top.{Stops, Decides, ServesTrees, ServesTree, ServesText, ServesFile, ServesWords, ServesArbiter, arbiter_name, HasCause, StopsBelowLine, IsCaused}
 use Rattle.spectra.specs.Top as top
 
 module _ (failed : Type 0) (before after : Moment) where
@@ -83,20 +85,30 @@ module _ (failed : Type 0) (before after : Moment) where
     by_deciding s status (top.no_memory wants) = by_wanting status wants
 
     module _ (name : List ℕ) where
-      of_text : (text : List ℕ) (status : Status) → ServesText command nodes name before after text status → Caused status
-      of_text text status (top.not_utf8 line column is writes) = by_writing _ Refused status tt writes
-      of_text text status (top.bad_character line column is writes) = by_writing _ Refused status tt writes
-      of_text text status (top.too_long is writes) = by_writing _ Refused status tt writes
-      of_text text status (top.ungrammatical tokens fault lexed explains refuses) = by_writing _ Refused status tt refuses.3
-      of_text text status (top.mistyped number line column is writes) = by_writing _ Refused status tt writes
-      of_text text status (top.means s reads decides) = by_deciding s status decides
-      of_text text status (top.no_memory wants) = by_wanting status wants
+      of_trees : (names : List (List ℕ)) (trees : List TreeData) (status : Status) → ServesTrees command nodes name before after names trees status → Caused status
+      of_trees names trees status (top.mistyped number tree line column is writes) = by_writing _ Refused status tt writes
+      of_trees names trees status (top.means s means decides) = by_deciding s status decides
+      of_trees names trees status (top.no_memory wants) = by_wanting status wants
 
-      of_file : (file : Option (Option (List ℕ))) (status : Status) → ServesFile command nodes name before after file failed status → Caused status
-      of_file file status (top.missing none writes) = by_writing _ NoFile status tt writes
-      of_file file status (top.fault rose writes) = by_writing _ ShelfFault status rose writes
-      of_file file status (top.of_text text has serves) = of_text text status serves
-      of_file file status (top.no_memory wants) = by_wanting status wants
+      stopped : (told : Option (Option (List ℕ))) (file : List ℕ) (e : Ending) (status : Status) → Stops told failed file e → Ends e before after status → Caused status
+      stopped told file _ status (top.missing none) writes = by_writing _ NoFile status tt writes
+      stopped told file _ status (top.failed rose) writes = by_writing _ ShelfFault status rose writes
+      stopped told file _ status (top.is_refused text number line column holds is) writes = by_writing _ Refused status tt writes
+
+      of_tree : (told : Told) (main : TreeData) (status : Status) → ServesTree command nodes told failed name before after main status → Caused status
+      of_tree told main status (top.stopped file e next stops writes) = stopped (told file) file e status stops writes
+      of_tree told main status (top.together imported read serves) = of_trees (import_names name main) (imported ++ main ∷ []) status serves
+      of_tree told main status (top.no_memory wants) = by_wanting status wants
+
+      of_text : (told : Told) (text : List ℕ) (status : Status) → ServesText command nodes told failed name before after text status → Caused status
+      of_text told text status (top.is_refused number line column is writes) = by_writing _ Refused status tt writes
+      of_text told text status (top.of_tree main reads serves) = of_tree told main status serves
+      of_text told text status (top.no_memory wants) = by_wanting status wants
+
+      of_file : (told : Told) (status : Status) → ServesFile command nodes told failed name before after status → Caused status
+      of_file told status (top.stopped e stops writes) = stopped (told name) name e status stops writes
+      of_file told status (top.of_tree main reads serves) = of_tree told main status serves
+      of_file told status (top.no_memory wants) = by_wanting status wants
 
 -- a cause between two moments is one between earlier and later ones
 module _ (failed wanted wanted' : Type 0) (before between after : Moment) (of_reads : Rose between.read_faults after.read_faults → Rose before.read_faults after.read_faults)
@@ -121,17 +133,17 @@ module _ (words : List (List ℕ)) (failed : Type 0) (before after : Moment) whe
   at_once status cause = caused_before failed (WantsMemory before after Memory) (WantsMemory before after Memory ⊎ StopsBelowLine words before after) before before after (λ rose. rose) (λ rose. rose) inl status cause
 
   -- below the line of an arbiter
-  of_arbiter : (clients nodes : ℕ) → AsksArbiter words clients nodes → (status : Status) → ServesArbiter clients nodes before after status → IsCaused words failed before after status
-  of_arbiter clients nodes asks status (headed between line serves) =
+  of_arbiter : (told : Told) (clients nodes : ℕ) → AsksArbiter words clients nodes → (status : Status) → ServesArbiter told failed clients nodes before after status → IsCaused words failed before after status
+  of_arbiter told clients nodes asks status (headed between line serves) =
       caused_before failed (WantsMemory between after Memory) (WantsMemory before after Memory ⊎ StopsBelowLine words before after) before between after
       (λ rose. subst (λ (n : ℕ). Rose n after.read_faults) line.reads rose) (λ rose. let later = line.later in omega (arith, later, rose))
       (λ wants. inr (record { clients = clients; nodes = nodes; between = between; asks = asks; headed = line; wants = wants })) status
-      (of_text failed between after Synth nodes arbiter_name (arbiter_text clients) status serves)
-  of_arbiter clients nodes asks _ (headings.cut_at_once unread part rose) = rose
-  of_arbiter clients nodes asks status (no_room wants) = at_once status (by_wanting failed before after status wants)
+      (of_text failed between after Synth nodes arbiter_name told (arbiter_text clients) status serves)
+  of_arbiter told clients nodes asks _ (headings.cut_at_once unread part rose) = rose
+  of_arbiter told clients nodes asks status (no_room wants) = at_once status (by_wanting failed before after status wants)
 
-  pub is_caused : (files : Option Files) (status : Status) → ServesWords words files failed before after status → IsCaused words failed before after status
-  is_caused files status (top.no_command nothing writes) = at_once status (by_writing failed before after _ Words status tt writes)
-  is_caused files status (top.asked command name nodes asks serves) = at_once status (of_file failed before after command nodes name _ status serves)
-  is_caused files status (top.arbiter clients nodes asks serves) = of_arbiter clients nodes asks status serves
-  is_caused files status (top.no_memory wants) = at_once status (by_wanting failed before after status wants)
+  pub is_caused : (shelf : Option Files) (status : Status) → ServesWords words shelf failed before after status → IsCaused words failed before after status
+  is_caused shelf status (top.no_command nothing writes) = at_once status (by_writing failed before after _ Words status tt writes)
+  is_caused shelf status (top.asked command name nodes asks serves) = at_once status (of_file failed before after command nodes name (told_file shelf) status serves)
+  is_caused shelf status (top.arbiter clients nodes asks serves) = of_arbiter (told_file shelf) clients nodes asks status serves
+  is_caused shelf status (top.no_memory wants) = at_once status (by_wanting failed before after status wants)

@@ -1,15 +1,13 @@
 -- What is done for a specification and a file, from what was done for its parts.
-use Rattle.std.proofs.Common.{◌≡◌, ◌⊎◌, ℕ, List, Option, inl, inr, refl, sym, subst}
+use Rattle.std.proofs.Common.{◌≡◌, ◌≤◌, ◌⊎◌, ℕ, List, [], ◌∷◌, ◌++◌, length, min, take, get_or, slice_get, Option, Some, inl, inr, refl, ap, sym, subst, ◌∙◌, arith}
 use Rattle.std.proofs.KnownBytes.{Appends-nil}
-use Rattle.sp_outside.specs.Files.{Files, HasNoFile}
+use Rattle.std.proofs.lemmas.Bool.{cases_lt}
+use Rattle.std.proofs.lemmas.List.{get_or_past}
+use Rattle.sp_outside.specs.Files.{Files}
 use Rattle.spec_model.specs.Syntax.{Specification}
 use Rattle.spec_model.specs.Cores.{forced, IsLeft, IsCore}
-use Rattle.spectra_lexer.specs.declared.token.Token.{Token}
-use Rattle.spectra_lexer.specs.Tokens.{AreTokens}
-use Rattle.spectra_trees.specs.Lexemes.{lexemes}
-use Rattle.spectra_exprs.specs.declared.fault.SyntaxFault.{SyntaxFault}
-use Rattle.spectra_parser.specs.Texts.{Explains}
-use Rattle.spectra_lexer.specs.Faults.{IsNotUtf8At, IsBadAt, IsTooLong}
+use Rattle.spectra_trees.specs.Data.{TreeData}
+use Rattle.spectra_types.specs.Resolved.{IsFirstIn}
 use Rattle.regions.specs.declared.types.Halt.{Halt}
 use Rattle.regions.specs.declared.types.Halt.TheVariants.{Budget, Memory as NoMemory}
 use Rattle.solve.specs.Budgets.{MayHalt}
@@ -18,13 +16,17 @@ use Rattle.spectra_words.specs.declared.words.Command.{Command}
 use Rattle.spectra_words.specs.declared.words.Command.TheVariants.{Synth, Run, Core, Separate, Counter, Audit}
 use Rattle.spectra_words.specs.Commands.{AskNothing}
 use Rattle.spec_gen.specs.Arbiter.{arbiter_text}
+use Rattle.spectra.specs.declared.reading.NoTree.{NoTree}
+use Rattle.spectra.specs.declared.reading.NoTree.TheVariants as files
+use Rattle.spectra.specs.declared.reading.Stop.{Stop}
 use Rattle.spectra.specs.declared.status.Status.{Status}
 use Rattle.spectra.specs.declared.status.Status.TheVariants.{Memory}
-use Rattle.spectra.specs.Endings.{usage, no_file, shelf_fault, refused, realizable, unrealizable, realizable_instead, with_core, separated, not_separated, arbiter_line}
-use Rattle.spectra.specs.Streams.{Moment, moment, Ends, WantsMemory, SaysNoVerdict, Heads}
+use Rattle.spectra.specs.Endings.{Ending, usage, no_file, shelf_fault, refused, realizable, unrealizable, realizable_instead, with_core, separated, not_separated, arbiter_line}
+use Rattle.spectra.specs.Streams.{Moment, Ends, WantsMemory, SaysNoVerdict, Heads}
 use Rattle.spectra.specs.Sessions.{Holds, Counters, Audits}
-use Rattle.spectra.specs.Reading.{HasTypeFault}
-use Rattle.spectra.specs.Top.{solved_for, won, held, lost, won_instead, countered, has_core, separates, separates_not, audits, IsSaidOfSyntax, Decides, ServesText, ServesFile, ServesWords, ServesArbiter, arbiter_name}
+use Rattle.spectra.specs.Reading.{Told, import_names, IsRefusedAt, FilesReadAs, ComesNext}
+use Rattle.spectra.specs.Refusals.{HasNoTree, StopsAt}
+use Rattle.spectra.specs.Top.{solved_for, won, held, lost, won_instead, countered, has_core, separates, separates_not, audits, Stops, SaysStop, Decides, ServesTrees, ServesTree, ServesText, ServesFile, ServesWords, ServesArbiter, arbiter_name}
 use Rattle.spectra.specs.Top as top
 
 -- nothing was done: no memory was given
@@ -101,44 +103,87 @@ separate_decides is = absurd (cc)
 pub served_as : (command is : Command) → command ≡ is → (nodes : ℕ) (s : Specification) (before after : Moment) (status : Status) → Decides is nodes s before after status → Decides command nodes s before after status
 served_as command is same nodes s before after status serves = subst (λ (c : Command). Decides c nodes s before after status) (sym same) serves
 
--- ---- for a text
+-- ---- for files
 
-module _ (command : Command) (nodes : ℕ) (name : List ℕ) (before after : Moment) (text : List ℕ) (status : Status) where
-  pub mistyped_text : (number line column : ℕ) → HasTypeFault text number line column → Ends (refused name line column number) before after status ⊎ WantsMemory before after status → ServesText command nodes name before after text status
-  mistyped_text number line column is (inl writes) = top.mistyped number line column is writes
-  mistyped_text number line column is (inr wants) = top.no_memory wants
+-- what is said of a file by the reason that it is
+pub said_as : (why is : NoTree) → why ≡ is → (name : List ℕ) (before after : Moment) (status : Status) → SaysStop name is before after status → SaysStop name why before after status
+said_as why is same name before after status said = subst (λ (w : NoTree). SaysStop name w before after status) (sym same) said
 
-  pub broken_text : (line column : ℕ) → IsNotUtf8At text line column → Ends (refused name line column 1) before after status ⊎ WantsMemory before after status → ServesText command nodes name before after text status
-  broken_text line column is (inl writes) = top.not_utf8 line column is writes
-  broken_text line column is (inr wants) = top.no_memory wants
+module _ (file : Option (Option (List ℕ))) (failed : Type 0) (name : List ℕ) (before after : Moment) (status : Status) where
+  -- how the run ends at a file that has no tree, unless no memory was given
+  abbrev pub Stopped : Type 0
+  Stopped = ((e : Ending) × Stops file failed name e × Ends e before after status) ⊎ WantsMemory before after status
 
-  pub bad_text : (line column : ℕ) → IsBadAt text line column → Ends (refused name line column 2) before after status ⊎ WantsMemory before after status → ServesText command nodes name before after text status
-  bad_text line column is (inl writes) = top.bad_character line column is writes
-  bad_text line column is (inr wants) = top.no_memory wants
+  pub stop_said : (why : NoTree) → HasNoTree file failed why → SaysStop name why before after status → Stopped
+  stop_said files.Missing none (inl writes) = inl (no_file name, top.missing none, writes)
+  stop_said files.Missing none (inr wants) = inr wants
+  stop_said files.Shelf rose (inl writes) = inl (shelf_fault name, top.failed rose, writes)
+  stop_said files.Shelf rose (inr wants) = inr wants
+  stop_said (files.Refused number line column) is (inl writes) = inl (refused name line column number, top.is_refused is.0 number line column is.1 is.2, writes)
+  stop_said (files.Refused number line column) is (inr wants) = inr wants
+  stop_said files.Memory none wants = inr wants
 
-  pub long_text : IsTooLong text → Ends (refused name 1 1 3) before after status ⊎ WantsMemory before after status → ServesText command nodes name before after text status
-  long_text is (inl writes) = top.too_long is writes
-  long_text is (inr wants) = top.no_memory wants
+-- where the shelf failed between two moments, it did so between earlier and later ones
+stops_too : {file : Option (Option (List ℕ))} {failed failed' : Type 0} {name : List ℕ} {e : Ending} → (failed → failed') → Stops file failed name e → Stops file failed' name e
+stops_too more (top.missing none) = top.missing none
+stops_too more (top.failed rose) = top.failed (more rose)
+stops_too more (top.is_refused text number line column holds is) = top.is_refused text number line column holds is
 
--- one whose tokens have a fault
-pub ungrammatical_text : {O : Type 0} (written : O → Option (List ℕ)) (faults : O → ℕ) (command : Command) (nodes : ℕ) (name text : List ℕ) (tokens : List Token) (fault : SyntaxFault) (left : Option (List ℕ)) (reads : ℕ) (old new : O) (status : Status) →
-    AreTokens text tokens → Explains (lexemes text tokens) fault → IsSaidOfSyntax written faults name tokens fault old new status →
-    ServesText command nodes name (moment left (written old) reads (faults old)) (moment left (written new) reads (faults new)) text status
-ungrammatical_text written faults command nodes name text tokens fault left reads old new status lexed explains said = elim (said left reads) [
-  | inl told ↦ top.ungrammatical tokens fault lexed explains told
-  | inr wants ↦ top.no_memory wants
+-- the name of a file by its number, where there are fewer files than numbers
+pub named_within : (names : List (List ℕ)) (name : List ℕ) (file tree : ℕ) → length names ≤ 1_048_576 → tree ≡ min file 4_294_967_295 → get_or names tree name ≡ get_or names file name
+named_within names name file tree few same = elim (cases_lt file 4_294_967_295) [
+  | inl below ↦ let one : tree ≡ file = omega (arith, below, same) in ap (λ (k : ℕ). get_or names k name) one
+  | inr past ↦ get_or_past names tree name (omega (arith, past, same, few)) ∙ sym (get_or_past names file name (omega (arith, past, few)))
 ]
 
--- ---- for a file
+module _ (command : Command) (nodes : ℕ) (name : List ℕ) (before after : Moment) (status : Status) where
+  pub trees_mistyped : (names : List (List ℕ)) (trees : List TreeData) (file tree number line column : ℕ) → length names ≤ 1_048_576 → IsFirstIn trees file number line column → tree ≡ min file 4_294_967_295 →
+      Ends (refused (get_or names tree name) line column number) before after status ⊎ WantsMemory before after status → ServesTrees command nodes name before after names trees status
+  trees_mistyped names trees file tree number line column few is same (inl writes) =
+      top.mistyped number file line column is.first (subst (λ (printed : List ℕ). Ends (refused printed line column number) before after status) (named_within names name file tree few same) writes)
+  trees_mistyped names trees file tree number line column few is same (inr wants) = top.no_memory wants
 
-module _ (command : Command) (nodes : ℕ) (name : List ℕ) (before after : Moment) (file : Option (Option (List ℕ))) (failed : Type 0) (status : Status) where
-  pub missing_file : HasNoFile file → Ends (no_file name) before after status ⊎ WantsMemory before after status → ServesFile command nodes name before after file failed status
-  missing_file none (inl writes) = top.missing none writes
-  missing_file none (inr wants) = top.no_memory wants
+  module _ (told : Told) (failed : Type 0) where
+    pub tree_stopped : (main : TreeData) (file : List ℕ) → ComesNext told name main file → Stopped (told file) failed file before after status → ServesTree command nodes told failed name before after main status
+    tree_stopped main file next (inl s) = top.stopped file s.0 next s.1 s.2
+    tree_stopped main file next (inr wants) = top.no_memory wants
 
-  pub failed_shelf : failed → Ends (shelf_fault name) before after status ⊎ WantsMemory before after status → ServesFile command nodes name before after file failed status
-  failed_shelf rose (inl writes) = top.fault rose writes
-  failed_shelf rose (inr wants) = top.no_memory wants
+    -- the files that it imports are served with it
+    pub tree_together : (main : TreeData) (names : List (List ℕ)) (imported trees : List TreeData) → names ≡ import_names name main → FilesReadAs told names imported → trees ≡ imported ++ main ∷ [] →
+        ServesTrees command nodes name before after names trees status → ServesTree command nodes told failed name before after main status
+    tree_together main names imported trees are read all serves =
+        let read' = subst (λ (ns : List (List ℕ)). FilesReadAs told ns imported) are read in
+        let serves' = subst (λ (ns : List (List ℕ)). ServesTrees command nodes name before after ns trees status) are serves in
+        top.together imported read' (subst (λ (ts : List TreeData). ServesTrees command nodes name before after (import_names name main) ts status) all serves')
+
+    -- or the first of them that isn't read is told
+    pub tree_stops : (main : TreeData) (names : List (List ℕ)) (stop : Stop) (file : List ℕ) → names ≡ import_names name main → StopsAt told failed names stop → slice_get names stop.number ≡ Some file →
+        SaysStop file stop.why before after status → ServesTree command nodes told failed name before after main status
+    tree_stops main names stop file are stops named said =
+        let one : stops.file ≡ file = let here = stops.named in cc in
+        let next : ComesNext told name main file =
+        record {
+          number = stop.number;
+          trees = stops.trees;
+          named = subst (λ (ns : List (List ℕ)). slice_get ns stop.number ≡ Some file) are named;
+          read = subst (λ (ns : List (List ℕ)). FilesReadAs told (take stop.number ns) stops.trees) are stops.read;
+        } in
+        let has_none = subst (λ (f : List ℕ). HasNoTree (told f) failed stop.why) one stops.has_none in
+        tree_stopped main file next (stop_said (told file) failed file before after status stop.why has_none said)
+
+    pub text_refused : (text : List ℕ) (number line column : ℕ) → IsRefusedAt text line column number → Ends (refused name line column number) before after status ⊎ WantsMemory before after status →
+        ServesText command nodes told failed name before after text status
+    text_refused text number line column is (inl writes) = top.is_refused number line column is writes
+    text_refused text number line column is (inr wants) = top.no_memory wants
+
+    pub file_stopped : Stopped (told name) failed name before after status → ServesFile command nodes told failed name before after status
+    file_stopped (inl s) = top.stopped s.0 s.1 s.2
+    file_stopped (inr wants) = top.no_memory wants
+
+    pub failed_before : (failed' : Type 0) → (failed → failed') → (main : TreeData) → ServesTree command nodes told failed name before after main status → ServesTree command nodes told failed' name before after main status
+    failed_before failed' more main (top.stopped file e next stops writes) = top.stopped file e next (stops_too more stops) writes
+    failed_before failed' more main (top.together imported read serves) = top.together imported read serves
+    failed_before failed' more main (top.no_memory wants) = top.no_memory wants
 
 -- ---- for words
 
@@ -147,8 +192,8 @@ usage_said words files failed before after status nothing (inl writes) = top.no_
 usage_said words files failed before after status nothing (inr wants) = top.no_memory wants
 
 -- the line of an arbiter, and what is written below it for its text
-pub below_its_line : (clients nodes : ℕ) (line text : List ℕ) (before after : Moment) (status : Status) → line ≡ arbiter_line clients → text ≡ arbiter_text clients →
-    Heads line (λ (b a : Moment). ServesText Synth nodes arbiter_name b a text) before after status → ServesArbiter clients nodes before after status
-below_its_line clients nodes line text before after status is same serves =
-    subst (λ (l : List ℕ). Heads l (λ (b a : Moment). ServesText Synth nodes arbiter_name b a (arbiter_text clients)) before after status) is
-    (subst (λ (t : List ℕ). Heads line (λ (b a : Moment). ServesText Synth nodes arbiter_name b a t) before after status) same serves)
+pub below_its_line : (clients nodes : ℕ) (told : Told) (failed : Type 0) (line text : List ℕ) (before after : Moment) (status : Status) → line ≡ arbiter_line clients → text ≡ arbiter_text clients →
+    Heads line (λ (b a : Moment). ServesText Synth nodes told failed arbiter_name b a text) before after status → ServesArbiter told failed clients nodes before after status
+below_its_line clients nodes told failed line text before after status is same serves =
+    subst (λ (l : List ℕ). Heads l (λ (b a : Moment). ServesText Synth nodes told failed arbiter_name b a (arbiter_text clients)) before after status) is
+    (subst (λ (t : List ℕ). Heads line (λ (b a : Moment). ServesText Synth nodes told failed arbiter_name b a t) before after status) same serves)

@@ -2,11 +2,12 @@
 use Rattle.std.proofs.Common.{◌≡◌, ℕ, ◌+◌, ◌<◌, List, length, take, Option, Some, None, ap, sym, refl, ◌∙◌, arith, inl, inr, ◌⊎◌, length-take}
 use Rattle.std.proofs.lemmas.List.{take_all}
 use Rattle.std.proofs.lemmas.Bool.{cases_lt}
-use Rattle.sp_outside.specs.Files.{IsFrontOf}
-use Rattle.spectra_words.specs.declared.words.Command.{Command}
-use Rattle.spectra.specs.declared.status.Status.{Status}
-use Rattle.spectra.specs.Streams.{Moment}
-use Rattle.spectra.specs.Top.{ServesText, not_utf8, bad_character, too_long, ungrammatical, mistyped, means, no_memory, ServesFile, of_text}
+use Rattle.sp_outside.specs.Files.{IsFrontOf, HasFile}
+use Rattle.spectra_trees.specs.Data.{TreeData}
+use Rattle.spectra.specs.declared.placing.TextFault.{TextFault}
+use Rattle.spectra.specs.declared.placing.TextFault.TheVariants as texts
+use Rattle.spectra.specs.Refusals.{RefusesText, file_fault, HasNoTree}
+use Rattle.spectra.specs.Reading.{ReadsAs, IsRefusedAt, not_utf8, bad_character, too_long, ungrammatical, FileReadsAs}
 
 -- the greatest length of a text
 abbrev most_bytes : ℕ
@@ -19,22 +20,32 @@ front file bytes is = elim (cases_lt most_bytes (length file)) [
   | inr short ↦ inl (sym (is ∙ take_all (most_bytes + 1) file (omega arith)))
 ]
 
-module _ (command : Command) (nodes : ℕ) (name : List ℕ) (before after : Moment) (status : Status) where
-  -- what serves for one text that is too long serves for another
-  of_long : (bytes file : List ℕ) → most_bytes < length bytes → most_bytes < length file → ServesText command nodes name before after bytes status → ServesText command nodes name before after file status
-  of_long bytes file long long' (not_utf8 line column is writes) = absurd (let short = is.short in omega arith)
-  of_long bytes file long long' (bad_character line column is writes) = absurd (let short = is.short in omega arith)
-  of_long bytes file long long' (too_long is writes) = too_long long' writes
-  of_long bytes file long long' (ungrammatical tokens fault lexed explains refuses) = absurd (let short = lexed.short in omega arith)
-  of_long bytes file long long' (mistyped number line column is writes) = absurd (let short = is.lexed.short in omega arith)
-  of_long bytes file long long' (means s reads serves) = absurd (let short = reads.lexed.short in omega arith)
-  of_long bytes file long long' (no_memory wants) = no_memory wants
+-- one text that is too long is refused as another is
+of_long : (bytes file : List ℕ) (number line column : ℕ) → most_bytes < length bytes → most_bytes < length file → IsRefusedAt bytes line column number → IsRefusedAt file line column number
+of_long bytes file _ line column long long' (not_utf8 is) = absurd (let short = is.short in omega arith)
+of_long bytes file _ line column long long' (bad_character is) = absurd (let short = is.short in omega arith)
+of_long bytes file _ line column long long' (too_long is first begin) = too_long long' first begin
+of_long bytes file number line column long long' (ungrammatical is) = absurd (let short = is.lexed.short in omega arith)
 
-  -- what serves for what was read of a file serves for the file
-  pub file_served : (told : Option (Option (List ℕ))) (failed : Type 0) (bytes : List ℕ) → IsFrontOf told (most_bytes + 1) bytes → ServesText command nodes name before after bytes status → ServesFile command nodes name before after told failed status
-  file_served None failed bytes is serves = of_text bytes tt serves
-  file_served (Some None) failed bytes is serves = absurd (let none = is.0 in omega arith)
-  file_served (Some (Some file)) failed bytes is serves = elim (front file bytes is) [
-    | inl same ↦ of_text bytes same serves
-    | inr long ↦ of_text file refl (of_long bytes file long.0 long.1 serves)
-  ]
+-- the tree of what was read of a file is the file's
+pub file_reads : (told : Option (Option (List ℕ))) (bytes : List ℕ) (tree : TreeData) → IsFrontOf told (most_bytes + 1) bytes → ReadsAs bytes tree → FileReadsAs told tree
+file_reads None bytes tree is reads = record { text = bytes; holds = tt; reads = reads }
+file_reads (Some None) bytes tree is reads = absurd (let none = is.0 in omega arith)
+file_reads (Some (Some file)) bytes tree is reads = elim (front file bytes is) [
+  | inl same ↦ record { text = bytes; holds = same; reads = reads }
+  | inr long ↦ absurd (let short = reads.lexed.short in omega (arith, short, long.0))
+]
+
+-- and so is what refuses it
+pub file_refused : (told : Option (Option (List ℕ))) (bytes : List ℕ) (number line column : ℕ) → IsFrontOf told (most_bytes + 1) bytes → IsRefusedAt bytes line column number →
+    (text : List ℕ) × HasFile told (λ held. held ≡ text) × IsRefusedAt text line column number
+file_refused None bytes number line column is refused = (bytes, tt, refused)
+file_refused (Some None) bytes number line column is refused = absurd (let none = is.0 in omega arith)
+file_refused (Some (Some file)) bytes number line column is refused = elim (front file bytes is) [
+  | inl same ↦ (bytes, same, refused)
+  | inr long ↦ (file, refl, of_long bytes file number line column long.0 long.1 refused)
+]
+
+pub front_refused : (told : Option (Option (List ℕ))) (failed : Type 0) (bytes : List ℕ) (fault : TextFault) → IsFrontOf told (most_bytes + 1) bytes → RefusesText bytes fault → HasNoTree told failed (file_fault fault)
+front_refused told failed bytes (texts.Refused number line column) is refuses = file_refused told bytes number line column is refuses
+front_refused told failed bytes texts.Memory is refuses = tt

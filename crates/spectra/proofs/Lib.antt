@@ -1,13 +1,11 @@
-mod Clean
-mod BuiltExpressions
-mod TextTokens
-mod SpelledTokens
-mod BuiltTexts
 mod Placed
 mod Readings
+mod ShapedReadings
 mod Requests
 mod Decisive
 mod Fronts
+mod Folders
+mod InOrder
 mod Exchanges
 mod Decided
 mod Causes

@@ -1,18 +1,28 @@
--- The line of a syntax fault.
-use Rattle.std.proofs.Common.{◌≡◌, ℕ, List, Option, Some, inl, inr, subst}
+-- What the faults of texts and files say.
+use Rattle.std.proofs.Common.{◌≡◌, ℕ, List, refl}
 use Rattle.spectra_lexer.specs.declared.token.Token.{Token}
+use Rattle.spectra_lexer.specs.declared.fault.LexFault.{LexFault}
+use Rattle.spectra_lexer.specs.declared.fault.LexFault.TheVariants as lexer
+use Rattle.spectra_lexer.specs.Tokens.{AreTokens}
+use Rattle.spectra_lexer.specs.Faults.{IsNotUtf8At, IsBadAt, IsTooLong}
+use Rattle.spectra_trees.specs.Lexemes.{lexemes}
 use Rattle.spectra_exprs.specs.declared.fault.SyntaxFault.{SyntaxFault}
-use Rattle.spectra.specs.declared.status.Status.{Status}
-use Rattle.spectra.specs.Endings.{refused}
-use Rattle.spectra.specs.Streams.{moment, Ends, IsSaid}
-use Rattle.spectra.specs.Reading.{named_by, place_of_token}
-use Rattle.spectra.specs.Top.{IsSaidOfSyntax}
+use Rattle.spectra_exprs.specs.declared.fault.SyntaxFault.TheVariants as syntax
+use Rattle.spectra_parser.specs.Texts.{Explains}
+use Rattle.spectra.specs.Reading.{not_utf8, bad_character, too_long, ungrammatical}
+use Rattle.spectra.specs.Refusals.{lexing_fault, parsing_fault, RefusesText}
 
--- a fault's line is said at the place of the token that it names
-pub syntax_said : {O : Type 0} (written : O → Option (List ℕ)) (faults : O → ℕ) (name : List ℕ) (tokens : List Token) (fault : SyntaxFault) (at number line column : ℕ) (old new : O) (status : Status) →
-    named_by fault ≡ Some (at, number) → (line, column) ≡ place_of_token tokens at → IsSaid written faults (refused name line column number) old new status →
-    IsSaidOfSyntax written faults name tokens fault old new status
-syntax_said written faults name tokens fault at number line column old new status named placed said = λ left reads. elim (said left reads) [
-  | inl writes ↦ inl (at, number, named, subst (λ (p : ℕ × ℕ). Ends (refused name p.0 p.1 number) (moment left (written old) reads (faults old)) (moment left (written new) reads (faults new)) status) placed writes)
-  | inr wants ↦ inr wants
-]
+-- what a text says that has no tokens
+pub lexing_refuses : (text : List ℕ) (fault : LexFault) → (fault ≡ lexer.TooLong → IsTooLong text) → ((line column : ℕ) → fault ≡ lexer.NotUtf8 line column → IsNotUtf8At text line column) →
+    ((line column : ℕ) → fault ≡ lexer.BadCharacter line column → IsBadAt text line column) → RefusesText text (lexing_fault fault)
+lexing_refuses text (lexer.NotUtf8 line column) long broken bad = not_utf8 (broken line column refl)
+lexing_refuses text (lexer.BadCharacter line column) long broken bad = bad_character (bad line column refl)
+lexing_refuses text lexer.TooLong long broken bad = too_long (long refl) refl refl
+lexing_refuses text lexer.Memory long broken bad = tt
+
+-- what one says whose tokens have no tree
+pub parsing_refuses : (text : List ℕ) (tokens : List Token) (fault : SyntaxFault) → AreTokens text tokens → Explains (lexemes text tokens) fault → RefusesText text (parsing_fault tokens fault)
+parsing_refuses text tokens (syntax.Unexpected at) lexed explains = ungrammatical (record { tokens = tokens; fault = syntax.Unexpected at; at = at; lexed = lexed; explains = explains; named = refl; place = refl })
+parsing_refuses text tokens (syntax.TooDeep at) lexed explains = ungrammatical (record { tokens = tokens; fault = syntax.TooDeep at; at = at; lexed = lexed; explains = explains; named = refl; place = refl })
+parsing_refuses text tokens (syntax.Parentheses at) lexed explains = ungrammatical (record { tokens = tokens; fault = syntax.Parentheses at; at = at; lexed = lexed; explains = explains; named = refl; place = refl })
+parsing_refuses text tokens syntax.Memory lexed explains = tt

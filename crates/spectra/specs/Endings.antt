@@ -1,5 +1,5 @@
 -- How the program ends: its statuses, and the lines that it may write last.
-use Rattle.std.specs.Prelude.{◌≡◌, ◌⊎◌, ℕ, ◌==◌, List, [], ◌∷◌, ◌++◌, length, codes, if◌then◌else◌}
+use Rattle.std.specs.Prelude.{◌≡◌, ◌⊎◌, ℕ, List, [], ◌∷◌, ◌++◌, length, codes}
 use Rattle.std.specs.Fmt.{decimal}
 use Rattle.spectra_trees.specs.Faults.{fault_text}
 use Rattle.spectra.specs.declared.status.Status.{Status}

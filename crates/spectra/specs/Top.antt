@@ -1,37 +1,42 @@
 -- What the program does for words and files.
-use Rattle.spectra_trees.specs.declared.faults.TheConstants.{BAD_CHARACTER, NOT_UTF8, TOO_LONG}
-use Rattle.std.specs.Prelude.{◌≡◌, ◌⊎◌, ◌<◌, ◌≤◌, ℕ, List, codes, Option, Some, None}
+use Rattle.std.specs.Prelude.{◌≡◌, ◌⊎◌, ◌<◌, ◌≤◌, ℕ, List, [], ◌∷◌, ◌++◌, get_or, codes, Option, Some, None}
 use Rattle.sp_outside.specs.Causes.{Rose}
 use Rattle.sp_outside.specs.Files.{Files, told_file, HasNoFile, HasFile}
 use Rattle.spec_model.specs.Syntax.{Specification}
 use Rattle.spec_model.specs.Cores.{forced, IsLeft, IsCore}
 use Rattle.spec_model.specs.Needs.{need_of}
-use Rattle.spectra_lexer.specs.declared.token.Token.{Token}
-use Rattle.spectra_lexer.specs.Tokens.{AreTokens}
-use Rattle.spectra_trees.specs.Lexemes.{lexemes}
-use Rattle.spectra_exprs.specs.declared.fault.SyntaxFault.{SyntaxFault}
-use Rattle.spectra_parser.specs.Texts.{Explains}
-use Rattle.spectra_lexer.specs.Faults.{IsNotUtf8At, IsBadAt, IsTooLong}
+use Rattle.spectra_trees.specs.Data.{TreeData}
+use Rattle.spectra_resolved.specs.Findings.{fault, first_of_faults}
+use Rattle.spectra_types.specs.Meanings.{faults_of}
+use Rattle.spectra_types.specs.Resolved.{Means}
 use Rattle.solve.specs.Winners.{IsWonBySystem, IsWonByEnvironment}
 use Rattle.spec_gen.specs.Arbiter.{arbiter_text}
 use Rattle.spectra_words.specs.declared.words.Command.{Command}
 use Rattle.spectra_words.specs.declared.words.Command.TheVariants.{Synth, Run, Core, Separate, Counter, Audit}
 use Rattle.spectra_words.specs.Commands.{Asks, AsksArbiter, AskNothing}
+use Rattle.spectra.specs.declared.reading.NoTree.{NoTree}
+use Rattle.spectra.specs.declared.reading.NoTree.TheVariants as files
 use Rattle.spectra.specs.declared.status.Status.{Status}
 use Rattle.spectra.specs.declared.status.Status.TheVariants.{Budget, Words, Refused, ShelfFault, InputFault, OutputFault, Memory, NoFile}
-use Rattle.spectra.specs.Endings.{IsUnlessCut, IsUnlessFault, usage, no_file, shelf_fault, refused, realizable, unrealizable, realizable_instead, with_core, separated, not_separated, node_budget, arbiter_line}
-use Rattle.spectra.specs.Streams.{Moment, Ends, WantsMemory, OverOutput, IsHeaded, Heads}
+use Rattle.spectra.specs.Endings.{Ending, IsUnlessCut, IsUnlessFault, usage, no_file, shelf_fault, refused, realizable, unrealizable, realizable_instead, with_core, separated, not_separated, node_budget, arbiter_line}
+use Rattle.spectra.specs.Streams.{Moment, Ends, WantsMemory, IsHeaded, Heads}
 use Rattle.spectra.specs.Sessions.{Holds, Counters, Audits}
-use Rattle.spectra.specs.Reading.{Reads, HasTypeFault, MeansNothing, named_by, place_of_token}
+use Rattle.spectra.specs.Reading.{ReadsAs, IsRefusedAt, import_names, Told, FileReadsAs, FilesReadAs, ComesNext, Reads, MeansNothing, ImportsAreThere, MissesImport, ReadsAlone}
 
--- the text of the tokens is refused by the fault, at the place of the token that it names
-abbrev pub RefusesSyntax : (name : List ℕ) → List Token → SyntaxFault → (before after : Moment) → Status → Type 0
-RefusesSyntax name tokens fault before after status =
-    (at : ℕ) × (number : ℕ) × (named_by fault ≡ Some (at, number)) × (let place = place_of_token tokens at in Ends (refused name place.0 place.1 number) before after status)
+-- ---- one file
 
--- it is, or no memory was given for the line
-abbrev pub IsSaidOfSyntax : {O : Type 0} → (O → Option (List ℕ)) → (O → ℕ) → (name : List ℕ) → List Token → SyntaxFault → (old new : O) → Status → Type 0
-IsSaidOfSyntax written faults name tokens fault old new status = OverOutput written faults old new (λ before after. RefusesSyntax name tokens fault before after status ⊎ WantsMemory before after status)
+-- How the run ends at a file of this name, of which this is told: there is none, the shelf failed, or its text is refused.
+pub data Stops (file : Option (Option (List ℕ))) (shelf_failed : Type 0) (name : List ℕ) : Ending → Type 0 where
+  missing : HasNoFile file → Stops file shelf_failed name (no_file name)
+  failed : shelf_failed → Stops file shelf_failed name (shelf_fault name)
+  is_refused : (text : List ℕ) (number line column : ℕ) → HasFile file (λ bytes. bytes ≡ text) → IsRefusedAt text line column number → Stops file shelf_failed name (refused name line column number)
+
+-- what is said of a file of this name that has no tree: a line that is written last, unless no memory was given
+abbrev pub SaysStop : (name : List ℕ) → NoTree → (before after : Moment) → Status → Type 0
+SaysStop name files.Missing before after status = Ends (no_file name) before after status ⊎ WantsMemory before after status
+SaysStop name files.Shelf before after status = Ends (shelf_fault name) before after status ⊎ WantsMemory before after status
+SaysStop name (files.Refused number line column) before after status = Ends (refused name line column number) before after status ⊎ WantsMemory before after status
+SaysStop name files.Memory before after status = WantsMemory before after status
 
 -- ---- what is done for a command, with so many nodes
 
@@ -64,25 +69,35 @@ module _ (command : Command) (nodes : ℕ) where
     abbrev pub NeverRunsOut : Type 0
     NeverRunsOut = need_of (solved_for command s) ≤ nodes → ¬ Decides Budget
 
+  -- with the main file of this name
   module _ (name : List ℕ) (before after : Moment) where
-    -- for a text, in a file of this name: one that has no tokens, or whose tokens are no text of the grammar or have a form that
-    -- isn't built, is refused by its fault, and so is one whose tree has a fault of names or types
+    -- For the trees of the files of these names, and behind them the main one's: the first fault of names and types is told, or
+    -- what they mean together is decided.
+    pub data ServesTrees (names : List (List ℕ)) (trees : List TreeData) : Status → Type 0 where
+      mistyped : {status : Status} (number tree line column : ℕ) → first_of_faults (faults_of trees) ≡ Some (fault number (record { file = tree; line = line; column = column })) →
+          Ends (refused (get_or names tree name) line column number) before after status → ServesTrees names trees status
+      means : {status : Status} (s : Specification) → Means trees s → Decides s before after status → ServesTrees names trees status
+      no_memory : {status : Status} → WantsMemory before after status → ServesTrees names trees status
+
+  -- and over a shelf that tells this; `shelf_failed` is that the shelf's faults rose
+  module _ (told : Told) (shelf_failed : Type 0) (name : List ℕ) (before after : Moment) where
+    -- for the main file's tree: the files that it imports are read in order, and the first that isn't read is told
+    pub data ServesTree (main : TreeData) : Status → Type 0 where
+      stopped : {status : Status} (file : List ℕ) (e : Ending) → ComesNext told name main file → Stops (told file) shelf_failed file e → Ends e before after status → ServesTree main status
+      together : {status : Status} (imported : List TreeData) → FilesReadAs told (import_names name main) imported → ServesTrees name before after (import_names name main) (imported ++ main ∷ []) status → ServesTree main status
+      no_memory : {status : Status} → WantsMemory before after status → ServesTree main status
+
+    -- for the main file's text
     pub data ServesText (text : List ℕ) : Status → Type 0 where
-      not_utf8 : {status : Status} (line column : ℕ) → IsNotUtf8At text line column → Ends (refused name line column NOT_UTF8) before after status → ServesText text status
-      bad_character : {status : Status} (line column : ℕ) → IsBadAt text line column → Ends (refused name line column BAD_CHARACTER) before after status → ServesText text status
-      too_long : {status : Status} → IsTooLong text → Ends (refused name 1 1 TOO_LONG) before after status → ServesText text status
-      ungrammatical : {status : Status} (tokens : List Token) (fault : SyntaxFault) → AreTokens text tokens → Explains (lexemes text tokens) fault → RefusesSyntax name tokens fault before after status → ServesText text status
-      mistyped : {status : Status} (number line column : ℕ) → HasTypeFault text number line column → Ends (refused name line column number) before after status → ServesText text status
-      means : {status : Status} (s : Specification) → Reads text s → Decides s before after status → ServesText text status
+      is_refused : {status : Status} (number line column : ℕ) → IsRefusedAt text line column number → Ends (refused name line column number) before after status → ServesText text status
+      of_tree : {status : Status} (main : TreeData) → ReadsAs text main → ServesTree main status → ServesText text status
       no_memory : {status : Status} → WantsMemory before after status → ServesText text status
 
-    -- for a file, of which this is told; `shelf_failed` is that the shelf's faults rose. Where nothing is told of the file, it is
-    -- served as some text.
-    pub data ServesFile (file : Option (Option (List ℕ))) (shelf_failed : Type 0) : Status → Type 0 where
-      missing : {status : Status} → HasNoFile file → Ends (no_file name) before after status → ServesFile file shelf_failed status
-      fault : {status : Status} → shelf_failed → Ends (shelf_fault name) before after status → ServesFile file shelf_failed status
-      of_text : {status : Status} (text : List ℕ) → HasFile file (λ bytes. bytes ≡ text) → ServesText text status → ServesFile file shelf_failed status
-      no_memory : {status : Status} → WantsMemory before after status → ServesFile file shelf_failed status
+    -- for the main file. Where nothing is told of it, it is served as some text.
+    pub data ServesFile : Status → Type 0 where
+      stopped : {status : Status} (e : Ending) → Stops (told name) shelf_failed name e → Ends e before after status → ServesFile status
+      of_tree : {status : Status} (main : TreeData) → FileReadsAs (told name) main → ServesTree main status → ServesFile status
+      no_memory : {status : Status} → WantsMemory before after status → ServesFile status
 
 -- ---- for an arbiter of so many clients, with so many nodes
 
@@ -90,9 +105,9 @@ module _ (command : Command) (nodes : ℕ) where
 abbrev pub arbiter_name : List ℕ
 arbiter_name = codes "arbiter"
 
--- its line is written, and then what `synth` writes for its text
-abbrev pub ServesArbiter : (clients nodes : ℕ) → (before after : Moment) → Status → Type 0
-ServesArbiter clients nodes = Heads (arbiter_line clients) (λ before after. ServesText Synth nodes arbiter_name before after (arbiter_text clients))
+-- its line is written, and then what `synth` writes for its text, which imports nothing
+abbrev pub ServesArbiter : Told → (shelf_failed : Type 0) → (clients nodes : ℕ) → (before after : Moment) → Status → Type 0
+ServesArbiter told shelf_failed clients nodes = Heads (arbiter_line clients) (λ before after. ServesText Synth nodes told shelf_failed arbiter_name before after (arbiter_text clients))
 
 -- its line is written, and then the verdict on the specification that its text means
 abbrev pub DecidesArbiter : (clients nodes : ℕ) → Specification → (before after : Moment) → Status → Type 0
@@ -100,29 +115,32 @@ DecidesArbiter clients nodes s = Heads (arbiter_line clients) (Decides Synth nod
 
 -- ---- for words, over these files
 
-module _ (words : List (List ℕ)) (files : Option Files) (shelf_failed : Type 0) (before after : Moment) where
+module _ (words : List (List ℕ)) (shelf : Option Files) (shelf_failed : Type 0) (before after : Moment) where
   pub data ServesWords : Status → Type 0 where
     no_command : {status : Status} → AskNothing words → Ends usage before after status → ServesWords status
-    asked : {status : Status} (command : Command) (name : List ℕ) (nodes : ℕ) → Asks words command name nodes → ServesFile command nodes name before after (told_file files name) shelf_failed status → ServesWords status
-    arbiter : {status : Status} (clients nodes : ℕ) → AsksArbiter words clients nodes → ServesArbiter clients nodes before after status → ServesWords status
+    asked : {status : Status} (command : Command) (name : List ℕ) (nodes : ℕ) → Asks words command name nodes → ServesFile command nodes (told_file shelf) shelf_failed name before after status → ServesWords status
+    arbiter : {status : Status} (clients nodes : ℕ) → AsksArbiter words clients nodes → ServesArbiter (told_file shelf) shelf_failed clients nodes before after status → ServesWords status
     no_memory : {status : Status} → WantsMemory before after status → ServesWords status
 
-  -- a told file whose text reads is decided, unless the shelf failed
+  -- a told file whose text reads, with the files that it imports, is decided, unless the shelf failed
   abbrev pub DecidesWhatReads : Status → Type 0
   DecidesWhatReads status =
-      (command : Command) (name : List ℕ) (nodes : ℕ) (text : List ℕ) (s : Specification) → Asks words command name nodes → told_file files name ≡ Some (Some text) → Reads text s → ¬ shelf_failed →
+      (command : Command) (name : List ℕ) (nodes : ℕ) (text : List ℕ) (s : Specification) → Asks words command name nodes → told_file shelf name ≡ Some (Some text) → Reads (told_file shelf) name text s → ¬ shelf_failed →
       Decides command nodes s before after status
 
 -- an arbiter whose text reads is decided below its line
 abbrev pub DecidesArbiters : List (List ℕ) → (before after : Moment) → Status → Type 0
-DecidesArbiters words before after status = (clients nodes : ℕ) (s : Specification) → AsksArbiter words clients nodes → Reads (arbiter_text clients) s → DecidesArbiter clients nodes s before after status
+DecidesArbiters words before after status = (clients nodes : ℕ) (s : Specification) → AsksArbiter words clients nodes → ReadsAlone (arbiter_text clients) s → DecidesArbiter clients nodes s before after status
 
--- Words that are no command get their status, and so do names of no file and texts that are refused.
-module _ (words : List (List ℕ)) (files : Option Files) where
+-- Words that are no command get their status, and so do names of no file, of the main one or of one that it imports, and files
+-- that mean nothing.
+module _ (words : List (List ℕ)) (shelf : Option Files) where
   pub record Refuses (status : Status) : Type 0 where
     pub nothing_asked : AskNothing words → IsUnlessCut Words status
-    pub no_such_file : (command : Command) (name : List ℕ) (nodes : ℕ) → Asks words command name nodes → told_file files name ≡ Some None → IsUnlessFault NoFile status
-    pub refused_text : (command : Command) (name : List ℕ) (nodes : ℕ) (text : List ℕ) → Asks words command name nodes → told_file files name ≡ Some (Some text) → MeansNothing text → IsUnlessFault Refused status
+    pub no_such_file : (command : Command) (name : List ℕ) (nodes : ℕ) → Asks words command name nodes → told_file shelf name ≡ Some None → IsUnlessFault NoFile status
+    pub no_such_import : (command : Command) (name : List ℕ) (nodes : ℕ) (text : List ℕ) → Asks words command name nodes → told_file shelf name ≡ Some (Some text) → MissesImport (told_file shelf) name text → IsUnlessFault NoFile status
+    pub refused_text : (command : Command) (name : List ℕ) (nodes : ℕ) (text : List ℕ) → Asks words command name nodes → told_file shelf name ≡ Some (Some text) → ImportsAreThere (told_file shelf) name text →
+        MeansNothing (told_file shelf) name text → IsUnlessFault Refused status
 
 -- each status that tells of a failure comes only where there was one, and that of memory as is said of it
 module _ (shelf_failed wanted : Type 0) (before after : Moment) where

@@ -1,14 +1,13 @@
 //! The program `spectra`: from the words of the command line to a verdict line, a session and a status.
 //!
-//! `synth FILE` reads a specification over Booleans, whole numbers and enums, whose lines are initial, hold or recur, and
-//! says whether it is realizable. `run FILE` says the same and, where the system wins, answers each line of the input by one
-//! line, so that the exchanged lines are one play of legal moves that keeps what recurs within the printed K rounds. Where the
-//! environment wins, `counter FILE` answers each line by a note and the next input, so that the exchanged lines beat the system
-//! within the printed N and M, and `core FILE` names the guarantees of an unrealizable core. `separate FILE` says whether the environment,
-//! by its assumptions alone, beats a system that can never meet its guarantee. `audit FILE`
-//! reads a log of positions, and says which line of the specification is broken first, and where. `gen N` does as `synth` for an
-//! arbiter of N clients. The verdict is decided over sets of the states of the specification's game, by at most as many nodes at
-//! a time as `--nodes` says.
+//! `synth FILE` reads a specification, with the files that it imports, and says whether it is realizable. `run FILE` says the
+//! same and, where the system wins, answers each line of the input by one line, so that the exchanged lines are one play of
+//! legal moves that keeps what recurs within the printed K rounds. Where the environment wins, `counter FILE` answers each line
+//! by a note and the next input, so that the exchanged lines beat the system within the printed N and M, and `core FILE` names
+//! the guarantees of an unrealizable core. `separate FILE` says whether the environment, by its assumptions alone, beats a
+//! system that can never meet its guarantee. `audit FILE` reads a log of positions, and says which line of the specification
+//! is broken first, and where. `gen N` does as `synth` for an arbiter of N clients. The verdict is decided over sets of the
+//! states of the specification's game, by at most as many nodes at a time as `--nodes` says.
 //!
 //! Contract: `top::spectra`. Path: words and bytes → tokens → trees → specification → verdict → **lines and status**.
 #![tactic(auto)]
@@ -19,6 +18,7 @@ mod countering;
 mod deciding;
 mod generating;
 mod holding;
+mod importing;
 mod laws;
 mod placing;
 mod reading;

@@ -18,6 +18,7 @@ mod budgets;
 mod chains;
 mod cores;
 mod counters;
+mod files;
 mod forms;
 mod kinds;
 mod limits;
@@ -25,6 +26,7 @@ mod names;
 mod rows;
 mod sessions;
 mod verdicts;
+mod whole;
 
 const SYNTH: &str = "spectra synth t.spectra";
 

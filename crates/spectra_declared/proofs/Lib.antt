@@ -1,3 +1,2 @@
-pub mod Told
 pub mod Scopes
-pub mod Loops
+pub mod Ends

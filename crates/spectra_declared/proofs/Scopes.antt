@@ -1,14 +1,14 @@
 -- What the spaces of names are, and the faults that were found with them.
-use Rattle.std.proofs.Common.{[], ◌≡◌, ℕ, List, ◌++◌, Option, sym, ap, ◌∙◌}
+use Rattle.std.proofs.Common.{[], ◌≡◌, ℕ, List, Option, sym, ap, ◌∙◌}
 use Rattle.spectra_resolved.specs.declared.findings.Finding.{Finding}
 use Rattle.spectra_declared.specs.declared.declaring.Space.{Space}
 use Rattle.spectra_declared.specs.declared.declaring.Space.TheVariants as spaces
 use Rattle.spectra_resolved.specs.Findings.{with_faults}
-use Rattle.spectra_resolved.specs.Spaces.{declared, clashes, Told, with_entries, no_names}
+use Rattle.spectra_resolved.specs.Spaces.{declared, clashes, Told, with_entries}
 use Rattle.spectra_declared.specs.Items.{FiledItem}
-use Rattle.spectra_declared.specs.Declarations.{enums_in, entries, names_past, name_faults, scope_faults}
+use Rattle.spectra_declared.specs.Declarations.{enums_in, entries, names_past, scope_faults}
 use Rattle.spectra_resolved.proofs.First.{with_faults_append}
-use Rattle.spectra_declared.proofs.Told.{start, first_look, first_found}
+use Rattle.spectra_items.proofs.Told.{start, first_look, first_found}
 
 -- what is told of one space behind none
 pub space_look : (t : Told) (space : Space) (enums : List (List ℕ)) (items : List FiledItem) (found : Option Finding)

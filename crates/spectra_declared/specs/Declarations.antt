@@ -1,11 +1,10 @@
 -- What the items of several files declare, each name space in text order, and the faults of declarations.
 use Rattle.spectra_trees.specs.declared.faults.TheConstants.{IMPORTED_LINE, TOO_MANY}
-use Rattle.std.specs.Prelude.{ℕ, suc, zero, ◌+◌, ◌-◌, ◌==◌, nat_lt, Bool, true, false, if◌then◌else◌, List, [], ◌∷◌, ◌++◌, Option, Some, None, length, map, flat_map, position, unwrap_or, slice_get, option_to_list, bytes_eq}
+use Rattle.std.specs.Prelude.{ℕ, suc, ◌+◌, ◌-◌, nat_lt, Bool, true, false, if◌then◌else◌, List, [], ◌∷◌, ◌++◌, Option, Some, None, length, map, flat_map, position, unwrap_or, slice_get, option_to_list, bytes_eq}
 use Rattle.spectra_trees.specs.declared.tree.Place.{Place}
-use Rattle.spectra_trees.specs.Data.{NameData, Expression, TypeData, PartData, PartShape, ItemData, TreeData}
+use Rattle.spectra_trees.specs.Data.{NameData, Expression, ItemData, TreeData}
 use Rattle.spectra_resolved.specs.declared.spot.Spot.{Spot}
 use Rattle.spectra_resolved.specs.declared.tree.Leaf.TheVariants as leaves
-use Rattle.spectra_resolved.specs.declared.table.Named.{Named}
 use Rattle.spectra_resolved.specs.declared.table.Named.TheVariants as names
 use Rattle.spectra_declared.specs.declared.declaring.Space.{Space}
 use Rattle.spectra_declared.specs.declared.declaring.Space.TheVariants as spaces

@@ -1,6 +1,6 @@
-pub mod MentionViews
 pub mod Items
+pub mod MentionViews
 pub mod Declarations
 pub mod LimitViews
-pub mod Types
-pub mod Meanings
+pub mod Wholes
+pub mod WholeViews

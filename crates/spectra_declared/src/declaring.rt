@@ -207,7 +207,7 @@ fn declare_mentions<'t>(
     }
 }
 
-#[tactic(auto, using(crate::proofs::Told::with_entries_append))]
+#[tactic(auto, using(spectra_items::proofs::Told::with_entries_append))]
 // Declares what an item has in a name space.
 fn declare_item<'t>(
     alloc: Global,
@@ -232,7 +232,7 @@ fn declare_item<'t>(
     }
 }
 
-#[tactic(auto, using(crate::proofs::Told::with_entries_append))]
+#[tactic(auto, using(spectra_items::proofs::Told::with_entries_append))]
 /// What several items declare in a name space. Each second declaration of a name is reported.
 pub fn space_of<'t>(
     alloc: Global,

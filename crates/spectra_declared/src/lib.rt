@@ -1,8 +1,7 @@
-//! All that several files declare: their items, what their names stand for, and their variables and types.
+//! All that several files declare and say: their items, what their names stand for, and the whole text with each name resolved.
 //!
 //! Contract: `declared::declared` gives what every name of several files stands for, and the first fault of the declarations;
-//! `variables::variables_of` and `variables::aliases_of` give the variables and the named types, and the faults of names in
-//! them; `types::type_use` gives what one type stands for.
+//! `text::resolved_text` gives the whole text, in which each name is what it stands for, and the first of all faults of names.
 //!
 //! Path: text → tokens → trees → **resolved trees** → specification → game → regions → layers → strategy → verdict → lines.
 #![tactic(auto)]
@@ -12,5 +11,6 @@ pub mod declaring;
 pub mod items;
 mod limits;
 mod mentions;
-pub mod types;
-pub mod variables;
+#[cfg(test)]
+mod tests;
+pub mod text;

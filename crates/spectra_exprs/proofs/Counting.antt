@@ -39,7 +39,6 @@ abbrev pub IsStop : ℕ → SyntaxFault → Nesting → List Lexeme → Type 0
 IsStop k (faults.Unexpected at) n rest = IsNext at rest
 IsStop k (faults.TooDeep at) n rest = OpensLevel k at n rest
 IsStop k (faults.Parentheses at) n rest = IsNext at rest
-IsStop k (faults.Unsupported at) n rest = Unit {0}
 IsStop k faults.Memory n rest = Unit {0}
 
 -- tokens that were used

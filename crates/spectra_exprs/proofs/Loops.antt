@@ -53,5 +53,4 @@ module _ {A : Type 0} (test : List Lexeme → Bool) (step : A → Reader A) wher
   grown_fails a ts all g on (faults.Unexpected at) h = stopped g.turns a ts all (faults.Unexpected at) g.room g.same on h
   grown_fails a ts all g on (faults.TooDeep at) h = stopped g.turns a ts all (faults.TooDeep at) g.room g.same on h
   grown_fails a ts all g on (faults.Parentheses at) h = stopped g.turns a ts all (faults.Parentheses at) g.room g.same on h
-  grown_fails a ts all g on (faults.Unsupported at) h = stopped g.turns a ts all (faults.Unsupported at) g.room g.same on h
   grown_fails a ts all g on faults.Memory h = tt

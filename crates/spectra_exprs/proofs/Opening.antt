@@ -46,7 +46,6 @@ abbrev pub IsPlace : SyntaxFault → List Lexeme → List Lexeme → Type 0
 IsPlace (faults.Unexpected at) used rest = IsNext at rest
 IsPlace (faults.TooDeep at) used rest = IsLast at used
 IsPlace (faults.Parentheses at) used rest = IsOperator at rest
-IsPlace (faults.Unsupported at) used rest = ⊥
 IsPlace faults.Memory used rest = ⊥
 
 -- what was used ends with a whole phrase, in whose place each other phrase of its sort may stand
@@ -71,7 +70,6 @@ abbrev pub IsBehind : {A : Type 0} → (List Lexeme → A → Type 0) → Syntax
 IsBehind P (faults.Unexpected at) used = Unit {0}
 IsBehind P (faults.TooDeep at) used = EndsLevel P used
 IsBehind P (faults.Parentheses at) used = EndsWhole P used
-IsBehind P (faults.Unsupported at) used = Unit {0}
 IsBehind P faults.Memory used = Unit {0}
 
 pub record OpensAt {A : Type 0} (P : List Lexeme → A → Type 0) (ts : List Lexeme) (f : SyntaxFault) : Type 0 where
@@ -105,7 +103,6 @@ place_behind (faults.Unexpected at) front used rest p = p
 place_behind (faults.TooDeep at) front used rest p =
     record { front = front ++ p.front; token = p.token; parts = ap (λ (u : List Lexeme). front ++ u) p.parts ∙ sym (append_assoc front p.front (p.token ∷ [])); number = p.number }
 place_behind (faults.Parentheses at) front used rest p = p
-place_behind (faults.Unsupported at) front used rest p = p
 place_behind faults.Memory front used rest p = p
 
 ends_behind : {A B : Type 0} (P : List Lexeme → A → Type 0) (Q : List Lexeme → B → Type 0) (front : List Lexeme) → ((used : List Lexeme) → Begun P used → Begun Q (front ++ used)) → (used : List Lexeme) → EndsWhole P used → EndsWhole Q (front ++ used)
@@ -125,7 +122,6 @@ is_behind P Q front begins (faults.Unexpected at) used b = tt
 is_behind P Q front begins (faults.TooDeep at) used b =
     record { front = front ++ b.front; token = b.token; parts = ap (λ (u : List Lexeme). front ++ u) b.parts ∙ sym (append_assoc front b.front (b.token ∷ [])); begun = begins b.front b.begun }
 is_behind P Q front begins (faults.Parentheses at) used b = ends_behind P Q front begins used b
-is_behind P Q front begins (faults.Unsupported at) used b = tt
 is_behind P Q front begins faults.Memory used b = tt
 
 -- behind some tokens, where what is begun there begins the whole

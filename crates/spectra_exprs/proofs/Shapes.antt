@@ -263,7 +263,7 @@ formed_token class within ends = record {
 opened_depth : (k : ℕ) (t : Lexeme) (ts : List Lexeme) → same_class t.class classes.Open ≡ true → depth k (t ∷ ts) ≡ depth (suc k) ts
 opened_depth k t ts is = ap (λ (o : Option ℕ). option_map_or (λ j. depth j ts) o None) (ap (λ (b : Bool). by_sort b (same_class t.class classes.Close) (same_class t.class classes.Comma) (among inner_tokens (place_of t.class)) k) is)
 
-not_both : (C D : Class) → Apart (C ∷ []) (D ∷ []) → (t : Lexeme) → same_class t.class C ≡ true → same_class t.class D ≡ false
+pub not_both : (C D : Class) → Apart (C ∷ []) (D ∷ []) → (t : Lexeme) → same_class t.class C ≡ true → same_class t.class D ≡ false
 not_both C D apart t is = no_class (C ∷ []) D apart t (same_going C t [] is)
 
 closed_depth : (k : ℕ) (t : Lexeme) (ts : List Lexeme) → same_class t.class classes.Close ≡ true → depth (suc k) (t ∷ ts) ≡ depth k ts

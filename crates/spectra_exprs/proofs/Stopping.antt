@@ -25,7 +25,6 @@ abbrev pub Names : SyntaxFault → ℕ → Type 0
 Names (faults.Unexpected at) k = at ≡ k
 Names (faults.TooDeep at) k = at ≡ k
 Names (faults.Parentheses at) k = at ≡ k
-Names (faults.Unsupported at) k = ⊥
 Names faults.Memory k = ⊥
 
 -- the tokens that were used, which lead on so too where the same token is next

@@ -50,7 +50,6 @@ abbrev pub Fails : {Y : Type 0} → SyntaxFault → Read Y → Type 0
 Fails (faults.Unexpected at) read = read ≡ Err (faults.Unexpected at)
 Fails (faults.TooDeep at) read = read ≡ Err (faults.TooDeep at)
 Fails (faults.Parentheses at) read = read ≡ Err (faults.Parentheses at)
-Fails (faults.Unsupported at) read = read ≡ Err (faults.Unsupported at)
 Fails faults.Memory read = Unit {0}
 
 -- the answer, seen by view, is what is read, unless memory ran out

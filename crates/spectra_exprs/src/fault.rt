@@ -14,8 +14,6 @@ pub enum SyntaxFault {
     TooDeep(u32),
     /// An operator behind a whole expression, which wants parentheses.
     Parentheses(u32),
-    /// The first token of the least form that isn't built yet, in a text of the grammar.
-    Unsupported(u32),
     /// No memory was given.
     Memory,
 }

@@ -1,5 +1,5 @@
 -- What is banned in a line's expression, or in one of a pattern's line, isn't in its formula.
-use Rattle.std.proofs.Common.{◌≡◌, inl, inr, ℕ, ◌+◌, nat_lt, Bool, true, false, ◌&&◌, [], ◌++◌, Option, Some, None, is_some, refl, sym, ◌∙◌, arith}
+use Rattle.std.proofs.Common.{◌≡◌, inl, inr, ℕ, ◌+◌, nat_lt, Bool, true, false, ◌&&◌, ◌||◌, [], ◌++◌, Option, Some, None, is_some, refl, sym, ◌∙◌, arith}
 use Rattle.std.proofs.lemmas.Bool.{false≢true}
 use Rattle.std.proofs.lemmas.Bool.Decides.{nat_tests}
 use Rattle.spec_model.specs.Moves.{has_next, some_has_next}
@@ -17,6 +17,7 @@ use Rattle.spectra_judge.specs.Erased.{leaf_formula, erased, is_put_in, in_line,
 use Rattle.spectra_judge.specs.Laws.{LineKeepsBans, PatternKeepsBans}
 use Rattle.spectra_judge.proofs.Empty.{empty_parts, no_fault}
 use Rattle.spectra_judge.proofs.Banned.{IsSome, none_in}
+use Rattle.spectra_judge.proofs.Chained.{or-right}
 
 -- ---- the tests
 
@@ -193,7 +194,8 @@ module _ (known : Known) (names params own : ℕ) (bans : Bans) where
   parameter_read banned (leaf.EnumName n) next at put none = refl
   parameter_read banned (leaf.Variable k) next at put none = absurd (false≢true put)
   parameter_read banned (leaf.Parameter k) next at put none =
-      absurd (both bans.parameter banned (no_fault bans.parameter 9 at (empty_parts (fault_if bans.parameter 9 at) (shifted known.brought bans.shifted_parameter 10 next at) none).0))
+      let wrong = bans.variable || bans.parameter in
+      absurd (both wrong (or-right bans.variable bans.parameter banned) (no_fault wrong 9 at (empty_parts (fault_if wrong 9 at) (shifted known.brought bans.shifted_parameter 10 next at) none).0))
   parameter_read banned (leaf.Own k) next at put none = not_own k
   parameter_read banned (leaf.Define k) next at put none = refl
   parameter_read banned (leaf.Hole h) next at put none = refl
@@ -204,7 +206,7 @@ module _ (known : Known) (names params own : ℕ) (bans : Bans) where
   parameter_shifted banned (leaf.EnumName n) next at put none = refl
   parameter_shifted banned (leaf.Variable k) next at put none = absurd (false≢true put)
   parameter_shifted banned (leaf.Parameter k) next at put none =
-      let parts = empty_parts (fault_if bans.parameter 9 at) (shifted known.brought bans.shifted_parameter 10 (Some next) at) none in
+      let parts = empty_parts (fault_if (bans.variable || bans.parameter) 9 at) (shifted known.brought bans.shifted_parameter 10 (Some next) at) none in
       absurd (both bans.shifted_parameter banned (no_fault bans.shifted_parameter 10 (meeting known.brought next at next) parts.1))
   parameter_shifted banned (leaf.Own k) next at put none = not_own k
   parameter_shifted banned (leaf.Define k) next at put none = refl

@@ -10,7 +10,7 @@ use Rattle.spectra_resolved.specs.declared.findings.Finding.{Finding}
 use Rattle.spectra_judge.specs.declared.chains.Opened.{Opened}
 use Rattle.spectra_resolved.specs.Findings.{with_faults}
 use Rattle.spectra_judge.specs.Operators.{is_past}
-use Rattle.spectra_judge.specs.Around.{Around, Brought, is_brought, first_brought, within}
+use Rattle.spectra_judge.specs.Around.{Around, Brought, first_brought, within}
 use Rattle.spectra_judge.specs.Known.{Known, Setting}
 use Rattle.spectra_judge.specs.Judged.{kind_of, faults}
 use Rattle.spectra_judge.specs.Chains.{opened, has_past, brought_in, link_faults, chain_kind, chain_faults}
@@ -52,8 +52,8 @@ opened_is names o (l ∷ ls) = ap (within names (is_past l.word) l.at) (opened_i
     none-more None = refl
 
     by : (past : Bool) → within names past l.at (record { next = o.next; past = o.past || has_past ls; brought = outer_or o.brought (brought_in names ls) })
-        ≡ record { next = o.next; past = o.past || (past || has_past ls); brought = outer_or o.brought (first_brought (brought_in names ls) (past && is_brought names l.at) l.at) }
-    by true = λ i. record { next = o.next; past = or-true o.past i; brought = one-more o.brought (brought_in names ls) (is_brought names l.at) i }
+        ≡ record { next = o.next; past = o.past || (past || has_past ls); brought = outer_or o.brought (first_brought (brought_in names ls) (past && names l.at) l.at) }
+    by true = λ i. record { next = o.next; past = or-true o.past i; brought = one-more o.brought (brought_in names ls) (names l.at) i }
     by false = λ i. record { next = o.next; past = o.past || has_past ls; brought = outer_or o.brought (none-more (brought_in names ls) i) }
 
 pub next_stays : (names : Brought) (o : Around) (ls : List LinkData) → (opened names o ls).next ≡ o.next
@@ -76,7 +76,7 @@ chain_faults_is s o found t (l ∷ ls) =
 
 -- ---- past operators
 
-or-right : (a b : Bool) → b ≡ true → (a || b) ≡ true
+pub or-right : (a b : Bool) → b ≡ true → (a || b) ≡ true
 or-right true b e = refl
 or-right false b e = e
 
@@ -97,7 +97,7 @@ brought-stays names at [] (suc k) zero below e = e
 brought-stays names at [] (suc k) (suc m) below e = e
 brought-stays names at (l ∷ ls) zero zero below e = e
 brought-stays names at (l ∷ ls) zero (suc m) below e =
-    ap (λ f. first_brought f (is_past (link_data l).word && is_brought names (link_data l).at) (link_data l).at) (brought-stays names at ls zero m (omega arith) e)
+    ap (λ f. first_brought f (is_past (link_data l).word && names (link_data l).at) (link_data l).at) (brought-stays names at ls zero m (omega arith) e)
 brought-stays names at (l ∷ ls) (suc k) zero below e = absurd (omega arith)
 brought-stays names at (l ∷ ls) (suc k) (suc m) below e = brought-stays names at ls k m (omega arith) e
 
@@ -131,17 +131,17 @@ module _ (ls : List Link) (last : ℕ) (some : 0 < last) (within_list : last ≤
 
   -- no body brings a past operator from the place on
   module _ (names : Brought) (nothing : (place : ℕ) → last ≤ place → brought_in names (map link_data (drop place ls)) ≡ None) where
-    brought_here : (brought : Bool) → (is_past l.word && is_brought names l.at) ≡ brought → brought_in names (map link_data (drop (last - 1) ls)) ≡ first_brought None brought l.at
+    brought_here : (brought : Bool) → (is_past l.word && names l.at) ≡ brought → brought_in names (map link_data (drop (last - 1) ls)) ≡ first_brought None brought l.at
     brought_here brought same = ap (brought_in names) here ∙ (λ i. first_brought (nothing last (omega arith) i) (same i) l.at)
 
-    pub bringing_found : (is_past l.word && is_brought names l.at) ≡ true → (place : ℕ) → brought_in names (map link_data (drop place ls)) ≡ (if nat_lt place last then Some l.at else None)
+    pub bringing_found : (is_past l.word && names l.at) ≡ true → (place : ℕ) → brought_in names (map link_data (drop place ls)) ≡ (if nat_lt place last then Some l.at else None)
     bringing_found same place = by (nat_lt place last) refl
       where
         by : (b : Bool) → nat_lt place last ≡ b → brought_in names (map link_data (drop place ls)) ≡ (if b then Some l.at else None)
         by true e = let less : place < last = grind (arith, nat_tests) in brought-stays names l.at ls place (last - 1) (omega arith) (brought_here true same)
         by false e = let more : last ≤ place = grind (arith, nat_tests) in nothing place more
 
-    pub not_bringing : (is_past l.word && is_brought names l.at) ≡ false → (place : ℕ) → last - 1 ≤ place → brought_in names (map link_data (drop place ls)) ≡ None
+    pub not_bringing : (is_past l.word && names l.at) ≡ false → (place : ℕ) → last - 1 ≤ place → brought_in names (map link_data (drop place ls)) ≡ None
     not_bringing same place later = elim (cases_lt place last) [
       | inl before ↦ let e : last - 1 ≡ place = omega arith in subst (λ k. brought_in names (map link_data (drop k ls)) ≡ None) e (brought_here false same)
       | inr more ↦ nothing place more

@@ -1,9 +1,9 @@
 -- A place is looked for among places that rise.
-use Rattle.std.proofs.Common.{◌≡◌, ℕ, zero, suc, ◌+◌, ◌<◌, ◌≤◌, ◌==◌, nat_lt, Bool, true, false, ◌&&◌, ◌||◌, if◌then◌else◌, [], ◌∷◌, length, get_or, inl, inr, refl, ap, subst, ◌∙◌, arith}
+use Rattle.std.proofs.Common.{◌≡◌, ℕ, zero, suc, ◌+◌, ◌<◌, ◌≤◌, ◌==◌, nat_lt, Bool, true, false, ◌&&◌, ◌||◌, if◌then◌else◌, List, [], ◌∷◌, length, get_or, inl, inr, refl, ap, subst, ◌∙◌, arith}
 use Rattle.std.proofs.lemmas.Bool.{cases_lt}
 use Rattle.std.proofs.lemmas.Bool.Decides.{nat_tests}
 use Rattle.spectra_resolved.specs.declared.spot.Spot.{Spot}
-use Rattle.spectra_judge.specs.Around.{Brought, same_spot, is_brought, comes_before, AreRising}
+use Rattle.spectra_judge.specs.Around.{same_spot, is_brought, comes_before, AreRising}
 
 -- one number decides, and where it is the same, a test
 abbrev lex : ℕ → ℕ → Bool → Bool
@@ -36,14 +36,14 @@ pub behind_is : (a b : Spot) → same_spot a b ≡ false → comes_before a b �
 behind_is a b = lex-other a.file b.file _ _ _ (lex-other a.line b.line _ _ _ (λ p q. grind (arith, nat_tests)))
 
 -- names that rise, by their places in the list
-pub rising_at : (names : Brought) (d : Spot) → AreRising names → (i j : ℕ) → i < j → j < length names → comes_before (get_or names i d) (get_or names j d) ≡ true
+pub rising_at : (names : List Spot) (d : Spot) → AreRising names → (i j : ℕ) → i < j → j < length names → comes_before (get_or names i d) (get_or names j d) ≡ true
 rising_at [] d rise i j less below = absurd (omega arith)
 rising_at (n ∷ names) d rise i zero less below = absurd (omega arith)
 rising_at (n ∷ names) d rise zero (suc j) less below = rise.0 j d (omega arith)
 rising_at (n ∷ names) d rise (suc i) (suc j) less below = rising_at names d rise.1 i j (omega arith) (omega arith)
 
 -- it is one of them, or none
-pub found_at : (names : Brought) (at : Spot) (k : ℕ) → k < length names → same_spot (get_or names k at) at ≡ true → is_brought names at ≡ true
+pub found_at : (names : List Spot) (at : Spot) (k : ℕ) → k < length names → same_spot (get_or names k at) at ≡ true → is_brought names at ≡ true
 found_at [] at k below same = absurd (omega arith)
 found_at (n ∷ names) at zero below same = ap (λ b. b || is_brought names at) same
 found_at (n ∷ names) at (suc k) below same = or-true (same_spot n at) (is_brought names at) (found_at names at k (omega arith) same)
@@ -52,17 +52,17 @@ found_at (n ∷ names) at (suc k) below same = or-true (same_spot n at) (is_brou
     or-true true b e = refl
     or-true false b e = e
 
-none-at : (names : Brought) (at : Spot) → ((k : ℕ) → k < length names → same_spot (get_or names k at) at ≡ false) → is_brought names at ≡ false
+none-at : (names : List Spot) (at : Spot) → ((k : ℕ) → k < length names → same_spot (get_or names k at) at ≡ false) → is_brought names at ≡ false
 none-at [] at apart = refl
 none-at (n ∷ names) at apart = ap (λ b. b || is_brought names at) (apart 0 (omega arith)) ∙ none-at names at (λ k below. apart (suc k) (omega arith))
 
 -- those before a place come before it, and those from another one on behind it
-pub record IsNarrowed (names : Brought) (at : Spot) (low high : ℕ) : Type 0 where
+pub record IsNarrowed (names : List Spot) (at : Spot) (low high : ℕ) : Type 0 where
   pub within : high ≤ length names
   pub before : (k : ℕ) → k < low → comes_before (get_or names k at) at ≡ true
   pub behind : (k : ℕ) → high ≤ k → k < length names → comes_before at (get_or names k at) ≡ true
 
-pub nowhere : (names : Brought) (at : Spot) (low high : ℕ) → IsNarrowed names at low high → high ≤ low → is_brought names at ≡ false
+pub nowhere : (names : List Spot) (at : Spot) (low high : ℕ) → IsNarrowed names at low high → high ≤ low → is_brought names at ≡ false
 nowhere names at low high is meet = none-at names at by
   where
     by : (k : ℕ) → k < length names → same_spot (get_or names k at) at ≡ false
@@ -71,7 +71,7 @@ nowhere names at low high is meet = none-at names at by
       | inr more ↦ behind_apart (get_or names k at) at (is.behind k (omega arith) below)
     ]
 
-module _ (names : Brought) (at : Spot) (rise : AreRising names) (low high middle : ℕ) (is : IsNarrowed names at low high) (inside : middle < high) (name : Spot) (read : name ≡ get_or names middle at) where
+module _ (names : List Spot) (at : Spot) (rise : AreRising names) (low high middle : ℕ) (is : IsNarrowed names at low high) (inside : middle < high) (name : Spot) (read : name ≡ get_or names middle at) where
   pub narrowed_low : comes_before name at ≡ true → IsNarrowed names at (middle + 1) high
   narrowed_low less = record { within = is.within; before = by; behind = is.behind }
     where

@@ -1,6 +1,6 @@
 -- What is open around a part of an expression, and the faults of what stands where it may not.
 use Rattle.spectra_trees.specs.declared.faults.TheConstants.{NEXT_HERE, NEXT_NESTED, NEXT_OF_SYSTEM, SYSTEM_IN_INITIAL, WRONG_TYPE}
-use Rattle.std.specs.Prelude.{◌≡◌, ℕ, Bool, true, false, ◌==◌, nat_lt, ◌&&◌, if◌then◌else◌, List, [], ◌∷◌, ◌++◌, Option, Some, None, unwrap_or, All}
+use Rattle.std.specs.Prelude.{◌≡◌, ℕ, Bool, true, false, ◌==◌, nat_lt, ◌&&◌, ◌||◌, if◌then◌else◌, List, [], ◌∷◌, ◌++◌, Option, Some, None, unwrap_or, All}
 use Rattle.std.specs.List.{list_any}
 use Rattle.spectra_resolved.specs.declared.spot.Spot.{Spot}
 use Rattle.spectra_resolved.specs.declared.findings.Finding.{Finding}
@@ -11,14 +11,19 @@ pub use Rattle.spectra_judge.specs.declared.around.Around.{Around}
 
 -- ---- parts that a body brings
 
--- An expression with bodies put in: the places of the names that bring them. Each part that a body brings has the place of its name.
+-- An expression with bodies put in: whether a name at a place brings one. Each part that a body brings has the place of its name.
 abbrev pub Brought : Type 0
-Brought = List Spot
+Brought = Spot → Bool
+
+-- where nothing is put in
+abbrev pub nothing_brought : Brought
+nothing_brought at = false
 
 abbrev pub same_spot : Spot → Spot → Bool
 same_spot a b = a.file == b.file && (a.line == b.line && a.column == b.column)
 
-abbrev pub is_brought : Brought → Spot → Bool
+-- the names at these places bring bodies
+abbrev pub is_brought : List Spot → Brought
 is_brought names at = list_any (λ name. same_spot name at) names
 
 abbrev pub comes_before : Spot → Spot → Bool
@@ -26,14 +31,14 @@ comes_before a b =
     if a.file == b.file then (if a.line == b.line then nat_lt a.column b.column else nat_lt a.line b.line) else nat_lt a.file b.file
 
 -- the names stand in text order
-abbrev pub AreRising : Brought → Type 0
+abbrev pub AreRising : List Spot → Type 0
 AreRising [] = Unit {0}
 AreRising (name ∷ names) = All (λ later. comes_before name later ≡ true) names × AreRising names
 
 -- Where a fault of two parts stands: at the outer one where a body brings it, or else at the inner one where one does, and
 -- where none does, at the one that is said.
 abbrev pub meeting : Brought → (outer inner said : Spot) → Spot
-meeting names outer inner said = if is_brought names outer then outer else (if is_brought names inner then inner else said)
+meeting brings outer inner said = if brings outer then outer else (if brings inner then inner else said)
 
 -- ---- what is open
 
@@ -57,15 +62,15 @@ first_brought None false at = None
 
 -- what is open in the operands of an operator, which speaks of the past or not
 abbrev pub within : Brought → (past : Bool) → Spot → Around → Around
-within names true at o = record { next = o.next; past = true; brought = first_brought o.brought (is_brought names at) at }
-within names false at o = o
+within brings true at o = record { next = o.next; past = true; brought = first_brought o.brought (brings at) at }
+within brings false at o = o
 
 -- ---- faults
 
 -- a part in a `next`, where it may not be
 abbrev pub in_next : Brought → Option Spot → Spot → List Finding
-in_next names (Some outer) at = fault NEXT_NESTED (meeting names outer at at) ∷ []
-in_next names None at = []
+in_next brings (Some outer) at = fault NEXT_NESTED (meeting brings outer at at) ∷ []
+in_next brings None at = []
 
 -- a `next` in past operators: at the first of them that a body brings, or else at itself
 abbrev pub in_past : Around → Spot → List Finding
@@ -73,21 +78,24 @@ in_past o at = fault_if o.past NEXT_NESTED (unwrap_or o.brought at)
 
 -- a `next`, and a past operator
 abbrev pub next_faults : Brought → Bans → Around → Spot → List Finding
-next_faults names bans o at = fault_if bans.next NEXT_HERE at ++ (in_next names o.next at ++ in_past o at)
+next_faults brings bans o at = fault_if bans.next NEXT_HERE at ++ (in_next brings o.next at ++ in_past o at)
 
 abbrev pub past_faults : Brought → Bans → (next : Option Spot) → Spot → List Finding
-past_faults names bans next at = fault_if bans.past WRONG_TYPE at ++ in_next names next at
+past_faults brings bans next at = fault_if bans.past WRONG_TYPE at ++ in_next brings next at
 
 -- what is read under a `next`, where it may not be
 abbrev pub shifted : Brought → (banned : Bool) → ℕ → (next : Option Spot) → Spot → List Finding
-shifted names banned number (Some next) at = fault_if banned number (meeting names next at next)
-shifted names banned number None at = []
+shifted brings banned number (Some next) at = fault_if banned number (meeting brings next at next)
+shifted brings banned number None at = []
 
 -- a variable, of the system or not
 abbrev pub variable_faults : Brought → Bans → (next : Option Spot) → Spot → (system : Bool) → List Finding
-variable_faults names bans next at system =
-    fault_if bans.variable WRONG_TYPE at ++ (fault_if (bans.system && system) SYSTEM_IN_INITIAL at ++ shifted names (bans.shifted_system && system) NEXT_OF_SYSTEM next at)
+variable_faults brings bans next at system =
+    fault_if bans.variable WRONG_TYPE at ++ (fault_if (bans.system && system) SYSTEM_IN_INITIAL at ++ shifted brings (bans.shifted_system && system) NEXT_OF_SYSTEM next at)
 
--- a parameter of a pattern
+-- a parameter of a pattern, and one of its own variables
 abbrev pub parameter_faults : Brought → Bans → (next : Option Spot) → Spot → List Finding
-parameter_faults names bans next at = fault_if bans.parameter WRONG_TYPE at ++ shifted names bans.shifted_parameter NEXT_HERE next at
+parameter_faults brings bans next at = fault_if (bans.variable || bans.parameter) WRONG_TYPE at ++ shifted brings bans.shifted_parameter NEXT_HERE next at
+
+abbrev pub own_faults : Bans → Spot → List Finding
+own_faults bans at = fault_if bans.variable WRONG_TYPE at

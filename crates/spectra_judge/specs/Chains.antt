@@ -2,32 +2,26 @@
 use Rattle.std.specs.Prelude.{Bool, ◌&&◌, List, [], ◌∷◌, ◌++◌, Option, None}
 use Rattle.std.specs.List.{list_any}
 use Rattle.spectra_resolved.specs.declared.spot.Spot.{Spot}
-use Rattle.spectra_resolved.specs.declared.tree.Shape.{Shape, fold-Shape}
-use Rattle.spectra_resolved.specs.Resolved.{ResolvedTree, Form, LinkData}
-use Rattle.spectra_resolved.specs.Views.{resolved_step, shape_step, link_step}
+use Rattle.spectra_resolved.specs.Resolved.{LinkData}
 use Rattle.spectra_resolved.specs.declared.findings.Finding.{Finding}
 use Rattle.spectra_judge.specs.Kinds.{Kind}
 use Rattle.spectra_judge.specs.Operators.{gives, is_past}
-use Rattle.spectra_judge.specs.Around.{Around, Brought, is_brought, first_brought, within}
+use Rattle.spectra_judge.specs.Around.{Around, Brought, first_brought, within}
 use Rattle.spectra_judge.specs.Known.{Known, Setting}
 use Rattle.spectra_judge.specs.Judged.{kind_of, binary_faults, operator_faults, faults}
 
--- what the shapes of the program's trees stand for
-abbrev pub form_data : Shape → Form
-form_data = fold-Shape ResolvedTree Form LinkData resolved_step shape_step link_step
-
 -- what is open in the operands of the first of these operators
 abbrev pub opened : Brought → Around → List LinkData → Around
-opened names around [] = around
-opened names around (l ∷ ls) = within names (is_past l.word) l.at (opened names around ls)
+opened brings around [] = around
+opened brings around (l ∷ ls) = within brings (is_past l.word) l.at (opened brings around ls)
 
 -- whether one of them is a past operator, and the place of the last one that a body brings
 abbrev pub has_past : List LinkData → Bool
 has_past ls = list_any (λ l. is_past l.word) ls
 
 abbrev pub brought_in : Brought → List LinkData → Option Spot
-brought_in names [] = None
-brought_in names (l ∷ ls) = first_brought (brought_in names ls) (is_past l.word && is_brought names l.at) l.at
+brought_in brings [] = None
+brought_in brings (l ∷ ls) = first_brought (brought_in brings ls) (is_past l.word && brings l.at) l.at
 
 -- An operator and its second operand, where the first one has a kind. So much is open in its operands; and around it, so a `next`.
 abbrev pub link_faults : Setting → (inner : Around) → (next : Option Spot) → Kind → LinkData → List Finding

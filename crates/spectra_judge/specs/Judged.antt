@@ -12,11 +12,13 @@ use Rattle.spectra_resolved.specs.declared.tree.Misuse.{Misuse}
 use Rattle.spectra_resolved.specs.declared.tree.Misuse.TheVariants as misuse
 use Rattle.spectra_resolved.specs.Resolved.{ResolvedTree, tree, Form, ResolvedTrees}
 use Rattle.spectra_resolved.specs.declared.findings.Finding.{Finding}
+use Rattle.spectra_resolved.specs.Findings.{fault}
+use Rattle.spectra_resolved.specs.Resolving.{fault_of}
 use Rattle.spectra_judge.specs.Findings.{fault_if}
 use Rattle.spectra_judge.specs.Kinds.{Kind, Truth, Whole, OneName, Anything, is_truth, is_whole, is_wide, can_equal, reduced}
 use Rattle.spectra_judge.specs.Operators.{takes, gives, is_past, is_past_prefix}
 use Rattle.spectra_judge.specs.Standings.{bans_of, is_wanted}
-use Rattle.spectra_judge.specs.Around.{Around, nothing_open, under_next, within, next_faults, past_faults, variable_faults, parameter_faults}
+use Rattle.spectra_judge.specs.Around.{Around, nothing_open, under_next, within, next_faults, past_faults, variable_faults, parameter_faults, own_faults}
 use Rattle.spectra_judge.specs.Known.{Known, Setting, is_system, wanted}
 
 -- ---- kinds
@@ -80,12 +82,16 @@ abbrev pub leaf_faults : Setting → (next : Option Spot) → Spot → Leaf → 
 leaf_faults s next at (leaf.Number z) = wide (Whole z z) at
 leaf_faults s next at (leaf.Variable k) = variable_faults s.known.brought s.bans next at (is_system s.known k)
 leaf_faults s next at (leaf.Parameter k) = parameter_faults s.known.brought s.bans next at
+leaf_faults s next at (leaf.Own k) = own_faults s.bans at
 leaf_faults s next at _ = []
 
--- a name behind which there may be no parentheses is read all the same
+-- A misused name is a fault at the name. One behind which there may be no parentheses is read all the same.
+abbrev pub called_faults : Setting → (next : Option Spot) → Spot → Misuse → List Finding
+called_faults s next at (misuse.Called l) = leaf_faults s next at l
+called_faults s next at _ = []
+
 abbrev pub misuse_faults : Setting → (next : Option Spot) → Spot → Misuse → List Finding
-misuse_faults s next at (misuse.Called l) = leaf_faults s next at l
-misuse_faults s next at _ = []
+misuse_faults s next at m = fault (fault_of m) at ∷ called_faults s next at m
 
 -- ---- the faults of an expression
 

@@ -4,11 +4,11 @@ use Rattle.spectra_judge.specs.declared.known.Known as code_known
 use Rattle.spectra_judge.specs.declared.known.Setting as code_setting
 use Rattle.spectra_judge.specs.Kinds.{Kind}
 use Rattle.spectra_judge.specs.KindViews.{kind_data}
-use Rattle.spectra_judge.specs.Around.{Brought}
+use Rattle.spectra_judge.specs.Around.{Brought, is_brought}
 use Rattle.spectra_judge.specs.Standings.{Bans}
 
 -- The kinds of variables, of definitions that are defines, of the parameters of those that are predicates, and of the
--- parameters and own variables around the expression; which variables are the system's; and the names that bring bodies.
+-- parameters and own variables around the expression; which variables are the system's; and which names bring bodies.
 pub record Known : Type 0 where
   pub variables : List Kind
   pub system : List Bool
@@ -40,7 +40,7 @@ known_data k =
       predicates = map (λ ks. map kind_data ks.items) k.predicates.now;
       parameters = map kind_data k.parameters.now;
       own = map kind_data k.own.now;
-      brought = k.brought.now;
+      brought = is_brought k.brought.now;
     }
 
 abbrev pub setting_data : code_setting.Setting → Setting

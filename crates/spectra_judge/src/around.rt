@@ -67,7 +67,7 @@ pub fn first_brought(names: &[Spot], outer: Option<Spot>, at: Spot) -> Option<Sp
 /// What is open in the operands of an operator, which speaks of the past or not.
 pub fn within(names: &[Spot], past: bool, at: Spot, around: Around) -> Around
     requires rising { AreRising names.now }
-    ensures { result ≡ within_lem names.now past at around }
+    ensures { result ≡ within_lem (is_brought_lem names.now) past at around }
 {
     if past {
         Around {

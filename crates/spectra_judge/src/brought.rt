@@ -59,7 +59,7 @@ pub fn is_brought(names: &[Spot], at: Spot) -> bool
 /// Where a fault of two parts stands, and at `said` where no body brings either.
 pub fn meeting(names: &[Spot], outer: Spot, inner: Spot, said: Spot) -> Spot
     requires rising { AreRising names.now }
-    ensures { result ≡ meeting_lem names.now outer inner said }
+    ensures { result ≡ meeting_lem (is_brought_lem names.now) outer inner said }
 {
     if is_brought(names, outer) {
         outer

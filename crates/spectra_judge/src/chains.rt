@@ -85,7 +85,7 @@ fn brings_past(names: &[Spot], link: &Link) -> bool
 // How many operators have a past operator behind them that a body brings or are one, and the last of these.
 fn bringing_in(names: &[Spot], links: &[Link]) -> Bringing
     requires rising { AreRising names.now }
-    ensures { (place : ℕ) → brought_in names.now (map link_data (drop place links.now)) ≡ (if nat_lt place result.until then result.first else None) }
+    ensures { (place : ℕ) → brought_in (is_brought_lem names.now) (map link_data (drop place links.now)) ≡ (if nat_lt place result.until then result.first else None) }
 {
     let mut last = links.len();
     while last > 0 {
@@ -107,7 +107,7 @@ fn bringing_in(names: &[Spot], links: &[Link]) -> Bringing
 /// What is open in the operands of operators.
 pub fn opened_in(names: &[Spot], links: &[Link]) -> Opened
     requires rising { AreRising names.now }
-    ensures { (around : Around) (place : ℕ) → opened names.now around (map link_data (drop place links.now)) ≡ opened_at result around place }
+    ensures { (around : Around) (place : ℕ) → opened (is_brought_lem names.now) around (map link_data (drop place links.now)) ≡ opened_at result around place }
 {
     Opened {
         past: past_until(links),

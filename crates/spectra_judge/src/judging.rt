@@ -27,10 +27,10 @@ pub struct Judged<'a> {
 }
 
 #[tactic(auto, using(spectra_resolved::proofs::First::with_faults_append))]
-/// The kind of an expression that stands somewhere, and the first of its faults from 9 to 14: the one at the least place, and
+/// The kind of an expression that stands somewhere, and the first of its faults, also of misused names: the one at the least place, and
 /// of several there the one with the smallest number. It takes no memory.
 pub fn judge<'a>(known: &Known<'_, 'a>, stand: Stand, tree: &Resolved) -> Judged<'a>
-    requires rising { AreRising (known_data known.now).brought }
+    requires rising { AreRising known.now.brought.now }
     ensures kind { kind_data result.kind ≡ kind_of (known_data known.now) (resolved_data tree.now) }
     ensures fault { result.fault ≡ first_of_faults (faults_of (known_data known.now) stand (resolved_data tree.now)) }
 {

@@ -10,9 +10,10 @@ ghost use Rattle.spectra_judge.specs.Judged.{hole_kind as hole_kind_lem, leaf_ki
 use crate::findings::report_if;
 use crate::kind::{Kind, is_whole, is_wide, reduced};
 use crate::known::{Known, Setting, kind_at};
-use crate::misplaced::{report_parameter, report_variable};
+use crate::misplaced::{report_own, report_parameter, report_variable};
 use crate::operators::{gives, takes};
 use spectra_resolved::findings::Findings;
+use spectra_resolved::resolving::fault_of;
 use spectra_resolved::spot::Spot;
 use spectra_resolved::tree::{Hole, Leaf, Misuse};
 use spectra_trees::faults::{WIDE_INT, WRONG_TYPE};
@@ -103,7 +104,7 @@ pub fn report_leaf(
     at: Spot,
     leaf: Leaf,
 )
-    requires rising { AreRising (setting_data setting.now).known.brought }
+    requires rising { AreRising setting.now.known.brought.now }
     ensures { found_in findings.new ≡ with_faults (found_in findings.old) (leaf_faults (setting_data setting.now) next at leaf) }
 {
     match leaf {
@@ -113,15 +114,15 @@ pub fn report_leaf(
             report_variable(findings, setting, next, at, system);
         }
         Leaf::Parameter(_) => report_parameter(findings, setting, next, at),
+        Leaf::Own(_) => report_own(findings, setting, at),
         Leaf::Truth(_) => {}
         Leaf::EnumName(_) => {}
-        Leaf::Own(_) => {}
         Leaf::Define(_) => {}
         Leaf::Hole(_) => {}
     }
 }
 
-/// Reports what is wrong with what a misused name reads.
+/// Reports a misused name, and what is wrong with what it reads.
 pub fn report_misuse(
     findings: &mut Findings,
     setting: &Setting<'_, '_>,
@@ -129,9 +130,10 @@ pub fn report_misuse(
     at: Spot,
     misuse: Misuse,
 )
-    requires rising { AreRising (setting_data setting.now).known.brought }
+    requires rising { AreRising setting.now.known.brought.now }
     ensures { found_in findings.new ≡ with_faults (found_in findings.old) (misuse_faults (setting_data setting.now) next at misuse) }
 {
+    findings.report(fault_of(misuse), at);
     match misuse {
         Misuse::Called(leaf) => report_leaf(findings, setting, next, at, leaf),
         Misuse::Unknown => {}

@@ -1,5 +1,5 @@
-//! The kind of an expression, and what is wrong with it where it stands: wrong kinds, spans that are too wide, and what may
-//! not stand there.
+//! The kind of an expression, and what is wrong with it where it stands: misused names, wrong kinds, spans that are too wide,
+//! and what may not stand there.
 //!
 //! An expression is judged by itself: what its names stand for is handed in, and no body is looked at. So one and the same
 //! call judges a text as it is written, and the text with all bodies put in.
@@ -10,7 +10,7 @@
 
 pub mod around;
 mod brought;
-mod chains;
+pub mod chains;
 pub mod findings;
 pub mod judging;
 pub mod kind;
@@ -18,8 +18,8 @@ pub mod known;
 pub mod laws;
 mod leaves;
 mod misplaced;
-mod operators;
+pub mod operators;
 pub mod standing;
 #[cfg(test)]
 mod tests;
-mod walking;
+pub mod walking;

@@ -3,7 +3,7 @@
 ghost use Rattle.std.specs.Prelude.{◌≡◌};
 ghost use Rattle.spectra_resolved.specs.Findings.{found_in, with_faults};
 ghost use Rattle.spectra_judge.specs.Known.{setting_data};
-ghost use Rattle.spectra_judge.specs.Around.{AreRising, in_next, in_past, next_faults, past_faults, shifted, variable_faults, parameter_faults};
+ghost use Rattle.spectra_judge.specs.Around.{AreRising, is_brought, in_next, in_past, next_faults, past_faults, shifted, variable_faults, parameter_faults, own_faults};
 ghost use Rattle.spectra_judge.specs.Judged.{operator_faults};
 
 use crate::around::Around;
@@ -19,7 +19,7 @@ use spectra_trees::faults::{
 // Reports a part in a `next`, where it may not be.
 fn report_in_next(findings: &mut Findings, names: &[Spot], next: Option<Spot>, at: Spot)
     requires rising { AreRising names.now }
-    ensures { found_in findings.new ≡ with_faults (found_in findings.old) (in_next names.now next at) }
+    ensures { found_in findings.new ≡ with_faults (found_in findings.old) (in_next (is_brought names.now) next at) }
 {
     match next {
         Some(next) => findings.report(NEXT_NESTED, meeting(names, next, at, at)),
@@ -38,7 +38,7 @@ fn report_in_past(findings: &mut Findings, around: Around, at: Spot)
 #[tactic(auto, using(spectra_resolved::proofs::First::with_faults_append))]
 /// Reports what is wrong with a `next`, its operand apart.
 pub fn report_next(findings: &mut Findings, setting: &Setting<'_, '_>, around: Around, at: Spot)
-    requires rising { AreRising (setting_data setting.now).known.brought }
+    requires rising { AreRising setting.now.known.brought.now }
     ensures { found_in findings.new ≡ with_faults (found_in findings.old) (next_faults (setting_data setting.now).known.brought setting.now.bans around at) }
 {
     report_if(findings, setting.bans.next, NEXT_HERE, at);
@@ -49,7 +49,7 @@ pub fn report_next(findings: &mut Findings, setting: &Setting<'_, '_>, around: A
 #[tactic(auto, using(spectra_resolved::proofs::First::with_faults_append))]
 // Reports what is wrong with a past operator, its operands apart.
 fn report_past(findings: &mut Findings, setting: &Setting<'_, '_>, next: Option<Spot>, at: Spot)
-    requires rising { AreRising (setting_data setting.now).known.brought }
+    requires rising { AreRising setting.now.known.brought.now }
     ensures { found_in findings.new ≡ with_faults (found_in findings.old) (past_faults (setting_data setting.now).known.brought setting.now.bans next at) }
 {
     report_if(findings, setting.bans.past, WRONG_TYPE, at);
@@ -64,7 +64,7 @@ pub fn report_operator(
     next: Option<Spot>,
     at: Spot,
 )
-    requires rising { AreRising (setting_data setting.now).known.brought }
+    requires rising { AreRising setting.now.known.brought.now }
     ensures { found_in findings.new ≡ with_faults (found_in findings.old) (operator_faults (setting_data setting.now) past next at) }
 {
     if past {
@@ -82,7 +82,7 @@ fn report_shifted(
     at: Spot,
 )
     requires rising { AreRising names.now }
-    ensures { found_in findings.new ≡ with_faults (found_in findings.old) (shifted names.now banned number next at) }
+    ensures { found_in findings.new ≡ with_faults (found_in findings.old) (shifted (is_brought names.now) banned number next at) }
 {
     match next {
         Some(next) => {
@@ -103,7 +103,7 @@ pub fn report_variable(
     at: Spot,
     system: bool,
 )
-    requires rising { AreRising (setting_data setting.now).known.brought }
+    requires rising { AreRising setting.now.known.brought.now }
     ensures { found_in findings.new ≡ with_faults (found_in findings.old) (variable_faults (setting_data setting.now).known.brought setting.now.bans next at system) }
 {
     let bans = setting.bans;
@@ -114,6 +114,13 @@ pub fn report_variable(
     report_shifted(findings, names, banned, NEXT_OF_SYSTEM, next, at);
 }
 
+/// Reports a pattern's own variable that may not be read.
+pub fn report_own(findings: &mut Findings, setting: &Setting<'_, '_>, at: Spot)
+    ensures { found_in findings.new ≡ with_faults (found_in findings.old) (own_faults setting.now.bans at) }
+{
+    report_if(findings, setting.bans.variable, WRONG_TYPE, at);
+}
+
 #[tactic(auto, using(spectra_resolved::proofs::First::with_faults_append))]
 /// Reports a pattern's parameter that may not be read.
 pub fn report_parameter(
@@ -122,11 +129,11 @@ pub fn report_parameter(
     next: Option<Spot>,
     at: Spot,
 )
-    requires rising { AreRising (setting_data setting.now).known.brought }
+    requires rising { AreRising setting.now.known.brought.now }
     ensures { found_in findings.new ≡ with_faults (found_in findings.old) (parameter_faults (setting_data setting.now).known.brought setting.now.bans next at) }
 {
     let bans = setting.bans;
-    report_if(findings, bans.parameter, WRONG_TYPE, at);
+    report_if(findings, bans.variable || bans.parameter, WRONG_TYPE, at);
     let (names, banned) = (setting.known.brought, bans.shifted_parameter);
     report_shifted(findings, names, banned, NEXT_HERE, next, at);
 }

@@ -109,39 +109,54 @@ fn misuse(alloc: Global, misuse: Misuse, a: Resolved) -> Result<Resolved, AllocE
 
 // ---- what is known
 
-// The first fault of an expression. The variables are a Boolean of the environment, one of the system, `Int(-1..1)` of the
-// system, `{A, B}` and `{B, C}` of the environment. Two defines are an `Int(0..7)` and a hole, and predicate 3 takes an
-// `Int(-3..3)` and one of `{A, B}`. A pattern has a Boolean parameter and an own variable `Int(-1..1)`.
-fn fault_among<'a>(
-    alloc: Global,
-    first: &'a [usize],
-    second: &'a [usize],
-    brought: &[Spot],
-    stand: Stand,
-    t: Resolved,
-) -> Result<Option<(u8, u32)>, AllocError>
-    requires { AreRising brought.now }
-{
-    let small: Kind<'a> = Kind::Whole(-1, 1);
-    let (ab, bc) = (Kind::NameOf(first), Kind::NameOf(second));
-    let variables = vec![in alloc; Kind::Truth, Kind::Truth, small, ab, bc]?;
-    let wanted = vec![in alloc; Kind::Whole(-3, 3), ab]?;
-    let predicates = vec![in alloc; Vec::new(alloc), Vec::new(alloc), Vec::new(alloc), wanted]?;
-    let defines = vec![in alloc; Kind::Whole(0, 7), Kind::Anything]?;
-    let parameters = vec![in alloc; Kind::Truth]?;
-    let own = vec![in alloc; small]?;
-    let known = Known {
-        variables: variables.as_slice(),
-        system: &[false, true, true, false, false],
-        defines: defines.as_slice(),
-        predicates: predicates.as_slice(),
-        parameters: parameters.as_slice(),
-        own: own.as_slice(),
-        brought,
-    };
-    match judge(&known, stand, &t).fault {
-        Some(Finding { number, at }) => Ok(Some((number, at.column))),
-        None => Ok(None),
+// What is known of names in the worked expressions. The variables are a Boolean of the environment, one of the system,
+// `Int(-1..1)` of the system, `{A, B}` and `{B, C}` of the environment. Two defines are an `Int(0..7)` and a hole, and predicate
+// 3 takes an `Int(-3..3)` and one of `{A, B}`. A pattern has a Boolean parameter and an own variable `Int(-1..1)`.
+#[derive(Drop)]
+struct Tables<'a> {
+    variables: Vec<Kind<'a>>,
+    system: Vec<bool>,
+    defines: Vec<Kind<'a>>,
+    predicates: Vec<Vec<Kind<'a>>>,
+    parameters: Vec<Kind<'a>>,
+    own: Vec<Kind<'a>>,
+}
+
+impl<'a> Tables<'a> {
+    fn new(
+        alloc: Global,
+        first: &'a [usize],
+        second: &'a [usize],
+    ) -> Result<Tables<'a>, AllocError> {
+        let small: Kind<'a> = Kind::Whole(-1, 1);
+        let (ab, bc) = (Kind::NameOf(first), Kind::NameOf(second));
+        let mut predicates = Vec::new(alloc);
+        for _ in 0..3 {
+            predicates.push(Vec::new(alloc))?;
+        }
+        predicates.push(vec![in alloc; Kind::Whole(-3, 3), ab]?)?;
+        Ok(Tables {
+            variables: vec![in alloc; Kind::Truth, Kind::Truth, small, ab, bc]?,
+            system: vec![in alloc; false, true, true, false, false]?,
+            defines: vec![in alloc; Kind::Whole(0, 7), Kind::Anything]?,
+            predicates,
+            parameters: vec![in alloc; Kind::Truth]?,
+            own: vec![in alloc; small]?,
+        })
+    }
+
+    fn known<'s>(&'s self, brought: &'s [Spot]) -> Known<'s, 'a>
+        ensures { result.brought.now ≡ brought.now }
+    {
+        Known {
+            variables: self.variables.as_slice(),
+            system: self.system.as_slice(),
+            defines: self.defines.as_slice(),
+            predicates: self.predicates.as_slice(),
+            parameters: self.parameters.as_slice(),
+            own: self.own.as_slice(),
+            brought,
+        }
     }
 }
 
@@ -154,7 +169,11 @@ fn fault_with(
 ) -> Result<Option<(u8, u32)>, AllocError>
     requires { AreRising brought.now }
 {
-    fault_among(alloc, &[0, 1], &[1, 2], brought, stand, t)
+    let tables = Tables::new(alloc, &[0, 1], &[1, 2])?;
+    match judge(&tables.known(brought), stand, &t).fault {
+        Some(Finding { number, at }) => Ok(Some((number, at.column))),
+        None => Ok(None),
+    }
 }
 
 // The first fault where the bodies of the names at one column or two are put in.

@@ -2,7 +2,7 @@
 
 ghost use Rattle.std.specs.Prelude.{◌≡◌, ℕ, ◌∷◌, ◌++◌, map, drop};
 ghost use Rattle.spectra_resolved.specs.Resolved.{Form, trees};
-ghost use Rattle.spectra_resolved.specs.Views.{resolved_data, link_data};
+ghost use Rattle.spectra_resolved.specs.Views.{resolved_data, link_data, form_data};
 ghost use Rattle.spectra_resolved.specs.Findings.{found_in, with_faults};
 ghost use Rattle.spectra_judge.specs.Kinds.{Truth, is_truth as is_truth_lem, can_equal as can_equal_lem, reduced as reduced_lem};
 ghost use Rattle.spectra_judge.specs.KindViews.{kind_data};
@@ -11,7 +11,7 @@ ghost use Rattle.spectra_judge.specs.Around.{AreRising};
 ghost use Rattle.spectra_judge.specs.Known.{setting_data, wanted};
 ghost use Rattle.spectra_judge.specs.Judged.{kind_of, form_kind, wrong, first_of as first_of_lem, faults, form_faults, operand_faults, argument_faults};
 ghost use Rattle.spectra_judge.specs.OpenedViews.{opened_at};
-ghost use Rattle.spectra_judge.specs.Chains.{form_data, opened as opened_lem, link_faults, chain_kind, chain_faults};
+ghost use Rattle.spectra_judge.specs.Chains.{opened as opened_lem, link_faults, chain_kind, chain_faults};
 
 use crate::around::{Around, under_next, within};
 use crate::chains::{Opened, first_of, opened_in, operator_at};
@@ -36,7 +36,7 @@ pub fn walk<'a>(
     around: Around,
     tree: &Resolved,
 ) -> Kind<'a>
-    requires rising { AreRising (setting_data setting.now).known.brought }
+    requires rising { AreRising setting.now.known.brought.now }
     ensures kind { kind_data result ≡ kind_of (setting_data setting.now).known (resolved_data tree.now) }
     ensures found { found_in findings.new ≡ with_faults (found_in findings.old) (faults (setting_data setting.now) around (resolved_data tree.now)) }
 {
@@ -59,7 +59,7 @@ fn walk_shape<'a>(
     at: Spot,
     shape: &Shape,
 ) -> Kind<'a>
-    requires rising { AreRising (setting_data setting.now).known.brought }
+    requires rising { AreRising setting.now.known.brought.now }
     ensures kind { kind_data result ≡ form_kind (setting_data setting.now).known (form_data shape.now) }
     ensures found { found_in findings.new ≡ with_faults (found_in findings.old) (form_faults (setting_data setting.now) around at (form_data shape.now)) }
 {
@@ -101,7 +101,7 @@ fn walk_prefix<'a>(
     word: PrefixWord,
     t: &Resolved,
 ) -> Kind<'a>
-    requires rising { AreRising (setting_data setting.now).known.brought }
+    requires rising { AreRising setting.now.known.brought.now }
     ensures kind { kind_data result ≡ Truth }
     ensures found { found_in findings.new ≡ with_faults (found_in findings.old) (form_faults (setting_data setting.now) around at (Form.Prefix word (resolved_data t.now))) }
 {
@@ -125,7 +125,7 @@ fn walk_remainder<'a>(
     number_at: Spot,
     n: i64,
 ) -> Kind<'a>
-    requires rising { AreRising (setting_data setting.now).known.brought }
+    requires rising { AreRising setting.now.known.brought.now }
     ensures kind { kind_data result ≡ reduced_lem n }
     ensures found { found_in findings.new ≡ with_faults (found_in findings.old) (form_faults (setting_data setting.now) around at (Form.Mod (resolved_data t.now) number_at n)) }
 {
@@ -145,7 +145,7 @@ fn walk_links<'a>(
     first: Kind<'a>,
     links: &[Link],
 ) -> Kind<'a>
-    requires rising { AreRising (setting_data setting.now).known.brought }
+    requires rising { AreRising setting.now.known.brought.now }
     requires opened { (place : ℕ) → opened_lem (setting_data setting.now).known.brought around (map link_data (drop place links.now)) ≡ opened_at opened around place }
     ensures kind { kind_data result ≡ chain_kind (setting_data setting.now).known (kind_data first.entry) (map link_data links.now) }
     ensures found { found_in findings.new ≡ with_faults (found_in findings.old) (chain_faults (setting_data setting.now) around (kind_data first.entry) (map link_data links.now)) }
@@ -171,7 +171,7 @@ fn walk_link<'a>(
     kind: Kind<'a>,
     link: &Link,
 ) -> Kind<'a>
-    requires rising { AreRising (setting_data setting.now).known.brought }
+    requires rising { AreRising setting.now.known.brought.now }
     ensures kind { kind_data result ≡ gives_lem (link_data link.now).word (kind_data kind.entry) (kind_of (setting_data setting.now).known (link_data link.now).second) }
     ensures found { found_in findings.new ≡ with_faults (found_in findings.old) (link_faults (setting_data setting.now) inner next (kind_data kind.entry) (link_data link.now)) }
 {
@@ -191,7 +191,7 @@ fn walk_operands<'a>(
     ts: &[Resolved],
     operators: &[Spot],
 ) -> Kind<'a>
-    requires rising { AreRising (setting_data setting.now).known.brought }
+    requires rising { AreRising setting.now.known.brought.now }
     ensures kind { kind_data result ≡ Truth }
     ensures found { found_in findings.new ≡ with_faults (found_in findings.old) (operand_faults (setting_data setting.now) around at (at ∷ operators.now) (trees (map resolved_data ts.now))) }
 {
@@ -214,7 +214,7 @@ fn walk_operand(
     operator: Spot,
     t: &Resolved,
 )
-    requires rising { AreRising (setting_data setting.now).known.brought }
+    requires rising { AreRising setting.now.known.brought.now }
     ensures { found_in findings.new ≡ with_faults (found_in findings.old) (faults (setting_data setting.now) around (resolved_data t.now)
         ++ wrong (is_truth_lem (kind_of (setting_data setting.now).known (resolved_data t.now))) operator) }
 {
@@ -231,7 +231,7 @@ fn walk_arguments(
     predicate: Option<usize>,
     ts: &[Resolved],
 )
-    requires rising { AreRising (setting_data setting.now).known.brought }
+    requires rising { AreRising setting.now.known.brought.now }
     ensures { found_in findings.new ≡ with_faults (found_in findings.old) (argument_faults (setting_data setting.now) around (wanted (setting_data setting.now).known predicate) (trees (map resolved_data ts.now))) }
 {
     let mut place = 0;
@@ -252,7 +252,7 @@ fn walk_argument(
     parameter: Kind<'_>,
     t: &Resolved,
 )
-    requires rising { AreRising (setting_data setting.now).known.brought }
+    requires rising { AreRising setting.now.known.brought.now }
     ensures { found_in findings.new ≡ with_faults (found_in findings.old) (faults (setting_data setting.now) around (resolved_data t.now)
         ++ wrong (can_equal_lem (kind_data parameter.entry) (kind_of (setting_data setting.now).known (resolved_data t.now))) (first_of_lem (resolved_data t.now))) }
 {

@@ -16,8 +16,12 @@ mod OpeningTexts
 mod Beginnings
 mod CountingItems
 mod CountingTexts
-mod OneFault
+pub mod OneFault
 mod TokenEnds
 pub mod ComparingItems
 pub mod ComparingTexts
 pub mod NoPhrase
+pub mod NamedTokens
+pub mod SpelledTokens
+mod ShapedRegexes
+pub mod ShapedTexts

@@ -1,12 +1,11 @@
 -- One fault explains a list of tokens, and none explains one that has a tree.
-use Rattle.std.proofs.Common.{◌≡◌, ℕ, zero, suc, ◌+◌, ◌<◌, List, [], ◌∷◌, ◌++◌, take, Option, Some, None, inl, inr, refl, sym, ap, subst, ◌∙◌, append_assoc, append-nil, arith}
+use Rattle.std.proofs.Common.{◌≡◌, ℕ, zero, suc, ◌+◌, ◌<◌, List, [], ◌∷◌, ◌++◌, take, inl, inr, refl, sym, ap, subst, ◌∙◌, append_assoc, append-nil, arith}
 use Rattle.spectra_exprs.specs.declared.fault.SyntaxFault.{SyntaxFault}
 use Rattle.spectra_exprs.specs.declared.fault.SyntaxFault.TheVariants as faults
 use Rattle.spectra_trees.specs.Data.{TreeData}
 use Rattle.spectra_trees.specs.Lexemes.{Lexeme}
 use Rattle.spectra_parser.specs.ItemGrammar.{Text}
-use Rattle.spectra_parser.specs.Texts.{HasTree, BeginText, BeginNoText, IsRefused, OpensLevelTooMany, IsBehindPhrase, IsBuilt, Explains, AreOne}
-use Rattle.spectra_parser.specs.Unbuilt.{first_unbuilt}
+use Rattle.spectra_parser.specs.Texts.{HasTree, BeginText, BeginNoText, IsRefused, OpensLevelTooMany, IsBehindPhrase, Explains, AreOne}
 use Rattle.spectra_parser.proofs.CountingTexts.{tree_shallow}
 
 -- ---- places
@@ -90,40 +89,25 @@ module _ (ts : List Lexeme) where
   deep_whole : (a : ℕ) (tree : TreeData) → OpensLevelTooMany ts a → HasTree ts tree → ⊥
   deep_whole a tree p t = let few = tree_shallow ts tree t (a + 1) (omega (arith, p.within)) in let level = p.level in omega (arith, few, level)
 
-  one_number : (a b : ℕ) → first_unbuilt ts ≡ Some a → first_unbuilt ts ≡ Some b → a ≡ b
-  one_number a b e g = let same : ◌≡◌ {A = Option ℕ} (Some a) (Some b) = sym e ∙ g in cc
-
   pub one_fault : (first second : SyntaxFault) → Explains ts first → Explains ts second → AreOne first second
   one_fault (faults.Unexpected a) (faults.Unexpected b) p q = inl (ap (λ (k : ℕ). faults.Unexpected k) (refused_once a b p.0 q.0))
   one_fault (faults.Unexpected a) (faults.TooDeep b) p q = absurd (never_both a b p.0 q.opens)
   one_fault (faults.Unexpected a) (faults.Parentheses b) p q = absurd (p.1 (subst (λ (k : ℕ). IsBehindPhrase ts k) (sym (refused_once a b p.0 q.0)) q.1))
-  one_fault (faults.Unexpected a) (faults.Unsupported b) p q = absurd (refused_whole a q.0.0 p.0 q.0.1)
   one_fault (faults.TooDeep a) (faults.Unexpected b) p q = absurd (never_both b a q.0 p.opens)
   one_fault (faults.TooDeep a) (faults.TooDeep b) p q = inl (ap (λ (k : ℕ). faults.TooDeep k) (deep_once a b p.opens q.opens))
   one_fault (faults.TooDeep a) (faults.Parentheses b) p q = absurd (never_both b a q.0 p.opens)
-  one_fault (faults.TooDeep a) (faults.Unsupported b) p q = absurd (deep_whole a q.0.0 p.opens q.0.1)
   one_fault (faults.Parentheses a) (faults.Unexpected b) p q = absurd (q.1 (subst (λ (k : ℕ). IsBehindPhrase ts k) (refused_once a b p.0 q.0) p.1))
   one_fault (faults.Parentheses a) (faults.TooDeep b) p q = absurd (never_both a b p.0 q.opens)
   one_fault (faults.Parentheses a) (faults.Parentheses b) p q = inl (ap (λ (k : ℕ). faults.Parentheses k) (refused_once a b p.0 q.0))
-  one_fault (faults.Parentheses a) (faults.Unsupported b) p q = absurd (refused_whole a q.0.0 p.0 q.0.1)
-  one_fault (faults.Unsupported a) (faults.Unexpected b) p q = absurd (refused_whole b p.0.0 q.0 p.0.1)
-  one_fault (faults.Unsupported a) (faults.TooDeep b) p q = absurd (deep_whole b p.0.0 q.opens p.0.1)
-  one_fault (faults.Unsupported a) (faults.Parentheses b) p q = absurd (refused_whole b p.0.0 q.0 p.0.1)
-  one_fault (faults.Unsupported a) (faults.Unsupported b) p q = inl (ap (λ (k : ℕ). faults.Unsupported k) (one_number a b p.1 q.1))
   one_fault faults.Memory second p q = inr (inl refl)
   one_fault (faults.Unexpected a) faults.Memory p q = inr (inr refl)
   one_fault (faults.TooDeep a) faults.Memory p q = inr (inr refl)
   one_fault (faults.Parentheses a) faults.Memory p q = inr (inr refl)
-  one_fault (faults.Unsupported a) faults.Memory p q = inr (inr refl)
 
-  never_some : (a : ℕ) → first_unbuilt ts ≡ None → first_unbuilt ts ≡ Some a → ⊥
-  never_some a e g = let same : ◌≡◌ {A = Option ℕ} None (Some a) = sym e ∙ g in absurd (cc)
-
-  pub no_fault : (tree : TreeData) (f : SyntaxFault) → IsBuilt ts tree → Explains ts f → f ≡ faults.Memory
-  no_fault tree (faults.Unexpected a) t p = absurd (refused_whole a tree p.0 t.grammar)
-  no_fault tree (faults.TooDeep a) t p = absurd (deep_whole a tree p.opens t.grammar)
-  no_fault tree (faults.Parentheses a) t p = absurd (refused_whole a tree p.0 t.grammar)
-  no_fault tree (faults.Unsupported a) t p = absurd (never_some a t.built p.1)
+  pub no_fault : (tree : TreeData) (f : SyntaxFault) → HasTree ts tree → Explains ts f → f ≡ faults.Memory
+  no_fault tree (faults.Unexpected a) t p = absurd (refused_whole a tree p.0 t)
+  no_fault tree (faults.TooDeep a) t p = absurd (deep_whole a tree p.opens t)
+  no_fault tree (faults.Parentheses a) t p = absurd (refused_whole a tree p.0 t)
   no_fault tree faults.Memory t p = refl
 
   -- a level too many is told where one is opened
@@ -131,5 +115,4 @@ module _ (ts : List Lexeme) where
   deep_fault a (faults.Unexpected b) q p = absurd (never_both b a p.0 q)
   deep_fault a (faults.TooDeep b) q p = inl (ap (λ (k : ℕ). faults.TooDeep k) (deep_once b a p.opens q))
   deep_fault a (faults.Parentheses b) q p = absurd (never_both b a p.0 q)
-  deep_fault a (faults.Unsupported b) q p = absurd (deep_whole a p.0.0 q p.0.1)
   deep_fault a faults.Memory q p = inr (inl refl)

@@ -232,7 +232,6 @@ monitored_behind (faults.TooDeep at) ts used rest front on b =
     let parts : ts ≡ b.front ++ b.token ∷ rest = front ∙ ap (λ (u : List Lexeme). u ++ rest) b.parts ∙ append_assoc b.front (b.token ∷ []) rest in
     record { front = b.front; token = b.token; parts = b.parts; begun = monitored ts b.front (b.token ∷ rest) parts on b.begun }
 monitored_behind (faults.Parentheses at) ts used rest front on b = ends_by ts used rest b.phrase front on b.sort b.left b.whole b.front b.parts b.any
-monitored_behind (faults.Unsupported at) ts used rest front on b = tt
 monitored_behind faults.Memory ts used rest front on b = tt
 
 full_mitem : Full (MitemIn wide) mitem

@@ -304,6 +304,3 @@ pub parentheses_refused : (ts : List Lexeme) (at : ℕ) → IsWholeFrom 0 ts →
 parentheses_refused ts at w read left =
     let q = stopped ts (faults.Parentheses at) w read in
     refused_at {E = Unit {0}} left (λ less. tt) ts (faults.Parentheses at) at (λ deep k. not_too_deep at k) w q (sym q.names)
-
-pub never_unsupported : (ts : List Lexeme) (at : ℕ) → IsWholeFrom 0 ts → text_of ts ≡ Err (faults.Unsupported at) → ⊥
-never_unsupported ts at w read = (stopped ts (faults.Unsupported at) w read).names

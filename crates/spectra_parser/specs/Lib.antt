@@ -1,5 +1,5 @@
 pub mod Items
 pub mod ItemViews
-pub mod Unbuilt
 pub mod ItemGrammar
 pub mod Texts
+pub mod Shapes

@@ -1,5 +1,5 @@
 -- What a text's tree is, and what an answer of the program says.
-use Rattle.std.specs.Prelude.{ℕ, ◌≡◌, ◌+◌, ◌<◌, ◌≤◌, ◌⊎◌, true, false, List, [], ◌∷◌, ◌++◌, length, take, Some, None}
+use Rattle.std.specs.Prelude.{ℕ, ◌≡◌, ◌+◌, ◌<◌, ◌≤◌, ◌⊎◌, true, false, List, [], ◌∷◌, ◌++◌, length, take}
 use Rattle.spectra_lexer.specs.declared.token.Token.{Token}
 use Rattle.spectra_exprs.specs.declared.fault.SyntaxFault.{SyntaxFault}
 use Rattle.spectra_exprs.specs.declared.fault.SyntaxFault.TheVariants as faults
@@ -13,7 +13,6 @@ use Rattle.spectra_exprs.specs.Operators.{is_operator}
 use Rattle.spectra_exprs.specs.Phrases.{Phrase, ArePhrase}
 use Rattle.spectra_exprs.specs.Spellings.{AreSpelled}
 use Rattle.spectra_parser.specs.ItemGrammar.{Text}
-use Rattle.spectra_parser.specs.Unbuilt.{first_unbuilt}
 
 -- the tree of a list of tokens, with at most 128 levels
 abbrev pub HasTree : List Lexeme → TreeData → Type 0
@@ -87,19 +86,8 @@ abbrev pub Explains : List Lexeme → SyntaxFault → Type 0
 Explains ts (faults.Unexpected at) = IsRefused ts at × (IsBehindPhrase ts at → ⊥)
 Explains ts (faults.TooDeep at) = IsTooDeep ts at
 Explains ts (faults.Parentheses at) = IsRefused ts at × IsBehindPhrase ts at
-Explains ts (faults.Unsupported at) = ((tree : TreeData) × HasTree ts tree) × (first_unbuilt ts ≡ Some at)
 Explains ts faults.Memory = Unit {0}
 
 -- the same fault, unless memory ran out
 abbrev pub AreOne : SyntaxFault → SyntaxFault → Type 0
 AreOne first second = (first ≡ second) ⊎ (first ≡ faults.Memory) ⊎ (second ≡ faults.Memory)
-
--- a tree of these tokens, none of whose forms is unbuilt
-pub record IsBuilt (ts : List Lexeme) (tree : TreeData) : Type 0 where
-  pub grammar : HasTree ts tree
-  pub built : first_unbuilt ts ≡ None
-
--- what a production's fault says; no production answers Unsupported
-abbrev pub refusal : SyntaxFault → SyntaxFault
-refusal (faults.Unsupported at) = faults.Unexpected at
-refusal fault = fault

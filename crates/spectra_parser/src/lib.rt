@@ -1,9 +1,9 @@
 //! The tree of a text's tokens, by the grammar.
 //!
 //! The grammar is a relation between tokens and trees with one line for each production, and no text has two trees. Each
-//! production is one function here. A form that isn't built yet is refused by its first token.
+//! production is one function here.
 //!
-//! Contract: `parse` answers the tree exactly where there is one. Path: tokens → **trees** → specification.
+//! Contract: `parse` answers the tree exactly where there is one, so that every text of the grammar gets its tree. Path: tokens → **trees** → specification.
 #![tactic(auto)]
 
 mod braces;
@@ -15,7 +15,6 @@ mod lines;
 mod parsing;
 mod quotes;
 mod types;
-mod unbuilt;
 
 pub use laws::{no_text_has_two_trees, one_fault_explains_a_text};
 pub use parsing::{imports, parse};

@@ -25,7 +25,7 @@ fn fault(alloc: Global, text: &str) -> Result<Option<SyntaxFault>, Fail> {
 }
 
 /// A text of each production.
-const TEXTS: [&str; 17] = [
+const TEXTS: [&str; 29] = [
     "spec X",
     "module X env boolean a ; aux U b ;",
     "spec X sys Int ( - 1 .. 2 + 3 * n ) x ;",
@@ -43,6 +43,18 @@ const TEXTS: [&str; 17] = [
     "spec X gar alw a mod 2 = 0 | b < c + 1 ;",
     "spec X gar alw ( a -> b ) -> ( b <-> c ) ;",
     "spec X gar alw a * ( b + c ) * 2 >= d ;",
+    "import \"a\" spec X",
+    "spec X monitor boolean m { ini ! m ; }",
+    "spec X pattern p ( a ) { var boolean s ; alwEv a ; }",
+    "spec X gar trig [ a ] |=> ( [ b ] | [ c ] ) * ;",
+    "spec X gar trig [ a ] { 2 } [ b ] { 1 , 2 } ? |=> [ c ] + ;",
+    "spec X gar p ( a ) ;",
+    "spec X gar n : p ( a ) ;",
+    "spec X define d := p ( a ) ; gar p ( O a ) ;",
+    "spec X asm n : GF a ; gar alwEv a SINCE b ;",
+    "spec X gar alw PREV a ;",
+    "spec X gar alw ( a SINCE b ) & c ;",
+    "spec X predicate p ( boolean a ) : q ( a ) ; asm alw H a ; gar p ( a ) ;",
 ];
 
 #[test]
@@ -50,6 +62,25 @@ fn texts_of_each_production_have_trees(rt: HostRuntime) -> Result<(), Fail> {
     let alloc = rt.alloc();
     for text in TEXTS {
         assert_eq!(rt; fault(alloc, text)?, None, "{text:?}");
+    }
+    Ok(())
+}
+
+#[test]
+fn imports_have_their_names_without_quotes(rt: HostRuntime) -> Result<(), Fail> {
+    let tree = answer(rt.alloc(), "import \"a/b\" import \"c\" ; spec X")??;
+    match imports(&tree) {
+        [first, second] => {
+            assert_eq!(rt;
+                (first.text.as_str(), first.line, first.column),
+                ("a/b", 1, 1)
+            );
+            assert_eq!(rt;
+                (second.text.as_str(), second.line, second.column),
+                ("c", 1, 14)
+            );
+        }
+        others => assert_eq!(rt; others.len(), 2),
     }
     Ok(())
 }

@@ -4,3 +4,4 @@ pub mod Digits
 pub mod First
 pub mod Trees
 pub mod Steps
+pub mod RegexSteps

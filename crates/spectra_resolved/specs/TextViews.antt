@@ -34,13 +34,13 @@ definition_data d =
     record { name = mention_data d.name; word = d.word; params = map type_data d.params.items; doubled = d.doubled; body = resolved_data d.body }
 
 abbrev pub pattern_line_data : PatternLine → ResolvedPatternLine
-pattern_line_data (own_lines.Initial t) = ResolvedPatternLine.Initial (resolved_data t)
-pattern_line_data (own_lines.Safety t) = ResolvedPatternLine.Safety (resolved_data t)
-pattern_line_data (own_lines.Recurring t) = ResolvedPatternLine.Recurring (resolved_data t)
+pattern_line_data (own_lines.Initial at t) = ResolvedPatternLine.Initial at (resolved_data t)
+pattern_line_data (own_lines.Safety at t) = ResolvedPatternLine.Safety at (resolved_data t)
+pattern_line_data (own_lines.Recurring at t) = ResolvedPatternLine.Recurring at (resolved_data t)
 
 abbrev pub pattern_data : Pattern → ResolvedPattern
 pattern_data p =
-    record { name = mention_data p.name; params = p.params; own = map type_data p.own.items; lines = map pattern_line_data p.lines.items }
+    record { name = mention_data p.name; params = p.params; doubled = p.doubled; own = map type_data p.own.items; lines = map pattern_line_data p.lines.items }
 
 abbrev pub body_data : Body → ResolvedBody
 body_data (bodies.Initial t) = ResolvedBody.Initial (resolved_data t)
@@ -50,7 +50,7 @@ body_data (bodies.Trigger at cause effect) = ResolvedBody.Trigger at (regex_data
 body_data (bodies.Pattern at used arguments) = ResolvedBody.Pattern at used (map resolved_data arguments.items)
 
 abbrev pub line_data : Line → ResolvedLine
-line_data l = record { at = l.at; role = l.role; name = option_map (λ text. text.now) l.name; body = body_data l.body }
+line_data l = record { at = l.at; item = l.item; role = l.role; name = option_map (λ text. text.now) l.name; body = body_data l.body }
 
 abbrev pub text_data : Text → ResolvedText
 text_data t =

@@ -33,14 +33,16 @@ pub record ResolvedDefinition : Type 0 where
   pub doubled : Bool
   pub body : ResolvedTree
 
+-- a line of a pattern, with the place of its first token
 pub data ResolvedPatternLine : Type 0 where
-  Initial : ResolvedTree → ResolvedPatternLine
-  Safety : ResolvedTree → ResolvedPatternLine
-  Recurring : ResolvedTree → ResolvedPatternLine
+  Initial : (at : Spot) → ResolvedTree → ResolvedPatternLine
+  Safety : (at : Spot) → ResolvedTree → ResolvedPatternLine
+  Recurring : (at : Spot) → ResolvedTree → ResolvedPatternLine
 
 pub record ResolvedPattern : Type 0 where
   pub name : MentionData
   pub params : ℕ
+  pub doubled : Bool
   pub own : List ResolvedType
   pub lines : List ResolvedPatternLine
 
@@ -53,6 +55,7 @@ pub data ResolvedBody : Type 0 where
 
 pub record ResolvedLine : Type 0 where
   pub at : Spot
+  pub item : Spot
   pub role : Role
   pub name : Option (List ℕ)
   pub body : ResolvedBody

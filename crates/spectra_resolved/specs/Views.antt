@@ -1,6 +1,7 @@
 -- The plain data that the program's resolved trees stand for.
 use Rattle.spectra_resolved.specs.declared.tree.Resolved.{Resolved, fold-Resolved}
 use Rattle.spectra_resolved.specs.declared.tree.Resolved.TheOpen.{Resolved-F, Shape-F, Link-F}
+use Rattle.spectra_resolved.specs.declared.tree.Shape.{Shape, fold-Shape}
 use Rattle.spectra_resolved.specs.declared.tree.Link.{Link}
 use Rattle.spectra_resolved.specs.declared.tree.Regex.{Regex, fold-Regex}
 use Rattle.spectra_resolved.specs.declared.tree.Regex.TheOpen.{Regex-F}
@@ -26,6 +27,10 @@ resolved_step (Resolved-F.Node first at shape) = tree first at shape
 
 abbrev pub resolved_data : Resolved → ResolvedTree
 resolved_data = fold-Resolved ResolvedTree Form LinkData resolved_step shape_step link_step
+
+-- what a node is made of
+abbrev pub form_data : Shape → Form
+form_data = fold-Shape ResolvedTree Form LinkData resolved_step shape_step link_step
 
 abbrev pub regex_step : Regex-F ResolvedRegex → ResolvedRegex
 regex_step (Regex-F.Atom t) = ResolvedRegex.Atom (resolved_data t.value)

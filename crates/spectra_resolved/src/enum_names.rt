@@ -1,6 +1,6 @@
 //! The enum names of a text, by their first mentions.
 
-ghost use Rattle.std.specs.Prelude.{◌≡◌, [], ◌∷◌, position, length, bytes_eq, OnOk};
+ghost use Rattle.std.specs.Prelude.{◌≡◌, [], ◌∷◌, map, position, length, bytes_eq, IfOk, OnOk};
 ghost use Rattle.spectra_trees.specs.Views.{name_data};
 ghost use Rattle.spectra_resolved.specs.Enums.{with_names};
 ghost use Rattle.spectra_resolved.specs.EnumViews.{names_in};
@@ -47,5 +47,12 @@ impl<'a> EnumNames<'a> {
     {
         self.texts.insert(name.text.as_str())?;
         Ok(())
+    }
+
+    /// The names in the order of their numbers.
+    pub fn listed(&self, alloc: Global) -> Result<Vec<&'a str>, AllocError>
+        ensures { IfOk result (λ texts. map (λ text. text.now) texts.items ≡ names_in self.now) }
+    {
+        self.texts.iter().copied().collect(alloc)
     }
 }

@@ -51,19 +51,21 @@ pub struct Definition<'t> {
     pub body: Resolved,
 }
 
-/// A line of a pattern.
+/// A line of a pattern, with the place of its first token.
 #[derive(Drop)]
 pub enum PatternLine {
-    Initial(Resolved),
-    Safety(Resolved),
-    Recurring(Resolved),
+    Initial(Spot, Resolved),
+    Safety(Spot, Resolved),
+    Recurring(Spot, Resolved),
 }
 
 /// A pattern. In its lines `Leaf::Parameter` and `Leaf::Own` are the places of its parameters and of its own variables.
+/// `doubled` says that a name stands twice among these.
 #[derive(Drop)]
 pub struct Pattern<'t> {
     pub name: Mention<'t>,
     pub params: usize,
+    pub doubled: bool,
     pub own: Vec<TypeUse>,
     pub lines: Vec<PatternLine>,
 }
@@ -87,10 +89,12 @@ pub enum Body {
     Pattern(Spot, PatternUse, Vec<Resolved>),
 }
 
-/// An assumption, a guarantee or a line of a monitor. `at` is the place of its first token. The lines are numbered from 1.
+/// An assumption, a guarantee or a line of a monitor. `at` is the place of its first token, and `item` that of the item that it
+/// is or stands in. The lines are numbered from 1.
 #[derive(Drop)]
 pub struct Line<'t> {
     pub at: Spot,
+    pub item: Spot,
     pub role: Role,
     pub name: Option<&'t str>,
     pub body: Body,

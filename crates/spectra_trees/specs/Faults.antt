@@ -1,6 +1,6 @@
 -- The faults of texts.
 use Rattle.std.specs.Prelude.{ℕ, ◌==◌, List, codes, if◌then◌else◌}
-use Rattle.spectra_trees.specs.declared.faults.TheConstants.{NOT_UTF8, BAD_CHARACTER, TOO_LONG, UNEXPECTED, TOO_DEEP, PARENTHESES, UNKNOWN, TWICE, WRONG_TYPE, NEXT_HERE, NEXT_NESTED, NEXT_OF_SYSTEM, SYSTEM_IN_INITIAL, WIDE_INT, CYCLE, ARITY, IMPORTED_LINE, TOO_MANY, TOO_LARGE}
+use Rattle.spectra_trees.specs.declared.faults.TheConstants.{NOT_UTF8, BAD_CHARACTER, TOO_LONG, UNEXPECTED, TOO_DEEP, PARENTHESES, UNKNOWN, TWICE, WRONG_TYPE, NEXT_HERE, NEXT_NESTED, NEXT_OF_SYSTEM, SYSTEM_IN_INITIAL, WIDE_INT, CYCLE, ARITY, IMPORTED_LINE, TOO_MANY, TOO_LARGE, PATTERN_OPEN, PATTERN_WIDE}
 
 -- the number and the word of each
 unfoldable pub fault_text : ℕ → List ℕ
@@ -24,4 +24,6 @@ fault_text n =
     else if n == IMPORTED_LINE then codes "17 ImportedLine"
     else if n == TOO_MANY then codes "18 TooMany"
     else if n == TOO_LARGE then codes "19 TooLarge"
-    else codes "23 Unsupported"
+    else if n == PATTERN_OPEN then codes "20 PatternOpen"
+    else if n == PATTERN_WIDE then codes "21 PatternWide"
+    else codes "22 TriggerWide"

@@ -41,8 +41,12 @@ pub const IMPORTED_LINE: u8 = 17;
 pub const TOO_MANY: u8 = 18;
 /// The formulas are too large or too deep.
 pub const TOO_LARGE: u8 = 19;
-/// A form of the language isn't built yet.
-pub const UNSUPPORTED: u8 = 23;
+/// A pattern's own variables aren't determined.
+pub const PATTERN_OPEN: u8 = 20;
+/// A pattern has too many parameters, or its own variables too many values.
+pub const PATTERN_WIDE: u8 = 21;
+/// A trigger has too many atoms, positions or states, or a repeat that counts too far or backwards.
+pub const TRIGGER_WIDE: u8 = 22;
 
 /// The number and the word of a fault, as an answer shows them.
 #[tactic(auto, unfolding(crate::specs::Faults::fault_text))]
@@ -69,6 +73,8 @@ pub fn fault_text(number: u8) -> &'static str
         IMPORTED_LINE => "17 ImportedLine",
         TOO_MANY => "18 TooMany",
         TOO_LARGE => "19 TooLarge",
-        _ => "23 Unsupported",
+        PATTERN_OPEN => "20 PatternOpen",
+        PATTERN_WIDE => "21 PatternWide",
+        _ => "22 TriggerWide",
     }
 }

@@ -1,9 +1,3 @@
 pub mod Meanings
-pub mod Built
 pub mod Resolved
-pub mod Shapes
 pub mod Laws
-pub mod FactsViews
-pub mod TableViews
-pub mod Signatures
-pub mod Noting

@@ -1,19 +1,23 @@
--- What an answer of the program says of a text.
-use Rattle.std.specs.Prelude.{◌≡◌, [], Some}
+-- What an answer of the program says of several files.
+use Rattle.std.specs.Prelude.{◌≡◌, ℕ, min, List, [], Some}
 use Rattle.spec_model.specs.Syntax.{Specification}
 use Rattle.spectra_trees.specs.Data.{TreeData}
-use Rattle.spectra_names.specs.Findings.{fault, first_of_faults}
+use Rattle.spectra_resolved.specs.Findings.{fault, first_of_faults}
 use Rattle.spectra_types.specs.declared.fault.TypeFault.{TypeFault}
 use Rattle.spectra_types.specs.declared.fault.TypeFault.TheVariants as faults
 use Rattle.spectra_types.specs.Meanings.{faults_of, meaning_of}
 
--- the text has no fault, and means this
-pub record Means (tree : TreeData) (s : Specification) : Type 0 where
-  pub faultless : faults_of tree ≡ []
-  pub meaning : s ≡ meaning_of tree
+-- the files have no fault, and mean this
+pub record Means (trees : List TreeData) (s : Specification) : Type 0 where
+  pub faultless : faults_of trees ≡ []
+  pub meaning : s ≡ meaning_of trees
 
--- the text's first fault is this one; of want of memory nothing is said
-abbrev pub Explains : TreeData → TypeFault → Type 0
-Explains tree (faults.Refused number file line column) =
-    (file ≡ 0) × (first_of_faults (faults_of tree) ≡ Some (fault number (record { line = line; column = column })))
-Explains tree faults.Memory = Unit {0}
+-- the first fault of the files is this one, in the file of this number
+pub record IsFirstIn (trees : List TreeData) (file number line column : ℕ) : Type 0 where
+  pub first : first_of_faults (faults_of trees) ≡ Some (fault number (record { file = file; line = line; column = column }))
+
+-- The first fault is this one; the greatest number of a file stands for all numbers from it on. Of want of memory nothing is
+-- said.
+abbrev pub Explains : List TreeData → TypeFault → Type 0
+Explains trees (faults.Refused number tree line column) = (file : ℕ) × IsFirstIn trees file number line column × (tree ≡ min file 4_294_967_295)
+Explains trees faults.Memory = Unit {0}

@@ -1,4 +1,4 @@
-//! Why a text has no specification.
+//! Why files have no specification.
 
 ghost use Rattle.std.specs.Prelude.{◌≡◌};
 ghost use Rattle.spectra_types.specs.declared.fault.TypeFault.TheVariants.{Memory};

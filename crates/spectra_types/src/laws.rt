@@ -1,10 +1,13 @@
-//! What holds of every text. This function does nothing: its contract is the law.
+//! What holds of all files. These functions do nothing: their contracts are the laws.
 
-ghost use Rattle.spectra_trees.specs.Data.{TreeData};
-ghost use Rattle.spectra_types.specs.Laws.{FaultlessIsWellTyped};
+ghost use Rattle.spectra_types.specs.Laws.{FaultlessIsWellTyped, FaultlessHasRoom};
 
-/// A text without faults means a well-typed specification, where its forms are built.
-#[tactic(auto, using(crate::proofs::Faultless::well_typed))]
-pub fn faultless_texts_are_well_typed()
-    ensures { (tree : TreeData) → FaultlessIsWellTyped tree }
+/// Files without a fault mean a well-typed specification.
+pub fn faultless_files_are_well_typed()
+    ensures { FaultlessIsWellTyped }
+{}
+
+/// It has room for the guarantee that can never be met.
+pub fn faultless_files_have_room()
+    ensures { FaultlessHasRoom }
 {}

@@ -1,28 +1,23 @@
-//! From the tree of a text to the specification that it means: names, types, and what stands for what.
+//! From the trees of several files to the specification that they mean together.
 //!
-//! Every name is looked up in its name space, every expression has a kind and a whole-number expression a span, and
-//! defines, predicates and named types are put in. Where faults stand in a text, the one with the least place is told.
+//! Each name is what it stands for, each expression is judged as it is written and with everything put in, and what has no
+//! fault is the specification without its places. Of several faults that of the first file that has one is told, and in it the
+//! one at the least place.
 //!
-//! Contract: `resolve` gives the specification that a text means, or its first fault with its number and place.
+//! Contract: `resolve` gives the specification that the files mean, or their first fault with its number, file and place.
 //!
-//! Path: text → tokens → trees → **specification** → game → regions → layers → strategy → verdict → lines.
+//! Path: text → tokens → trees → resolved trees → **specification** → game → regions → layers → strategy → verdict → lines.
 #![tactic(auto)]
 
-mod bounds;
-mod definitions;
-mod facts;
 mod fault;
 mod laws;
-mod lines;
 mod meaning;
-mod notes;
-mod reads;
+mod patterns;
 mod resolving;
-mod sizes;
-mod statements;
-mod tables;
+#[cfg(test)]
+mod tests;
 
 pub use fault::TypeFault;
-pub use laws::faultless_texts_are_well_typed;
+pub use laws::{faultless_files_are_well_typed, faultless_files_have_room};
 pub use resolving::resolve;
 pub use spec_parts::{OutOfMemory, forced, without};

@@ -1,173 +1,129 @@
-//! From the trees of a text to the specification that they mean.
+//! From the trees of several files to the specification that they mean together.
 
-ghost use Rattle.std.specs.Prelude.{◌≡◌, ◌≢◌, ◌∷◌, ◌++◌, [], true, map, length, IfOk, IfErr, OnOk, None, Some};
-ghost use Rattle.spec_model.specs.Views.{spec_data};
+ghost use Rattle.std.specs.Prelude.{◌≡◌, ◌≢◌, true, min, map, List, Some, All, IfOk, IfErr, OnOk};
+ghost use Rattle.spec_model.specs.Views.{spec_data, line_data as model_line, trigger_data, pattern_data as model_pattern};
+ghost use Rattle.spec_model.specs.WellTyped.{WellTyped};
+ghost use Rattle.spec_model.specs.Cores.{HasRoomForOne};
 ghost use Rattle.spectra_trees.specs.Data.{TreeData};
 ghost use Rattle.spectra_trees.specs.Views.{tree_data};
-ghost use Rattle.spectra_names.specs.Declarations.{name_faults, limit_faults};
-ghost use Rattle.spectra_names.specs.Findings.{found_in, with_faults, first_of_faults};
-ghost use Rattle.spectra_names.specs.Spaces.{scope_of as scope_of_lem};
-ghost use Rattle.spectra_names.specs.ScopeViews.{scope_data};
-ghost use Rattle.spectra_typing.specs.Notes.{setting_of, notes_of};
-ghost use Rattle.spec_model.specs.Cores.{HasRoomForOne};
-ghost use Rattle.spec_model.specs.WellTyped.{WellTyped, all_hidden};
-ghost use Rattle.spectra_types.specs.Built.{is_built_tree};
-ghost use Rattle.spectra_types.specs.Shapes.{has_shape, IsSpelledTree};
-ghost use Rattle.spectra_types.specs.FactsViews.{scope_in, setting_in, AreFacts};
-ghost use Rattle.spectra_types.specs.TableViews.{AreTables};
-ghost use Rattle.spectra_types.specs.Meanings.{text_faults, faults_of, meaning_of as meaning_of_lem};
-ghost use Rattle.spectra_types.specs.Resolved.{Means, Explains};
+ghost use Rattle.spectra_parser.specs.Shapes.{IsShaped};
+ghost use Rattle.spectra_resolved.specs.Findings.{found_in, with_faults, first_of_faults};
+ghost use Rattle.spectra_resolved.specs.TextViews.{text_data};
+ghost use Rattle.spectra_judge.specs.KindViews.{kind_data};
+ghost use Rattle.spectra_patterns.specs.Patterns.{is_type_kind};
+ghost use Rattle.spectra_notes.specs.TypeKinds.{type_kinds as type_kinds_lem};
+ghost use Rattle.spectra_notes.specs.Notes.{noted};
+ghost use Rattle.spectra_notes.specs.NoteViews.{notes_data};
+ghost use Rattle.spectra_lines.specs.Parts.{AreSound};
+ghost use Rattle.spectra_lines.specs.Said.{lines_meant, triggers_meant, patterns_meant};
 ghost use Rattle.spectra_types.specs.declared.fault.TypeFault.TheVariants.{Memory};
+ghost use Rattle.spectra_types.specs.Meanings.{facts_of, typed_patterns as typed_patterns_lem, text_faults, faults_of, specification_of};
+ghost use Rattle.spectra_types.specs.Resolved.{Means, Explains};
 
-use crate::bounds::report_variable_types;
-use crate::definitions::report_definitions;
-use crate::facts::Facts;
 use crate::fault::TypeFault;
-use crate::lines::report_lines;
-use crate::meaning::meaning_of;
-use crate::tables::{Tables, tables_of};
+use crate::meaning::{names_of, variables_of};
+use crate::patterns::typed_patterns;
 use spec_model::spec::Spec;
-use spectra_contents::setting::Setting;
-use spectra_names::building::scope_of;
-use spectra_names::findings::{Finding, Findings};
-use spectra_names::scope::{Parameters, Scope};
+use spectra_bodies::putting::bodies_of;
+use spectra_bodies::reporting::report_declared;
+use spectra_declared::text::resolved_text;
+use spectra_judge::kind::Kind;
+use spectra_lines::facts::Facts;
+use spectra_lines::said::{Said, read_lines};
+use spectra_notes::notes::{Notes, known_in_line, notes_of};
+use spectra_resolved::findings::{Finding, Findings};
+use spectra_resolved::text::Text;
 use spectra_trees::tree::Tree;
-use spectra_typing::signatures::signatures_are_signed;
 use std::alloc::{AllocError, Global};
 
-#[tactic(auto, using(spectra_names::proofs::First::with_faults_append))]
-// Reports the faults of types, definitions and lines.
-fn report_text<'a>(
-    facts: &Facts<'_, 'a>,
-    findings: &mut Findings,
-    tree: &'a Tree,
-) -> Result<(), AllocError>
-    requires { AreFacts facts.now }
-    ensures { OnOk result (found_in findings.new ≡ with_faults (found_in findings.old) (text_faults (setting_in facts.now) (tree_data tree.now))) }
+// The number of a file, where it is one.
+fn tree_number(file: usize) -> u32
+    ensures { result ≡ min file 4_294_967_295 }
 {
-    report_variable_types(facts, findings)?;
-    report_definitions(facts, findings)?;
-    report_lines(facts, findings, &tree.items)
+    if file < u32::MAX as usize {
+        file as u32
+    } else {
+        u32::MAX
+    }
 }
 
-// The refusal of a text for its first fault.
-fn refused(finding: Finding) -> TypeFault
-    ensures fault { (tree : TreeData) → first_of_faults (faults_of tree) ≡ Some finding → Explains tree result }
+// The refusal of files for their first fault.
+fn refused(first: Finding) -> TypeFault
+    ensures fault { (trees : List TreeData) → first_of_faults (faults_of trees) ≡ Some first → Explains trees result }
     ensures told { result ≢ Memory }
 {
     TypeFault::Refused {
-        number: finding.number,
-        tree: 0,
-        line: finding.at.line,
-        column: finding.at.column,
+        number: first.number,
+        tree: tree_number(first.at.file),
+        line: first.at.line,
+        column: first.at.column,
     }
 }
 
-// The meaning of a text without faults.
-fn meaning_of_text(facts: &Facts<'_, '_>, tree: &Tree) -> Result<Spec, AllocError>
-    requires facts { AreFacts facts.now }
-    requires scope { scope_in facts.now ≡ scope_of_lem (tree_data tree.now) }
-    requires faultless { faults_of (tree_data tree.now) ≡ [] }
-    ensures { IfOk result (λ s. spec_data s ≡ meaning_of_lem (tree_data tree.now)) }
-{
-    meaning_of(facts, &tree.items)
-}
-
-#[tactic(auto, using(spectra_names::proofs::First::with_faults_append))]
-// The first fault of a text, where those of its names and limits were reported.
-fn first_fault<'a>(
-    facts: &Facts<'_, 'a>,
-    named: Findings,
-    tree: &'a Tree,
-) -> Result<Option<Finding>, AllocError>
-    requires facts { AreFacts facts.now }
-    requires setting { setting_in facts.now ≡ setting_of (scope_of_lem (tree_data tree.now)) (notes_of (scope_of_lem (tree_data tree.now))) }
-    requires named { found_in named ≡ with_faults None (name_faults (tree_data tree.now) ++ limit_faults (tree_data tree.now)) }
-    ensures { IfOk result (λ first. first ≡ first_of_faults (faults_of (tree_data tree.now))) }
-{
-    let mut findings = named;
-    report_text(facts, &mut findings, tree)?;
-    Ok(findings.first())
-}
-
-#[tactic(auto, using(crate::proofs::Told::none_told))]
-// The meaning of a text or its first fault, where the faults of its names and limits were reported.
-fn resolve_by<'a>(facts: &Facts<'_, 'a>, named: Findings, tree: &'a Tree) -> Result<Spec, TypeFault>
-    requires facts { AreFacts facts.now }
-    requires setting { setting_in facts.now ≡ setting_of (scope_of_lem (tree_data tree.now)) (notes_of (scope_of_lem (tree_data tree.now))) }
-    requires named { found_in named ≡ with_faults None (name_faults (tree_data tree.now) ++ limit_faults (tree_data tree.now)) }
-    ensures means { IfOk result (λ s. Means (tree_data tree.now) (spec_data s)) }
-    ensures fault { IfErr result (λ fault. Explains (tree_data tree.now) fault) }
-{
-    match first_fault(facts, named, tree)? {
-        Some(finding) => Err(refused(finding)),
-        None => Ok(meaning_of_text(facts, tree)?),
-    }
-}
-
-// The meaning of a text or its first fault, where these are its scope and what is found out of its definitions.
-fn resolve_with<'a>(
+// What the lines and patterns of a text mean. Every fault of types and definitions, of lines and of patterns is reported.
+fn text_said<'a>(
     alloc: Global,
-    named: Findings,
-    scope: &Scope<'a>,
-    tables: &Tables<'a>,
-    tree: &'a Tree,
-) -> Result<Spec, TypeFault>
-    requires scope { scope_data scope.now ≡ scope_of_lem (tree_data tree.now) }
-    requires tables { AreTables (scope_data scope.now) tables.now }
-    requires named { found_in named ≡ with_faults None (name_faults (tree_data tree.now) ++ limit_faults (tree_data tree.now)) }
-    ensures means { IfOk result (λ s. Means (tree_data tree.now) (spec_data s)) }
-    ensures fault { IfErr result (λ fault. Explains (tree_data tree.now) fault) }
+    findings: &mut Findings,
+    notes: &Notes<'a>,
+    text: &'a Text<'_>,
+) -> Result<Said, AllocError>
+    requires notes { notes_data notes.now ≡ noted (text_data text.now) }
+    requires sound { AreSound (typed_patterns_lem (text_data text.now)) }
+    ensures found { OnOk result (found_in findings.new ≡ with_faults (found_in findings.old) (text_faults (text_data text.now))) }
+    ensures lines { IfOk result (λ s. map model_line s.lines.items ≡ lines_meant (facts_of (text_data text.now)) (typed_patterns_lem (text_data text.now)) (text_data text.now).lines) }
+    ensures triggers { IfOk result (λ s. map trigger_data s.triggers.items ≡ triggers_meant (facts_of (text_data text.now)) (typed_patterns_lem (text_data text.now)) (text_data text.now).lines) }
+    ensures patterns { IfOk result (λ s. map model_pattern s.patterns.items ≡ patterns_meant (facts_of (text_data text.now)) (typed_patterns_lem (text_data text.now)) (text_data text.now).lines) }
 {
-    let none = Parameters::none(alloc);
-    let setting = Setting {
-        scope,
-        variables: &tables.variables,
-        notes: &tables.notes,
-        unseen: &[],
-        signatures: &tables.signatures,
-        parameters: &none,
-        kinds: &[],
-    };
-    signatures_are_signed(&setting);
+    let bodies = bodies_of(alloc, notes, text)?;
+    report_declared(alloc, findings, &*notes, &bodies, text)?;
+    let patterns = typed_patterns(alloc, &notes.kinds, text)?;
     let facts = Facts {
-        alloc,
-        setting,
-        on_cycle: &tables.order.on_cycle,
-        read: &tables.read,
-        handed: &tables.handed,
-        worths: &tables.worths,
-        aliases: &tables.aliases,
-        measures: &tables.measures,
+        known: known_in_line(&*notes),
+        bodies: &bodies,
     };
-    resolve_by(&facts, named, tree)
+    read_lines(alloc, findings, &facts, &patterns, &text.lines)
 }
 
-#[tactic(auto, using(crate::proofs::Told::without_parameters))]
-// The specification that a tree means, or its first fault.
-fn resolve_tree(alloc: Global, tree: &Tree) -> Result<Spec, TypeFault>
-    ensures means { IfOk result (λ s. Means (tree_data tree.now) (spec_data s)) }
-    ensures fault { IfErr result (λ fault. Explains (tree_data tree.now) fault) }
+// The specification of a text without faults, by what its lines and patterns mean.
+fn specification(
+    alloc: Global,
+    kinds: &[Kind<'_>],
+    text: &Text<'_>,
+    said: Said,
+) -> Result<Spec, AllocError>
+    requires kinds { map kind_data kinds.now ≡ (type_kinds_lem (text_data text.now)).variables }
+    requires room { All (λ k. is_type_kind 65_536 (kind_data k) ≡ true) kinds.now }
+    requires lines { map model_line said.lines.items ≡ lines_meant (facts_of (text_data text.now)) (typed_patterns_lem (text_data text.now)) (text_data text.now).lines }
+    requires triggers { map trigger_data said.triggers.items ≡ triggers_meant (facts_of (text_data text.now)) (typed_patterns_lem (text_data text.now)) (text_data text.now).lines }
+    requires patterns { map model_pattern said.patterns.items ≡ patterns_meant (facts_of (text_data text.now)) (typed_patterns_lem (text_data text.now)) (text_data text.now).lines }
+    ensures { IfOk result (λ s. spec_data s ≡ specification_of (text_data text.now)) }
 {
-    let mut named = Findings::new();
-    let scope = scope_of(alloc, &mut named, tree)?;
-    let tables = tables_of(alloc, &scope)?;
-    resolve_with(alloc, named, &scope, &tables, tree)
+    Ok(Spec {
+        names: names_of(alloc, &text.names)?,
+        vars: variables_of(alloc, kinds, text)?,
+        patterns: said.patterns,
+        triggers: said.triggers,
+        lines: said.lines,
+    })
 }
 
-/// The specification that a text means, by its trees: the last is that of the main file, and those before it are its imports'.
-/// `Refused`: of the faults of names and types in these trees this one comes first: it stands in the tree of this number, from
-/// 0, at the least line and column, and has the least number there. `Memory`: none was given.
+/// The specification that several files mean together, by their trees: the last is that of the main file, and those before it
+/// are its imports', in the order in which it names them. `Refused`: of the faults of names and types this one comes first: it
+/// stands in the file of this number, from 0, the first that has one, at the least line and column, and has the least number
+/// there. `Memory`: none was given.
 pub fn resolve(alloc: Global, trees: &[Tree]) -> Result<Spec, TypeFault>
-    requires one { length trees.now ≡ 1 }
-    requires built { (tree : TreeData) → map tree_data trees.now ≡ tree ∷ [] → is_built_tree tree ≡ true }
-    requires shaped { (tree : TreeData) → map tree_data trees.now ≡ tree ∷ [] → has_shape tree ≡ true }
-    requires spelled { (tree : TreeData) → map tree_data trees.now ≡ tree ∷ [] → IsSpelledTree tree }
-    ensures means { IfOk result (λ s. (tree : TreeData) → map tree_data trees.now ≡ tree ∷ [] → Means tree (spec_data s)) }
+    requires shaped { All IsShaped (map tree_data trees.now) }
+    ensures means { IfOk result (λ s. Means (map tree_data trees.now) (spec_data s)) }
     ensures typed { IfOk result (λ s. WellTyped (spec_data s)) }
-    ensures plain { IfOk result (λ s. all_hidden (spec_data s) ≡ 0) }
     ensures room { IfOk result (λ s. HasRoomForOne (spec_data s)) }
-    ensures fault { IfErr result (λ fault. (tree : TreeData) → map tree_data trees.now ≡ tree ∷ [] → Explains tree fault) }
+    ensures fault { IfErr result (Explains (map tree_data trees.now)) }
 {
-    resolve_tree(alloc, &trees[0])
+    let mut findings = Findings::new();
+    let text = resolved_text(alloc, &mut findings, trees)?;
+    let notes = notes_of(alloc, &text)?;
+    let said = text_said(alloc, &mut findings, &notes, &text)?;
+    match findings.first() {
+        Some(first) => Err(refused(first)),
+        None => Ok(specification(alloc, &notes.kinds.variables, &text, said)?),
+    }
 }

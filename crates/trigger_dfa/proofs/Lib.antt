@@ -11,7 +11,7 @@ mod Alike
 mod WordLemmas
 mod Parts
 mod LaidParts
-mod PositionCounts
+pub mod PositionCounts
 mod MaskWords
 mod LaidLists
 mod MetSets

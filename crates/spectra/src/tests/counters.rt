@@ -1,6 +1,6 @@
 //! Whole sessions of the environment's side. Inputs, notes and ends are worked out by hand from the layers.
 
-use crate::tests::sessions::ByteSource;
+use crate::tests::sessions::PieceSource;
 use crate::tests::{Run, parts, words_of};
 use crate::top::spectra;
 use sp_outside::{MemoryShelf, MemorySink, MemorySource};
@@ -97,7 +97,8 @@ fn a_reply_is_answered_before_the_input_is_read_again(rt: HostRuntime) -> Result
     for (write, reads) in [(1u64, 0u64), (2, 0), (3, 8), (4, 8), (5, 16), (6, 16)] {
         let mut shelf = MemoryShelf::make(alloc, &[])?;
         shelf.put("t.spectra", THREE)?;
-        let mut input = ByteSource {
+        let mut input = PieceSource {
+            most: 1,
             inner: MemorySource::make(alloc, b"g=false\ng=false\n", &[])?,
             reads: 0,
         };

@@ -50,7 +50,7 @@ pub const KINDS: [&str; 54] = [
     "sys Int(0..3) x;\ngar alw x = 1000000000001; => 3:13 14 WideInt",
     "sys Int(3..2) x; => 2:5 14 WideInt",
     "predicate p(Int(0..1) n): q(n + 1);\npredicate q(Int(0..1) n): n * 2000 > 0;\nsys Int(0..3) x;\ngar alw p(x); => 5:9 14 WideInt",
-    "predicate q(Int(0..9) m): true;\npredicate p(Int(0..9) n): q(n * n);\nsys Int(0..99) x;\ngar alw p(x); => 5:9 14 WideInt",
+    "predicate q(Int(0..9) m): m > 0;\npredicate p(Int(0..9) n): q(n * n);\nsys Int(0..99) x;\ngar alw p(x); => 5:9 14 WideInt",
     "predicate q(boolean m): !m;\npredicate p(Int(0..9) n): n * n > 0;\nsys Int(0..99) x;\ngar alw q(p(x)); => 5:11 14 WideInt",
     "define a := 3;\nsys Int(0..a * 2) x;\ngar alw x = 6 & x * 585 > 0;\ngar alw x * 683 > 0; => 5:11 14 WideInt",
     "sys Int(0..1) x;\ngar alw x + (x * 5000) > 0; => 3:11 14 WideInt",

@@ -1,7 +1,7 @@
 //! Texts with faults of names and of what may not stand where it stands, worked out by hand, each group by the rule that it shows.
 
 // The statements after `spec X`, and the place and the fault.
-pub const NAMES: [&str; 42] = [
+pub const NAMES: [&str; 43] = [
     // A name has no declaration that is visible there: the fault stands at the name.
     "gar alw nope; => 2:9 7 Unknown",
     "sys Nope x; => 2:5 7 Unknown",
@@ -20,6 +20,7 @@ pub const NAMES: [&str; 42] = [
     "predicate p(boolean a, boolean a): a; => 2:32 8 Twice",
     "type K = boolean;\ntype K = boolean; => 3:6 8 Twice",
     "gar a: alw g;\ngar a: alw g;\nsys boolean g; => 3:5 8 Twice",
+    "sys boolean g;\ngar one: alw g;\ngar one: alwEv g; => 4:5 8 Twice",
     "sys boolean g; define g := true; => 2:23 8 Twice",
     "define d := true; predicate d(): true; => 2:29 8 Twice",
     // `next` where no next value may be read: at the `next`, or at the name whose body has it.
@@ -27,8 +28,8 @@ pub const NAMES: [&str; 42] = [
     "gar ini d;\ndefine d := next(s);\nsys boolean s; => 2:9 10 NextHere",
     "gar alwEv next(s);\nsys boolean s; => 2:11 10 NextHere",
     "sys Int(0..next(3)) y; => 2:12 10 NextHere",
-    "predicate q(boolean m): true;\nsys boolean g;\ndefine d := next(g);\ngar ini q(d); => 5:11 10 NextHere",
-    "predicate q(boolean m): true;\nsys boolean g;\ndefine d := q(next(g));\ngar ini d; => 5:9 10 NextHere",
+    "predicate q(boolean m): m;\nsys boolean g;\ndefine d := next(g);\ngar ini q(d); => 5:11 10 NextHere",
+    "predicate q(boolean m): m;\nsys boolean g;\ndefine d := q(next(g));\ngar ini d; => 5:9 10 NextHere",
     "env boolean e;\nasm ini next(e); => 3:9 10 NextHere",
     "env boolean e;\nsys boolean s;\nasm alwEv next(s) & e; => 4:11 10 NextHere",
     // `next` inside `next`: at the inner one, or at the name or call by which it gets there.
@@ -36,7 +37,7 @@ pub const NAMES: [&str; 42] = [
     "predicate p(boolean b): next(b);\nsys boolean g;\ngar alw p(next(g));\ngar ini p(g); => 4:9 11 NextNested",
     "gar alw next(d);\ndefine d := next(s);\nsys boolean s; => 2:14 11 NextNested",
     "gar alw d;\ndefine d := next(next(s));\nsys boolean s; => 3:18 11 NextNested",
-    "gar alw e;\ndefine d := next(s);\ne := next(d);\nsys boolean s; => 4:11 11 NextNested",
+    "gar alw e;\ndefine d := next(s);\ne := next(d);\nsys boolean s; => 2:9 11 NextNested",
     // `next` of a variable of the system in an assumption: at the `next`, or at the name by which it gets there.
     "asm alw next(s);\nenv boolean e;\nsys boolean s; => 2:9 12 NextOfSystem",
     "asm alw e -> next(d);\nenv boolean e;\nsys boolean s;\ndefine d := s; => 2:19 12 NextOfSystem",

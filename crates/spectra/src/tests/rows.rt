@@ -1,22 +1,22 @@
 //! The same texts over rows, which list the states of a game one by one: the verdicts are those that are worked out by hand,
 //! as the program's are.
 
-use crate::reading::read;
+use crate::reading::tree_of;
 use crate::tests::parts;
 use crate::tests::verdicts::VERDICTS;
 use hidden_game::expand;
 use region_rows::RegionRows;
 use solve::{Numbers, game_numbers};
-use spectra_lexer::lex;
+use spectra_types::resolve;
 use std::alloc::Global;
 use std::test::Fail;
 
 // The verdict on a text over rows, where it has one and its states are few.
 fn verdict_over_rows(alloc: Global, text: &[u8]) -> Result<Option<String>, Fail> {
-    let Ok(tokens) = lex(alloc, text) else {
+    let Ok(tree) = tree_of(alloc, text) else {
         return Ok(None);
     };
-    let Ok(spec) = read(alloc, text, &tokens) else {
+    let Ok(spec) = resolve(alloc, &[tree]) else {
         return Ok(None);
     };
     let game = expand(alloc, &spec)?;

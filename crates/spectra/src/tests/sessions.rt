@@ -6,7 +6,7 @@ use sp_outside::{Failed, MemoryShelf, MemorySink, MemorySource, Source};
 use std::test::Fail;
 
 // The statements after `spec X`, the input, what is written, and the status.
-const SESSIONS: [&str; 33] = [
+const SESSIONS: [&str; 35] = [
     " =>  => realizable K=2\n => 0",
     // Without variables a line of blanks is the input, and the output is the empty line.
     " => \n \t\n => realizable K=2\n\n\n => 0",
@@ -54,6 +54,8 @@ const SESSIONS: [&str; 33] = [
     "env {OPEN, SHUT} door; sys Int(-1..2) lamp; define shut := door = SHUT; predicate bright(Int(0..4) n): n > 1; gar alw shut -> bright(lamp + 2) & lamp mod 2 = 0; => door=OPEN\ndoor=SHUT\n => realizable K=2\nlamp=-1\nlamp=0\n => 0",
     "env Int(0..4) x; sys boolean g; => x=4\n => realizable K=2\ng=false\n => 0",
     "env Int(0..4) x; sys boolean g; => x=9\n => realizable K=2\nline 1 refused\n => 6",
+    "env Int(0..4) x; sys boolean g; => x=1 x=1\n => realizable K=2\nline 1 refused\n => 6",
+    "env Int(0..4) x; sys boolean g; => \n => realizable K=2\nline 1 refused\n => 6",
     "env Int(0..4) x; sys boolean g; => x=01\n => realizable K=2\nline 1 refused\n => 6",
 ];
 
@@ -143,14 +145,15 @@ fn each_failing_call_ends_the_session(rt: HostRuntime) -> Result<(), Fail> {
     Ok(())
 }
 
-/// A source that gives one byte at each read, and counts the reads.
+/// A source that gives at most so many bytes at each read, and counts the reads.
 #[derive(Drop)]
-pub struct ByteSource {
+pub struct PieceSource {
     pub inner: MemorySource,
+    pub most: usize,
     pub reads: u64,
 }
 
-impl Source for ByteSource {
+impl Source for PieceSource {
     ghost use Rattle.std.specs.Prelude.{None};
     ghost use Rattle.sp_outside.specs.Memory.{source_plan};
 
@@ -160,7 +163,7 @@ impl Source for ByteSource {
 
     fn read(&mut self, buf: &mut [u8]) -> Result<usize, Failed> {
         self.reads = self.reads.saturating_add(1);
-        let room = buf.len().min(1);
+        let room = buf.len().min(self.most);
         self.inner.read(&mut buf[..room])
     }
 }
@@ -174,7 +177,8 @@ fn a_line_is_answered_before_the_input_is_read_again(rt: HostRuntime) -> Result<
     for (write, reads) in [(1u64, 0u64), (2, 7), (3, 15), (4, 22)] {
         let mut shelf = MemoryShelf::make(alloc, &[])?;
         shelf.put("t.spectra", ECHO)?;
-        let mut input = ByteSource {
+        let mut input = PieceSource {
+            most: 1,
             inner: MemorySource::make(alloc, b"r=true\nr=false\nr=true\nr=false\n", &[])?,
             reads: 0,
         };

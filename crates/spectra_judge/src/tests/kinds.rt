@@ -154,14 +154,14 @@ fn uses_arguments_and_misuses(rt: HostRuntime) -> Result<(), Fail> {
     let t = misuse(alloc, Misuse::Unknown, number(11, 1_000_000_000_001))?;
     assert_eq!(rt;
         wrong(alloc, t)?,
-        Some((14, 11)),
-        "an unknown name's argument is judged"
+        Some((7, 9)),
+        "an unknown name, before its argument"
     );
     let t = misuse(alloc, Misuse::Called(Leaf::Variable(1)), truth(11))?;
     assert_eq!(rt;
-        fault(alloc, Stand::InitialAssumption, t)?,
-        Some((13, 9)),
-        "a name with parentheses is read"
+        wrong(alloc, t)?,
+        Some((9, 9)),
+        "parentheses behind a variable"
     );
     Ok(())
 }

@@ -135,6 +135,16 @@ fn bounds_are_numbers_and_predicates_truth_values(rt: HostRuntime) -> Result<(),
         "a bound reads no variable"
     );
     assert_eq!(rt;
+        fault(alloc, Stand::Bound, leaf(9, Leaf::Own(0)))?,
+        Some((9, 9)),
+        "nor an own variable of a pattern"
+    );
+    assert_eq!(rt;
+        fault(alloc, Stand::Bound, leaf(9, Leaf::Parameter(0)))?,
+        Some((9, 9)),
+        "nor a parameter"
+    );
+    assert_eq!(rt;
         fault(alloc, Stand::Bound, truth(9))?,
         Some((9, 9)),
         "a bound is a number"

@@ -1,7 +1,7 @@
 //! The places at which texts are refused. Each number is that of the token, counted by hand from 0.
 
 use super::*;
-use spectra_exprs::fault::SyntaxFault::{Parentheses, TooDeep, Unexpected, Unsupported};
+use spectra_exprs::fault::SyntaxFault::{Parentheses, TooDeep, Unexpected};
 
 /// Texts with a token that goes on none.
 const UNEXPECTED: [(&str, SyntaxFault); 30] = [
@@ -36,7 +36,7 @@ const UNEXPECTED: [(&str, SyntaxFault); 30] = [
     ("spec X gar trig [ a ] & [ b ] |=> [ c ] ;", Unexpected(7)),
     ("spec X gar trig [ a ] or [ b ] |=> [ c ] ;", Unexpected(7)),
     ("spec X gar trig [ a ] { 1 , } |=> [ c ] ;", Unexpected(10)),
-    // A token that goes on no text comes before a form that isn't built.
+    // A text may begin with imports alone.
     ("import \"a\" ; import \"b\" spec X env", Unexpected(8)),
     ("spec X gar alwEv a ; gar alw Y b ; import", Unexpected(11)),
     ("spec X gar trig [ a ] |=> ;", Unexpected(8)),
@@ -62,40 +62,6 @@ const PARENTHESES: [(&str, SyntaxFault); 13] = [
     ),
 ];
 
-/// Texts of the grammar with a form that isn't built.
-const UNSUPPORTED: [(&str, SyntaxFault); 12] = [
-    ("import \"a\" spec X", Unsupported(0)),
-    ("spec X monitor boolean m { ini ! m ; }", Unsupported(2)),
-    (
-        "spec X pattern p ( a ) { var boolean s ; alwEv a ; }",
-        Unsupported(2),
-    ),
-    (
-        "spec X gar trig [ a ] |=> ( [ b ] | [ c ] ) * ;",
-        Unsupported(3),
-    ),
-    (
-        "spec X gar trig [ a ] { 2 } [ b ] { 1 , 2 } ? |=> [ c ] + ;",
-        Unsupported(3),
-    ),
-    ("spec X gar p ( a ) ;", Unsupported(3)),
-    ("spec X gar n : p ( a ) ;", Unsupported(5)),
-    (
-        "spec X define d := p ( a ) ; gar p ( O a ) ;",
-        Unsupported(11),
-    ),
-    (
-        "spec X asm n : GF a ; gar alwEv a SINCE b ;",
-        Unsupported(11),
-    ),
-    ("spec X gar alw PREV a ;", Unsupported(4)),
-    ("spec X gar alw ( a SINCE b ) & c ;", Unsupported(6)),
-    (
-        "spec X predicate p ( boolean a ) : q ( a ) ; asm alw H a ; gar p ( a ) ;",
-        Unsupported(16),
-    ),
-];
-
 /// Each text has its fault.
 fn are_refused(rt: &impl Abort, alloc: Global, cases: &[(&str, SyntaxFault)]) -> Result<(), Fail> {
     for &(text, expected) in cases {
@@ -112,11 +78,6 @@ fn tokens_that_go_on_no_text_are_named(rt: HostRuntime) -> Result<(), Fail> {
 #[test]
 fn operators_behind_whole_expressions_are_named(rt: HostRuntime) -> Result<(), Fail> {
     are_refused(&rt, rt.alloc(), &PARENTHESES)
-}
-
-#[test]
-fn forms_that_are_not_built_are_named(rt: HostRuntime) -> Result<(), Fail> {
-    are_refused(&rt, rt.alloc(), &UNSUPPORTED)
 }
 
 /// A text with a piece so often: what is before it, the piece, how often it comes, what is behind it, and the fault.

@@ -90,7 +90,7 @@ fn shown(alloc: Global, text: &str) -> Result<String, Fail> {
 }
 
 /// Lines with their trees. Each expression begins at column 16, and the columns are counted by hand from there.
-const TREES: [(&str, &str); 12] = [
+const TREES: [(&str, &str); 14] = [
     (
         "spec X gar alw ! a | ( b ) & true ;",
         "(16@20 Or 20 (16@16 Not (18@18 a))(22@28 And 28 (22@24 b)(30@30 true)))",
@@ -138,6 +138,14 @@ const TREES: [(&str, &str); 12] = [
     (
         "spec X gar alw next ( a iff b ) ;",
         "(16@16 next (23@25 Iff (23@23 a)(29@29 b)))",
+    ),
+    (
+        "spec X gar alw PREV ! a ;",
+        "(16@16 Prev (21@21 Not (23@23 a)))",
+    ),
+    (
+        "spec X gar alw ( a SINCE b ) & c ;",
+        "(16@30 And 30 (16@20 Since (18@18 a)(26@26 b))(32@32 c))",
     ),
 ];
 

@@ -1,4 +1,4 @@
-use Rattle.std.proofs.Common.{ℕ, sym, ap, inl, inr, subst, ◌∙◌}
+use Rattle.std.proofs.Common.{ℕ, ap, inr, ◌∙◌}
 use Rattle.spec_model.specs.Views.{spec_data}
 use Rattle.spectra.specs.Endings.{line_of, realizable}
 use Rattle.spectra.proofs.Decided.{nothing_done}

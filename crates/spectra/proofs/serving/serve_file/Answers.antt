@@ -1,17 +1,13 @@
-use Rattle.std.proofs.Common.{rules}
+use Rattle.sp_outside.specs.Files.{told_file}
 use Rattle.spectra.specs.Top as top
-use Rattle.spectra.proofs.Fronts.{file_served}
-use Rattle.spectra.proofs.Decided.{nothing_done, missing_file, failed_shelf}
+use Rattle.spectra.proofs.Decided.{stop_said, file_stopped, failed_before}
+use Rattle.spectra.proofs.InOrder.{rose_before}
 use Rattle.spectra.proofs.serving.serve_file.Goals as goal
 
 pub returns-in-Ok-clause-serves : goal.returns-in-Ok-clause-serves
-returns-in-Ok-clause-serves g c = file_served _ _ _ _ _ _ _ _ c.in-Ok.text.items c.in-Ok.ensures.front (rw c.deref.ensures.value at c.serve_text.ensures)
+returns-in-Ok-clause-serves g c =
+    top.of_tree _ c.in-Ok.ensures.reads (failed_before _ _ _ _ _ _ _ _ _ (rose_before _ _ _ c.read_tree.ensures.later) _ (rw c.read_tree.ensures.keeps at c.serve_tree.ensures.serves))
 
-pub returns-in-Err-Missing-clause-serves : goal.returns-in-Err-Missing-clause-serves
-returns-in-Err-Missing-clause-serves g c = missing_file _ _ _ _ _ _ _ _ (search rules) (c.say_no_file.ensures _ _)
-
-pub returns-in-Err-Shelf-clause-serves : goal.returns-in-Err-Shelf-clause-serves
-returns-in-Err-Shelf-clause-serves g c = failed_shelf _ _ _ _ _ _ _ _ (search rules) (c.say_shelf_fault.ensures _ _)
-
-pub returns-in-Err-Memory-clause-serves : goal.returns-in-Err-Memory-clause-serves
-returns-in-Err-Memory-clause-serves g c = top.no_memory (nothing_done _)
+pub returns-in-Err-clause-serves : goal.returns-in-Err-clause-serves
+returns-in-Err-clause-serves g c =
+    file_stopped _ _ _ _ _ _ (told_file (g.F.Shelf.holds c.args.shelf.now)) _ (stop_said _ _ _ _ _ _ c.in-Err.why c.in-Err.ensures.fault (c.say_stop.ensures _ _))

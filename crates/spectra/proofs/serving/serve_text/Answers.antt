@@ -1,16 +1,14 @@
-use Rattle.std.proofs.Common.{rules}
 use Rattle.spectra.specs.Top as top
-use Rattle.spectra.proofs.Decided.{nothing_done, broken_text, bad_text, long_text}
+use Rattle.spectra.proofs.Decided.{nothing_done, text_refused}
 use Rattle.spectra.proofs.serving.serve_text.Goals as goal
 
-pub returns-in-Err-NotUtf8 : goal.returns-in-Err-NotUtf8
-returns-in-Err-NotUtf8 g c = broken_text _ _ _ _ _ _ _ _ _ (search rules) (c.say_fault.ensures _ _)
+pub returns-in-Ok-clause-serves : goal.returns-in-Ok-clause-serves
+returns-in-Ok-clause-serves g c = top.of_tree _ c.in-Ok.ensures.reads c.serve_tree.ensures.serves
 
-pub returns-in-Err-BadCharacter : goal.returns-in-Err-BadCharacter
-returns-in-Err-BadCharacter g c = bad_text _ _ _ _ _ _ _ _ _ (search rules) (c.say_fault-in-Err-BadCharacter.ensures _ _)
+pub returns-in-Err-Refused-clause-serves : goal.returns-in-Err-Refused-clause-serves
+returns-in-Err-Refused-clause-serves g c =
+    let h = rw c.in-Err-Refused.field-0-is at c.in-Err-Refused.ensures in
+    text_refused _ _ _ _ _ _ _ _ _ _ _ _ h.fault (c.say_fault.ensures _ _)
 
-pub returns-in-Err-TooLong : goal.returns-in-Err-TooLong
-returns-in-Err-TooLong g c = long_text _ _ _ _ _ _ _ (search rules) (c.say_fault-in-Err-TooLong.ensures _ _)
-
-pub returns-in-Err-Memory : goal.returns-in-Err-Memory
-returns-in-Err-Memory g c = top.no_memory (nothing_done _)
+pub returns-in-Err-Memory-clause-serves : goal.returns-in-Err-Memory-clause-serves
+returns-in-Err-Memory-clause-serves g c = top.no_memory (nothing_done _)

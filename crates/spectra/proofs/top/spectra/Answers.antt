@@ -28,7 +28,7 @@ pub returns-in-Ok-Some-OfFile-clause-causes : goal.returns-in-Ok-Some-OfFile-cla
 returns-in-Ok-Some-OfFile-clause-causes g c = is_caused _ _ _ _ _ _ (returns-in-Ok-Some-OfFile-clause-serves g c)
 
 pub returns-in-Ok-Some-OfArbiter-clause-serves : goal.returns-in-Ok-Some-OfArbiter-clause-serves
-returns-in-Ok-Some-OfArbiter-clause-serves g c = let h = rw c.in-Ok-Some-OfArbiter.field-0-is at c.in-Ok-Some-OfArbiter.ensures in let asks = rw c.in-Ok-Some-OfArbiter.field-0-0-is at h.asks in top.arbiter _ _ asks c.serve_arbiter.ensures
+returns-in-Ok-Some-OfArbiter-clause-serves g c = let h = rw c.in-Ok-Some-OfArbiter.field-0-is at c.in-Ok-Some-OfArbiter.ensures in let asks = rw c.in-Ok-Some-OfArbiter.field-0-0-is at h.asks in top.arbiter _ _ asks c.serve_arbiter.ensures.serves
 
 pub returns-in-Ok-Some-OfArbiter-clause-decides : goal.returns-in-Ok-Some-OfArbiter-clause-decides
 returns-in-Ok-Some-OfArbiter-clause-decides g c = decides_what_reads _ _ _ _ _ _ (returns-in-Ok-Some-OfArbiter-clause-serves g c)

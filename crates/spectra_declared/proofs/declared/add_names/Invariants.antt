@@ -1,4 +1,4 @@
-use Rattle.std.proofs.Common.{◌≡◌, drop, map}
+use Rattle.std.proofs.Common.{◌≡◌, drop}
 use Rattle.spectra_resolved.specs.Enums.{with_names}
 use Rattle.spectra_resolved.specs.EnumViews.{names_in}
 use Rattle.spectra_declared.specs.MentionViews.{names_data}

@@ -5,7 +5,7 @@ use Rattle.spectra_resolved.specs.Tables.{told}
 use Rattle.spectra_resolved.specs.EnumViews.{names_in}
 use Rattle.spectra_declared.specs.Items.{filed_data}
 use Rattle.spectra_declared.specs.Declarations.{counted, entries_of, entries_from}
-use Rattle.spectra_declared.proofs.Told.{with_entries_append}
+use Rattle.spectra_items.proofs.Told.{with_entries_append}
 use Rattle.spectra_declared.proofs.declaring.space_of.Goals as goal
 
 pub loop-filed-preserved : goal.loop-filed-preserved

@@ -1,5 +1,5 @@
-use Rattle.std.specs.Prelude.{IfOk}
-use Rattle.std.proofs.Common.{◌≡◌, ℕ, take, List, None, Result, Ok, Err, sym, subst}
+use Rattle.std.specs.Prelude.{IfErr}
+use Rattle.std.proofs.Common.{◌≡◌, ℕ, take, List, None, Result, Ok, Err, sym, subst, rules}
 use Rattle.spectra_exprs.specs.declared.fault.SyntaxFault.{SyntaxFault}
 use Rattle.spectra_exprs.specs.declared.fault.SyntaxFault.TheVariants as faults
 use Rattle.spectra_trees.specs.declared.tree.Tree.{Tree}
@@ -8,10 +8,9 @@ use Rattle.spectra_trees.specs.Views.{tree_data}
 use Rattle.spectra_trees.specs.Lexemes.{Lexeme, lexemes_of}
 use Rattle.spectra_exprs.specs.Read.{Fails}
 use Rattle.spectra_parser.specs.Items.{text_of}
-use Rattle.spectra_parser.specs.Unbuilt.{first_unbuilt}
-use Rattle.spectra_parser.specs.Texts.{HasTree, IsWholeFrom, BeginText, IsShallow, IsRefused, IsTooDeep, IsBuilt, Explains, refusal}
+use Rattle.spectra_parser.specs.Texts.{HasTree, IsWholeFrom, BeginText, IsShallow, IsRefused, IsTooDeep, Explains}
 use Rattle.spectra_parser.proofs.WholeText.{text_got}
-use Rattle.spectra_parser.proofs.Places.{Refused, unexpected_refused, deep_refused, parentheses_refused, never_unsupported}
+use Rattle.spectra_parser.proofs.Places.{Refused, unexpected_refused, deep_refused, parentheses_refused}
 use Rattle.spectra_parser.proofs.OpeningItems.{wide}
 use Rattle.spectra_parser.proofs.Beginnings.{unexpected_begun, deep_begun, deeper_begun, parentheses_begun, behind_phrase}
 use Rattle.spectra_parser.proofs.CountingTexts.{unexpected_shallow, parentheses_shallow, deep_shallow, deep_level}
@@ -30,24 +29,21 @@ is_too_deep ts at w h =
       refused = r.refused;
     }
 
-explained : (ts : List Lexeme) (f : SyntaxFault) → IsWholeFrom 0 ts → Fails f (text_of ts) → Explains ts (refusal f)
+explained : (ts : List Lexeme) (f : SyntaxFault) → IsWholeFrom 0 ts → Fails f (text_of ts) → Explains ts f
 explained ts (faults.Unexpected at) w h = (is_refused ts at (unexpected_refused ts at w h) (unexpected_begun ts at w h) (unexpected_shallow ts at w h), no_phrase_behind ts at w h)
 explained ts (faults.TooDeep at) w h = is_too_deep ts at w h
 explained ts (faults.Parentheses at) w h = (is_refused ts at (parentheses_refused ts at w h) (parentheses_begun ts at w h) (parentheses_shallow ts at w h), behind_phrase ts at h)
-explained ts (faults.Unsupported at) w h = absurd (never_unsupported ts at w h)
 explained ts faults.Memory w h = tt
 
-built_tree : (r : Result Tree SyntaxFault) (ts : List Lexeme) (tree : TreeData) → HasTree ts tree → IfOk r (λ found. tree_data found ≡ tree) → IfOk r (λ found. first_unbuilt ts ≡ None) → IfOk r (λ found. IsBuilt ts (tree_data found))
-built_tree (Ok found) ts tree t same none = record { grammar = subst (λ (x : TreeData). HasTree ts x) (sym same) t; built = none }
-built_tree (Err f) ts tree t same none = tt
+pub returns-clause-tree : goal.returns-clause-tree
+returns-clause-tree c = text_got (lexemes_of c.args.tokens.now) (tree_data c.in_ok-tree.tree) (lexemes_of c.in_ok-tree.field-0-1.now) c.in_ok-tree.ensures.read
 
-pub built-requires : goal.built-requires
-built-requires c = record { grammar = text_got (lexemes_of c.args.tokens.now) (tree_data c.in-Ok.tree) (lexemes_of c.in-Ok.field-0-1.now) c.in-Ok.ensures.read }
+-- the error that is handed on is the one that was met
+handed : (r : Result Tree SyntaxFault) (f : SyntaxFault) (ts : List Lexeme) → r ≡ Err f → Explains ts f → IfErr r (Explains ts)
+handed (Ok tree) f ts same is = absurd (cc)
+handed (Err g) f ts same is = let one : f ≡ g = cc in subst (Explains ts) one is
 
-pub returns-in-Ok-clause-tree : goal.returns-in-Ok-clause-tree
-returns-in-Ok-clause-tree c =
-    built_tree c.built.result (lexemes_of c.args.tokens.now) (tree_data c.in-Ok.tree)
-    (text_got (lexemes_of c.args.tokens.now) (tree_data c.in-Ok.tree) (lexemes_of c.in-Ok.field-0-1.now) c.in-Ok.ensures.read) c.built.ensures.tree c.built.ensures.built
-
-pub returns-in-Err-clause-fault : goal.returns-in-Err-clause-fault
-returns-in-Err-clause-fault c = rw c.refusal.ensures (explained (lexemes_of c.args.tokens.now) c.in-Err.fault c.requires.whole c.in-Err.ensures.read)
+pub returns-in_err-tree-clause-fault : goal.returns-in_err-tree-clause-fault
+returns-in_err-tree-clause-fault c =
+    let p = c.from_residual.ensures in
+    handed c.from_residual.result c.in_err-tree.field-0.0 (lexemes_of c.args.tokens.now) (let h = p in search (rules)) (explained (lexemes_of c.args.tokens.now) c.in_err-tree.field-0.0 c.requires.whole c.in_err-tree.ensures.read)

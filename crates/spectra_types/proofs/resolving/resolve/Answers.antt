@@ -1,32 +1,48 @@
-use Rattle.std.proofs.Common.{subst}
-use Rattle.std.proofs.lemmas.Result.{IfOk-weaker}
-use Rattle.spec_model.specs.Views.{spec_data}
+use Rattle.std.proofs.Common.{map, sym, ap, subst, ◌∙◌}
+use Rattle.spec_model.specs.WellTyped.{WellTyped}
+use Rattle.spec_model.specs.Cores.{HasRoomForOne}
 use Rattle.spectra_trees.specs.Views.{tree_data}
-use Rattle.spectra_types.specs.Resolved.{Means}
-use Rattle.spectra_types.proofs.Told.{only_tree, the_one}
-use Rattle.spectra_types.proofs.Answered.{means_typed, means_open}
-use Rattle.spectra_types.proofs.Spare.{means_roomy}
+use Rattle.spectra_resolved.specs.TextViews.{text_data}
+use Rattle.spectra_judge.specs.KindViews.{kind_data}
+use Rattle.spectra_notes.specs.TypeKinds.{type_kinds}
+use Rattle.spectra_lines.specs.Parts.{AreSound}
+use Rattle.spectra_types.specs.Meanings.{typed_patterns}
+use Rattle.spectra_types.proofs.SoundPatterns.{all_sound}
+use Rattle.spectra_types.proofs.Firsts.{found_all, means, kinds_room}
+use Rattle.spectra_types.proofs.Theorem.{well_typed, has_room}
 use Rattle.spectra_types.proofs.resolving.resolve.Goals as goal
 
--- the list's one tree is the one that was resolved
+pub text_said-requires-clause-sound : goal.text_said-requires-clause-sound
+text_said-requires-clause-sound c = subst (λ text. AreSound (typed_patterns text)) (sym c.in_ok-text.ensures.text) (all_sound (map tree_data c.args.trees.now) c.requires.shaped)
+
+pub returns-in-Some-clause-fault : goal.returns-in-Some-clause-fault
+returns-in-Some-clause-fault c =
+    let trees = map tree_data c.args.trees.now in
+    c.refused.ensures.fault trees
+    (sym (found_all trees (text_data c.in_ok-text.text) _ _ _ c.new-findings.ensures c.in_ok-text.ensures.found c.in_ok-text.ensures.text c.in_ok-said.ensures.found) ∙ sym c.first.ensures ∙ c.in-Some.is)
+
+pub specification-requires-clause-room : goal.specification-requires-clause-room
+specification-requires-clause-room c =
+    let trees = map tree_data c.args.trees.now in
+    kinds_room trees c.requires.shaped
+    (sym (found_all trees (text_data c.in_ok-text.text) _ _ _ c.new-findings.ensures c.in_ok-text.ensures.found c.in_ok-text.ensures.text c.in_ok-said.ensures.found) ∙ sym c.first.ensures ∙ c.in-None.is) c.deref.result.now
+    (ap (map kind_data) c.deref.ensures.value ∙ ap (λ n. n.kinds.variables) c.in_ok-notes.ensures.noted ∙ ap (λ t. (type_kinds t).variables) c.in_ok-text.ensures.text)
+
 pub returns-clause-means : goal.returns-clause-means
 returns-clause-means c =
-    IfOk-weaker c.resolve_tree.result _ _
-    (λ s means tree is. subst (λ t. Means t (spec_data s)) (only_tree c.args.trees.now c.index-trees-0.result tree c.index-trees-0.is is) means) c.resolve_tree.ensures.means
+    let trees = map tree_data c.args.trees.now in
+    means trees (text_data c.in_ok-text.text) _
+    (sym (found_all trees (text_data c.in_ok-text.text) _ _ _ c.new-findings.ensures c.in_ok-text.ensures.found c.in_ok-text.ensures.text c.in_ok-said.ensures.found) ∙ sym c.first.ensures ∙ c.in-None.is) c.in_ok-text.ensures.text
+    c.in_ok-specification-in-None.ensures
 
--- what the one tree means is well typed
 pub returns-clause-typed : goal.returns-clause-typed
 returns-clause-typed c =
-    let one = the_one c.args.trees.now c.index-trees-0.result c.requires.one c.index-trees-0.is in
-    let tree = tree_data c.index-trees-0.result in
-    IfOk-weaker c.resolve_tree.result _ _ (λ s means. means_typed tree (spec_data s) (c.requires.shaped tree one) (c.requires.built tree one) (c.requires.spelled tree one) means) c.resolve_tree.ensures.means
+    let trees = map tree_data c.args.trees.now in
+    let means_this = returns-clause-means c in
+    subst WellTyped (sym means_this.meaning) (well_typed trees c.requires.shaped means_this.faultless)
 
-pub returns-clause-plain : goal.returns-clause-plain
-returns-clause-plain c =
-    let one = the_one c.args.trees.now c.index-trees-0.result c.requires.one c.index-trees-0.is in
-    let tree = tree_data c.index-trees-0.result in
-    IfOk-weaker c.resolve_tree.result _ _ (λ s means. means_open tree (spec_data s) (c.requires.built tree one) means) c.resolve_tree.ensures.means
-
--- and leaves room for a guarantee that is forced
 pub returns-clause-room : goal.returns-clause-room
-returns-clause-room c = IfOk-weaker c.resolve_tree.result _ _ (λ s means. means_roomy (tree_data c.index-trees-0.result) (spec_data s) means) c.resolve_tree.ensures.means
+returns-clause-room c =
+    let trees = map tree_data c.args.trees.now in
+    let means_this = returns-clause-means c in
+    subst HasRoomForOne (sym means_this.meaning) (has_room trees c.requires.shaped means_this.faultless)

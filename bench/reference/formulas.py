@@ -1,0 +1,121 @@
+"""Formulas: tuples of an operator and its operands, and their values.
+
+A leaf is `("truth", b)`, `("number", n)`, `("enum", name)`, or what is read: `("variable", name)`, and in a pattern
+`("parameter", k)` and `("own", k)`. What is known at a position is a table from what is read, and from each past operator to
+what its hidden table has there.
+"""
+CONSTANTS = ("truth", "number", "enum", "hole")
+READ = ("variable", "parameter", "own")
+PAST = ("PREV", "ONCE", "HISTORICALLY", "SINCE", "TRIGGERED")
+
+
+def erased(t):
+    """The formula of an expression with everything put in."""
+    if t.form == "variable":
+        return ("variable", t.says.name.text)
+    if t.form in CONSTANTS or t.form in READ:
+        return (t.form, t.says)
+    if t.form == "mod":
+        return ("mod", erased(t.operands[0]), ("number", t.says))
+    return (t.form, *map(erased, t.operands))
+
+
+def regex_of(r, formulas):
+    """A regular expression with these formulas in its brackets, in text order."""
+    if r[0] == "atom":
+        return ("atom", next(formulas))
+    if r[0] == "repeat":
+        return ("repeat", regex_of(r[1], formulas), r[2], r[3])
+    return (r[0], *[regex_of(inner, formulas) for inner in r[1:]])
+
+
+def operands_of(e):
+    return () if e[0] in CONSTANTS or e[0] in READ else e[1:]
+
+
+def has_next(e):
+    return e[0] == "next" or any(has_next(operand) for operand in operands_of(e))
+
+
+def present(e):
+    """What an expression reads outside `next` and outside the operand of `PREV`."""
+    if e[0] in READ:
+        return {e}
+    return set() if e[0] in ("next", "PREV") else set().union(*map(present, operands_of(e)))
+
+
+def operators_in(e):
+    """The past operators in an expression, inner ones first, each once."""
+    found = {}
+    for operand in operands_of(e):
+        found |= operators_in(operand)
+    return found | ({e: None} if e[0] in PAST else {})
+
+
+def asked(e):
+    """What its value asks for at the present position, and at the next one."""
+    if e[0] in READ:
+        return {e}, set()
+    if e[0] == "next":
+        return set(), asked(e[1])[0]
+    now, later = {e} if e[0] in PAST else set(), set()
+    for operand in () if e[0] == "PREV" else operands_of(e):
+        more = asked(operand)
+        now, later = now | more[0], later | more[1]
+    return now, later
+
+
+def value(e, now, later):
+    """The value of an expression at a position, and at the next one where it has `next`."""
+    kind, operands = e[0], e[1:]
+    if kind in CONSTANTS:
+        return operands[0]
+    if kind in READ or kind == "PREV":
+        return now[e]
+    if kind == "next":
+        return value(operands[0], later, None)
+    v = [value(operand, now, later) for operand in operands]
+    if kind in PAST:
+        return PAST_VALUES[kind](*v, now[e])
+    if kind == "&":
+        return all(v)
+    return any(v) if kind == "|" else OPERATIONS[kind](*v)
+
+
+# from the operands' values here, and the operator's value at the position before
+PAST_VALUES = {
+    "ONCE": lambda a, before: a or before,
+    "HISTORICALLY": lambda a, before: a and before,
+    "SINCE": lambda a, b, before: b or (a and before),
+    "TRIGGERED": lambda a, b, before: b and (a or before),
+}
+
+OPERATIONS = {
+    "!": lambda a: not a,
+    "->": lambda a, b: not a or b,
+    "<->": lambda a, b: a == b,
+    "=": lambda a, b: a == b,
+    "!=": lambda a, b: a != b,
+    "<": lambda a, b: a < b,
+    "<=": lambda a, b: a <= b,
+    ">": lambda a, b: a > b,
+    ">=": lambda a, b: a >= b,
+    "+": lambda a, b: a + b,
+    "-": lambda a, b: a - b,
+    "*": lambda a, b: a * b,
+    "mod": lambda a, b: a % b,
+}
+
+
+class Remembered:
+    """A formula that remembers its values by what they ask for."""
+
+    def __init__(self, says):
+        self.says, self.known = says, {}
+        self.now, self.later = (sorted(keys, key=str) for keys in asked(says))
+
+    def value(self, now, later):
+        key = tuple([now[k] for k in self.now] + [later[k] for k in self.later])
+        if key not in self.known:
+            self.known[key] = value(self.says, now, later)
+        return self.known[key]

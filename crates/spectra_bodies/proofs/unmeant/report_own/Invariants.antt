@@ -1,0 +1,13 @@
+use Rattle.std.proofs.Common.{◌≡◌, drop, map, flat_map}
+use Rattle.spectra_resolved.specs.Findings.{found_in, with_faults}
+use Rattle.spectra_resolved.specs.Texts.{ResolvedPattern}
+use Rattle.spectra_resolved.specs.TextViews.{pattern_data}
+use Rattle.spectra_bounds.specs.TypeViews.{constants_data}
+use Rattle.spectra_bodies.specs.Unmeant.{each_unmeant}
+use Rattle.spectra_bodies.proofs.unmeant.report_own.Given as goal
+
+-- what is left to find gives the answer
+abbrev pub invariant-loop-pattern : goal.invariant-loop-pattern
+invariant-loop-pattern l =
+    with_faults (found_in l.findings) (flat_map (λ (p : ResolvedPattern). each_unmeant (constants_data l.constants) p.own) (map pattern_data (drop l.pattern-index l.patterns)))
+    ≡ with_faults (found_in l.fn.findings) (flat_map (λ (p : ResolvedPattern). each_unmeant (constants_data l.constants) p.own) (map pattern_data l.patterns))

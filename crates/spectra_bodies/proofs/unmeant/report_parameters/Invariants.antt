@@ -1,0 +1,13 @@
+use Rattle.std.proofs.Common.{◌≡◌, drop, map, flat_map}
+use Rattle.spectra_resolved.specs.Findings.{found_in, with_faults}
+use Rattle.spectra_resolved.specs.Texts.{ResolvedDefinition}
+use Rattle.spectra_resolved.specs.TextViews.{definition_data}
+use Rattle.spectra_bounds.specs.TypeViews.{constants_data}
+use Rattle.spectra_bodies.specs.Unmeant.{each_unmeant}
+use Rattle.spectra_bodies.proofs.unmeant.report_parameters.Given as goal
+
+-- what is left to find gives the answer
+abbrev pub invariant-loop-definition : goal.invariant-loop-definition
+invariant-loop-definition l =
+    with_faults (found_in l.findings) (flat_map (λ (d : ResolvedDefinition). each_unmeant (constants_data l.constants) d.params) (map definition_data (drop l.definition-index l.definitions)))
+    ≡ with_faults (found_in l.fn.findings) (flat_map (λ (d : ResolvedDefinition). each_unmeant (constants_data l.constants) d.params) (map definition_data l.definitions))

@@ -1,0 +1,13 @@
+use Rattle.std.proofs.Common.{◌≡◌, drop, map, flat_map}
+use Rattle.spectra_resolved.specs.Findings.{found_in, with_faults}
+use Rattle.spectra_resolved.specs.Texts.{ResolvedVariable}
+use Rattle.spectra_resolved.specs.TextViews.{variable_data}
+use Rattle.spectra_bounds.specs.TypeViews.{constants_data}
+use Rattle.spectra_bodies.specs.Unmeant.{unmeant}
+use Rattle.spectra_bodies.proofs.unmeant.report_variables.Given as goal
+
+-- what is left to find gives the answer
+abbrev pub invariant-loop-variable : goal.invariant-loop-variable
+invariant-loop-variable l =
+    with_faults (found_in l.findings) (flat_map (λ (v : ResolvedVariable). unmeant (constants_data l.constants) v.domain) (map variable_data (drop l.variable-index l.variables)))
+    ≡ with_faults (found_in l.fn.findings) (flat_map (λ (v : ResolvedVariable). unmeant (constants_data l.constants) v.domain) (map variable_data l.variables))

@@ -1,0 +1,125 @@
+//! The bodies that are put in, and the faults of an expression in which everything is put in.
+
+ghost use Rattle.std.specs.Prelude.{◌≡◌, ◌<◌, true, None, length, get_or, option_map, OnOk, IfOk};
+ghost use Rattle.spectra_resolved.specs.Findings.{found_in, with_faults};
+ghost use Rattle.spectra_resolved.specs.Views.{resolved_data};
+ghost use Rattle.spectra_resolved.specs.TextViews.{text_data};
+ghost use Rattle.spectra_judge.specs.Around.{AreRising};
+ghost use Rattle.spectra_judge.specs.Known.{known_data};
+ghost use Rattle.spectra_elaboration.specs.PuttingViews.{bodies_data};
+ghost use Rattle.spectra_notes.specs.Notes.{noted};
+ghost use Rattle.spectra_notes.specs.NoteViews.{notes_data};
+ghost use Rattle.spectra_bodies.specs.PutIn.{bodies as bodies_lem, made_faults, put_in_faults};
+
+use spectra_brought::known::known_with;
+use spectra_brought::order::names_of;
+use spectra_brought::reporting::report_faults;
+use spectra_elaboration::levels::is_flat;
+use spectra_elaboration::putting::put_in;
+use spectra_holes::holing::holed;
+use spectra_judge::known::Known;
+use spectra_notes::notes::{Notes, known_in_body, stand_of};
+use spectra_resolved::findings::Findings;
+use spectra_resolved::stand::Stand;
+use spectra_resolved::text::Text;
+use spectra_resolved::tree::Resolved;
+use std::alloc::{AllocError, Global};
+
+// The most nodes, and the most levels, of what is judged.
+const MOST_NODES: usize = 1_000_000;
+
+const MOST_LEVELS: usize = 512;
+
+// ---- bodies
+
+// Whether a definition has no meaning, by its number. One that isn't there has none.
+fn is_hole(holes: &[bool], number: usize) -> bool
+    ensures { result ≡ get_or holes.now number true }
+{
+    match holes.get(number) {
+        Some(hole) => *hole,
+        None => true,
+    }
+}
+
+// What is put in for a numbered definition.
+fn body_of(
+    alloc: Global,
+    notes: &Notes<'_>,
+    text: &Text<'_>,
+    k: usize,
+) -> Result<Option<Resolved>, AllocError>
+    requires notes { notes_data notes.now ≡ noted (text_data text.now) }
+    requires within { k < length text.now.definitions.items }
+    ensures { IfOk result (λ body. option_map resolved_data body ≡ get_or (bodies_lem (text_data text.now)) k None) }
+{
+    let definition = &text.definitions[k];
+    if is_hole(&notes.holes, k) {
+        return Ok(None);
+    }
+    let known = known_in_body(notes, k);
+    let stand = stand_of(definition.word);
+    let body = holed(alloc, &known, stand, &definition.body)?;
+    Ok(Some(body))
+}
+
+/// What is put in for each definition: its body, with holes for faulty arguments; and nothing where it has no meaning. The
+/// error is that memory is short.
+pub fn bodies_of(
+    alloc: Global,
+    notes: &Notes<'_>,
+    text: &Text<'_>,
+) -> Result<Vec<Option<Resolved>>, AllocError>
+    requires notes { notes_data notes.now ≡ noted (text_data text.now) }
+    ensures { IfOk result (λ bodies. bodies_data bodies.items ≡ bodies_lem (text_data text.now)) }
+{
+    let mut bodies = Vec::new(alloc);
+    for k in 0..text.definitions.len() {
+        let body = body_of(alloc, notes, text, k)?;
+        bodies.push(body)?;
+    }
+    Ok(bodies)
+}
+
+// ---- faults
+
+// Reports the first fault of what was made where there was room, if it doesn't have too many levels.
+fn report_made(
+    findings: &mut Findings,
+    known: &Known<'_, '_>,
+    stand: Stand,
+    made: &Option<Resolved>,
+)
+    requires rising { AreRising known.now.brought.now }
+    ensures { found_in findings.new ≡ with_faults (found_in findings.old) (made_faults (known_data known.now) stand (option_map resolved_data made.now)) }
+{
+    match made {
+        Some(t) => {
+            if is_flat(MOST_LEVELS, t) {
+                report_faults(findings, known, stand, t);
+            }
+        }
+        None => {}
+    }
+}
+
+/// Reports the first fault of an expression that stands somewhere, with everything put in for its names, where that has at
+/// most 1,000,000 nodes and 512 levels. The error is that memory is short.
+pub fn report_put_in(
+    alloc: Global,
+    findings: &mut Findings,
+    bodies: &[Option<Resolved>],
+    known: &Known<'_, '_>,
+    stand: Stand,
+    t: &Resolved,
+) -> Result<(), AllocError>
+    requires rising { AreRising known.now.brought.now }
+    ensures { OnOk result (found_in findings.new ≡ with_faults (found_in findings.old) (put_in_faults (bodies_data bodies.now) (known_data known.now) stand (resolved_data t.now))) }
+{
+    let written = holed(alloc, known, stand, t)?;
+    let made = put_in(alloc, bodies, MOST_NODES, &written)?;
+    let names = names_of(alloc, t)?;
+    let around = known_with(known, &names);
+    report_made(findings, &around, stand, &made);
+    Ok(())
+}

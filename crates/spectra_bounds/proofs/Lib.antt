@@ -1,0 +1,7 @@
+pub mod Made
+pub mod Judging
+pub mod Marks
+mod Sound
+mod Found
+mod Chained
+mod Names

@@ -1,0 +1,3 @@
+mod Named
+mod Putting
+pub mod Found

@@ -1,3 +1,0 @@
-pub mod Leftover
-pub mod Gathering
-pub mod Meeting

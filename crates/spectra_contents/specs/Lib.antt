@@ -1,4 +1,0 @@
-pub mod Contents
-pub mod SettingViews
-pub mod Misplaced
-pub mod Walked

@@ -1,0 +1,12 @@
+pub mod Depths
+pub mod Chained
+pub mod Deep
+pub mod Clipped
+pub mod Formulas
+pub mod FormulaNodes
+pub mod Folded
+pub mod Made
+pub mod Written
+pub mod Meant
+pub mod FormulaLevels
+pub mod Flat

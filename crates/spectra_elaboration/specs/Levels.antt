@@ -1,0 +1,28 @@
+-- How many levels of an expression stand in one another.
+use Rattle.std.specs.Prelude.{ℕ, ◌+◌, max, nat_le, Bool, true, ◌&&◌, List, [], ◌∷◌}
+use Rattle.spectra_resolved.specs.Resolved.{ResolvedTree, tree, Form, LinkData, ResolvedTrees}
+
+-- a part without parts is one level, and so is what isn't put in
+abbrev mutual
+  pub tree_levels : ResolvedTree → ℕ
+  tree_levels (tree first at form) = form_levels form
+
+  pub form_levels : Form → ℕ
+  form_levels (Form.LeafOf l) = 1
+  form_levels (Form.PredicateOf k ts) = 1
+  form_levels (Form.MisuseOf m ts) = 1
+  form_levels (Form.Next t) = 1 + tree_levels t
+  form_levels (Form.Prefix word t) = 1 + tree_levels t
+  form_levels (Form.Binary word a b) = 1 + max (tree_levels a) (tree_levels b)
+  form_levels (Form.Mod t number_at n) = 1 + tree_levels t
+  form_levels (Form.And ts operators) = 1 + each_levels ts
+  form_levels (Form.Or ts operators) = 1 + each_levels ts
+
+  pub each_levels : ResolvedTrees → ℕ
+  each_levels ResolvedTrees.none = 0
+  each_levels (ResolvedTrees.one_more t ts) = max (tree_levels t) (each_levels ts)
+
+-- the second operands of operators, each of which may have one level more than the one before it
+abbrev pub are_flat_above : ℕ → List LinkData → Bool
+are_flat_above limit [] = true
+are_flat_above limit (l ∷ ls) = nat_le (tree_levels l.second) limit && are_flat_above (limit + 1) ls

@@ -1,0 +1,20 @@
+//! Expressions in which everything is put in: bodies for uses of definitions, and arguments for parameters.
+//!
+//! Contract: `put_in` makes the expression that the definition of that name gives for these bodies, with the places of its
+//! parts, exactly where it has at most so many nodes; `erase` gives its formula.
+//!
+//! Path: text → tokens → trees → resolved trees → judge → **elaborated trees** → specification → game → regions → layers →
+//! strategy → verdict → lines.
+#![tactic(auto)]
+
+pub mod copying;
+pub mod counted;
+pub mod erasing;
+pub mod halt;
+pub mod laws;
+pub mod levels;
+pub mod nodes;
+pub mod parts;
+pub mod putting;
+#[cfg(test)]
+mod tests;

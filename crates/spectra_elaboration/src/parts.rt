@@ -1,0 +1,81 @@
+//! What is put in, and the places of what is put in.
+
+ghost use Rattle.std.specs.Prelude.{◌≡◌, ◌≤◌, option_map, map, IfOk, IfSome, Some};
+ghost use denote.Param.Weighed.{most};
+ghost use Rattle.spectra_resolved.specs.Resolved.{chained};
+ghost use Rattle.spectra_resolved.specs.Views.{resolved_data, link_data};
+ghost use Rattle.spectra_elaboration.specs.Putting.{placed as placed_lem, misuse_hole as misuse_hole_lem, body_of as body_of_lem, placed_link as placed_link_lem};
+ghost use Rattle.spectra_elaboration.specs.PuttingViews.{bodies_data, body_size};
+
+use spectra_resolved::spot::Spot;
+use spectra_resolved::tree::{Hole, Link, Misuse, Resolved};
+use std::alloc::{AllocError, Global};
+
+/// Where a part stands of a line, or of a body that a name in the line brings.
+pub fn placed(brought: Option<Spot>, at: Spot) -> Spot
+    ensures { result ≡ placed_lem brought at }
+{
+    match brought {
+        Some(name) => name,
+        None => at,
+    }
+}
+
+/// Where several parts stand.
+pub fn placed_each(
+    alloc: Global,
+    brought: Option<Spot>,
+    places: &[Spot],
+) -> Result<Vec<Spot>, AllocError>
+    ensures { IfOk result (λ made. made.items ≡ map (placed_lem brought) places.now) }
+{
+    let mut made = Vec::new(alloc);
+    for at in places {
+        made.push(placed(brought, *at))?;
+    }
+    Ok(made)
+}
+
+/// An operator where it stands, with another second operand.
+pub fn placed_link(brought: Option<Spot>, link: &Link, second: Resolved) -> Link
+    ensures { link_data result ≡ placed_link_lem brought (link_data link.now) (resolved_data second) }
+{
+    Link {
+        first: placed(brought, link.first),
+        at: placed(brought, link.at),
+        word: link.word,
+        second,
+    }
+}
+
+#[tactic(auto, using(spectra_resolved::proofs::Trees::chain_data))]
+/// A tree with operators behind it.
+pub fn chain(alloc: Global, head: Resolved, links: Vec<Link>) -> Result<Resolved, AllocError>
+    ensures { IfOk result (λ t. resolved_data t ≡ chained (resolved_data head) (map link_data links.items)) }
+{
+    Ok(Resolved::Chain(Box::new(alloc, head)?, links))
+}
+
+/// What stands for a misused name.
+pub fn misuse_hole(misuse: Misuse) -> Hole
+    ensures { result ≡ misuse_hole_lem misuse }
+{
+    match misuse {
+        Misuse::Arity(_) => Hole::Truth,
+        Misuse::Unknown => Hole::Anything,
+        Misuse::Bare(_) => Hole::Anything,
+        Misuse::Called(_) => Hole::Anything,
+    }
+}
+
+/// The body of a definition that has a meaning.
+pub fn body_of<'s>(bodies: &'s [Option<Resolved>], number: usize) -> Option<&'s Resolved>
+    ensures body { option_map (λ body. resolved_data body.now) result ≡ body_of_lem (bodies_data bodies.now) number }
+    ensures no_deeper { IfSome result (λ body. body_size (Some body.now) ≤ most body_size bodies.now) }
+{
+    match bodies.get(number) {
+        Some(Some(body)) => Some(body),
+        Some(None) => None,
+        None => None,
+    }
+}

@@ -1,9 +1,0 @@
-pub mod Expansion
-pub mod Needs
-pub mod Within
-pub mod Measuring
-pub mod Counting
-pub mod Walking
-pub mod Telling
-pub mod Filling
-pub mod Handing

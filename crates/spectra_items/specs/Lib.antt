@@ -1,0 +1,4 @@
+pub mod Types
+pub mod Meanings
+pub mod ItemViews
+pub mod Steps

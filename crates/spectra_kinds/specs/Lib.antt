@@ -1,9 +1,0 @@
-pub mod Kinds
-pub mod KindViews
-pub mod Types
-pub mod Spans
-pub mod Depths
-pub mod Bodies
-pub mod WorthViews
-pub mod KindTables
-pub mod Enums

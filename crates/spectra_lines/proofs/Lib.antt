@@ -1,0 +1,9 @@
+pub mod Rooms
+pub mod Loops
+pub mod Bracketed
+pub mod Orders
+pub mod Parted
+pub mod Stated
+pub mod Faultless
+pub mod Firsts
+pub mod Sized

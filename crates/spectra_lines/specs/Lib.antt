@@ -1,0 +1,9 @@
+pub mod Contents
+pub mod Limits
+pub mod Lines
+pub mod Parts
+pub mod Meanings
+pub mod Said
+pub mod Views
+pub mod Steps
+pub mod Laws

@@ -1,0 +1,101 @@
+-- The lines of a text and its patterns, in text order, and what they are found to be.
+use Rattle.spectra_trees.specs.declared.faults.TheConstants.{TOO_LARGE}
+use Rattle.std.specs.Prelude.{◌≡◌, ℕ, Bool, true, ◌&&◌, if◌then◌else◌, List, [], ◌∷◌, ◌++◌, map, take, drop, Option, option_to_list}
+use Rattle.std.specs.List.{prefix_len}
+use Rattle.spec_model.specs.Syntax.{PatternData}
+use Rattle.spectra_resolved.specs.declared.spot.Spot.{Spot}
+use Rattle.spectra_resolved.specs.declared.findings.Finding.{Finding}
+use Rattle.spectra_resolved.specs.Texts.{ResolvedPatternLine, ResolvedPattern, ResolvedLine}
+use Rattle.spectra_judge.specs.Findings.{fault_if}
+use Rattle.spectra_judge.specs.Kinds.{Kind}
+use Rattle.spectra_judge.specs.Around.{comes_before}
+use Rattle.spectra_patterns.specs.Patterns.{line_at, line_tree, lines_faults, is_empty, pattern_faults, meant, IsSound}
+use Rattle.spectra_lines.specs.Contents.{Facts, line_put}
+use Rattle.spectra_lines.specs.Limits.{nodes_of, room_behind, is_small, is_too_large}
+use Rattle.spectra_lines.specs.Lines.{put_trees, line_faults}
+
+-- ---- text order
+
+-- A pattern with the kinds of its own variables. It is sound where its names and types have no fault.
+pub record TypedPattern : Type 0 where
+  pub sound : Bool
+  pub own : List Kind
+  pub pattern : ResolvedPattern
+
+-- what is said to be sound is so, where its lines have no fault
+abbrev pub IsSoundTyped : TypedPattern → Type 0
+IsSoundTyped p = p.sound ≡ true → lines_faults p.own p.pattern ≡ [] → IsSound p.own p.pattern
+
+abbrev pub AreSound : List TypedPattern → Type 0
+AreSound [] = Unit {0}
+AreSound (p ∷ ps) = IsSoundTyped p × AreSound ps
+
+-- what has nodes in a text
+pub data TextPart : Type 0 where
+  LinePart : ResolvedLine → TextPart
+  PatternPart : TypedPattern → TextPart
+
+-- how many of these patterns come before a place
+abbrev pub leading : Spot → List TypedPattern → ℕ
+leading at ps = prefix_len (λ (p : TypedPattern). comes_before p.pattern.name.at at) ps
+
+-- before each line stand the patterns that come before it
+abbrev pub in_text_order : List TypedPattern → List ResolvedLine → List TextPart
+in_text_order ps [] = map PatternPart ps
+in_text_order ps (l ∷ ls) = map PatternPart (take (leading l.at ps) ps) ++ (LinePart l ∷ in_text_order (drop (leading l.at ps) ps) ls)
+
+-- ---- the lines of a pattern, which count as they are written
+
+abbrev pub line_room : Option ℕ → ResolvedPatternLine → Option ℕ
+line_room room l = room_behind room (nodes_of (line_tree l ∷ []))
+
+abbrev pub large_line : Option ℕ → ResolvedPatternLine → List Finding
+large_line room l = fault_if (is_too_large room (line_tree l ∷ [])) TOO_LARGE (line_at l)
+
+abbrev pub large_lines : Option ℕ → List ResolvedPatternLine → List Finding
+large_lines room [] = []
+large_lines room (l ∷ ls) = large_line room l ++ large_lines (line_room room l) ls
+
+abbrev pub room_behind_lines : Option ℕ → List ResolvedPatternLine → Option ℕ
+room_behind_lines room [] = room
+room_behind_lines room (l ∷ ls) = room_behind_lines (line_room room l) ls
+
+-- a pattern with a line that is too large isn't looked at as a whole
+abbrev pub is_whole : Option ℕ → TypedPattern → Bool
+is_whole room p = p.sound && is_empty (large_lines room p.pattern.lines)
+
+-- ---- one part, by the room that is left for its nodes
+
+abbrev pub part_room : Facts → Option ℕ → TextPart → Option ℕ
+part_room f room (LinePart l) = room_behind room (nodes_of (put_trees f l))
+part_room f room (PatternPart p) = room_behind_lines room p.pattern.lines
+
+abbrev pub part_faults : Facts → Option ℕ → TextPart → List Finding
+part_faults f room (LinePart l) = line_faults f room l
+part_faults f room (PatternPart p) = large_lines room p.pattern.lines ++ pattern_faults (is_whole room p) p.own p.pattern
+
+-- a line with everything put in, unless it is too large
+abbrev pub part_lines : Facts → Option ℕ → TextPart → List ResolvedLine
+part_lines f room (LinePart l) = if is_small room (put_trees f l) then line_put f l ∷ [] else []
+part_lines f room (PatternPart p) = []
+
+-- what a pattern means, unless it has a fault
+abbrev pub part_patterns : Option ℕ → TextPart → List PatternData
+part_patterns room (LinePart l) = []
+part_patterns room (PatternPart p) = option_to_list (meant (is_whole room p) p.own p.pattern)
+
+-- ---- all parts
+
+-- what each part gives, by the room that those before it leave
+abbrev pub through : {A : Type 0} → Facts → (Option ℕ → TextPart → List A) → Option ℕ → List TextPart → List A
+through f each room [] = []
+through f each room (p ∷ ps) = each room p ++ through f each (part_room f room p) ps
+
+abbrev pub parts_faults : Facts → Option ℕ → List TextPart → List Finding
+parts_faults f room ps = through f (part_faults f) room ps
+
+abbrev pub parts_lines : Facts → Option ℕ → List TextPart → List ResolvedLine
+parts_lines f room ps = through f (part_lines f) room ps
+
+abbrev pub parts_patterns : Facts → Option ℕ → List TextPart → List PatternData
+parts_patterns f room ps = through f part_patterns room ps

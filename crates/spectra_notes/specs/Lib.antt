@@ -1,0 +1,3 @@
+pub mod TypeKinds
+pub mod Notes
+pub mod NoteViews

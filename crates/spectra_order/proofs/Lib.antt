@@ -1,4 +1,0 @@
-pub mod Walking
-pub mod Reaching
-pub mod Clearing
-pub mod Placed

@@ -1,5 +1,0 @@
-pub mod Todos
-pub mod Cycles
-pub mod Searching
-pub mod Orders
-pub mod Placing

@@ -1,0 +1,12 @@
+use Rattle.std.proofs.Common.{◌≡◌, map, drop, flat_map}
+use Rattle.spec_model.specs.Views.{regular}
+use Rattle.spec_model.specs.Syntax.{regulars}
+use Rattle.spec_model.specs.Sizes.{past_trees, atoms_of_all}
+use Rattle.past_bits.specs.Entries.{added}
+use Rattle.past_bits.specs.Bits.{tree_of}
+use Rattle.spectra_patterns.proofs.gathering.+regexes.Given as goal
+
+-- what is left leads to the answer
+abbrev pub invariant-gather_regexes-loop-r : goal.invariant-gather_regexes-loop-r
+invariant-gather_regexes-loop-r l =
+    added (map tree_of l.ops) (flat_map past_trees (atoms_of_all (regulars (map regular (drop l.r-index l.rs))))) ≡ added (map tree_of l.fn.ops) (flat_map past_trees (atoms_of_all (regulars (map regular l.rs))))

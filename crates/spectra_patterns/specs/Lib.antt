@@ -1,0 +1,6 @@
+pub mod Erasing
+pub mod Patterns
+pub mod Triggers
+pub mod Laws
+pub mod Hidden
+pub mod Gathering

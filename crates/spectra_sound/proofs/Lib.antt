@@ -1,0 +1,12 @@
+pub mod Empty
+pub mod EnumNames
+pub mod Numbers
+pub mod Spaces
+pub mod Sizes
+pub mod Standing
+pub mod Variables
+pub mod Resolving
+pub mod Types
+pub mod Items
+pub mod Patterns
+pub mod Whole

@@ -1,0 +1,10 @@
+-- A law over the definitions alone, which the function of its name in src/laws.rt proves.
+use Rattle.std.specs.Prelude.{◌≡◌, List, [], All}
+use Rattle.spectra_trees.specs.Data.{TreeData}
+use Rattle.spectra_parser.specs.Shapes.{IsShaped}
+use Rattle.spectra_declared.specs.Wholes.{text_of, faults_of}
+use Rattle.spectra_sound.specs.Sound.{IsSound}
+
+-- trees as the parser gives them, whose names have no fault, make a sound text
+abbrev pub FaultlessIsSound : Type 0
+FaultlessIsSound = (trees : List TreeData) → All IsShaped trees → faults_of trees ≡ [] → IsSound (text_of trees)

@@ -1,0 +1,122 @@
+-- The patterns of a text without faults are typed, and so many nodes as their lines have.
+use Rattle.std.proofs.Common.{◌≡◌, ℕ, ◌+◌, ◌≤◌, true, not, List, [], ◌∷◌, ◌++◌, length, map, flat_map, refl, ap, ◌∙◌, arith}
+use Rattle.std.proofs.lemmas.List.{length-map}
+use Rattle.std.specs.List.{list_all, sum_by}
+use Rattle.std.proofs.lemmas.Bool.{false≢true, and_parts, and_from}
+use Rattle.std.proofs.lemmas.List.Sums.{sum_by-cons, sum_by-append}
+use Rattle.spec_model.specs.Values.{Enumeration}
+use Rattle.spec_model.specs.Syntax.{Formula, PatternData}
+use Rattle.spec_model.specs.FormulaSizes.{nodes_in}
+use Rattle.spec_model.specs.WellMade.{is_domain}
+use Rattle.spec_model.specs.WellTyped.{is_typed_pattern, pattern_formulas}
+use Rattle.spectra_resolved.specs.Texts.{ResolvedType, ResolvedPatternLine, Initial, Safety, Recurring, ResolvedPattern, ResolvedText}
+use Rattle.spectra_judge.specs.Kinds.{Kind, Truth, Whole, SomeWhole, NameOf, OneName, Anything}
+use Rattle.spectra_judge.specs.Erased.{erased, is_put_in, in_pattern}
+use Rattle.spectra_elaboration.specs.Laws.{NodesAreThoseOfTheFormula}
+use Rattle.spectra_notes.specs.TypeKinds.{kind_in}
+use Rattle.spectra_patterns.specs.Patterns as patterns
+use Rattle.spectra_patterns.specs.Patterns.{first_in, step_in, goals_in, pattern_of, is_type_kind, line_tree}
+use Rattle.spectra_patterns.proofs.Shaped.{pattern_typed}
+use Rattle.spectra_lines.specs.Parts.{TypedPattern}
+use Rattle.spectra_lines.specs.Laws.{nodes_of_pattern, nodes_of_patterns, are_all_sound, PatternsHaveNoFault}
+use Rattle.spectra_sound.specs.Sound.{Sizes, sizes_of, is_type, is_sound_pattern_line, is_sound_pattern}
+use Rattle.spectra_types.specs.Meanings.{has_room, own_kinds, is_sound, typed_pattern}
+use Rattle.spectra_types.proofs.Domains.{type_most}
+
+kind_room : (k : Kind) → is_type_kind 65_536 k ≡ true → has_room k ≡ true
+kind_room Truth is = refl
+kind_room (Whole low high) is = refl
+kind_room SomeWhole is = refl
+kind_room (NameOf ns) is = (and_parts (is_domain (Enumeration ns)) _ is).1
+kind_room (OneName n) is = refl
+kind_room Anything is = absurd (false≢true is)
+
+all_room : (ks : List Kind) → list_all (is_type_kind 65_536) ks ≡ true → list_all has_room ks ≡ true
+all_room [] is = refl
+all_room (k ∷ ks) is = let parts = and_parts (is_type_kind 65_536 k) _ is in and_from _ _ (kind_room k parts.0) (all_room ks parts.1)
+
+module _ (text : ResolvedText) where
+  abbrev z : Sizes
+  z = sizes_of text
+
+  all_kinds : (ts : List ResolvedType) → list_all (λ t. is_type_kind z.names (kind_in text t)) ts ≡ true → list_all (is_type_kind z.names) (map (kind_in text) ts) ≡ true
+  all_kinds [] all = refl
+  all_kinds (t ∷ ts) all = let parts = and_parts (is_type_kind z.names (kind_in text t)) _ all in and_from _ _ parts.0 (all_kinds ts parts.1)
+
+  kinds_most : z.names ≤ 65_535 → (ts : List ResolvedType) → list_all (λ t. is_type_kind z.names (kind_in text t)) ts ≡ true → list_all (is_type_kind 65_536) (map (kind_in text) ts) ≡ true
+  kinds_most few [] all = refl
+  kinds_most few (t ∷ ts) all = let parts = and_parts (is_type_kind z.names (kind_in text t)) _ all in and_from _ _ (type_most z.names few (kind_in text t) parts.0) (kinds_most few ts parts.1)
+
+  lines_in_place : (good : _) (ls : List ResolvedPatternLine) → list_all (is_sound_pattern_line good) ls ≡ true → list_all (λ l. is_put_in good (line_tree l)) ls ≡ true
+  lines_in_place good [] all = refl
+  lines_in_place good (Initial at t ∷ ls) all = let parts = and_parts (is_put_in good t) _ all in and_from _ _ parts.0 (lines_in_place good ls parts.1)
+  lines_in_place good (Safety at t ∷ ls) all = let parts = and_parts (is_put_in good t) _ all in and_from _ _ parts.0 (lines_in_place good ls parts.1)
+  lines_in_place good (Recurring at t ∷ ls) all = let parts = and_parts (is_put_in good t) _ all in and_from _ _ parts.0 (lines_in_place good ls parts.1)
+
+  module _ (few : z.names ≤ 65_535) where
+    -- a pattern is said to be sound, and is so
+    said : (p : ResolvedPattern) → is_sound_pattern z p ≡ true → list_all (λ t. is_type_kind z.names (kind_in text t)) p.own ≡ true → is_sound text p ≡ true
+    said p is kinds =
+        and_from _ _ (and_parts (not p.doubled) _ is).0 (all_room (own_kinds text p) (kinds_most few p.own kinds))
+
+    is_so : (p : ResolvedPattern) → is_sound_pattern z p ≡ true → list_all (λ t. is_type_kind z.names (kind_in text t)) p.own ≡ true → patterns.IsSound (own_kinds text p) p
+    is_so p is kinds =
+        let own = and_parts (not p.doubled) _ is in
+        let parts = and_parts (list_all (is_type z) p.own) (list_all (is_sound_pattern_line (in_pattern z.names p.params (length p.own))) p.lines) own.1 in
+        let long = length-map p.own (kind_in text) in
+        record {
+          names = z.names;
+          types = all_kinds p.own kinds;
+          few = kinds_most few p.own kinds;
+          lines = lines_in_place _ p.lines (ap (λ n. list_all (is_sound_pattern_line (in_pattern z.names p.params n)) p.lines) long ∙ parts.1);
+        }
+
+    pub patterns_said : (ps : List ResolvedPattern) → list_all (is_sound_pattern z) ps ≡ true → list_all (λ (p : ResolvedPattern). list_all (λ t. is_type_kind z.names (kind_in text t)) p.own) ps ≡ true → are_all_sound (map (typed_pattern text) ps) ≡ true
+    patterns_said [] all kinds = refl
+    patterns_said (p ∷ ps) all kinds =
+        let tests = and_parts (is_sound_pattern z p) _ all in
+        let own = and_parts (list_all (λ t. is_type_kind z.names (kind_in text t)) p.own) _ kinds in
+        and_from _ _ (said p tests.0 own.0) (patterns_said ps tests.1 own.1)
+
+    pub patterns_right : (ps : List ResolvedPattern) → list_all (is_sound_pattern z) ps ≡ true → list_all (λ (p : ResolvedPattern). list_all (λ t. is_type_kind z.names (kind_in text t)) p.own) ps ≡ true →
+        PatternsHaveNoFault (map (typed_pattern text) ps) → list_all (is_typed_pattern z.names) (map (λ (p : TypedPattern). pattern_of p.own p.pattern) (map (typed_pattern text) ps)) ≡ true
+    unfolding is_so
+    patterns_right [] all kinds none = refl
+    patterns_right (p ∷ ps) all kinds none =
+        let tests = and_parts (is_sound_pattern z p) _ all in
+        let own = and_parts (list_all (λ t. is_type_kind z.names (kind_in text t)) p.own) _ kinds in
+        and_from _ _ (pattern_typed (own_kinds text p) p (is_so p tests.0 own.0) (none.0 (said p tests.0 own.0))) (patterns_right ps tests.1 own.1 none.1)
+
+  pub params_are : (ps : List ResolvedPattern) → map (λ (p : PatternData). p.params) (map (λ (p : TypedPattern). pattern_of p.own p.pattern) (map (typed_pattern text) ps)) ≡ map (λ (p : ResolvedPattern). p.params) ps
+  params_are [] = refl
+  params_are (p ∷ ps) = ap (λ ns. p.params ∷ ns) (params_are ps)
+
+-- ---- nodes
+
+abbrev nodes : List Formula → ℕ
+nodes fs = sum_by nodes_in fs
+
+lines_nodes : NodesAreThoseOfTheFormula → (params : ℕ) (ls : List ResolvedPatternLine) → nodes (flat_map (first_in params) ls) + (nodes (flat_map (step_in params) ls) + nodes (flat_map (goals_in params) ls)) ≡ nodes_of_pattern ls
+lines_nodes law params [] = refl
+lines_nodes law params (Initial at t ∷ ls) =
+    let rest = lines_nodes law params ls in let here = law params t in let one = sum_by-cons nodes_in (erased params t) (flat_map (first_in params) ls) in omega (arith, rest, here, one)
+lines_nodes law params (Safety at t ∷ ls) =
+    let rest = lines_nodes law params ls in let here = law params t in let one = sum_by-cons nodes_in (erased params t) (flat_map (step_in params) ls) in omega (arith, rest, here, one)
+lines_nodes law params (Recurring at t ∷ ls) =
+    let rest = lines_nodes law params ls in let here = law params t in let one = sum_by-cons nodes_in (erased params t) (flat_map (goals_in params) ls) in omega (arith, rest, here, one)
+
+one_pattern : NodesAreThoseOfTheFormula → (own : List Kind) (p : ResolvedPattern) → nodes (pattern_formulas (pattern_of own p)) ≡ nodes_of_pattern p.lines
+one_pattern law own p =
+    let first = flat_map (first_in p.params) p.lines in
+    let step = flat_map (step_in p.params) p.lines in
+    let goals = flat_map (goals_in p.params) p.lines in
+    let a = sum_by-append nodes_in first (step ++ goals) in
+    let b = sum_by-append nodes_in step goals in
+    let all = lines_nodes law p.params p.lines in omega (arith, a, b, all)
+
+pub pattern_nodes : NodesAreThoseOfTheFormula → (ps : List TypedPattern) → sum_by (λ (p : PatternData). nodes (pattern_formulas p)) (map (λ (p : TypedPattern). pattern_of p.own p.pattern) ps) ≡ nodes_of_patterns ps
+pattern_nodes law [] = refl
+pattern_nodes law (p ∷ ps) =
+    let here = one_pattern law p.own p.pattern in
+    let rest = pattern_nodes law ps in
+    let one = sum_by-cons (λ (p : PatternData). nodes (pattern_formulas p)) (pattern_of p.own p.pattern) (map (λ (p : TypedPattern). pattern_of p.own p.pattern) ps) in omega (arith, here, rest, one)

@@ -1,0 +1,5 @@
+pub mod Lists
+pub mod Used
+pub mod Reaching
+pub mod Clearing
+pub mod Placed

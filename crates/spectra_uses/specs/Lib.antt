@@ -1,0 +1,5 @@
+pub mod Uses
+pub mod Cycles
+pub mod Searching
+pub mod Orders
+pub mod Placing
