@@ -6,7 +6,7 @@ cd "$(dirname "$0")" || exit 1
 folder=${1:-bin}
 logic=dac8208d650f15bf
 # from nothing: processor minutes in all, and those in which the last crate and the program are alone (bench/README.md)
-minutes=136
+minutes=171
 alone=15
 
 if ! found=$(rt version 2>/dev/null); then

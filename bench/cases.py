@@ -1,5 +1,5 @@
 #!/usr/bin/env python3
-"""cases.py [WORD]: the plain program (reference/) on the texts of crates/spectra/src/tests/whole/, whose answers were worked out by
+"""cases.py [WORD]: the plain program (reference/) on the texts of crates/worked_runs/src/tests/whole/, whose answers were worked out by
 hand, or on those in whose sentence a word stands. It says where the two differ.
 """
 import json
@@ -23,7 +23,7 @@ CASE = re.compile(
 
 def cases():
     """The sentence of each case, its files, the main one first, the command, the input, what is written, and the status."""
-    for file in sorted((TOP.parent / "crates/spectra/src/tests/whole").glob("*.rt")):
+    for file in sorted((TOP.parent / "crates/worked_runs/src/tests/whole").glob("*.rt")):
         source = file.read_text()
         found = CASE.findall(source)
         assert len(found) == source.count("    Case {"), file

@@ -15,6 +15,3 @@ pub use answer::Answer;
 pub use answers::Answers;
 /// Memory ran out.
 pub use std::alloc::AllocError as OutOfMemory;
-
-#[cfg(test)]
-mod tests;

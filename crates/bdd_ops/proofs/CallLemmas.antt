@@ -26,6 +26,7 @@ refused_call old new fault f MayMake roots_live grows full = record {
   keeps = growth_keeps old new MayMake roots_live grows;
   made = grows.made;
   full = λ is. full (cc);
+  rooted = λ is n root. grows.keeps.live n (roots_live n (subst (λ (k : ℕ). 0 < k) (grows.roots n) root));
 }
 
 made_same : (old mid new : Contents) (MayMake : Diagram → Type 0) → MakesOnly old.state mid.state MayMake → new.state.table ≡ mid.state.table → MakesOnly old.state new.state MayMake
@@ -49,6 +50,7 @@ given_call old mid new n (Ok r) f MayMake roots_live grows has same held refused
   };
   made = made_same old mid new MayMake grows.made same;
   full = λ is. absurd (memory is);
+  rooted = λ is. absurd (memory is);
 }
 given_call old mid new n (Err fault) f MayMake roots_live grows has same held refused memory = record {
   meaning = tt;
@@ -61,6 +63,7 @@ given_call old mid new n (Err fault) f MayMake roots_live grows has same held re
   };
   made = made_same old mid new MayMake grows.made same;
   full = λ is. absurd (memory is);
+  rooted = λ is. absurd (memory is);
 }
 
 starts_same : (old mid new : Contents) → mid.state.table ≡ old.state.table → mid.state.kept ≡ old.state.kept → KeepsRoots mid new → KeepsRoots old new
@@ -86,6 +89,7 @@ same_start old mid new (Ok r) f g First MayMake table kept same more gives = rec
   keeps = starts_same old mid new table kept gives.keeps;
   made = starts_made old mid new First MayMake table more gives.made;
   full = gives.full;
+  rooted = gives.rooted;
 }
 same_start old mid new (Err fault) f g First MayMake table kept same more gives = record {
   meaning = tt;
@@ -94,6 +98,7 @@ same_start old mid new (Err fault) f g First MayMake table kept same more gives 
   keeps = starts_same old mid new table kept gives.keeps;
   made = starts_made old mid new First MayMake table more gives.made;
   full = gives.full;
+  rooted = gives.rooted;
 }
 
 -- a refusal for memory that changed no node and no root
@@ -105,4 +110,5 @@ refused_memory old new fault f MayMake table kept memory = record {
   keeps = record { levels = ap (λ t. t.levels) table; budget = ap (λ t. t.budget) table; meaning = λ n root. ap (λ t. diagram_at t n) table };
   made = λ n live. inl (subst (λ (t : Table). IsLive t n) table live, ap (λ t. diagram_at t n) table);
   full = λ is. absurd (memory (cc));
+  rooted = λ is. absurd (memory (cc));
 }

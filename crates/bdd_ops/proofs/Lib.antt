@@ -11,7 +11,6 @@ pub mod CallLemmas
 pub mod ListLemmas
 pub mod ListCallLemmas
 pub mod ShiftLemmas
-pub mod TestLemmas
 pub mod PathLemmas
 pub mod RowLemmas
 pub mod FirstLemmas

@@ -3,7 +3,7 @@ use Rattle.std.specs.Prelude.{◌≡◌, ◌<◌, ℕ, not, List, length, slice_
 use Rattle.spec_model.specs.Diagrams.{Diagram, Function, value, IsPartOf}
 use Rattle.bdd_store.specs.declared.fault.StoreFault.{StoreFault}
 use Rattle.bdd_store.specs.declared.fault.StoreFault.TheVariants.{Full}
-use Rattle.bdd_store.specs.State.{IsRoot, diagram_of, MakesOnly, AddsRoot, SameRoots, IsFull}
+use Rattle.bdd_store.specs.State.{State, IsEdge, IsRoot, diagram_of, MakesOnly, AddsRoot, SameRoots, IsFull}
 use Rattle.bdd_ops.specs.Functions.{DependsOn}
 use Rattle.bdd_ops.specs.Contents.{Contents, function_at}
 
@@ -13,8 +13,13 @@ pub record KeepsRoots (old new : Contents) : Type 0 where
   pub budget : new.state.table.budget ≡ old.state.table.budget
   pub meaning : (n : ℕ) → IsRoot old.state n → diagram_of new.state n ≡ diagram_of old.state n
 
+-- the node of each kept root is there
+abbrev pub HasRoots : State → Type 0
+HasRoots s = (n : ℕ) → IsRoot s n → IsEdge s n
+
 -- the result is a root of this function, or a refusal that leaves what is kept. Either way each new node is one that the
--- operation may make, and `Full` comes only where the store then holds exactly its budget
+-- operation may make, and `Full` comes only where the store then holds exactly its budget, the nodes of all kept roots among
+-- them
 pub record GivesRoot (old new : Contents) (result : Result ℕ StoreFault) (f : Function) (MayMake : Diagram → Type 0) : Type 0 where
   pub meaning : IfOk result (λ r. function_at new r ≡ f)
   pub added : IfOk result (λ r. AddsRoot old.state new.state r)
@@ -22,6 +27,7 @@ pub record GivesRoot (old new : Contents) (result : Result ℕ StoreFault) (f : 
   pub keeps : KeepsRoots old new
   pub made : MakesOnly old.state new.state MayMake
   pub full : result ≡ Err Full → IsFull new.state
+  pub rooted : result ≡ Err Full → HasRoots new.state
 
 -- the negation
 abbrev pub negated : Function → Function

@@ -31,6 +31,3 @@ pub use diagrams::Diagrams;
 pub use together::Conjunction;
 /// Memory ran out.
 pub use std::alloc::AllocError as OutOfMemory;
-
-#[cfg(test)]
-mod tests;

@@ -20,6 +20,3 @@ pub use root::Root;
 pub use store::Store;
 /// Memory ran out.
 pub use std::alloc::AllocError as OutOfMemory;
-
-#[cfg(test)]
-mod tests;

@@ -20,7 +20,7 @@ use Rattle.bit_compile.proofs.MakingLemmas.{not_budget}
 
 -- ---- roots of cases
 
-roots_in-cons : (x : CaseRoot) (xs : List CaseRoot) (n : ℕ) → roots_in (x ∷ xs) n ≡ cond (n == x.root) (suc (roots_in xs n)) (roots_in xs n)
+pub roots_in-cons : (x : CaseRoot) (xs : List CaseRoot) (n : ℕ) → roots_in (x ∷ xs) n ≡ cond (n == x.root) (suc (roots_in xs n)) (roots_in xs n)
 roots_in-cons x xs n = count-cons (λ (y : CaseRoot). n == y.root) x xs
 
 pub kept_together : (s : State) (xs : List CaseRoot) → HasTogether s xs → AreKept s xs
@@ -126,7 +126,7 @@ module _ (old mid whole new : Contents) (extra : ℕ → ℕ) (first : Between o
 
 -- ---- refusals
 
-abbrev halt_or : {V : Type 0} → Halt → Result V Halt → Halt
+abbrev pub halt_or : {V : Type 0} → Halt → Result V Halt → Halt
 halt_or a (Ok v) = a
 halt_or a (Err h) = h
 

@@ -1,5 +1,5 @@
 -- The tables that are left to be read, and the cases of several formulas.
-use Rattle.std.proofs.Common.{◌≡◌, ℕ, zero, suc, ◌+◌, ◌<◌, ◌≤◌, true, List, [], ◌∷◌, ◌++◌, map, length, take, drop, get_or, refl, sym, ◌∙◌, ap, subst, arith, Result, IfOk}
+use Rattle.std.proofs.Common.{◌≡◌, ℕ, zero, suc, ◌+◌, ◌<◌, ◌≤◌, true, List, [], ◌∷◌, ◌++◌, map, length, take, drop, get_or, refl, sym, ap, subst, arith}
 use Rattle.spec_model.specs.declared.expr.Expr.{Expr}
 use Rattle.spec_model.specs.declared.game.Hidden.{Hidden}
 use Rattle.spec_model.specs.declared.value.Value.{Value}
@@ -12,11 +12,8 @@ use Rattle.spec_model.specs.Diagrams.{Function}
 use Rattle.game_values.specs.Safety.{formulas_in}
 use Rattle.game_values.specs.declared.seen.At.{At}
 use Rattle.game_values.specs.declared.seen.At.TheVariants.{Next}
-use Rattle.bdd_ops.specs.Contents.{Contents}
-use Rattle.regions.specs.declared.types.Halt.{Halt}
-use Rattle.bit_compile.specs.declared.cases.CaseRoot.{CaseRoot}
-use Rattle.bit_compile.specs.Compiled.{Case, Entries, both_truths, truth_in, truths_in, cases_in, values_in}
-use Rattle.bit_compile.specs.CaseRoots.{AddsCases, true_cases}
+use Rattle.bit_compile.specs.Compiled.{Case, Entries, truth_in, truths_in, cases_in, values_in}
+use Rattle.bit_compile.specs.CaseRoots.{true_cases}
 use Rattle.bit_compile.specs.Known.{IsKnown, AreKnown}
 use Rattle.bit_compile.proofs.Folding.{drop_next}
 
@@ -89,12 +86,3 @@ known_next g es i e h is known = subst (λ (ds : List Expr). AreKnown g (formula
 
 pub heavier_next : (es : List Expr) (i : ℕ) (e : Expr) → i < length es → e ≡ get_or es i e → nodes_in_each (formulas_in (drop i es)) ≡ nodes_in (formula e) + nodes_in_each (formulas_in (drop (i + 1) es))
 heavier_next es i e h is = ap (λ (ds : List Expr). nodes_in_each (formulas_in ds)) (drop_next es i e h is)
-
--- ---- truth values as cases
-
-pub both_made : {V : Type 0} (g : GameData) (entries : Entries) (at : At) (old new : Contents) (items : V → List CaseRoot) (r : Result V Halt) (e f : Formula) → e ≡ f → cases_in g entries at f ≡ both_truths (truth_in g entries at f) →
-    IfOk r (λ v. AddsCases old new (items v) (both_truths (truth_in g entries at e))) → IfOk r (λ v. AddsCases old new (items v) (cases_in g entries at e))
-both_made g entries at old new items r e f is both made =
-    let same : both_truths (truth_in g entries at e) ≡ cases_in g entries at e =
-    ap (λ (d : Formula). both_truths (truth_in g entries at d)) is ∙ (sym both ∙ ap (λ (d : Formula). cases_in g entries at d) (sym is)) in
-    subst (λ (cs : List Case). IfOk r (λ v. AddsCases old new (items v) cs)) same made

@@ -3,9 +3,18 @@ use Rattle.std.proofs.Common.{◌≡◌, map, sym, ap, ◌∙◌}
 use Rattle.spec_model.specs.declared.expr.Expr.{fold-roll-Expr}
 use Rattle.spec_model.specs.declared.expr.Expr.TheOpen.{Expr-F}
 use Rattle.spec_model.specs.declared.expr.Expr.TheVariants as variants
-use Rattle.spec_model.specs.declared.expr.Expr.TheVariants.{rolls-Not, rolls-And, rolls-Or, rolls-Implies, rolls-Iff, rolls-Cmp, rolls-Add, rolls-Sub, rolls-Mul, rolls-Mod, rolls-Past, rolls-Table}
-use Rattle.spec_model.specs.Syntax.{Formula, Negation, Conjunction, Disjunction, Implication, Equivalence, Comparison, Sum, Difference, Product, Remainder, PastOf, Entry, formulas}
+use Rattle.spec_model.specs.declared.expr.Expr.TheVariants.{rolls-Const, rolls-Var, rolls-Next, rolls-Not, rolls-And, rolls-Or, rolls-Implies, rolls-Iff, rolls-Cmp, rolls-Add, rolls-Sub, rolls-Mul, rolls-Mod, rolls-Past, rolls-Table}
+use Rattle.spec_model.specs.Syntax.{Formula, Constant, Variable, NextOf, Negation, Conjunction, Disjunction, Implication, Equivalence, Comparison, Sum, Difference, Product, Remainder, PastOf, Entry, formulas}
 use Rattle.spec_model.specs.Views.{formula, formula_step}
+
+pub const_folded : (v : _) → formula (variants.Const v) ≡ Constant v
+const_folded v = ap formula (sym (rolls-Const v)) ∙ fold-roll-Expr Formula formula_step (Expr-F.Const v)
+
+pub var_folded : (k : _) → formula (variants.Var k) ≡ Variable k
+var_folded k = ap formula (sym (rolls-Var k)) ∙ fold-roll-Expr Formula formula_step (Expr-F.Var k)
+
+pub next_folded : (a : _) → formula (variants.Next a) ≡ NextOf (formula a.value)
+next_folded a = ap formula (sym (rolls-Next a)) ∙ fold-roll-Expr Formula formula_step (Expr-F.Next a)
 
 pub not_folded : (a : _) → formula (variants.Not a) ≡ Negation (formula a.value)
 not_folded a = ap formula (sym (rolls-Not a)) ∙ fold-roll-Expr Formula formula_step (Expr-F.Not a)

@@ -6,6 +6,8 @@ pub mod BitLemmas
 pub mod LawLemmas
 pub mod MakingLemmas
 pub mod Between
+pub mod Causes
+pub mod Filled
 pub mod Folding
 pub mod BlockLemmas
 pub mod Describing
@@ -15,6 +17,8 @@ pub mod Knowing
 pub mod ReadVariables
 pub mod TableMeanings
 pub mod Pairing
+pub mod NamedCases
+pub mod Outcomes
 pub mod Places
 pub mod EntryLemmas
 pub mod FormulaMeanings
@@ -22,6 +26,9 @@ pub mod ReadLevels
 pub mod FormulaFolds
 pub mod CyclesLemmas
 pub mod SceneLemmas
+pub mod NamedFormulas
+pub mod CompilingSteps
 pub mod CompiledFormulas
 pub mod Readiness
+pub mod NamedSteps
 pub mod UpdateMeanings

@@ -101,6 +101,7 @@ module _ (old mid freed new : Contents) (f : Function) (MayMake : Diagram → Ty
         };
         cause = λ e. record {
           full = gives.full refl;
+          rooted = gives.rooted refl;
           needed = λ n edge. elim (gives.made n edge) [
             | inl there ↦ needed gives.refused gives.keeps n there
             | inr made ↦ inr (inr made)
@@ -133,6 +134,12 @@ pub told_makes : (old new : Contents) (r : Result ℕ StoreFault) (f : Function)
 told_makes old new (Ok r) f MayMake gives = record { meaning = gives.meaning; added = gives.added; refused = gives.refused; keeps = gives.keeps; full = λ e. not_budget e }
 told_makes old new (Err fault.Full) f MayMake gives = record { meaning = gives.meaning; added = gives.added; refused = gives.refused; keeps = gives.keeps; full = λ e. gives.full refl }
 told_makes old new (Err fault.Memory) f MayMake gives = record { meaning = gives.meaning; added = gives.added; refused = gives.refused; keeps = gives.keeps; full = λ e. not_memory (Err halt.Memory) refl e }
+
+-- a call of the store that isn't refused for want of nodes
+pub never_told : (r : Result ℕ StoreFault) → (r ≡ Err fault.Full → ⊥) → halted r ≡ Err halt.Budget → ⊥
+never_told (Ok n) never e = not_budget e
+never_told (Err fault.Full) never e = never refl
+never_told (Err fault.Memory) never e = not_memory (Err halt.Memory) refl e
 
 -- a refusal is one of whatever was to be made
 pub fails : (old new : Contents) (h : Halt) (f g : Function) → Makes old new (Err h) f → Makes old new (Err h) g

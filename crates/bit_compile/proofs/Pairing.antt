@@ -2,18 +2,17 @@
 use Rattle.std.proofs.Common.{◌≡◌, ℕ, ◌+◌, Bool, true, false, not, ◌&&◌, ◌||◌, Result, IfOk, List, [], ◌∷◌, map, refl, sym, ◌∙◌, ap, subst}
 use Rattle.spec_model.specs.declared.value.Value.{Value}
 use Rattle.std.specs.Bool.{beq}
-use Rattle.spec_model.specs.Values.{same_value, values_of}
+use Rattle.spec_model.specs.Values.{same_value}
 use Rattle.spec_model.specs.Diagrams.{Function}
 use Rattle.bdd_store.specs.State.{IsRoot, roots_at}
 use Rattle.bdd_ops.specs.Contents.{Contents}
 use Rattle.bdd_ops.specs.Calls.{KeepsRoots}
 use Rattle.regions.specs.declared.types.Halt.{Halt}
 use Rattle.bit_compile.specs.declared.cases.CaseRoot.{CaseRoot}
-use Rattle.bit_compile.specs.declared.operation.Operation.{Operation}
 use Rattle.bit_compile.specs.Making.{Makes}
-use Rattle.bit_compile.specs.Compiled.{Case, both_truths, same_truth, some_pair, results, span_of}
+use Rattle.bit_compile.specs.Compiled.{Case, both_truths, same_truth, some_pair}
 use Rattle.bit_compile.specs.CaseRoots.{cases_at, roots_in, AreKept, HasTogether, AddsCases, Leaves}
-use Rattle.bit_compile.proofs.Between.{between_cases, cases_kept, cases_stay, cases_through, leaves_between, root_before, still_kept, through_cases, together, together_after, together_left}
+use Rattle.bit_compile.proofs.Between.{between_cases, cases_kept, cases_through, leaves_between, root_before, still_kept, through_cases, together, together_after, together_left}
 
 -- the values of cases, by their roots
 pub values_at : (c : Contents) (xs : List CaseRoot) → map (λ (d : Case). d.value) (cases_at c xs) ≡ map (λ (x : CaseRoot). x.value) xs
@@ -48,28 +47,11 @@ module _ (old mid : Contents) (made seen : List CaseRoot) (cs : List Case) (adds
     pub made_through : (r : Result ℕ Halt) (f g : Function) → Makes mid whole r g → g ≡ f → Makes old new r f
     made_through r f g makes is = through_cases old mid whole new made cs r f g adds keeps makes is back table
 
-    -- pairs of what was kept and of what was made
-    pub pairs_with : (t : Value → Value → Bool) (kept : List CaseRoot) (r : Result ℕ Halt) → AreKept old.state kept → Makes mid whole r (some_pair t (cases_at mid kept) (cases_at mid seen)) → Makes old new r (some_pair t (cases_at old kept) cs)
-    pairs_with t kept r are makes =
-        made_through r (some_pair t (cases_at old kept) cs) (some_pair t (cases_at mid kept) (cases_at mid seen)) makes
-        (ap (λ (ds : List Case). some_pair t ds (cases_at mid seen)) (cases_stay old mid kept keeps are) ∙ ap (λ (ds : List Case). some_pair t (cases_at old kept) ds) seen_are)
-
     pub made_leaves : {V : Type 0} (r : Result V Halt) → Leaves mid whole r → Leaves old new r
     made_leaves r leaves = leaves_between old mid whole new (roots_in made) (between_cases old mid made cs adds keeps) back table r leaves
 
     pub cases_with : {V : Type 0} (items : V → List CaseRoot) (r : Result V Halt) (ds es : List Case) → IfOk r (λ v. AddsCases mid whole (items v) ds) → ds ≡ es → IfOk r (λ v. AddsCases old new (items v) es)
     cases_with items r ds es more is = cases_through items old mid whole new (roots_in made) r es ds (between_cases old mid made cs adds keeps) more is back table
-
-    -- results of what was kept and of what was made
-    pub results_with : {V : Type 0} (items : V → List CaseRoot) (op : Operation) (kept : List CaseRoot) (bs : List Value) (r : Result V Halt) → AreKept old.state kept → map (λ (d : Case). d.value) cs ≡ bs →
-        IfOk r (λ v. AddsCases mid whole (items v) (results op (cases_at mid kept) (cases_at mid seen) (values_of (span_of op (map (λ (x : CaseRoot). x.value) kept) (map (λ (x : CaseRoot). x.value) seen))))) →
-        IfOk r (λ v. AddsCases old new (items v) (results op (cases_at old kept) cs (values_of (span_of op (map (λ (x : CaseRoot). x.value) kept) bs))))
-    results_with items op kept bs r are is more =
-        let vs : List Value = map (λ (x : CaseRoot). x.value) kept in
-        cases_with items r _ _ more
-        (ap (λ (ws : List Value). results op (cases_at mid kept) (cases_at mid seen) (values_of (span_of op vs ws))) (seen_values bs is)
-        ∙ (ap (λ (ds : List Case). results op ds (cases_at mid seen) (values_of (span_of op vs bs))) (cases_stay old mid kept keeps are)
-        ∙ ap (λ (ds : List Case). results op (cases_at old kept) ds (values_of (span_of op vs bs))) seen_are))
 
 -- ---- truth values
 

@@ -75,10 +75,10 @@ table_slot s k is less =
     omega (arith, codes, joined, tables, within, less)
 
 module _ (s b : Scene) (k : ℕ) (x : Hidden) (is : IsScene s) (less : k < length s.hidden.now) (here : x ≡ get_or s.hidden.now k x) (game : game_seen b ≡ game_seen s) (hidden : b.hidden.now ≡ take k s.hidden.now) where
-  abbrev atoms_seen : List Function
+  abbrev pub atoms_seen : List Function
   atoms_seen = truths_in (game_seen b) (entries_seen b) Now (formulas_in x.atoms.items)
 
-  atoms_are : atoms_seen ≡ map (truth_in (game_seen s) (entries_of (game_seen s) (map hidden_data (take k s.hidden.now))) Now) (hidden_data x).atoms
+  pub atoms_are : atoms_seen ≡ map (truth_in (game_seen s) (entries_of (game_seen s) (map hidden_data (take k s.hidden.now))) Now) (hidden_data x).atoms
   atoms_are =
       ap (λ (g : GameData). truths_in g (entries_of g (map hidden_data b.hidden.now)) Now (formulas_in x.atoms.items)) game
       ∙ (ap (λ (hs : List Hidden). truths_in (game_seen s) (entries_of (game_seen s) (map hidden_data hs)) Now (formulas_in x.atoms.items)) hidden

@@ -1,5 +1,6 @@
 -- Roots for the values that a formula may have, and what makes them.
-use Rattle.std.specs.Prelude.{◌≡◌, ◌==◌, ◌<◌, ◌+◌, ◌≤◌, ℕ, Bool, true, false, if◌then◌else◌, List, map, length, count_by, nat_abs, Result, Err, OnErr}
+use Rattle.std.specs.Prelude.{◌≡◌, ◌==◌, ◌<◌, ◌+◌, ◌≤◌, ℕ, Bool, true, false, if◌then◌else◌, List, Vec, map, length, count_by, nat_abs, Result, Err, IfOk, OnErr}
+use Rattle.std.specs.declared.alloc.Global.{Global}
 use Rattle.std.specs.List.{list_any, AllByRecursion}
 use Rattle.spec_model.specs.declared.value.Value.{Value}
 use Rattle.spec_model.specs.declared.value.Value.TheVariants as value
@@ -19,6 +20,7 @@ use Rattle.bit_compile.specs.declared.pairs.Test.{Test}
 use Rattle.bit_compile.specs.declared.pairs.Test.TheVariants as test
 use Rattle.bit_compile.specs.declared.folds.Fold.{Fold}
 use Rattle.bit_compile.specs.declared.folds.Fold.TheVariants.{All, Some}
+use Rattle.bit_compile.specs.Crowding.{HasCause}
 use Rattle.bit_compile.specs.Domains.{level_count, IsCountable}
 use Rattle.bit_compile.specs.Compiled.{Case, is_code, is_not, some_pair, gives, is_letter, in_table, leads, all_of, some_of}
 
@@ -50,6 +52,12 @@ pub record Leaves {V : Type 0} (old new : Contents) (result : Result V Halt) : T
   pub refused : OnErr result (SameRoots old.state new.state)
   pub keeps : KeepsRoots old new
   pub full : result ≡ Err halt.Budget → IsFull new.state
+
+-- a root for each case, or a refusal that leaves what is kept and has this cause
+pub record MakesCases (old new : Contents) (result : Result (Vec CaseRoot Global) Halt) (cases : List Case) (IsNamed : Function → Type 0) : Type 0 where
+  pub made : IfOk result (λ v. AddsCases old new v.items cases)
+  pub leaves : Leaves old new result
+  pub cause : HasCause old new result IsNamed
 
 -- ---- tests of pairs
 

@@ -2,10 +2,13 @@ pub mod Domains
 pub mod Codes
 pub mod CodeLaws
 pub mod Making
+pub mod Crowding
+pub mod Filling
+pub mod NamedCodes
 pub mod Compiled
 pub mod CaseRoots
 pub mod Known
 pub mod Scenes
 pub mod CompileLaws
 pub mod Proper
-pub mod Examples
+pub mod Named

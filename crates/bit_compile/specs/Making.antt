@@ -5,7 +5,7 @@ use Rattle.bdd_store.specs.declared.fault.StoreFault.{StoreFault}
 use Rattle.bdd_store.specs.declared.fault.StoreFault.TheVariants as fault
 use Rattle.bdd_store.specs.State.{State, IsEdge, IsRoot, diagram_of, AddsRoot, SameRoots, IsFull}
 use Rattle.bdd_ops.specs.Contents.{Contents, function_at}
-use Rattle.bdd_ops.specs.Calls.{KeepsRoots}
+use Rattle.bdd_ops.specs.Calls.{KeepsRoots, HasRoots}
 use Rattle.regions.specs.declared.types.Halt.{Halt}
 use Rattle.regions.specs.declared.types.Halt.TheVariants as halt
 
@@ -28,9 +28,10 @@ pub record Makes (old new : Contents) (result : Result ℕ Halt) (f : Function) 
 abbrev pub IsNeeded : State → (Diagram → Type 0) → ℕ → Type 0
 IsNeeded s MayMake n = (n < 2) ⊎ (((r : ℕ) × IsRoot s r × IsPartOf (diagram_of s n) (diagram_of s r)) ⊎ MayMake (diagram_of s n))
 
--- the store holds exactly its budget of nodes, and needs each of them
+-- the store holds exactly its budget of nodes, those of all kept roots among them, and needs each of them
 pub record IsCrowded (s : State) (MayMake : Diagram → Type 0) : Type 0 where
   pub full : IsFull s
+  pub rooted : HasRoots s
   pub needed : (n : ℕ) → IsEdge s n → IsNeeded s MayMake n
 
 -- one operation, tried once more where it was refused

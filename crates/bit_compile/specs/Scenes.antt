@@ -4,10 +4,13 @@ use Rattle.std.specs.List.{list_all, AllByRecursion}
 use Rattle.spec_model.specs.Values.{DomainData}
 use Rattle.spec_model.specs.GameViews.{game_data, hidden_data}
 use Rattle.spec_model.specs.Games.{GameData}
+use Rattle.spec_model.specs.Syntax.{Formula}
+use Rattle.spec_model.specs.Diagrams.{Function}
 use Rattle.spec_model.specs.WellMade.{is_domain}
+use Rattle.game_values.specs.declared.seen.At.{At}
 use Rattle.bit_compile.specs.declared.scenes.Scene.{Scene}
 use Rattle.bit_compile.specs.Domains.{state_domains}
-use Rattle.bit_compile.specs.Compiled.{Entries, entries_of}
+use Rattle.bit_compile.specs.Compiled.{Case, Entries, cases_in, entries_of, truth_in}
 use Rattle.bit_compile.specs.Known.{IsReadable}
 
 abbrev pub game_seen : Scene → GameData
@@ -18,6 +21,13 @@ codes_seen s = s.codes.now
 
 abbrev pub entries_seen : Scene → Entries
 entries_seen s = entries_of (game_seen s) (map hidden_data s.hidden.now)
+
+-- where a formula is true, and each of its values with where it is had
+abbrev pub truth_seen : Scene → At → Formula → Function
+truth_seen s at e = truth_in (game_seen s) (entries_seen s) at e
+
+abbrev pub cases_seen : Scene → At → Formula → List Case
+cases_seen s at e = cases_in (game_seen s) (entries_seen s) at e
 
 -- the bits are those of the game's states, and the tables can be read
 pub record IsScene (s : Scene) : Type 0 where

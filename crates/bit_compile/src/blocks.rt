@@ -8,7 +8,9 @@ ghost use Rattle.bdd_store.specs.State.{IsRoot};
 ghost use Rattle.bdd_ops.specs.Contents.{function_at};
 ghost use Rattle.bit_compile.specs.Making.{Makes};
 ghost use Rattle.bit_compile.specs.Compiled.{some_of, some_pair};
-ghost use Rattle.bit_compile.specs.CaseRoots.{AreKept, cases_at, passes as passes_lem, folded as folded_lem};
+ghost use Rattle.bit_compile.specs.CaseRoots.{AreKept, cases_at, passes as passes_lem};
+ghost use Rattle.bit_compile.specs.Crowding.{MakesNamed};
+ghost use Rattle.bit_compile.specs.Named.{IsOfPairs};
 
 use crate::cases::CaseRoot;
 use crate::folds::{Fold, and_some, folded};
@@ -124,7 +126,8 @@ pub fn pair_root(
 ) -> Result<Root, Halt>
     requires xs_kept { AreKept diagrams.old.state xs.now }
     requires ys_kept { AreKept diagrams.old.state ys.now }
-    ensures { Makes diagrams.old diagrams.new result (some_pair (passes_lem test.now) (cases_at diagrams.old xs.now) (cases_at diagrams.old ys.now)) }
+    ensures { let c = diagrams.old in
+        MakesNamed c diagrams.new result (some_pair (passes_lem test.now) (cases_at c xs.now) (cases_at c ys.now)) (IsOfPairs (passes_lem test.now) (cases_at c xs.now) (cases_at c ys.now)) }
 {
     match block(diagrams, test, xs, ys) {
         Ok(root) => Ok(root),

@@ -1,12 +1,15 @@
 //! Roots for the values that a formula may have: each value, and where it is had.
 
-ghost use Rattle.std.specs.Prelude.{◌≡◌, ℕ, ◌+◌, IfOk};
+ghost use Rattle.std.specs.Prelude.{◌≡◌, ℕ, ◌+◌};
 ghost use Rattle.std.specs.List.{AllByRecursion};
 ghost use Rattle.bdd_store.specs.State.{IsRoot, roots_at};
 ghost use Rattle.bdd_ops.specs.Contents.{function_at};
 ghost use Rattle.bit_compile.specs.Making.{Makes};
 ghost use Rattle.bit_compile.specs.Compiled.{both_truths};
-ghost use Rattle.bit_compile.specs.CaseRoots.{HasTogether, AddsCases, Leaves, IsReady, had_by, truth_had, cases_by, roots_in};
+ghost use Rattle.bit_compile.specs.CaseRoots.{HasTogether, MakesCases, IsReady, had_by, truth_had, cases_by, roots_in};
+ghost use Rattle.bit_compile.specs.Crowding.{HasCause};
+ghost use Rattle.bit_compile.specs.NamedCodes.{NoFunction};
+ghost use Rattle.bit_compile.specs.Named.{IsOfSource, IsOfEach, IsTruth};
 
 use crate::blocks::pair_root;
 use crate::codes::Codes;
@@ -63,7 +66,8 @@ pub fn release_all(diagrams: &mut Diagrams, mut cases: Vec<CaseRoot>)
 /// Where a truth value is had.
 fn truth_root(diagrams: &mut Diagrams, root: &Root, value: Value) -> Result<Root, Halt>
     requires { IsRoot diagrams.old.state root.now }
-    ensures { Makes diagrams.old diagrams.new result (truth_had (function_at diagrams.old root.now) value) }
+    ensures made { Makes diagrams.old diagrams.new result (truth_had (function_at diagrams.old root.now) value) }
+    ensures cause { HasCause diagrams.old diagrams.new result NoFunction }
 {
     if truth(value) {
         keep(diagrams, root)
@@ -80,7 +84,8 @@ fn case_root(
     near: usize,
 ) -> Result<Root, Halt>
     requires { IsReady diagrams.old source.now value }
-    ensures { Makes diagrams.old diagrams.new result (had_by diagrams.old source.now value) }
+    ensures made { Makes diagrams.old diagrams.new result (had_by diagrams.old source.now value) }
+    ensures cause { HasCause diagrams.old diagrams.new result (IsOfSource diagrams.old source.now value) }
 {
     match source {
         Source::Everywhere => constant(diagrams, true),
@@ -104,8 +109,7 @@ pub fn cases_from(
     values: &[Value],
 ) -> Result<Vec<CaseRoot>, Halt>
     requires { AllByRecursion (IsReady diagrams.old source.now) values.now }
-    ensures made { IfOk result (λ cases. AddsCases diagrams.old diagrams.new cases.items (cases_by diagrams.old source.now values.now)) }
-    ensures leaves { Leaves diagrams.old diagrams.new result }
+    ensures { MakesCases diagrams.old diagrams.new result (cases_by diagrams.old source.now values.now) (IsOfEach values.now (had_by diagrams.old source.now) (IsOfSource diagrams.old source.now)) }
 {
     let Ok(mut cases) = Vec::with_capacity(alloc, values.len()) else {
         return Err(Halt::Memory);
@@ -132,8 +136,7 @@ pub fn cases_of_truth(
     root: &Root,
 ) -> Result<Vec<CaseRoot>, Halt>
     requires { IsRoot diagrams.old.state root.now }
-    ensures made { IfOk result (λ cases. AddsCases diagrams.old diagrams.new cases.items (both_truths (function_at diagrams.old root.now))) }
-    ensures leaves { Leaves diagrams.old diagrams.new result }
+    ensures { MakesCases diagrams.old diagrams.new result (both_truths (function_at diagrams.old root.now)) (IsTruth (function_at diagrams.old root.now)) }
 {
     let values = [Value::Bool(false), Value::Bool(true)];
     cases_from(diagrams, alloc, &Source::Truth(root), &values)

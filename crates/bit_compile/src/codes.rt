@@ -11,6 +11,8 @@ ghost use Rattle.game_values.specs.declared.seen.At.{At};
 ghost use Rattle.bit_compile.specs.Domains.{state_domains, table_domain, level_count, IsCountable};
 ghost use Rattle.bit_compile.specs.Making.{Makes};
 ghost use Rattle.bit_compile.specs.Codes.{AreLaidOut, HasValues, IsOutside, has_number, domain_in, width_at, level_at};
+ghost use Rattle.bit_compile.specs.Crowding.{HasCause};
+ghost use Rattle.bit_compile.specs.NamedCodes.{IsOfNumber};
 
 use crate::OutOfMemory;
 use crate::domains::{code, copy, domain_of, size};
@@ -192,7 +194,8 @@ impl Codes {
     ) -> Result<Root, Halt>
         requires known { k < length self.now }
         requires levels { level_count self.now ≤ diagrams.old.state.table.levels }
-        ensures { Makes diagrams.old diagrams.new result (has_number (level_at self.now at k) (width_at self.now k) n) }
+        ensures made { Makes diagrams.old diagrams.new result (has_number (level_at self.now at k) (width_at self.now k) n) }
+        ensures cause { HasCause diagrams.old diagrams.new result (IsOfNumber (level_at self.now at k) (width_at self.now k) n) }
     {
         number(diagrams, self.level(at, k), self.width(k), n)
     }

@@ -1,18 +1,19 @@
 //! The diagram of a formula, by cases on the expression.
 
-ghost use Rattle.std.specs.Prelude.{◌≤◌, ◌||◌, map, IfOk};
-ghost use Rattle.spec_model.specs.Syntax.{Comparison, Remainder};
+ghost use Rattle.std.specs.Prelude.{◌≤◌, ◌||◌, map, ◌⊎◌};
+ghost use Rattle.spec_model.specs.Syntax.{Comparison, Remainder, Implication, Equivalence};
 ghost use Rattle.spec_model.specs.Views.{formula};
 ghost use Rattle.spec_model.specs.Values.{values_of};
 ghost use Rattle.game_values.specs.Safety.{formulas_in};
 ghost use Rattle.bdd_store.specs.State.{IsRoot};
 ghost use Rattle.bdd_ops.specs.Contents.{function_at};
 ghost use Rattle.bit_compile.specs.Domains.{level_count, IsCountable};
-ghost use Rattle.bit_compile.specs.Making.{Makes};
-ghost use Rattle.bit_compile.specs.Compiled.{truth_in, truths_in, cases_in, entry_of, is_not, implied, same_truth, both_truths, some_pair, results, values_in, span_of};
-ghost use Rattle.bit_compile.specs.CaseRoots.{AreKept, AddsCases, Leaves, cases_at, folded as folded_lem, passes, true_cases};
-ghost use Rattle.bit_compile.specs.Scenes.{IsScene, codes_seen, entries_seen, game_seen};
+ghost use Rattle.bit_compile.specs.Compiled.{truths_in, entry_of, is_not, implied, same_truth, both_truths, some_pair, results, values_in, span_of};
+ghost use Rattle.bit_compile.specs.CaseRoots.{AreKept, MakesCases, cases_at, folded as folded_lem, passes, true_cases};
+ghost use Rattle.bit_compile.specs.Scenes.{IsScene, cases_seen, codes_seen, entries_seen, game_seen, truth_seen};
 ghost use Rattle.bit_compile.specs.Known.{IsKnown, AreKnown, operated_cases};
+ghost use Rattle.bit_compile.specs.Crowding.{MakesNamed};
+ghost use Rattle.bit_compile.specs.Named.{IsNamedIn, IsNamedOr, AreNamedIn, IsOfTablesIn, IsOfSame, IsFirstOf, IsOfPairs, IsOfResults, IsOfOperated};
 
 use crate::blocks::pair_root;
 use crate::cases::{CaseRoot, Source, cases_from, cases_of_truth, release_all};
@@ -36,7 +37,7 @@ pub fn truth_root(diagrams: &mut Diagrams, scene: &Scene, at: At, e: &Expr) -> R
     requires scene { IsScene scene.now }
     requires levels { level_count (codes_seen scene.now) ≤ diagrams.old.state.table.levels }
     requires known { IsKnown (game_seen scene.now) (formula e.now) }
-    ensures { Makes diagrams.old diagrams.new result (truth_in (game_seen scene.now) (entries_seen scene.now) at (formula e.now)) }
+    ensures { MakesNamed diagrams.old diagrams.new result (truth_seen scene.now at (formula e.now)) (IsNamedIn scene.now at (formula e.now)) }
 {
     match e {
         Expr::Const(v) => constant(diagrams, truth(*v)),
@@ -63,7 +64,7 @@ fn negated_root(diagrams: &mut Diagrams, scene: &Scene, at: At, e: &Expr) -> Res
     requires scene { IsScene scene.now }
     requires levels { level_count (codes_seen scene.now) ≤ diagrams.old.state.table.levels }
     requires known { IsKnown (game_seen scene.now) (formula e.now) }
-    ensures { Makes diagrams.old diagrams.new result (is_not (truth_in (game_seen scene.now) (entries_seen scene.now) at (formula e.now))) }
+    ensures { MakesNamed diagrams.old diagrams.new result (is_not (truth_seen scene.now at (formula e.now))) (IsNamedIn scene.now at (formula e.now)) }
 {
     let root = truth_root(diagrams, scene, at, e)?;
     let other = not(diagrams, &root);
@@ -84,7 +85,7 @@ fn implied_root(
     requires levels { level_count (codes_seen scene.now) ≤ diagrams.old.state.table.levels }
     requires a_known { IsKnown (game_seen scene.now) (formula a.now) }
     requires b_known { IsKnown (game_seen scene.now) (formula b.now) }
-    ensures { Makes diagrams.old diagrams.new result (implied (truth_in (game_seen scene.now) (entries_seen scene.now) at (formula a.now)) (truth_in (game_seen scene.now) (entries_seen scene.now) at (formula b.now))) }
+    ensures { MakesNamed diagrams.old diagrams.new result (implied (truth_seen scene.now at (formula a.now)) (truth_seen scene.now at (formula b.now))) (IsNamedIn scene.now at (Implication (formula a.now) (formula b.now))) }
 {
     let root = negated_root(diagrams, scene, at, a)?;
     let whole = or_truth(diagrams, scene, at, &root, b);
@@ -105,7 +106,7 @@ fn or_truth(
     requires levels { level_count (codes_seen scene.now) ≤ diagrams.old.state.table.levels }
     requires known { IsKnown (game_seen scene.now) (formula e.now) }
     requires kept { IsRoot diagrams.old.state first.now }
-    ensures { Makes diagrams.old diagrams.new result (λ s. function_at diagrams.old first.now s || truth_in (game_seen scene.now) (entries_seen scene.now) at (formula e.now) s) }
+    ensures { MakesNamed diagrams.old diagrams.new result (λ s. function_at diagrams.old first.now s || truth_seen scene.now at (formula e.now) s) (IsNamedIn scene.now at (formula e.now)) }
 {
     let root = truth_root(diagrams, scene, at, e)?;
     let whole = or(diagrams, first, &root);
@@ -126,7 +127,7 @@ fn equivalent_root(
     requires levels { level_count (codes_seen scene.now) ≤ diagrams.old.state.table.levels }
     requires a_known { IsKnown (game_seen scene.now) (formula a.now) }
     requires b_known { IsKnown (game_seen scene.now) (formula b.now) }
-    ensures { Makes diagrams.old diagrams.new result (same_truth (truth_in (game_seen scene.now) (entries_seen scene.now) at (formula a.now)) (truth_in (game_seen scene.now) (entries_seen scene.now) at (formula b.now))) }
+    ensures { MakesNamed diagrams.old diagrams.new result (same_truth (truth_seen scene.now at (formula a.now)) (truth_seen scene.now at (formula b.now))) (IsNamedIn scene.now at (Equivalence (formula a.now) (formula b.now))) }
 {
     let root = truth_root(diagrams, scene, at, a)?;
     let whole = same_as_truth(diagrams, scene, at, &root, b);
@@ -147,7 +148,7 @@ fn same_as_truth(
     requires levels { level_count (codes_seen scene.now) ≤ diagrams.old.state.table.levels }
     requires known { IsKnown (game_seen scene.now) (formula e.now) }
     requires kept { IsRoot diagrams.old.state first.now }
-    ensures { Makes diagrams.old diagrams.new result (same_truth (function_at diagrams.old first.now) (truth_in (game_seen scene.now) (entries_seen scene.now) at (formula e.now))) }
+    ensures { MakesNamed diagrams.old diagrams.new result (same_truth (function_at diagrams.old first.now) (truth_seen scene.now at (formula e.now))) (IsNamedOr scene.now at (formula e.now) (IsOfSame (function_at diagrams.old first.now) (truth_seen scene.now at (formula e.now)))) }
 {
     let root = truth_root(diagrams, scene, at, e)?;
     let whole = same_root(diagrams, scene.alloc(), first, &root);
@@ -166,8 +167,7 @@ pub fn truth_cases(
     requires scene { IsScene scene.now }
     requires levels { level_count (codes_seen scene.now) ≤ diagrams.old.state.table.levels }
     requires known { AreKnown (game_seen scene.now) (formulas_in es.now) }
-    ensures made { IfOk result (λ cases. AddsCases diagrams.old diagrams.new cases.items (true_cases (truths_in (game_seen scene.now) (entries_seen scene.now) at (formulas_in es.now)))) }
-    ensures leaves { Leaves diagrams.old diagrams.new result }
+    ensures { MakesCases diagrams.old diagrams.new result (true_cases (truths_in (game_seen scene.now) (entries_seen scene.now) at (formulas_in es.now))) (AreNamedIn scene.now at (formulas_in es.now)) }
 {
     let Ok(mut cases) = Vec::with_capacity(scene.alloc(), es.len()) else {
         return Err(Halt::Memory);
@@ -199,7 +199,8 @@ fn joined_root(
     requires scene { IsScene scene.now }
     requires levels { level_count (codes_seen scene.now) ≤ diagrams.old.state.table.levels }
     requires known { AreKnown (game_seen scene.now) (formulas_in es.now) }
-    ensures { Makes diagrams.old diagrams.new result (folded_lem fold (truths_in (game_seen scene.now) (entries_seen scene.now) at (formulas_in es.now))) }
+    ensures { let s = scene.now in
+        MakesNamed diagrams.old diagrams.new result (folded_lem fold (truths_in (game_seen s) (entries_seen s) at (formulas_in es.now))) (λ f. AreNamedIn s at (formulas_in es.now) f ⊎ IsFirstOf fold (truths_in (game_seen s) (entries_seen s) at (formulas_in es.now)) f) }
 {
     let cases = truth_cases(diagrams, scene, at, es)?;
     let root = folded(diagrams, fold, &cases);
@@ -221,7 +222,7 @@ fn compared_root(
     requires levels { level_count (codes_seen scene.now) ≤ diagrams.old.state.table.levels }
     requires a_known { IsKnown (game_seen scene.now) (formula a.now) }
     requires b_known { IsKnown (game_seen scene.now) (formula b.now) }
-    ensures { Makes diagrams.old diagrams.new result (truth_in (game_seen scene.now) (entries_seen scene.now) at (Comparison c (formula a.now) (formula b.now))) }
+    ensures { MakesNamed diagrams.old diagrams.new result (truth_seen scene.now at (Comparison c (formula a.now) (formula b.now))) (IsNamedIn scene.now at (Comparison c (formula a.now) (formula b.now))) }
 {
     let xs = cases_of(diagrams, scene, at, a)?;
     let root = compared_with(diagrams, scene, at, c, &xs, b);
@@ -243,7 +244,8 @@ fn compared_with(
     requires levels { level_count (codes_seen scene.now) ≤ diagrams.old.state.table.levels }
     requires known { IsKnown (game_seen scene.now) (formula b.now) }
     requires kept { AreKept diagrams.old.state xs.now }
-    ensures { Makes diagrams.old diagrams.new result (some_pair (passes (Test.Compared c)) (cases_at diagrams.old xs.now) (cases_in (game_seen scene.now) (entries_seen scene.now) at (formula b.now))) }
+    ensures { let s = scene.now in
+        MakesNamed diagrams.old diagrams.new result (some_pair (passes (Test.Compared c)) (cases_at diagrams.old xs.now) (cases_seen s at (formula b.now))) (IsNamedOr s at (formula b.now) (IsOfPairs (passes (Test.Compared c)) (cases_at diagrams.old xs.now) (cases_seen s at (formula b.now)))) }
 {
     let ys = cases_of(diagrams, scene, at, b)?;
     let root = pair_root(diagrams, &Test::Compared(c), xs, &ys);
@@ -256,7 +258,7 @@ fn compared_with(
 fn entry_root(diagrams: &mut Diagrams, scene: &Scene, h: usize, n: usize) -> Result<Root, Halt>
     requires scene { IsScene scene.now }
     requires levels { level_count (codes_seen scene.now) ≤ diagrams.old.state.table.levels }
-    ensures { Makes diagrams.old diagrams.new result (entry_of (entries_seen scene.now) h n) }
+    ensures { MakesNamed diagrams.old diagrams.new result (entry_of (entries_seen scene.now) h n) (IsOfTablesIn scene.now) }
 {
     if h >= scene.hidden.len() {
         return constant(diagrams, false);
@@ -285,8 +287,7 @@ fn cases_of(diagrams: &mut Diagrams, scene: &Scene, at: At, e: &Expr) -> Result<
     requires scene { IsScene scene.now }
     requires levels { level_count (codes_seen scene.now) ≤ diagrams.old.state.table.levels }
     requires known { IsKnown (game_seen scene.now) (formula e.now) }
-    ensures made { IfOk result (λ cases. AddsCases diagrams.old diagrams.new cases.items (cases_in (game_seen scene.now) (entries_seen scene.now) at (formula e.now))) }
-    ensures leaves { Leaves diagrams.old diagrams.new result }
+    ensures { MakesCases diagrams.old diagrams.new result (cases_seen scene.now at (formula e.now)) (IsNamedIn scene.now at (formula e.now)) }
 {
     match e {
         Expr::Const(v) => cases_from(diagrams, scene.alloc(), &Source::Everywhere, &[*v]),
@@ -318,8 +319,7 @@ fn both_cases(
     requires scene { IsScene scene.now }
     requires levels { level_count (codes_seen scene.now) ≤ diagrams.old.state.table.levels }
     requires known { IsKnown (game_seen scene.now) (formula e.now) }
-    ensures made { IfOk result (λ cases. AddsCases diagrams.old diagrams.new cases.items (both_truths (truth_in (game_seen scene.now) (entries_seen scene.now) at (formula e.now)))) }
-    ensures leaves { Leaves diagrams.old diagrams.new result }
+    ensures { MakesCases diagrams.old diagrams.new result (both_truths (truth_seen scene.now at (formula e.now))) (IsNamedIn scene.now at (formula e.now)) }
 {
     let root = truth_root(diagrams, scene, at, e)?;
     let cases = cases_of_truth(diagrams, scene.alloc(), &root);
@@ -342,8 +342,8 @@ fn operated(
     requires a_known { IsKnown (game_seen scene.now) (formula a.now) }
     requires b_known { IsKnown (game_seen scene.now) (formula b.now) }
     requires span { IsCountable (span_of op (values_in (game_seen scene.now) (formula a.now)) (values_in (game_seen scene.now) (formula b.now))) }
-    ensures made { IfOk result (λ cases. AddsCases diagrams.old diagrams.new cases.items (operated_cases (game_seen scene.now) (entries_seen scene.now) at op (formula a.now) (formula b.now))) }
-    ensures leaves { Leaves diagrams.old diagrams.new result }
+    ensures { let s = scene.now in
+        MakesCases diagrams.old diagrams.new result (operated_cases (game_seen s) (entries_seen s) at op (formula a.now) (formula b.now)) (IsOfOperated s at op (formula a.now) (formula b.now)) }
 {
     let xs = cases_of(diagrams, scene, at, a)?;
     let cases = operated_with(diagrams, scene, at, op, &xs, b);
@@ -366,9 +366,8 @@ fn operated_with(
     requires known { IsKnown (game_seen scene.now) (formula b.now) }
     requires span { IsCountable (span_of op (map (λ x. x.value) xs.now) (values_in (game_seen scene.now) (formula b.now))) }
     requires kept { AreKept diagrams.old.state xs.now }
-    ensures made { let c = diagrams.old in let g = game_seen scene.now in
-        IfOk result (λ cases. AddsCases c diagrams.new cases.items (results op (cases_at c xs.now) (cases_in g (entries_seen scene.now) at (formula b.now)) (values_of (span_of op (map (λ x. x.value) xs.now) (values_in g (formula b.now)))))) }
-    ensures leaves { Leaves diagrams.old diagrams.new result }
+    ensures { let c = diagrams.old in let s = scene.now in let had = cases_at c xs.now in let ys = cases_seen s at (formula b.now) in let vs = values_of (span_of op (map (λ x. x.value) xs.now) (values_in (game_seen s) (formula b.now))) in
+        MakesCases c diagrams.new result (results op had ys vs) (IsNamedOr s at (formula b.now) (IsOfResults op had ys vs)) }
 {
     let ys = cases_of(diagrams, scene, at, b)?;
     let cases = operation_cases(diagrams, scene.alloc(), op, xs, &ys);
@@ -388,8 +387,7 @@ fn remainders(
     requires scene { IsScene scene.now }
     requires levels { level_count (codes_seen scene.now) ≤ diagrams.old.state.table.levels }
     requires known { IsKnown (game_seen scene.now) (Remainder (formula a.now) n) }
-    ensures made { IfOk result (λ cases. AddsCases diagrams.old diagrams.new cases.items (cases_in (game_seen scene.now) (entries_seen scene.now) at (Remainder (formula a.now) n))) }
-    ensures leaves { Leaves diagrams.old diagrams.new result }
+    ensures { MakesCases diagrams.old diagrams.new result (cases_seen scene.now at (Remainder (formula a.now) n)) (IsNamedIn scene.now at (Remainder (formula a.now) n)) }
 {
     let xs = cases_of(diagrams, scene, at, a)?;
     let cases = remainder_cases(diagrams, scene.alloc(), &xs, n);

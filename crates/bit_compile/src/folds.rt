@@ -7,6 +7,9 @@ ghost use Rattle.bdd_ops.specs.Functions.{joined, join_of};
 ghost use Rattle.bit_compile.specs.Making.{Makes};
 ghost use Rattle.bit_compile.specs.Compiled.{some_of};
 ghost use Rattle.bit_compile.specs.CaseRoots.{AreKept, folded as folded_lem, is_all};
+ghost use Rattle.bit_compile.specs.Crowding.{HasCause};
+ghost use Rattle.bit_compile.specs.NamedCodes.{NoFunction};
+ghost use Rattle.bit_compile.specs.Named.{IsFirstOf};
 
 use crate::cases::CaseRoot;
 use crate::steps::{and, constant, or};
@@ -36,7 +39,8 @@ fn starts_true(fold: Fold) -> bool
 fn join_root(diagrams: &mut Diagrams, fold: Fold, a: &Root, b: &Root) -> Result<Root, Halt>
     requires a_kept { IsRoot diagrams.old.state a.now }
     requires b_kept { IsRoot diagrams.old.state b.now }
-    ensures { Makes diagrams.old diagrams.new result (joined (join_of (is_all fold)) (function_at diagrams.old a.now) (function_at diagrams.old b.now)) }
+    ensures made { Makes diagrams.old diagrams.new result (joined (join_of (is_all fold)) (function_at diagrams.old a.now) (function_at diagrams.old b.now)) }
+    ensures cause { HasCause diagrams.old diagrams.new result NoFunction }
 {
     match fold {
         Fold::All => and(diagrams, a, b),
@@ -47,7 +51,8 @@ fn join_root(diagrams: &mut Diagrams, fold: Fold, a: &Root, b: &Root) -> Result<
 /// Where all are true, or some are.
 pub fn folded(diagrams: &mut Diagrams, fold: Fold, cases: &[CaseRoot]) -> Result<Root, Halt>
     requires { AreKept diagrams.old.state cases.now }
-    ensures { Makes diagrams.old diagrams.new result (folded_lem fold (map (λ x. function_at diagrams.old x.root) cases.now)) }
+    ensures made { Makes diagrams.old diagrams.new result (folded_lem fold (map (λ x. function_at diagrams.old x.root) cases.now)) }
+    ensures cause { HasCause diagrams.old diagrams.new result (IsFirstOf fold (map (λ x. function_at diagrams.old x.root) cases.now)) }
 {
     let start = starts_true(fold);
     let mut whole = constant(diagrams, start)?;
@@ -64,8 +69,9 @@ pub fn folded(diagrams: &mut Diagrams, fold: Fold, cases: &[CaseRoot]) -> Result
 pub fn and_some(diagrams: &mut Diagrams, first: &Root, cases: &[CaseRoot]) -> Result<Root, Halt>
     requires first_kept { IsRoot diagrams.old.state first.now }
     requires kept { AreKept diagrams.old.state cases.now }
-    ensures { let c = diagrams.old in
+    ensures made { let c = diagrams.old in
         Makes c diagrams.new result (λ s. function_at c first.now s && some_of (map (λ x. function_at c x.root) cases.now) s) }
+    ensures cause { HasCause diagrams.old diagrams.new result (IsFirstOf Fold.Some (map (λ x. function_at diagrams.old x.root) cases.now)) }
 {
     let second = folded(diagrams, Fold::Some, cases)?;
     let whole = and(diagrams, first, &second);

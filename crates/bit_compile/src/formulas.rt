@@ -6,9 +6,10 @@ ghost use Rattle.spec_model.specs.GameViews.{game_data};
 ghost use Rattle.spec_model.specs.WellMade.{WellMade, scope_of, is_step_formula};
 ghost use Rattle.bdd_ops.specs.Contents.{function_at};
 ghost use Rattle.bit_compile.specs.Domains.{state_domains, level_count};
-ghost use Rattle.bit_compile.specs.Making.{Makes};
 ghost use Rattle.bit_compile.specs.Compiled.{compiled as compiled_lem};
 ghost use Rattle.bit_compile.specs.CompileLaws.{IsFormulaOf};
+ghost use Rattle.bit_compile.specs.Crowding.{MakesNamed};
+ghost use Rattle.bit_compile.specs.Named.{IsNamedOf};
 
 use crate::codes::Codes;
 use crate::compiling::truth_root;
@@ -27,7 +28,8 @@ pub fn compile(diagrams: &mut Diagrams, codes: &Codes, game: &Game, e: &Expr) ->
     requires levels { level_count codes.now ≤ diagrams.old.state.table.levels }
     requires formula { is_step_formula (scope_of (game_data game.now)) (formula e.now) ≡ true }
     ensures meaning { IfOk result (λ r. IsFormulaOf (game_data game.now) (formula e.now) (function_at diagrams.new r)) }
-    ensures compiled { Makes diagrams.old diagrams.new result (compiled_lem (game_data game.now) (formula e.now)) }
+    ensures compiled { let g = game_data game.now in
+        MakesNamed diagrams.old diagrams.new result (compiled_lem g (formula e.now)) (IsNamedOf g (formula e.now)) }
 {
     let scene = Scene {
         codes,

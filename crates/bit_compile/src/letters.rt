@@ -1,12 +1,14 @@
 //! Where the atoms of a hidden table have a letter.
 
-ghost use Rattle.std.specs.Prelude.{◌==◌, ◌&&◌, ◌%◌, map};
+ghost use Rattle.std.specs.Prelude.{◌==◌, ◌&&◌, ◌%◌, map, ◌≡◌};
 ghost use Rattle.bdd_store.specs.State.{IsRoot};
 ghost use Rattle.bdd_ops.specs.Contents.{function_at};
 ghost use Rattle.bit_compile.specs.Making.{Makes};
-ghost use Rattle.bit_compile.specs.Compiled.{is_letter};
+ghost use Rattle.bit_compile.specs.Compiled.{is_letter, is_not};
 ghost use Rattle.bit_compile.specs.CaseRoots.{AreKept};
 ghost use Rattle.std.specs.Bool.{beq};
+ghost use Rattle.bit_compile.specs.Crowding.{HasCause};
+ghost use Rattle.bit_compile.specs.Named.{IsOfLetter};
 
 use crate::cases::CaseRoot;
 use crate::steps::{and, constant, not};
@@ -17,7 +19,8 @@ use regions::Halt;
 fn and_as(diagrams: &mut Diagrams, product: &Root, atom: &Root, wanted: bool) -> Result<Root, Halt>
     requires product_kept { IsRoot diagrams.old.state product.now }
     requires atom_kept { IsRoot diagrams.old.state atom.now }
-    ensures { Makes diagrams.old diagrams.new result (λ s. function_at diagrams.old product.now s && beq (function_at diagrams.old atom.now s) wanted) }
+    ensures made { Makes diagrams.old diagrams.new result (λ s. function_at diagrams.old product.now s && beq (function_at diagrams.old atom.now s) wanted) }
+    ensures cause { HasCause diagrams.old diagrams.new result (λ f. f ≡ is_not (function_at diagrams.old atom.now)) }
 {
     if wanted {
         return and(diagrams, product, atom);
@@ -31,7 +34,8 @@ fn and_as(diagrams: &mut Diagrams, product: &Root, atom: &Root, wanted: bool) ->
 /// Where the atoms have this letter, the number whose bit k is 1 where the k-th is true.
 pub fn letter_root(diagrams: &mut Diagrams, atoms: &[CaseRoot], letter: u64) -> Result<Root, Halt>
     requires { AreKept diagrams.old.state atoms.now }
-    ensures { Makes diagrams.old diagrams.new result (is_letter (map (λ a. function_at diagrams.old a.root) atoms.now) letter) }
+    ensures made { Makes diagrams.old diagrams.new result (is_letter (map (λ a. function_at diagrams.old a.root) atoms.now) letter) }
+    ensures cause { HasCause diagrams.old diagrams.new result (IsOfLetter (map (λ a. function_at diagrams.old a.root) atoms.now) letter) }
 {
     let mut product = constant(diagrams, true)?;
     let mut left = letter;

@@ -9,7 +9,7 @@
 //! Contract: `Codes::write` gives the bits of a state, `Codes::has_code` the diagram of one value, `compile` that of a formula
 //! over a state and the next one, `update` that of the next value of a hidden table, and `proper::proper` that of the bits
 //! that are a state's. A compiled formula is its value by a clause of `compile`, which rests on the law
-//! `laws::compiled_is_the_formula`.
+//! `laws::compiled_is_the_formula`. Where a budget ends these calls, what fills it is named (`HasCause`).
 //! Path: game, operations → **codes** → regions as diagrams.
 #![tactic(auto)]
 
@@ -41,6 +41,3 @@ pub use numbers::power;
 pub use updates::update;
 /// Memory ran out.
 pub use std::alloc::AllocError as OutOfMemory;
-
-#[cfg(test)]
-mod tests;

@@ -5,6 +5,8 @@ ghost use Rattle.bdd_store.specs.State.{IsRoot};
 ghost use Rattle.bdd_ops.specs.Contents.{function_at};
 ghost use Rattle.bit_compile.specs.Codes.{has_number};
 ghost use Rattle.bit_compile.specs.Making.{Makes, digit, with_digit};
+ghost use Rattle.bit_compile.specs.Crowding.{HasCause};
+ghost use Rattle.bit_compile.specs.NamedCodes.{IsDigit, IsOfNumber};
 
 use crate::numbers::power;
 use crate::steps::{and, not, told, var};
@@ -14,7 +16,8 @@ use regions::Halt;
 /// The diagram that is true where a level's bit is this one.
 fn digit_root(diagrams: &mut Diagrams, level: u32, high: bool) -> Result<Root, Halt>
     requires { level < diagrams.old.state.table.levels }
-    ensures { Makes diagrams.old diagrams.new result (digit level high) }
+    ensures made { Makes diagrams.old diagrams.new result (digit level high) }
+    ensures cause { HasCause diagrams.old diagrams.new result (IsDigit level) }
 {
     let bit = var(diagrams, level)?;
     if high {
@@ -29,7 +32,8 @@ fn digit_root(diagrams: &mut Diagrams, level: u32, high: bool) -> Result<Root, H
 fn digit_and(diagrams: &mut Diagrams, level: u32, high: bool, rest: &Root) -> Result<Root, Halt>
     requires below { level < diagrams.old.state.table.levels }
     requires kept { IsRoot diagrams.old.state rest.now }
-    ensures { Makes diagrams.old diagrams.new result (with_digit level high (function_at diagrams.old rest.now)) }
+    ensures made { Makes diagrams.old diagrams.new result (with_digit level high (function_at diagrams.old rest.now)) }
+    ensures cause { HasCause diagrams.old diagrams.new result (IsDigit level) }
 {
     let bit = digit_root(diagrams, level, high)?;
     let whole = and(diagrams, &bit, rest);
@@ -42,7 +46,8 @@ pub fn number(diagrams: &mut Diagrams, level: u32, width: u32, n: usize) -> Resu
     requires narrow { width ≤ 64 }
     requires few { level + width < 2 ^ 32 }
     requires below { level + width ≤ diagrams.old.state.table.levels }
-    ensures { Makes diagrams.old diagrams.new result (has_number level width n) }
+    ensures made { Makes diagrams.old diagrams.new result (has_number level width n) }
+    ensures cause { HasCause diagrams.old diagrams.new result (IsOfNumber level width n) }
 {
     if width == 0 {
         return told(diagrams.constant(true));

@@ -8,7 +8,9 @@ ghost use Rattle.bdd_store.specs.State.{IsRoot};
 ghost use Rattle.bdd_ops.specs.Contents.{function_at};
 ghost use Rattle.bit_compile.specs.Making.{Makes};
 ghost use Rattle.bit_compile.specs.Compiled.{some_pair, in_table as in_table_lem, leads as leads_lem};
-ghost use Rattle.bit_compile.specs.CaseRoots.{AreKept, cases_at, passes as passes_lem};
+ghost use Rattle.bit_compile.specs.CaseRoots.{AreKept, cases_at, passes as passes_lem, case_at};
+ghost use Rattle.bit_compile.specs.Crowding.{HasCause};
+ghost use Rattle.bit_compile.specs.Named.{IsBoth, IsOfRow, IsOfPairs};
 
 use crate::cases::CaseRoot;
 use crate::operation::{Operation, gives};
@@ -84,7 +86,8 @@ fn or_both(diagrams: &mut Diagrams, sum: &Root, a: &Root, b: &Root) -> Result<Ro
     requires sum_kept { IsRoot diagrams.old.state sum.now }
     requires a_kept { IsRoot diagrams.old.state a.now }
     requires b_kept { IsRoot diagrams.old.state b.now }
-    ensures { Makes diagrams.old diagrams.new result (λ s. function_at diagrams.old sum.now s || function_at diagrams.old a.now s && function_at diagrams.old b.now s) }
+    ensures made { Makes diagrams.old diagrams.new result (λ s. function_at diagrams.old sum.now s || function_at diagrams.old a.now s && function_at diagrams.old b.now s) }
+    ensures cause { HasCause diagrams.old diagrams.new result (IsBoth (function_at diagrams.old a.now) (function_at diagrams.old b.now)) }
 {
     let both = and(diagrams, a, b)?;
     let more = or(diagrams, sum, &both);
@@ -103,7 +106,8 @@ fn or_wanted(
     requires sum_kept { IsRoot diagrams.old.state sum.now }
     requires a_kept { IsRoot diagrams.old.state a.now }
     requires b_kept { IsRoot diagrams.old.state b.now }
-    ensures { Makes diagrams.old diagrams.new result (λ s. function_at diagrams.old sum.now s || wanted && (function_at diagrams.old a.now s && function_at diagrams.old b.now s)) }
+    ensures made { Makes diagrams.old diagrams.new result (λ s. function_at diagrams.old sum.now s || wanted && (function_at diagrams.old a.now s && function_at diagrams.old b.now s)) }
+    ensures cause { HasCause diagrams.old diagrams.new result (IsBoth (function_at diagrams.old a.now) (function_at diagrams.old b.now)) }
 {
     if wanted {
         or_both(diagrams, sum, a, b)
@@ -123,7 +127,8 @@ fn or_row(
     requires sum_kept { IsRoot diagrams.old.state sum.now }
     requires x_kept { IsRoot diagrams.old.state x.now.root }
     requires ys_kept { AreKept diagrams.old.state ys.now }
-    ensures { Makes diagrams.old diagrams.new result (λ s. function_at diagrams.old sum.now s || list_any (λ y. passes_lem test.now x.now.value y.value && (function_at diagrams.old x.now.root s && y.holds s)) (cases_at diagrams.old ys.now)) }
+    ensures made { Makes diagrams.old diagrams.new result (λ s. function_at diagrams.old sum.now s || list_any (λ y. passes_lem test.now x.now.value y.value && (function_at diagrams.old x.now.root s && y.holds s)) (cases_at diagrams.old ys.now)) }
+    ensures cause { HasCause diagrams.old diagrams.new result (IsOfRow (passes_lem test.now) (function_at diagrams.old sum.now) (case_at diagrams.old x.now) (cases_at diagrams.old ys.now)) }
 {
     let mut row = keep(diagrams, sum)?;
     for y in ys {
@@ -145,7 +150,8 @@ pub fn pair_by_pair(
 ) -> Result<Root, Halt>
     requires xs_kept { AreKept diagrams.old.state xs.now }
     requires ys_kept { AreKept diagrams.old.state ys.now }
-    ensures { Makes diagrams.old diagrams.new result (some_pair (passes_lem test.now) (cases_at diagrams.old xs.now) (cases_at diagrams.old ys.now)) }
+    ensures made { Makes diagrams.old diagrams.new result (some_pair (passes_lem test.now) (cases_at diagrams.old xs.now) (cases_at diagrams.old ys.now)) }
+    ensures cause { HasCause diagrams.old diagrams.new result (IsOfPairs (passes_lem test.now) (cases_at diagrams.old xs.now) (cases_at diagrams.old ys.now)) }
 {
     let mut sum = constant(diagrams, false)?;
     for x in xs {

@@ -6,6 +6,8 @@ ghost use Rattle.bdd_ops.specs.Contents.{function_at};
 ghost use Rattle.bit_compile.specs.Domains.{level_count};
 ghost use Rattle.bit_compile.specs.Making.{Makes};
 ghost use Rattle.bit_compile.specs.Proper.{proper as proper_lem, has_some_value};
+ghost use Rattle.bit_compile.specs.Crowding.{HasCause};
+ghost use Rattle.bit_compile.specs.Named.{IsOfSlot, IsOfProper};
 
 use crate::OutOfMemory;
 use crate::cases::release_all;
@@ -29,7 +31,8 @@ fn and_some_value(
     requires known { k < length codes.now }
     requires levels { level_count codes.now ≤ diagrams.old.state.table.levels }
     requires kept { IsRoot diagrams.old.state product.now }
-    ensures { Makes diagrams.old diagrams.new result (λ s. function_at diagrams.old product.now s && has_some_value codes.now at k s) }
+    ensures made { Makes diagrams.old diagrams.new result (λ s. function_at diagrams.old product.now s && has_some_value codes.now at k s) }
+    ensures cause { HasCause diagrams.old diagrams.new result (IsOfSlot codes.now at k) }
 {
     let cases = coded_cases(diagrams, codes, at, k, codes.domain(k), codes.alloc())?;
     let whole = and_some(diagrams, product, &cases);
@@ -41,7 +44,8 @@ fn and_some_value(
 /// those of `compile`.
 pub fn proper(diagrams: &mut Diagrams, codes: &Codes, at: At) -> Result<Root, Halt>
     requires { level_count codes.now ≤ diagrams.old.state.table.levels }
-    ensures { Makes diagrams.old diagrams.new result (proper_lem codes.now at) }
+    ensures made { Makes diagrams.old diagrams.new result (proper_lem codes.now at) }
+    ensures cause { HasCause diagrams.old diagrams.new result (IsOfProper codes.now at) }
 {
     let mut product = constant(diagrams, true)?;
     for k in 0..codes.count() {

@@ -1,11 +1,12 @@
 //! The diagrams of variables.
 
-ghost use Rattle.std.specs.Prelude.{◌≤◌, ◌<◌, length, IfOk};
+ghost use Rattle.std.specs.Prelude.{◌≤◌, ◌<◌, length};
 ghost use Rattle.bit_compile.specs.Domains.{level_count, state_domains};
-ghost use Rattle.bit_compile.specs.Making.{Makes};
 ghost use Rattle.bit_compile.specs.Compiled.{place_of, variable_domain, is_code, coded};
-ghost use Rattle.bit_compile.specs.CaseRoots.{AddsCases, Leaves};
+ghost use Rattle.bit_compile.specs.CaseRoots.{MakesCases};
 ghost use Rattle.bit_compile.specs.Scenes.{IsScene, game_seen, codes_seen};
+ghost use Rattle.bit_compile.specs.Crowding.{MakesNamed};
+ghost use Rattle.bit_compile.specs.Named.{IsOfVariable};
 
 use crate::cases::CaseRoot;
 use crate::scenes::Scene;
@@ -19,7 +20,7 @@ pub fn variable_root(diagrams: &mut Diagrams, scene: &Scene, at: At, k: usize) -
     requires scene { IsScene scene.now }
     requires levels { level_count (codes_seen scene.now) ≤ diagrams.old.state.table.levels }
     requires known { k < length (game_seen scene.now).variables }
-    ensures { Makes diagrams.old diagrams.new result (is_code (state_domains (game_seen scene.now)) at (place_of (game_seen scene.now) k) 1) }
+    ensures { let g = game_seen scene.now in MakesNamed diagrams.old diagrams.new result (is_code (state_domains g) at (place_of g k) 1) (IsOfVariable g at k) }
 {
     scene.codes.has_code(diagrams, at, scene.place(k), 1)
 }
@@ -34,8 +35,7 @@ pub fn variable_cases(
     requires scene { IsScene scene.now }
     requires levels { level_count (codes_seen scene.now) ≤ diagrams.old.state.table.levels }
     requires known { k < length (game_seen scene.now).variables }
-    ensures made { let g = game_seen scene.now in IfOk result (λ cases. AddsCases diagrams.old diagrams.new cases.items (coded (state_domains g) at (place_of g k) (variable_domain g k))) }
-    ensures leaves { Leaves diagrams.old diagrams.new result }
+    ensures { let g = game_seen scene.now in MakesCases diagrams.old diagrams.new result (coded (state_domains g) at (place_of g k) (variable_domain g k)) (IsOfVariable g at k) }
 {
     let domain = &scene.game.vars[k].domain;
     coded_cases(

@@ -1,6 +1,6 @@
 //! The cases of variables, of operations and of the entries of hidden tables.
 
-ghost use Rattle.std.specs.Prelude.{◌≡◌, ◌<◌, ◌≤◌, ◌^◌, pos, ◌+ℤ◌, ◌-ℤ◌, ◌*ℤ◌, FitsSigned, map, length, [], ◌∷◌, IfOk};
+ghost use Rattle.std.specs.Prelude.{◌≡◌, ◌<◌, ◌≤◌, ◌^◌, pos, ◌+ℤ◌, ◌-ℤ◌, ◌*ℤ◌, FitsSigned, map, length, [], ◌∷◌};
 ghost use Rattle.std.specs.Int.{int_min, int_max, w64};
 ghost use Rattle.spec_model.specs.Values.{WholeNumbers, values_of, same_value};
 ghost use Rattle.bdd_store.specs.State.{IsRoot};
@@ -9,9 +9,10 @@ ghost use Rattle.spec_model.specs.GameViews.{hidden_data};
 ghost use Rattle.game_values.specs.Whole.{IsWhole};
 ghost use Rattle.bdd_ops.specs.Contents.{function_at};
 ghost use Rattle.bit_compile.specs.Domains.{IsCountable, level_count};
-ghost use Rattle.bit_compile.specs.Making.{Makes};
 ghost use Rattle.bit_compile.specs.Compiled.{least as least_lem, greatest as greatest_lem, least_product, greatest_product, span_of as span_of_lem, results, only, same_truth, both_truths, some_pair, in_table, lettered, numbers_below, table_truth, coded};
-ghost use Rattle.bit_compile.specs.CaseRoots.{AreKept, AddsCases, Leaves, cases_at};
+ghost use Rattle.bit_compile.specs.CaseRoots.{AreKept, MakesCases, cases_at};
+ghost use Rattle.bit_compile.specs.Crowding.{MakesNamed};
+ghost use Rattle.bit_compile.specs.Named.{IsOfResults, IsOfRemainders, IsOfSameWith, IsOfSame, IsOfCoded, IsOfLettered, IsOfCells, IsOfTable};
 
 use crate::blocks::pair_root;
 use crate::cases::{CaseRoot, Source, cases_from, cases_of_truth, release_all};
@@ -154,9 +155,8 @@ pub fn operation_cases(
     requires span { IsCountable (span_of_lem op (map (λ x. x.value) xs.now) (map (λ y. y.value) ys.now)) }
     requires xs_kept { AreKept diagrams.old.state xs.now }
     requires ys_kept { AreKept diagrams.old.state ys.now }
-    ensures made { let c = diagrams.old in
-        IfOk result (λ cases. AddsCases c diagrams.new cases.items (results op (cases_at c xs.now) (cases_at c ys.now) (values_of (span_of_lem op (map (λ x. x.value) xs.now) (map (λ y. y.value) ys.now))))) }
-    ensures leaves { Leaves diagrams.old diagrams.new result }
+    ensures { let c = diagrams.old in let vs = values_of (span_of_lem op (map (λ x. x.value) xs.now) (map (λ y. y.value) ys.now)) in
+        MakesCases c diagrams.new result (results op (cases_at c xs.now) (cases_at c ys.now) vs) (IsOfResults op (cases_at c xs.now) (cases_at c ys.now) vs) }
 {
     let domain = span_of(op, xs, ys);
     let Ok(values) = values(alloc, &domain) else {
@@ -174,9 +174,8 @@ pub fn remainder_cases(
 ) -> Result<Vec<CaseRoot>, Halt>
     requires span { IsCountable (span_of_lem Operation.Mod (map (λ x. x.value) xs.now) (Value.Int n ∷ [])) }
     requires xs_kept { AreKept diagrams.old.state xs.now }
-    ensures made { let c = diagrams.old in
-        IfOk result (λ cases. AddsCases c diagrams.new cases.items (results Operation.Mod (cases_at c xs.now) (only (Value.Int n)) (values_of (span_of_lem Operation.Mod (map (λ x. x.value) xs.now) (Value.Int n ∷ []))))) }
-    ensures leaves { Leaves diagrams.old diagrams.new result }
+    ensures { let c = diagrams.old in let vs = values_of (span_of_lem Operation.Mod (map (λ x. x.value) xs.now) (Value.Int n ∷ [])) in
+        MakesCases c diagrams.new result (results Operation.Mod (cases_at c xs.now) (only (Value.Int n)) vs) (IsOfRemainders (cases_at c xs.now) n vs) }
 {
     let number = cases_from(diagrams, alloc, &Source::Everywhere, &[Value::Int(n)])?;
     let cases = operation_cases(diagrams, alloc, Operation::Mod, xs, &number);
@@ -193,7 +192,8 @@ fn same_with(
 ) -> Result<Root, Halt>
     requires xs_kept { AreKept diagrams.old.state xs.now }
     requires b_kept { IsRoot diagrams.old.state b.now }
-    ensures { let c = diagrams.old in Makes c diagrams.new result (some_pair same_value (cases_at c xs.now) (both_truths (function_at c b.now))) }
+    ensures { let c = diagrams.old in
+        MakesNamed c diagrams.new result (some_pair same_value (cases_at c xs.now) (both_truths (function_at c b.now))) (IsOfSameWith (cases_at c xs.now) (function_at c b.now)) }
 {
     let ys = cases_of_truth(diagrams, alloc, b)?;
     let root = pair_root(diagrams, &Test::Compared(Compare::Eq), xs, &ys);
@@ -205,7 +205,8 @@ fn same_with(
 pub fn same_root(diagrams: &mut Diagrams, alloc: Global, a: &Root, b: &Root) -> Result<Root, Halt>
     requires a_kept { IsRoot diagrams.old.state a.now }
     requires b_kept { IsRoot diagrams.old.state b.now }
-    ensures { Makes diagrams.old diagrams.new result (same_truth (function_at diagrams.old a.now) (function_at diagrams.old b.now)) }
+    ensures { let c = diagrams.old in
+        MakesNamed c diagrams.new result (same_truth (function_at c a.now) (function_at c b.now)) (IsOfSame (function_at c a.now) (function_at c b.now)) }
 {
     let xs = cases_of_truth(diagrams, alloc, a)?;
     let root = same_with(diagrams, alloc, &xs, b);
@@ -225,8 +226,7 @@ pub fn coded_cases(
     requires known { k < length codes.now }
     requires levels { level_count codes.now ≤ diagrams.old.state.table.levels }
     requires countable { IsCountable (domain_data domain.now) }
-    ensures made { IfOk result (λ cases. AddsCases diagrams.old diagrams.new cases.items (coded codes.now at k (domain_data domain.now))) }
-    ensures leaves { Leaves diagrams.old diagrams.new result }
+    ensures { MakesCases diagrams.old diagrams.new result (coded codes.now at k (domain_data domain.now)) (IsOfCoded codes.now at k (domain_data domain.now)) }
 {
     let Ok(values) = values(alloc, domain) else {
         return Err(Halt::Memory);
@@ -262,8 +262,7 @@ pub fn letter_cases(
     requires whole { IsWhole h.now }
     requires counted { length atoms.now ≡ length h.now.atoms.items }
     requires kept { AreKept diagrams.old.state atoms.now }
-    ensures made { IfOk result (λ cases. AddsCases diagrams.old diagrams.new cases.items (lettered (map (λ a. function_at diagrams.old a.root) atoms.now))) }
-    ensures leaves { Leaves diagrams.old diagrams.new result }
+    ensures { let fs = map (λ a. function_at diagrams.old a.root) atoms.now in MakesCases diagrams.old diagrams.new result (lettered fs) (IsOfLettered fs) }
 {
     let count = letters(h);
     if count > 1_000_000_000_000 {
@@ -289,8 +288,8 @@ fn cells_root(
     requires counted { length atoms.now ≡ length h.now.atoms.items }
     requires values_kept { AreKept diagrams.old.state values.now }
     requires atoms_kept { AreKept diagrams.old.state atoms.now }
-    ensures { let c = diagrams.old in
-        Makes c diagrams.new result (some_pair (in_table table.now (2 ^ length atoms.now)) (cases_at c values.now) (lettered (map (λ a. function_at c a.root) atoms.now))) }
+    ensures { let c = diagrams.old in let fs = map (λ a. function_at c a.root) atoms.now in
+        MakesNamed c diagrams.new result (some_pair (in_table table.now (2 ^ length atoms.now)) (cases_at c values.now) (lettered fs)) (IsOfCells table.now (cases_at c values.now) fs) }
 {
     let letters_had = letter_cases(diagrams, alloc, h, atoms)?;
     let test = Test::InTable(table, letters(h));
@@ -314,8 +313,8 @@ pub fn table_root(
     requires whole { IsWhole h.now }
     requires counted { length atoms.now ≡ length h.now.atoms.items }
     requires kept { AreKept diagrams.old.state atoms.now }
-    ensures { let c = diagrams.old in
-        Makes c diagrams.new result (table_truth codes.now k (hidden_data h.now) (map (λ a. function_at c a.root) atoms.now) table.now) }
+    ensures { let c = diagrams.old in let fs = map (λ a. function_at c a.root) atoms.now in
+        MakesNamed c diagrams.new result (table_truth codes.now k (hidden_data h.now) fs table.now) (IsOfTable codes.now k (hidden_data h.now) fs table.now) }
 {
     let values = coded_cases(diagrams, codes, At::Now, k, &domain_of(h), alloc)?;
     let root = cells_root(diagrams, alloc, h, table, &values, atoms);

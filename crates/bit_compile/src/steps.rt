@@ -4,7 +4,7 @@
 //! Contract (`MakesOnce`): a root of the operation, or a refusal that leaves what is kept. `Budget` comes only where the
 //! store holds exactly its budget of nodes, each a constant, a part of a kept root or an unfinished result.
 
-ghost use Rattle.std.specs.Prelude.{◌≡◌, ◌<◌, true, false};
+ghost use Rattle.std.specs.Prelude.{◌≡◌, ◌<◌, true, false, Err};
 ghost use Rattle.spec_model.specs.Diagrams.{value};
 ghost use Rattle.bdd_store.specs.State.{IsRoot, diagram_of};
 ghost use Rattle.bdd_ops.specs.Functions.{joined, join_of};
@@ -29,7 +29,8 @@ pub fn told(made: Result<Root, StoreFault>) -> Result<Root, Halt>
 
 /// A constant. It takes no node.
 pub fn constant(diagrams: &mut Diagrams, value: bool) -> Result<Root, Halt>
-    ensures { Makes diagrams.old diagrams.new result (λ s. value) }
+    ensures made { Makes diagrams.old diagrams.new result (λ s. value) }
+    ensures never { result ≡ Err Halt.Budget → ⊥ }
 {
     told(diagrams.constant(value))
 }
@@ -37,7 +38,8 @@ pub fn constant(diagrams: &mut Diagrams, value: bool) -> Result<Root, Halt>
 /// A second root of the same diagram. It takes no node.
 pub fn keep(diagrams: &mut Diagrams, a: &Root) -> Result<Root, Halt>
     requires { IsRoot diagrams.old.state a.now }
-    ensures { Makes diagrams.old diagrams.new result (function_at diagrams.old a.now) }
+    ensures made { Makes diagrams.old diagrams.new result (function_at diagrams.old a.now) }
+    ensures never { result ≡ Err Halt.Budget → ⊥ }
 {
     told(diagrams.keep(a))
 }

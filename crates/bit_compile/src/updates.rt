@@ -1,16 +1,17 @@
 //! Where the next value of a hidden table is the one that follows.
 
-ghost use Rattle.std.specs.Prelude.{◌≡◌, ◌<◌, ◌≤◌, ◌^◌, length, map, get_or, IfOk};
+ghost use Rattle.std.specs.Prelude.{◌≡◌, ◌<◌, ◌≤◌, ◌^◌, length, map, get_or, IfOk, ◌⊎◌};
 ghost use Rattle.spec_model.specs.Values.{values_of, same_value};
 ghost use Rattle.spec_model.specs.GameViews.{game_data, hidden_data};
 ghost use Rattle.spec_model.specs.WellMade.{WellMade};
 ghost use Rattle.game_values.specs.Whole.{IsWhole};
 ghost use Rattle.bdd_ops.specs.Contents.{function_at};
 ghost use Rattle.bit_compile.specs.Domains.{state_domains, table_domain, level_count};
-ghost use Rattle.bit_compile.specs.Making.{Makes};
 ghost use Rattle.bit_compile.specs.Compiled.{never, coded, some_pair, lettered, led_to, following as following_lem, table_update, updates_of};
-ghost use Rattle.bit_compile.specs.CaseRoots.{AreKept, AddsCases, Leaves, cases_at};
+ghost use Rattle.bit_compile.specs.CaseRoots.{AreKept, MakesCases, cases_at};
 ghost use Rattle.bit_compile.specs.CompileLaws.{IsUpdateOf};
+ghost use Rattle.bit_compile.specs.Crowding.{MakesNamed};
+ghost use Rattle.bit_compile.specs.Named.{IsOfCoded, IsOfLettered, IsOfPairs, IsOfLed, IsOfFollowing, IsOfUpdate, IsNamedUpdate};
 
 use crate::blocks::pair_root;
 use crate::cases::{CaseRoot, Source, cases_from, release_all};
@@ -39,9 +40,8 @@ fn led_cases(
     requires whole { IsWhole h.now }
     requires from_kept { AreKept diagrams.old.state from.now }
     requires by_kept { AreKept diagrams.old.state by.now }
-    ensures made { let c = diagrams.old in
-        IfOk result (λ cases. AddsCases c diagrams.new cases.items (led_to h.now.next.items (2 ^ length h.now.atoms.items) (cases_at c from.now) (cases_at c by.now) (values_of (table_domain (hidden_data h.now))))) }
-    ensures leaves { Leaves diagrams.old diagrams.new result }
+    ensures { let c = diagrams.old in let next = h.now.next.items in let letters = 2 ^ length h.now.atoms.items in let vs = values_of (table_domain (hidden_data h.now)) in
+        MakesCases c diagrams.new result (led_to next letters (cases_at c from.now) (cases_at c by.now) vs) (IsOfLed next letters (cases_at c from.now) (cases_at c by.now) vs) }
 {
     let Ok(values) = values(alloc, &domain_of(h)) else {
         return Err(Halt::Memory);
@@ -66,9 +66,8 @@ fn led_by_atoms(
     requires counted { length atoms.now ≡ length h.now.atoms.items }
     requires from_kept { AreKept diagrams.old.state from.now }
     requires atoms_kept { AreKept diagrams.old.state atoms.now }
-    ensures made { let c = diagrams.old in
-        IfOk result (λ cases. AddsCases c diagrams.new cases.items (led_to h.now.next.items (2 ^ length h.now.atoms.items) (cases_at c from.now) (lettered (map (λ a. function_at c a.root) atoms.now)) (values_of (table_domain (hidden_data h.now))))) }
-    ensures leaves { Leaves diagrams.old diagrams.new result }
+    ensures { let c = diagrams.old in let fs = map (λ a. function_at c a.root) atoms.now in let next = h.now.next.items in let letters = 2 ^ length h.now.atoms.items in let vs = values_of (table_domain (hidden_data h.now)) in
+        MakesCases c diagrams.new result (led_to next letters (cases_at c from.now) (lettered fs) vs) (λ f. IsOfLettered fs f ⊎ IsOfLed next letters (cases_at c from.now) (lettered fs) vs f) }
 {
     let by = letter_cases(diagrams, alloc, h, atoms)?;
     let cases = led_cases(diagrams, alloc, h, from, &by);
@@ -89,9 +88,8 @@ fn following(
     requires whole { IsWhole h.now }
     requires counted { length atoms.now ≡ length h.now.atoms.items }
     requires kept { AreKept diagrams.old.state atoms.now }
-    ensures made { let c = diagrams.old in
-        IfOk result (λ cases. AddsCases c diagrams.new cases.items (following_lem codes.now k (hidden_data h.now) (map (λ a. function_at c a.root) atoms.now))) }
-    ensures leaves { Leaves diagrams.old diagrams.new result }
+    ensures { let c = diagrams.old in let fs = map (λ a. function_at c a.root) atoms.now in
+        MakesCases c diagrams.new result (following_lem codes.now k (hidden_data h.now) fs) (IsOfFollowing codes.now k (hidden_data h.now) fs) }
 {
     let alloc = codes.alloc();
     let from = coded_cases(diagrams, codes, At::Now, k, &domain_of(h), alloc)?;
@@ -112,8 +110,8 @@ fn next_among(
     requires levels { level_count codes.now ≤ diagrams.old.state.table.levels }
     requires whole { IsWhole h.now }
     requires kept { AreKept diagrams.old.state cases.now }
-    ensures { let c = diagrams.old in
-        Makes c diagrams.new result (some_pair same_value (coded codes.now At.Next k (table_domain (hidden_data h.now))) (cases_at c cases.now)) }
+    ensures { let c = diagrams.old in let d = table_domain (hidden_data h.now) in let next = coded codes.now At.Next k d in
+        MakesNamed c diagrams.new result (some_pair same_value next (cases_at c cases.now)) (λ f. IsOfCoded codes.now At.Next k d f ⊎ IsOfPairs same_value next (cases_at c cases.now) f) }
 {
     let next = coded_cases(diagrams, codes, At::Next, k, &domain_of(h), codes.alloc())?;
     let root = pair_root(diagrams, &Test::Compared(Compare::Eq), &next, cases);
@@ -134,8 +132,8 @@ fn update_root(
     requires whole { IsWhole h.now }
     requires counted { length atoms.now ≡ length h.now.atoms.items }
     requires kept { AreKept diagrams.old.state atoms.now }
-    ensures { let c = diagrams.old in
-        Makes c diagrams.new result (table_update codes.now k (hidden_data h.now) (map (λ a. function_at c a.root) atoms.now)) }
+    ensures { let c = diagrams.old in let fs = map (λ a. function_at c a.root) atoms.now in
+        MakesNamed c diagrams.new result (table_update codes.now k (hidden_data h.now) fs) (IsOfUpdate codes.now k (hidden_data h.now) fs) }
 {
     let cases = following(diagrams, codes, k, h, atoms)?;
     let root = next_among(diagrams, codes, k, h, &cases);
@@ -151,7 +149,8 @@ pub fn update(diagrams: &mut Diagrams, codes: &Codes, game: &Game, k: usize) -> 
     requires levels { level_count codes.now ≤ diagrams.old.state.table.levels }
     requires known { k < length (game_data game.now).hidden }
     ensures meaning { IfOk result (λ r. IsUpdateOf (game_data game.now) k (function_at diagrams.new r)) }
-    ensures compiled { Makes diagrams.old diagrams.new result (get_or (updates_of (game_data game.now)) k never) }
+    ensures compiled { let g = game_data game.now in
+        MakesNamed diagrams.old diagrams.new result (get_or (updates_of g) k never) (IsNamedUpdate g k) }
 {
     let scene = Scene {
         codes,

@@ -28,6 +28,3 @@ pub use columns::Columns;
 pub use planes::{and_planes, not_plane, or_planes};
 pub use truths::{plane, write_all};
 pub use zeros::{first_zero, words_for};
-
-#[cfg(test)]
-mod tests;

@@ -9,6 +9,6 @@ mod Turned
 mod Went
 mod Laters
 mod Owning
-mod Makings
+pub mod Makings
 mod Begun
 pub mod Serving

@@ -7,7 +7,7 @@ mod Stepping
 mod Turning
 mod Sounding
 mod Chaining
-mod Begun
+pub mod Begun
 mod Turned
 mod Replying
 mod Completing

@@ -16,8 +16,9 @@ use Rattle.state_diagrams.proofs.SpentLemmas.{function_kept, functions_kept}
 use Rattle.state_diagrams.proofs.ListLemmas.{times_here}
 use Rattle.early_products.specs.declared.early.Early.{Early}
 use Rattle.early_products.specs.declared.product.Product.{Product}
-use Rattle.early_products.specs.Products.{IsProductOf, IsProduct, MakesProduct, levels_of}
-use Rattle.early_products.specs.Early.{FitsEarly, AreRootsOfEarly}
+use Rattle.early_products.specs.Products.{IsProductOf, IsProduct, MakesProduct, levels_of, AreOfMembers}
+use Rattle.early_products.specs.Early.{FitsEarly, AreLinesOf, AreRootsOfEarly}
+use Rattle.state_diagrams.specs.NamedMoves.{lists_at}
 use Rattle.early_products.proofs.ProductLemmas.{and_assoc}
 
 -- a target joined with the legal outputs and the update at once
@@ -89,8 +90,8 @@ and_true false = refl
 
 -- the products of a game's lines, made one after the other
 pub early_fits_made : (old mid new : Contents) (m : Members) (levels : NextLevels) (replies inputs : Product) (os us is none reply all : List ℕ) → os ≡ m.outputs.items → us ≡ m.update.items → reply ≡ levels.reply.items → is ≡ m.inputs.items → none ≡ [] → all ≡ levels.all.items → AreMembers old m →
-    MakesProduct old mid (Ok replies) (joined (join_of true) (all_true (functions_at old os)) (all_true (functions_at old us))) reply →
-    MakesProduct mid new (Ok inputs) (joined (join_of true) (all_true (functions_at mid is)) (all_true (functions_at mid none))) all →
+    MakesProduct old mid (Ok replies) (functions_at old os) (functions_at old us) reply →
+    MakesProduct mid new (Ok inputs) (functions_at mid is) (functions_at mid none) all →
     FitsEarly (move_functions old m) levels new (Some (record { replies = replies; inputs = inputs }))
 early_fits_made old mid new m levels replies inputs os us is none reply all os_is us_is reply_is is_is none_is all_is are first second =
     let legal : Function = joined (join_of true) (all_true (functions_at old m.outputs.items)) (all_true (functions_at old m.update.items)) in
@@ -103,3 +104,15 @@ early_fits_made old mid new m levels replies inputs os us is none reply all os_i
       replies = product_stays mid new legal levels.reply.items replies.lines.items (levels_of replies.outs.items) second.keeps lines first';
       inputs = subst (λ (k : Function). IsProduct k levels.all.items new inputs) whole second';
     }
+
+pub early_lines_made : (old mid new : Contents) (m : Members) (replies inputs : Product) (os us is none reply all : List ℕ) → os ≡ m.outputs.items → us ≡ m.update.items → is ≡ m.inputs.items → none ≡ [] → AreMembers old m →
+    MakesProduct old mid (Ok replies) (functions_at old os) (functions_at old us) reply →
+    MakesProduct mid new (Ok inputs) (functions_at mid is) (functions_at mid none) all →
+    AreLinesOf (lists_at old m) new (Some (record { replies = replies; inputs = inputs }))
+early_lines_made old mid new m replies inputs os us is none reply all os_is us_is is_is none_is are first second =
+    let lines : AreRoots mid replies.lines.items = (λ i below. (let here = times_here replies.lines.items i below in let added = first.added (slice_index replies.lines.items i) in omega (arith, here, added))) in
+    let first' : AreOfMembers (functions_at old m.outputs.items) (functions_at old m.update.items) (functions_at mid replies.lines.items) = (rw (os_is, us_is) at first.members) in
+    let second' : AreOfMembers (functions_at mid m.inputs.items) [] (functions_at new inputs.lines.items) = (rw (is_is, none_is) at second.members) in (
+      subst (λ (fs : List Function). AreOfMembers (functions_at old m.outputs.items) (functions_at old m.update.items) fs) (sym (functions_kept mid new second.keeps replies.lines.items lines)) first',
+      subst (λ (fs : List Function). AreOfMembers fs [] (functions_at new inputs.lines.items)) (functions_kept old mid first.keeps m.inputs.items are.inputs) second',
+    )

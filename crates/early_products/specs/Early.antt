@@ -1,12 +1,13 @@
 -- The lines of a game's moves as products.
-use Rattle.std.specs.Prelude.{ℕ, ◌+◌, true, Option, Some, None}
+use Rattle.std.specs.Prelude.{ℕ, ◌+◌, true, [], Option, Some, None}
 use Rattle.bdd_ops.specs.Functions.{joined, join_of}
 use Rattle.bdd_ops.specs.Contents.{Contents}
 use Rattle.state_diagrams.specs.declared.moves.NextLevels.{NextLevels}
-use Rattle.state_diagrams.specs.Members.{MoveFunctions, AreRoots}
+use Rattle.state_diagrams.specs.Members.{MoveFunctions, AreRoots, functions_at}
+use Rattle.state_diagrams.specs.NamedMoves.{MoveLists}
 use Rattle.state_diagrams.specs.Lists.{times_in}
 use Rattle.early_products.specs.declared.early.Early.{Early}
-use Rattle.early_products.specs.Products.{IsProduct}
+use Rattle.early_products.specs.Products.{IsProduct, AreOfMembers}
 
 -- the products are of the legal outputs with the update, and of the legal inputs
 pub record IsEarly (m : MoveFunctions) (levels : NextLevels) (c : Contents) (e : Early) : Type 0 where
@@ -34,3 +35,8 @@ roots_of_products n e = times_in n e.replies.lines.items + times_in n e.inputs.l
 abbrev pub roots_of_early : ℕ → Option Early → ℕ
 roots_of_early n None = 0
 roots_of_early n (Some e) = roots_of_products n e
+
+-- each line of the products is a member of its kind, or the first several together
+abbrev pub AreLinesOf : MoveLists → Contents → Option Early → Type 0
+AreLinesOf m c None = Unit {0}
+AreLinesOf m c (Some e) = AreOfMembers m.outputs m.update (functions_at c e.replies.lines.items) × AreOfMembers m.inputs [] (functions_at c e.inputs.lines.items)

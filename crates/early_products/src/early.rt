@@ -8,9 +8,12 @@ ghost use Rattle.bdd_ops.specs.Functions.{joined, join_of};
 ghost use Rattle.bdd_ops.specs.Contents.{Contents, function_at};
 ghost use Rattle.bdd_ops.specs.Calls.{KeepsRoots, RisesOver, negated};
 ghost use Rattle.bit_compile.specs.Making.{Makes};
+ghost use Rattle.bit_compile.specs.Crowding.{HasCause};
 ghost use Rattle.state_diagrams.specs.declared.moves.NextLevels.{NextLevels};
 ghost use Rattle.state_diagrams.specs.Members.{MoveFunctions, AreMembers, move_functions, avoiding};
-ghost use Rattle.early_products.specs.Early.{IsEarly, FitsEarly, AreEarlyRoots, AreRootsOfEarly, roots_of_products, roots_of_early};
+ghost use Rattle.state_diagrams.specs.NamedMoves.{lists_at, IsOfAvoiding};
+ghost use Rattle.state_diagrams.specs.NamedGame.{IsOfStep, IsOfRest};
+ghost use Rattle.early_products.specs.Early.{IsEarly, FitsEarly, AreLinesOf, AreEarlyRoots, AreRootsOfEarly, roots_of_products, roots_of_early};
 
 use crate::product::{Product, taken_out};
 use bdd_ops::{Diagrams, Root};
@@ -41,6 +44,7 @@ impl Early {
     ) -> Option<Early>
         requires { AreMembers diagrams.old members.now }
         ensures fits { FitsEarly (move_functions diagrams.old members.now) levels.now diagrams.new result }
+        ensures lines { AreLinesOf (lists_at diagrams.old members.now) diagrams.new result }
         ensures added { (n : ℕ) → roots_at diagrams.new.state n ≡ roots_at diagrams.old.state n + roots_of_early n result }
         ensures keeps { KeepsRoots diagrams.old diagrams.new }
     {
@@ -102,8 +106,10 @@ fn avoided_first(
     requires target { (base : Contents) × (f : Function) × Makes base diagrams.old (Ok target) f × AreMembers base members.now }
     requires kept { AreEarlyRoots diagrams.old early.now }
     requires fits { IsEarly (move_functions diagrams.old members.now) levels.now diagrams.old early.now }
-    ensures { (base : Contents) (f : Function) → Makes base diagrams.old (Ok target) f → AreMembers base members.now →
+    ensures made { (base : Contents) (f : Function) → Makes base diagrams.old (Ok target) f → AreMembers base members.now →
         Makes base diagrams.new result (avoiding (move_functions base members.now) levels.now.reply.items levels.now.all.items f) }
+    ensures cause { (base : Contents) (f : Function) → Makes base diagrams.old (Ok target) f → AreMembers base members.now →
+        HasCause base diagrams.new result (IsOfAvoiding (lists_at base members.now) levels.now.reply.items f) }
 {
     match avoided_early(diagrams, &target, early) {
         Ok(made) => {
@@ -132,8 +138,10 @@ pub fn avoided(
     requires target { (base : Contents) × (f : Function) × Makes base diagrams.old (Ok target) f × AreMembers base members.now }
     requires kept { AreRootsOfEarly diagrams.old early.now }
     requires fits { FitsEarly (move_functions diagrams.old members.now) levels.now diagrams.old early.now }
-    ensures { (base : Contents) (f : Function) → Makes base diagrams.old (Ok target) f → AreMembers base members.now →
+    ensures made { (base : Contents) (f : Function) → Makes base diagrams.old (Ok target) f → AreMembers base members.now →
         Makes base diagrams.new result (avoiding (move_functions base members.now) levels.now.reply.items levels.now.all.items f) }
+    ensures cause { (base : Contents) (f : Function) → Makes base diagrams.old (Ok target) f → AreMembers base members.now →
+        HasCause base diagrams.new result (IsOfAvoiding (lists_at base members.now) levels.now.reply.items f) }
 {
     match early {
         Some(early) => avoided_first(diagrams, target, members, levels, early),
@@ -156,7 +164,9 @@ pub fn system_states(
     requires kept { AreRootsOfEarly diagrams.old early.now }
     requires fits { FitsEarly (move_functions diagrams.old roots.now.later) levels.now diagrams.old early.now }
     requires rising { RisesOver diagrams.old.state.table.levels levels.now.to.items (function_at diagrams.old t.now) }
-    ensures { let old = diagrams.old in
+    ensures cause { let old = diagrams.old in
+        HasCause old diagrams.new result (IsOfStep (lists_at old roots.now.later) levels.now (shifted levels.now.to.items (function_at old t.now))) }
+    ensures made { let old = diagrams.old in
         Makes old diagrams.new result (ite (avoiding (move_functions old roots.now.later) levels.now.reply.items levels.now.all.items (shifted levels.now.to.items (function_at old t.now))) (function_at old roots.now.nothing) (function_at old roots.now.proper)) }
 {
     let target = shift(diagrams, t, &levels.to)?;
@@ -178,7 +188,9 @@ pub fn environment_states(
     requires kept { AreRootsOfEarly diagrams.old early.now }
     requires fits { FitsEarly (move_functions diagrams.old roots.now.later) levels.now diagrams.old early.now }
     requires rising { RisesOver diagrams.old.state.table.levels levels.now.to.items (function_at diagrams.old t.now) }
-    ensures { let old = diagrams.old in
+    ensures cause { let old = diagrams.old in
+        HasCause old diagrams.new result (IsOfRest (lists_at old roots.now.later) levels.now (shifted levels.now.to.items (function_at old t.now))) }
+    ensures made { let old = diagrams.old in
         Makes old diagrams.new result (joined (join_of true) (avoiding (move_functions old roots.now.later) levels.now.reply.items levels.now.all.items (negated (shifted levels.now.to.items (function_at old t.now)))) (function_at old roots.now.proper)) }
 {
     let next = shift(diagrams, t, &levels.to)?;

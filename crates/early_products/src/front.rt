@@ -84,8 +84,7 @@ pub fn lines_of(
     requires first { AreRoots diagrams.old first.now }
     requires second { AreRoots diagrams.old second.now }
     ensures { let old = diagrams.old in
-        MakesLines old diagrams.new result
-        (joined (join_of true) (all_true (functions_at old first.now)) (all_true (functions_at old second.now))) }
+        MakesLines old diagrams.new result (functions_at old first.now) (functions_at old second.now) }
 {
     let front = front_of(diagrams, first)?;
     let Front { lines, count } = front;

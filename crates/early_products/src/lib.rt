@@ -6,7 +6,8 @@
 //! first several lines, as long as that is small, and each other line alone.
 //!
 //! Contract: where inputs avoid a set (`early::avoided`), and the states from which players force one, are what the
-//! plain way gives. That the plain way is tried where the early one finds the store full is done, and said by no clause.
+//! plain way gives. Where the budget ends a call, only sets of the plain way fill it (`cause`), so that where a product finds
+//! the store full the plain way is tried.
 //! Path: sets as diagrams → **products** → regions as diagrams.
 #![tactic(auto)]
 

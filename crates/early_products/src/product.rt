@@ -1,12 +1,11 @@
 //! Products of lines, and levels taken out of a target joined with them.
 
-ghost use Rattle.std.specs.Prelude.{◌≡◌, ◌≤◌, ◌+◌, ℕ, List, true, Ok};
+ghost use Rattle.std.specs.Prelude.{◌≡◌, ◌≤◌, ◌+◌, ℕ, List, Ok};
 ghost use Rattle.spec_model.specs.Diagrams.{Function, and_exists_over};
 ghost use Rattle.bdd_store.specs.State.{IsRoot, roots_at};
-ghost use Rattle.bdd_ops.specs.Functions.{joined, join_of};
 ghost use Rattle.bdd_ops.specs.Contents.{Contents, function_at};
 ghost use Rattle.bit_compile.specs.Making.{Makes};
-ghost use Rattle.state_diagrams.specs.Members.{AreRoots, all_true, functions_at};
+ghost use Rattle.state_diagrams.specs.Members.{AreRoots, functions_at};
 ghost use Rattle.state_diagrams.specs.Lists.{times_in};
 ghost use Rattle.early_products.specs.Products.{IsProduct, MakesProduct};
 
@@ -39,8 +38,7 @@ impl Product {
         requires first { AreRoots diagrams.old first.now }
         requires second { AreRoots diagrams.old second.now }
         ensures { let old = diagrams.old in
-            MakesProduct old diagrams.new result
-            (joined (join_of true) (all_true (functions_at old first.now)) (all_true (functions_at old second.now))) out.now }
+            MakesProduct old diagrams.new result (functions_at old first.now) (functions_at old second.now) out.now }
     {
         let lines = lines_of(diagrams, alloc, first, second)?;
         match spread(diagrams, alloc, &lines, out) {

@@ -172,7 +172,7 @@ module _ (g : GameData) where
   layer_of-inside z j zero = λ s e. absurd (false≢true e)
   layer_of-inside z j (suc r) = next_layer-inside z j (layer_of g z j r)
 
-  some_goal : (sets : List StateSet) → 0 < length (or_all_states g sets)
+  pub some_goal : (sets : List StateSet) → 0 < length (or_all_states g sets)
   some_goal [] = omega arith
   some_goal (a ∷ more) = omega arith
 

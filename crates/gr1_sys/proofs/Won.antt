@@ -25,7 +25,7 @@ found (y ∷ xs) zero x e = (omega arith, cc)
 found (y ∷ xs) (suc i) x e = let rest = found xs i x e in (omega (arith, rest.0), rest.1)
 
 -- the winning states are one set
-winning_one : (g : GameData) (y z : StateSet) (l m : LayerSets) → IsWinning g y l → IsWinning g z m → y ≡ z
+pub winning_one : (g : GameData) (y z : StateSet) (l m : LayerSets) → IsWinning g y l → IsWinning g z m → y ≡ z
 winning_one g y z l m first second = parts_agree y z (second.above y l first.layers (λ s. (first.solves s).0)) (first.above z m second.layers (λ s. (second.solves s).0))
 
 module _ {G R M : Type 0} where

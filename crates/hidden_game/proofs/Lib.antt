@@ -13,5 +13,4 @@ pub mod FewerStates
 pub mod Limits
 pub mod GoalParts
 pub mod Making
-mod SamplesTyped
 pub mod FewBits

@@ -1,3 +1,2 @@
 pub mod GameOf
 pub mod Sources
-pub mod Samples

@@ -22,6 +22,3 @@ mod tables;
 pub use expanding::expand;
 pub use game_play::{InputJudge, OutputJudge, first_hidden, next_hidden};
 pub use laws::{games_agree, lines_rise};
-
-#[cfg(test)]
-mod tests;

@@ -21,6 +21,3 @@ pub use node::Node;
 pub use nodes::Nodes;
 /// Memory ran out.
 pub use std::alloc::AllocError as OutOfMemory;
-
-#[cfg(test)]
-mod tests;

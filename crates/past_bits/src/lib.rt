@@ -23,6 +23,3 @@ pub use tables::bits;
 
 /// Memory ran out.
 pub use std::alloc::AllocError as OutOfMemory;
-
-#[cfg(test)]
-mod tests;

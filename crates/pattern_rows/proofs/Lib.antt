@@ -9,5 +9,4 @@ pub mod Sizes
 pub mod Cells
 pub mod Runs
 pub mod Handed
-pub mod Examples
 pub mod Filled

@@ -2,4 +2,3 @@ pub mod Patterns
 pub mod Rows
 pub mod Sights
 pub mod Laws
-pub mod Examples

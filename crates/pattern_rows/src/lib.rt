@@ -19,6 +19,3 @@ mod sight;
 pub use fault::RowFault;
 pub use filling::rows;
 pub use laws::{tables_are_filled, tables_are_patterns, typed_patterns_have_tables};
-
-#[cfg(test)]
-mod tests;

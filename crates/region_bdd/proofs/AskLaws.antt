@@ -1,5 +1,5 @@
 -- What is left after a diagram was asked for and given back, and what it tells of the first move.
-use Rattle.std.proofs.Common.{◌≡◌, ◌↔◌, ℕ, Bool, true, false, not, List, ◌++◌, map, Option, None, Result, Ok, Err, IfOk, IfErr, IsTrue, refl, sym, ◌∙◌, ap, subst}
+use Rattle.std.proofs.Common.{◌≡◌, ◌↔◌, ◌⊎◌, ℕ, Bool, true, false, not, List, ◌++◌, map, Option, None, Result, Ok, Err, IfOk, IfErr, IsTrue, refl, sym, ◌∙◌, ap, subst}
 use Rattle.std.proofs.lemmas.Bool.{false≢true}
 use Rattle.spec_model.specs.Diagrams.{Bits, Function}
 use Rattle.spec_model.specs.Games.{GameData}
@@ -8,7 +8,7 @@ use Rattle.regions.specs.Kept.{Meaning, Call, Stays, Halts, IsSameGame}
 use Rattle.regions.specs.declared.types.Halt.{Halt}
 use Rattle.regions.specs.declared.types.Halt.TheVariants as halt
 use Rattle.regions.specs.declared.types.When.TheVariants.{First}
-use Rattle.bdd_store.specs.State.{IsRoot, IsFull}
+use Rattle.bdd_store.specs.State.{IsRoot}
 use Rattle.region_bdd.proofs.FewNodes.{few_nodes}
 use Rattle.bdd_ops.specs.Contents.{Contents}
 use Rattle.bit_compile.specs.Making.{Makes}
@@ -21,7 +21,11 @@ use Rattle.region_bdd.specs.declared.own.Own.{Own}
 use Rattle.region_bdd.specs.declared.own.Refused.{Refused}
 use Rattle.region_bdd.specs.Slots.{shown_of}
 use Rattle.region_bdd.specs.Asking.{Answers, SettlesAnswer}
-use Rattle.region_bdd.specs.Object.{IsObject, call_of, argument_in, kept_of}
+use Rattle.region_bdd.specs.Crowding.{IsOfCall, FillsBudget}
+use Rattle.bit_compile.specs.Crowding.{HasCause}
+use Rattle.state_diagrams.specs.NamedGame.{IsOfGame}
+use Rattle.region_bdd.proofs.Refusals.{jam_of, still_named, refusal_fills, is_jammed}
+use Rattle.region_bdd.specs.Object.{IsObject, OwnIsNamed, call_of, argument_in, kept_of}
 use Rattle.region_bdd.proofs.ObjectLaws.{none_refused, sound_same, stays_same, halts_memory, halts_budget, early_fits}
 
 -- what is told before the first move is one truth value
@@ -56,16 +60,15 @@ pub record Told (g : GameData) (own : Own) (lists : NextLevels) (c c' : Contents
   pub stays : IfOk result (λ said. Stays (kept_of g c slots was) (kept_of g c' slots refused))
   pub halted : IfErr result (Halts (kept_of g c slots was) (kept_of g c' slots refused) asked arguments)
   pub same : IsSameGame (kept_of g c slots was) (kept_of g c' slots refused)
-  pub cause : result ≡ Err halt.Budget → IsFull c'.state
   pub object : IsObject g c' own lists slots refused
 
 module _ (g : GameData) (own : Own) (lists : NextLevels) (c c' : Contents) (slots : List Slot) (object : IsObject g c own lists slots None) (fact : Type 0) (why : Refused) (arguments : List Meaning)
     (arguments_are : argument_in g (map (shown_of c) slots) why.first ++ argument_in g (map (shown_of c) slots) why.second ≡ arguments) where
   still : Answers c c' (Err halt.Memory) fact → IsObject g c' own lists slots None
-  still asked = record { made = object.made; levels = asked.keeps.levels ∙ object.levels; lists_are = object.lists_are; early = early_fits g own c c' slots object.sound asked.keeps lists object.early; sound = sound_same g own c c' slots object.sound asked.keeps asked.roots; unspent = object.unspent; tight = tt }
+  still asked = record { made = object.made; levels = asked.keeps.levels ∙ object.levels; lists_are = object.lists_are; early = early_fits g own c c' slots object.sound asked.keeps lists object.early; named = still_named g own lists c c' slots object asked.keeps; sound = sound_same g own c c' slots object.sound asked.keeps asked.roots; unspent = object.unspent; tight = tt; jammed = tt }
 
-  told_plain : (made : Result Bool Halt) → Answers c c' made fact → (result : Result Bool Halt) (refused : Option Refused) → SettlesAnswer refused made result why → Told g own lists c c' slots None refused result fact (call_of why.asked) arguments
-  told_plain (Ok said) asked result refused settles =
+  told_plain : (made : Result Bool Halt) → Answers c c' made fact → (made ≡ Err halt.Budget → ∥ FillsBudget g c'.state.table.budget (jam_of g c' slots (call_of why.asked) arguments) ∥₁) → (result : Result Bool Halt) (refused : Option Refused) → SettlesAnswer refused made result why → Told g own lists c c' slots None refused result fact (call_of why.asked) arguments
+  told_plain (Ok said) asked fills result refused settles =
       subst (λ (r : Result Bool Halt). Told g own lists c c' slots None refused r fact (call_of why.asked) arguments) (sym settles.0)
       (subst (λ (o : Option Refused). Told g own lists c c' slots None o (Ok said) fact (call_of why.asked) arguments) (sym settles.1)
       (record {
@@ -73,10 +76,9 @@ module _ (g : GameData) (own : Own) (lists : NextLevels) (c c' : Contents) (slot
         stays = stays_same g own c c' slots object.sound asked.keeps None;
         halted = tt;
         same = record { game = refl; bound = asked.keeps.budget };
-        cause = asked.full;
-        object = record { made = object.made; levels = asked.keeps.levels ∙ object.levels; lists_are = object.lists_are; early = early_fits g own c c' slots object.sound asked.keeps lists object.early; sound = sound_same g own c c' slots object.sound asked.keeps asked.roots; unspent = object.unspent; tight = tt };
+        object = record { made = object.made; levels = asked.keeps.levels ∙ object.levels; lists_are = object.lists_are; early = early_fits g own c c' slots object.sound asked.keeps lists object.early; named = still_named g own lists c c' slots object asked.keeps; sound = sound_same g own c c' slots object.sound asked.keeps asked.roots; unspent = object.unspent; tight = tt; jammed = tt };
       }))
-  told_plain (Err halt.Memory) asked result refused settles =
+  told_plain (Err halt.Memory) asked fills result refused settles =
       subst (λ (r : Result Bool Halt). Told g own lists c c' slots None refused r fact (call_of why.asked) arguments) (sym settles.0)
       (subst (λ (o : Option Refused). Told g own lists c c' slots None o (Err halt.Memory) fact (call_of why.asked) arguments) (sym settles.1)
       (record {
@@ -84,10 +86,9 @@ module _ (g : GameData) (own : Own) (lists : NextLevels) (c c' : Contents) (slot
         stays = tt;
         halted = halts_memory g own c c' slots object.sound asked.keeps (call_of why.asked) arguments;
         same = record { game = refl; bound = asked.keeps.budget };
-        cause = asked.full;
         object = still asked;
       }))
-  told_plain (Err halt.Budget) asked result refused settles =
+  told_plain (Err halt.Budget) asked fills result refused settles =
       subst (λ (r : Result Bool Halt). Told g own lists c c' slots None refused r fact (call_of why.asked) arguments) (sym settles.0)
       (subst (λ (o : Option Refused). Told g own lists c c' slots None o (Err halt.Budget) fact (call_of why.asked) arguments) (sym settles.1)
       (record {
@@ -95,17 +96,16 @@ module _ (g : GameData) (own : Own) (lists : NextLevels) (c c' : Contents) (slot
         stays = tt;
         halted = halts_budget g own c c' slots object.sound asked.keeps why (call_of why.asked) arguments object.unspent refl arguments_are;
         same = record { game = refl; bound = asked.keeps.budget };
-        cause = asked.full;
-        object = record { made = object.made; levels = asked.keeps.levels ∙ object.levels; lists_are = object.lists_are; early = early_fits g own c c' slots object.sound asked.keeps lists object.early; sound = sound_same g own c c' slots object.sound asked.keeps asked.roots; unspent = tt; tight = few_nodes c'.state.table (asked.full refl) };
+        object = record { made = object.made; levels = asked.keeps.levels ∙ object.levels; lists_are = object.lists_are; early = early_fits g own c c' slots object.sound asked.keeps lists object.early; named = still_named g own lists c c' slots object asked.keeps; sound = sound_same g own c c' slots object.sound asked.keeps asked.roots; unspent = tt; tight = few_nodes c'.state.table (asked.full refl); jammed = is_jammed g own lists c c' slots object asked.keeps why arguments arguments_are (fills refl) };
       }))
 
 pub told : (g : GameData) (own : Own) (lists : NextLevels) (c c' : Contents) (slots : List Slot) (was refused : Option Refused) (object : IsObject g c own lists slots was) → (kept_of g c slots was).jam ≡ None → (fact : Type 0) (why : Refused) (arguments : List Meaning) →
-    argument_in g (map (shown_of c) slots) why.first ++ argument_in g (map (shown_of c) slots) why.second ≡ arguments → (made result : Result Bool Halt) → Answers c c' made fact → SettlesAnswer refused made result why → Told g own lists c c' slots was refused result fact (call_of why.asked) arguments
-told g own lists c c' slots was refused object free fact why arguments are made result asked settles =
+    argument_in g (map (shown_of c) slots) why.first ++ argument_in g (map (shown_of c) slots) why.second ≡ arguments → (made result : Result Bool Halt) → Answers c c' made fact → (N : Function → Type 0) → HasCause c c' made N → (OwnIsNamed g lists.to.items c' own → (h : Function) → N h → IsOfGame g h ⊎ IsOfCall g (call_of why.asked) arguments h) → (given : Refused) → given ≡ why → SettlesAnswer refused made result given → Told g own lists c c' slots was refused result fact (call_of why.asked) arguments
+told g own lists c c' slots was refused object free fact why arguments are made result asked N cause calls given is_given settles =
     let none = none_refused g c slots was free in
     let object' : IsObject g c own lists slots None = subst (λ (o : Option Refused). IsObject g c own lists slots o) none object in
     subst (λ (o : Option Refused). Told g own lists c c' slots o refused result fact (call_of why.asked) arguments) (sym none)
-    (told_plain g own lists c c' slots object' fact why arguments are made asked result refused settles)
+    (told_plain g own lists c c' slots object' fact why arguments are made asked (refusal_fills g own lists c c' slots object' asked.keeps asked.roots N made cause (call_of why.asked) arguments calls) result refused (subst (SettlesAnswer refused made result) is_given settles))
 
 pub answers_by : (result : Result Bool Halt) (fact : Type 0) (x : Bool) (Left : Type 0) → IfOk result (λ said. IsTrue said ↔ fact) → IfOk result (λ said. Left) → ((said : Bool) → (IsTrue said ↔ fact) → said ≡ x) → IfOk result (λ said. (said ≡ x) × Left)
 answers_by (Ok said) fact x Left answer left by = (by said answer, left)

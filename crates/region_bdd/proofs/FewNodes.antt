@@ -1,14 +1,19 @@
 -- Over so many levels there are no more reduced diagrams than functions, so a table has no more nodes.
-use Rattle.std.proofs.Common.{◌≡◌, ◌≢◌, ℕ, zero, suc, ◌+◌, ◌*◌, ◌^◌, ◌<◌, ◌≤◌, ◌==◌, ◌⊎◌, Bool, true, false, cond, List, [], ◌∷◌, get_or, refl, sym, ◌∙◌, ap, subst, inl, inr, arith, zero-add}
+use Rattle.std.proofs.Common.{◌≡◌, ◌≢◌, ℕ, zero, suc, ◌+◌, ◌*◌, ◌^◌, ◌<◌, ◌≤◌, ◌==◌, ◌⊎◌, Bool, true, false, cond, List, [], ◌∷◌, ◌++◌, length, map, get_or, refl, sym, ◌∙◌, ap, subst, inl, inr, arith, zero-add}
 use Rattle.std.specs.Prelude.{count_by}
 use Rattle.std.proofs.Math.Nat.{pow-suc, mul-le-mul_right}
 use Rattle.std.proofs.lemmas.Nat.{mul-add-lt, pow-add}
 use Rattle.std.proofs.lemmas.List.Sums.{sum_by-cons}
-use Rattle.std.proofs.lemmas.Bool.{cases_lt, eqb-true, eqb-false}
-use Rattle.spec_model.specs.Diagrams.{Diagram, constant, branch, IsLater, IsReduced, IsWithin}
+use Rattle.std.proofs.lemmas.Bool.{cases_lt, eqb-true, eqb-false, false≢true}
+use Rattle.std.specs.List.{Contains}
+use Rattle.std.proofs.lemmas.List.Elements.{Contains-get_or, Contains-append_cases}
+use Rattle.spec_model.specs.Diagrams.{Diagram, constant, branch, Function, IsLater, IsReduced, IsWithin, IsPartOf}
 use Rattle.node_table.specs.Table.{Table, count_of, IsLive, IsSound, diagram_at}
 use Rattle.node_table.proofs.Meaning.{diagram_at-reduced, diagram_at-within, one_node}
 use Rattle.bdd_store.specs.State.{IsFilled}
+use Rattle.bit_compile.specs.Crowding.{IsUnfinishedOf}
+use Rattle.bit_compile.specs.Filling.{AreDifferent, IsConstant, IsPartOfOne, IsNamedDiagram, FillTogether}
+use Rattle.bit_compile.proofs.Filled.{all_at}
 
 -- ---- numbers that are all different
 
@@ -168,6 +173,10 @@ same_diagram (suc many) level d e fits fits' same =
     (same_diagram many (suc level) (low_at level d) (low_at level e) mine.0 others.0 low)
     (same_diagram many (suc level) (high_at level d) (high_at level e) mine.1 others.1 high)
 
+from_start : (d : Diagram) → IsFrom 0 d
+from_start (constant b) = tt
+from_start (branch own low high) = omega arith
+
 -- a table that holds its budget of nodes has a budget of no more than the functions of its levels' bits
 pub few_nodes : (t : Table) → IsFilled t → t.budget ≤ 2 ^ (2 ^ t.levels)
 few_nodes t filled =
@@ -176,7 +185,65 @@ few_nodes t filled =
     (λ n k live live' e. one_node t filled.sound n k live live' (same_diagram t.levels 0 (diagram_at t n) (diagram_at t k) (fits n live) (fits k live') e)) in
     let count = filled.count in
     omega (arith, bound, count)
+
+-- ---- listed diagrams
+
+part_reduced : (d e : Diagram) → IsReduced e → IsPartOf d e → IsReduced d
+part_reduced d (constant b) reduced part = subst IsReduced (sym part) tt
+part_reduced d (branch level low high) reduced part = elim part [
+  | inl same ↦ subst IsReduced (sym same) reduced
+  | inr (inl in_low) ↦ part_reduced d low reduced.3 in_low
+  | inr (inr in_high) ↦ part_reduced d high reduced.4 in_high
+]
+
+abbrev listed_at : List Diagram → ℕ → Diagram
+listed_at ds n = get_or ds n (constant false)
+
+different_at : (ds : List Diagram) → AreDifferent ds → (n k : ℕ) → n < length ds → k < length ds → listed_at ds n ≡ listed_at ds k → n ≡ k
+different_at [] different n k there there' same = absurd (omega (arith, there))
+different_at (d ∷ ds) different zero zero there there' same = refl
+different_at (d ∷ ds) different zero (suc k) there there' same = absurd (different.0 (subst (λ (e : Diagram). Contains ds e) (sym same) (Contains-get_or ds k (constant false) (omega (arith, there')))))
+different_at (d ∷ ds) different (suc n) zero there there' same = absurd (different.0 (subst (λ (e : Diagram). Contains ds e) same (Contains-get_or ds n (constant false) (omega (arith, there)))))
+different_at (d ∷ ds) different (suc n) (suc k) there there' same = ap suc (different_at ds different.1 n k (omega (arith, there)) (omega (arith, there')) same)
+
+abbrev marks : List Diagram → List Bool
+marks ds = map (λ d. true) ds
+
+marked : (ds : List Diagram) (n : ℕ) → get_or (marks ds) n false ≡ true → n < length ds
+marked [] n is = absurd (false≢true is)
+marked (d ∷ ds) zero is = omega arith
+marked (d ∷ ds) (suc n) is = let rest = marked ds n is in omega (arith, rest)
+
+marks_counted : (ds : List Diagram) → count_by (λ b. b) (marks ds) ≡ length ds
+marks_counted [] = refl
+marks_counted (d ∷ ds) = let rest = marks_counted ds in let sums = sum_by-cons (λ (b : Bool). cond b 1 0) true (marks ds) in omega (arith, rest, sums)
+
+few_listed : (levels : ℕ) (ds : List Diagram) → AreDifferent ds → ((d : Diagram) → Contains ds d → IsReduced d) → ((d : Diagram) → Contains ds d → IsWithin levels d) → length ds ≤ 2 ^ (2 ^ levels)
+few_listed levels ds different reduced within =
+    let fits : (n : ℕ) → n < length ds → Fits levels 0 (listed_at ds n) = λ n there.
+    record {
+      from = from_start (listed_at ds n);
+      reduced = reduced (listed_at ds n) (Contains-get_or ds n (constant false) there);
+      within = subst (λ k. IsWithin k (listed_at ds n)) (sym (zero-add levels)) (within (listed_at ds n) (Contains-get_or ds n (constant false) there));
+    } in
+    let bound = few (functions levels) (marks ds) (λ n. number levels 0 (listed_at ds n)) (λ n is. number-below levels 0 (listed_at ds n))
+    (λ n k is is' e. different_at ds different n k (marked ds n is) (marked ds k is') (same_diagram levels 0 (listed_at ds n) (listed_at ds k) (fits n (marked ds n is)) (fits k (marked ds k is')) e)) in
+    let count = marks_counted ds in
+    omega (arith, bound, count)
+
+-- diagrams over so many levels that fill a budget leave it no greater than their functions are many
+pub few_fill : (levels budget : ℕ) (N : Function → Type 0) (sets : List Diagram) → FillTogether levels budget N sets → budget ≤ 2 ^ (2 ^ levels)
+few_fill levels budget N sets fill =
+    let bound = few_listed levels fill.parts fill.different (λ d there. by_cases d ((fill.are_parts d).0 there)) fill.within in
+    let counted = fill.counted in
+    omega (arith, bound, counted)
   where
-    from_start : (d : Diagram) → IsFrom 0 d
-    from_start (constant b) = tt
-    from_start (branch own low high) = omega arith
+    whole_reduced : (whole : Diagram) → Contains (sets ++ fill.unfinished) whole → IsReduced whole
+    whole_reduced whole there = elim (Contains-append_cases sets fill.unfinished whole there) [
+      | inl in_sets ↦ (all_at (IsNamedDiagram N) sets whole fill.named in_sets).0
+      | inr made ↦ (all_at (λ d. IsReduced d × IsUnfinishedOf fill.running d) fill.unfinished whole fill.results made).0
+    ]
+
+    by_cases : (d : Diagram) → IsConstant d ⊎ IsPartOfOne (sets ++ fill.unfinished) d → IsReduced d
+    by_cases d (inl known) = subst IsReduced (sym known.1) tt
+    by_cases d (inr part) = part_reduced d part.0 (whole_reduced part.0 part.1) part.2

@@ -14,3 +14,6 @@ pub mod FindCalls
 pub mod MakingLaws
 pub mod FewNodes
 pub mod NeedLaws
+pub mod JamLaws
+pub mod Refusals
+pub mod CallNames

@@ -1,5 +1,5 @@
 -- What a call that makes moves leaves, whatever came of its diagrams.
-use Rattle.std.proofs.Common.{◌≡◌, ℕ, ◌+◌, not, List, ◌++◌, map, Option, Some, None, Result, Ok, Err, IfOk, IfErr, refl, sym, ◌∙◌, ap, subst, is_ok}
+use Rattle.std.proofs.Common.{◌≡◌, ◌⊎◌, ℕ, ◌+◌, not, List, ◌++◌, map, Option, Some, None, Result, Ok, Err, IfOk, IfErr, OnErr, refl, sym, ◌∙◌, ap, subst}
 use Rattle.std.proofs.lemmas.Bool.{false≢true}
 use Rattle.spec_model.specs.Diagrams.{Function}
 use Rattle.spec_model.specs.Games.{GameData}
@@ -24,12 +24,16 @@ use Rattle.region_bdd.specs.declared.slots.Slot.TheVariants.{Taken}
 use Rattle.region_bdd.specs.declared.slots.BddMove.{BddMove}
 use Rattle.region_bdd.specs.declared.own.Own.{Own}
 use Rattle.region_bdd.specs.declared.own.Refused.{Refused}
-use Rattle.region_bdd.specs.Slots.{shown_in, shown_of, roots_within, TakesSlot}
+use Rattle.region_bdd.specs.Slots.{shown_in, shown_of, shown_once, roots_within, TakesSlot}
 use Rattle.region_bdd.specs.Held.{Weights, slot_weighs}
 use Rattle.region_bdd.specs.Keeping.{SettlesOutputs}
 use Rattle.region_bdd.specs.Leading.{MakesTwo, SettlesInputs}
 use Rattle.region_bdd.specs.Needs.{IsTight}
-use Rattle.region_bdd.specs.Object.{ShownFits, IsObject, IsOpen, call_of, argument_in, kept_of}
+use Rattle.region_bdd.specs.Object.{ShownFits, IsObject, IsOpen, OwnIsNamed, call_of, argument_in, jam_in, kept_of}
+use Rattle.region_bdd.specs.Crowding.{LeadsInto, IsOfCall, FillsBudget, IsJammed}
+use Rattle.bit_compile.specs.Crowding.{HasCause}
+use Rattle.state_diagrams.specs.NamedGame.{IsOfGame}
+use Rattle.region_bdd.proofs.Refusals.{jam_of, still_named, refusal_fills, is_jammed}
 use Rattle.region_bdd.proofs.OutcomeLaws.{is_memory}
 use Rattle.region_bdd.proofs.SlotLaws.{open_taken}
 use Rattle.region_bdd.proofs.ObjectLaws.{none_refused, sound_same, sound_taken, makes_item, halts_memory, halts_budget, early_fits}
@@ -57,9 +61,11 @@ module _ (g : GameData) (own : Own) (lists : NextLevels) (c c' : Contents) (slot
           levels = keeps.levels ∙ object.levels;
           lists_are = object.lists_are;
           early = early_fits g own c c' slots object.sound keeps lists object.early;
+          named = still_named g own lists c c' slots object keeps;
           sound = sound_taken g own c c' slots object.sound keeps new r.slot content adds takes fits;
           unspent = subst (λ (o : Option Refused). IsOpen o new) (sym unspent) (open_taken slots new r.slot content takes object.unspent);
           tight = subst (λ (o : Option Refused). IsTight o c'.state.table) (sym unspent) tt;
+          jammed = subst (λ (o : Option Refused). IsJammed g c'.state.table.budget (jam_in g (map (shown_once c') new) o)) (sym unspent) tt;
         };
       }
 
@@ -72,53 +78,54 @@ module _ (g : GameData) (own : Own) (lists : NextLevels) (c c' : Contents) (slot
         made = tt;
         halted = halts_memory g own c c' slots object.sound keeps (call_of why.asked) arguments;
         same = record { game = refl; bound = keeps.budget };
-        object = record { made = object.made; levels = keeps.levels ∙ object.levels; lists_are = object.lists_are; early = early_fits g own c c' slots object.sound keeps lists object.early; sound = sound_same g own c c' slots object.sound keeps roots; unspent = object.unspent; tight = tt };
+        object = record { made = object.made; levels = keeps.levels ∙ object.levels; lists_are = object.lists_are; early = early_fits g own c c' slots object.sound keeps lists object.early; named = still_named g own lists c c' slots object keeps; sound = sound_same g own c c' slots object.sound keeps roots; unspent = object.unspent; tight = tt; jammed = tt };
       }))
 
   -- or for want of budget
-  none_budget : SameRoots c.state c'.state → IsFull c'.state → new ≡ slots → refused ≡ Some why → MoveOutcome g own lists c c' slots new None refused (Err halt.Budget) meaning (call_of why.asked) arguments
-  none_budget roots full same told =
+  none_budget : SameRoots c.state c'.state → IsFull c'.state → ∥ FillsBudget g c'.state.table.budget (jam_of g c' slots (call_of why.asked) arguments) ∥₁ → new ≡ slots → refused ≡ Some why → MoveOutcome g own lists c c' slots new None refused (Err halt.Budget) meaning (call_of why.asked) arguments
+  none_budget roots full fills same told =
       subst (λ (ss : List Slot). MoveOutcome g own lists c c' slots ss None refused (Err halt.Budget) meaning (call_of why.asked) arguments) (sym same)
       (subst (λ (o : Option Refused). MoveOutcome g own lists c c' slots slots None o (Err halt.Budget) meaning (call_of why.asked) arguments) (sym told)
       (record {
         made = tt;
         halted = halts_budget g own c c' slots object.sound keeps why (call_of why.asked) arguments object.unspent refl arguments_are;
         same = record { game = refl; bound = keeps.budget };
-        object = record { made = object.made; levels = keeps.levels ∙ object.levels; lists_are = object.lists_are; early = early_fits g own c c' slots object.sound keeps lists object.early; sound = sound_same g own c c' slots object.sound keeps roots; unspent = tt; tight = few_nodes c'.state.table full };
+        object = record { made = object.made; levels = keeps.levels ∙ object.levels; lists_are = object.lists_are; early = early_fits g own c c' slots object.sound keeps lists object.early; named = still_named g own lists c c' slots object keeps; sound = sound_same g own c c' slots object.sound keeps roots; unspent = tt; tight = few_nodes c'.state.table full; jammed = is_jammed g own lists c c' slots object keeps why arguments arguments_are fills };
       }))
 
 module _ (g : GameData) (own : Own) (when : When) (lists : NextLevels) (c c' : Contents) (slots new : List Slot) (refused : Option Refused) (object : IsObject g c own lists slots None) (t : StateSet) (why : Refused) (arguments : List Meaning)
     (arguments_are : argument_in g (map (shown_of c) slots) why.first ++ argument_in g (map (shown_of c) slots) why.second ≡ arguments) where
-  outputs_outcome : (f : Function) → Tells g Next f t → (made : Result ℕ Halt) (result : Result BddMove Halt) → Makes c c' made f → SettlesOutputs slots new refused made result when why → MoveOutcome g own lists c c' slots new None refused result (OutputMoves when t) (call_of why.asked) arguments
-  outputs_outcome f tells (Ok root) (Ok r) makes settles =
+  outputs_outcome : (f : Function) → Tells g Next f t → (made : Result ℕ Halt) (result : Result BddMove Halt) → Makes c c' made f → (made ≡ Err halt.Budget → ∥ FillsBudget g c'.state.table.budget (jam_of g c' slots (call_of why.asked) arguments) ∥₁) → SettlesOutputs slots new refused made result when why → MoveOutcome g own lists c c' slots new None refused result (OutputMoves when t) (call_of why.asked) arguments
+  outputs_outcome f tells (Ok root) (Ok r) makes fills settles =
       let told : function_at c' root ≡ f = makes.meaning in
       let fits : TellsStates g Next (function_at c' root) = subst (TellsStates g Next) (sym told) tells.states in
       let is : set_at g Next (function_at c' root) ≡ t = ap (set_at g Next) told ∙ tells.set in
       taken g own lists c c' slots new refused object (OutputMoves when t) why arguments arguments_are makes.keeps (Outputs when root) r makes.added fits (λ w. ap (λ u. w (Move r) (OutputMoves when u)) is) settles.0 settles.1
-  outputs_outcome f tells (Err halt.Memory) (Err halt.Memory) makes settles = none_memory g own lists c c' slots new refused object (OutputMoves when t) why arguments arguments_are makes.keeps makes.refused settles.0 settles.1
-  outputs_outcome f tells (Err halt.Budget) (Err halt.Budget) makes settles = none_budget g own lists c c' slots new refused object (OutputMoves when t) why arguments arguments_are makes.keeps makes.refused (makes.full refl) settles.0 settles.1
-  outputs_outcome f tells (Ok root) (Err halt.Memory) makes settles = absurd settles
-  outputs_outcome f tells (Ok root) (Err halt.Budget) makes settles = absurd settles
-  outputs_outcome f tells (Err halt.Memory) (Ok r) makes settles = absurd settles
-  outputs_outcome f tells (Err halt.Budget) (Ok r) makes settles = absurd settles
-  outputs_outcome f tells (Err halt.Memory) (Err halt.Budget) makes settles = absurd settles
-  outputs_outcome f tells (Err halt.Budget) (Err halt.Memory) makes settles = absurd settles
+  outputs_outcome f tells (Err halt.Memory) (Err halt.Memory) makes fills settles = none_memory g own lists c c' slots new refused object (OutputMoves when t) why arguments arguments_are makes.keeps makes.refused settles.0 settles.1
+  outputs_outcome f tells (Err halt.Budget) (Err halt.Budget) makes fills settles = none_budget g own lists c c' slots new refused object (OutputMoves when t) why arguments arguments_are makes.keeps makes.refused (makes.full refl) (fills refl) settles.0 settles.1
+  outputs_outcome f tells (Ok root) (Err halt.Memory) makes fills settles = absurd settles
+  outputs_outcome f tells (Ok root) (Err halt.Budget) makes fills settles = absurd settles
+  outputs_outcome f tells (Err halt.Memory) (Ok r) makes fills settles = absurd settles
+  outputs_outcome f tells (Err halt.Budget) (Ok r) makes fills settles = absurd settles
+  outputs_outcome f tells (Err halt.Memory) (Err halt.Budget) makes fills settles = absurd settles
+  outputs_outcome f tells (Err halt.Budget) (Err halt.Memory) makes fills settles = absurd settles
 
-  inputs_outcome : (f h : Function) → Tells g Now f t → TellsMoves g when h (λ b s. not (some_leads g (λ s. not (t s)) b s.position.input)) → (made : Result (ℕ × ℕ) Halt) (result : Result BddMove Halt) → MakesTwo c c' made f h → SettlesInputs slots new refused made result when why → MoveOutcome g own lists c c' slots new None refused result (InputMoves when t) (call_of why.asked) arguments
-  inputs_outcome f h tells leads (Ok p) (Ok r) makes settles =
+  inputs_outcome : (f h : Function) → Tells g Now f t → TellsMoves g when h (λ b s. not (some_leads g (λ s. not (t s)) b s.position.input)) → ∥ LeadsInto g when t h ∥₁ → (made : Result (ℕ × ℕ) Halt) (result : Result BddMove Halt) → MakesTwo c c' made f h → (made ≡ Err halt.Budget → ∥ FillsBudget g c'.state.table.budget (jam_of g c' slots (call_of why.asked) arguments) ∥₁) → SettlesInputs slots new refused made result when why → MoveOutcome g own lists c c' slots new None refused result (InputMoves when t) (call_of why.asked) arguments
+  inputs_outcome f h tells leads into (Ok p) (Ok r) makes fills settles =
       let is : set_at g Now (function_at c' p.0) ≡ t = ap (set_at g Now) makes.first ∙ tells.set in
       let states : TellsStates g Now (function_at c' p.0) = subst (TellsStates g Now) (sym makes.first) tells.states in
       let out : TellsMoves g when (function_at c' p.1) (λ b s. not (some_leads g (λ s. not (t s)) b s.position.input)) = subst (λ (k : Function). TellsMoves g when k (λ b s. not (some_leads g (λ s. not (t s)) b s.position.input))) (sym makes.second) leads in
       let out' : TellsMoves g when (function_at c' p.1) (λ b s. not (some_leads g (λ s. not (set_at g Now (function_at c' p.0) s)) b s.position.input)) = subst (λ (u : StateSet). TellsMoves g when (function_at c' p.1) (λ b s. not (some_leads g (λ s. not (u s)) b s.position.input))) (sym is) out in
-      taken g own lists c c' slots new refused object (InputMoves when t) why arguments arguments_are makes.keeps (Inputs when p.0 p.1) r makes.added (states, out') (λ w. ap (λ u. w (Move r) (InputMoves when u)) is) settles.0 settles.1
-  inputs_outcome f h tells leads (Err halt.Memory) (Err halt.Memory) makes settles = none_memory g own lists c c' slots new refused object (InputMoves when t) why arguments arguments_are makes.keeps makes.refused settles.0 settles.1
-  inputs_outcome f h tells leads (Err halt.Budget) (Err halt.Budget) makes settles = none_budget g own lists c c' slots new refused object (InputMoves when t) why arguments arguments_are makes.keeps makes.refused (makes.full refl) settles.0 settles.1
-  inputs_outcome f h tells leads (Ok p) (Err halt.Memory) makes settles = absurd settles
-  inputs_outcome f h tells leads (Ok p) (Err halt.Budget) makes settles = absurd settles
-  inputs_outcome f h tells leads (Err halt.Memory) (Ok r) makes settles = absurd settles
-  inputs_outcome f h tells leads (Err halt.Budget) (Ok r) makes settles = absurd settles
-  inputs_outcome f h tells leads (Err halt.Memory) (Err halt.Budget) makes settles = absurd settles
-  inputs_outcome f h tells leads (Err halt.Budget) (Err halt.Memory) makes settles = absurd settles
+      let into' : ∥ LeadsInto g when (set_at g Now (function_at c' p.0)) (function_at c' p.1) ∥₁ = subst (λ (u : StateSet). ∥ LeadsInto g when u (function_at c' p.1) ∥₁) (sym is) (subst (λ (k : Function). ∥ LeadsInto g when t k ∥₁) (sym makes.second) into) in
+      taken g own lists c c' slots new refused object (InputMoves when t) why arguments arguments_are makes.keeps (Inputs when p.0 p.1) r makes.added (states, out', into') (λ w. ap (λ u. w (Move r) (InputMoves when u)) is) settles.0 settles.1
+  inputs_outcome f h tells leads into (Err halt.Memory) (Err halt.Memory) makes fills settles = none_memory g own lists c c' slots new refused object (InputMoves when t) why arguments arguments_are makes.keeps makes.refused settles.0 settles.1
+  inputs_outcome f h tells leads into (Err halt.Budget) (Err halt.Budget) makes fills settles = none_budget g own lists c c' slots new refused object (InputMoves when t) why arguments arguments_are makes.keeps makes.refused (makes.full refl) (fills refl) settles.0 settles.1
+  inputs_outcome f h tells leads into (Ok p) (Err halt.Memory) makes fills settles = absurd settles
+  inputs_outcome f h tells leads into (Ok p) (Err halt.Budget) makes fills settles = absurd settles
+  inputs_outcome f h tells leads into (Err halt.Memory) (Ok r) makes fills settles = absurd settles
+  inputs_outcome f h tells leads into (Err halt.Budget) (Ok r) makes fills settles = absurd settles
+  inputs_outcome f h tells leads into (Err halt.Memory) (Err halt.Budget) makes fills settles = absurd settles
+  inputs_outcome f h tells leads into (Err halt.Budget) (Err halt.Memory) makes fills settles = absurd settles
 
 -- the same, as the calls have it: with room made for the diagrams first
 module _ (g : GameData) (own : Own) (when : When) (lists : NextLevels) (c c' : Contents) (slots mid new : List Slot) (was refused : Option Refused) (object : IsObject g c own lists slots was) (free : (kept_of g c slots was).jam ≡ None) (room : mid ≡ slots) (t : StateSet) (why : Refused) (arguments : List Meaning)
@@ -129,36 +136,12 @@ module _ (g : GameData) (own : Own) (when : When) (lists : NextLevels) (c c' : C
   object' : IsObject g c own lists slots None
   object' = subst (λ (o : Option Refused). IsObject g c own lists slots o) none object
 
-  pub outputs_answered : (f : Function) → Tells g Next f t → (made : Result ℕ Halt) (result : Result BddMove Halt) → Makes c c' made f → SettlesOutputs mid new refused made result when why → MoveOutcome g own lists c c' slots new was refused result (OutputMoves when t) (call_of why.asked) arguments
-  outputs_answered f tells made result makes settles =
+  pub outputs_answered : (f : Function) → Tells g Next f t → (made : Result ℕ Halt) (result : Result BddMove Halt) → Makes c c' made f → (N : Function → Type 0) → HasCause c c' made N → (OwnIsNamed g lists.to.items c' own → (h : Function) → N h → IsOfGame g h ⊎ IsOfCall g (call_of why.asked) arguments h) → (given : Refused) → given ≡ why → SettlesOutputs mid new refused made result when given → MoveOutcome g own lists c c' slots new was refused result (OutputMoves when t) (call_of why.asked) arguments
+  outputs_answered f tells made result makes N cause calls given is_given settles =
       subst (λ (o : Option Refused). MoveOutcome g own lists c c' slots new o refused result (OutputMoves when t) (call_of why.asked) arguments) (sym none)
-      (outputs_outcome g own when lists c c' slots new refused object' t why arguments arguments_are f tells made result makes (subst (λ (ss : List Slot). SettlesOutputs ss new refused made result when why) room settles))
+      (outputs_outcome g own when lists c c' slots new refused object' t why arguments arguments_are f tells made result makes (λ is. refusal_fills g own lists c c' slots object' makes.keeps (subst (λ (r : Result ℕ Halt). OnErr r (SameRoots c.state c'.state)) is makes.refused) N made cause (call_of why.asked) arguments calls is) (subst (λ (ss : List Slot). SettlesOutputs ss new refused made result when why) room (subst (SettlesOutputs mid new refused made result when) is_given settles)))
 
-  pub inputs_answered : (f h : Function) → Tells g Now f t → TellsMoves g when h (λ b s. not (some_leads g (λ s. not (t s)) b s.position.input)) → (made : Result (ℕ × ℕ) Halt) (result : Result BddMove Halt) → MakesTwo c c' made f h → SettlesInputs mid new refused made result when why → MoveOutcome g own lists c c' slots new was refused result (InputMoves when t) (call_of why.asked) arguments
-  inputs_answered f h tells leads made result makes settles =
+  pub inputs_answered : (f h : Function) → Tells g Now f t → TellsMoves g when h (λ b s. not (some_leads g (λ s. not (t s)) b s.position.input)) → ∥ LeadsInto g when t h ∥₁ → (made : Result (ℕ × ℕ) Halt) (result : Result BddMove Halt) → MakesTwo c c' made f h → (N : Function → Type 0) → HasCause c c' made N → (OwnIsNamed g lists.to.items c' own → (h : Function) → N h → IsOfGame g h ⊎ IsOfCall g (call_of why.asked) arguments h) → (given : Refused) → given ≡ why → SettlesInputs mid new refused made result when given → MoveOutcome g own lists c c' slots new was refused result (InputMoves when t) (call_of why.asked) arguments
+  inputs_answered f h tells leads into made result makes N cause calls given is_given settles =
       subst (λ (o : Option Refused). MoveOutcome g own lists c c' slots new o refused result (InputMoves when t) (call_of why.asked) arguments) (sym none)
-      (inputs_outcome g own when lists c c' slots new refused object' t why arguments arguments_are f h tells leads made result makes (subst (λ (ss : List Slot). SettlesInputs ss new refused made result when why) room settles))
-
--- ---- why the budget ran out
-
-pub outputs_cause : (old new : List Slot) (refused : Option Refused) (made : Result ℕ Halt) (result : Result BddMove Halt) (when : When) (why : Refused) (P : Type 0) → SettlesOutputs old new refused made result when why → (made ≡ Err halt.Budget → P) → result ≡ Err halt.Budget → P
-outputs_cause old new refused (Ok root) (Ok r) when why P settles full e = absurd (false≢true (sym (ap is_ok e)))
-outputs_cause old new refused (Err halt.Memory) (Err halt.Memory) when why P settles full e = absurd (false≢true (sym (ap is_memory e)))
-outputs_cause old new refused (Err halt.Budget) (Err halt.Budget) when why P settles full e = full refl
-outputs_cause old new refused (Ok root) (Err halt.Memory) when why P settles full e = absurd settles
-outputs_cause old new refused (Ok root) (Err halt.Budget) when why P settles full e = absurd settles
-outputs_cause old new refused (Err halt.Memory) (Ok r) when why P settles full e = absurd settles
-outputs_cause old new refused (Err halt.Budget) (Ok r) when why P settles full e = absurd settles
-outputs_cause old new refused (Err halt.Memory) (Err halt.Budget) when why P settles full e = absurd settles
-outputs_cause old new refused (Err halt.Budget) (Err halt.Memory) when why P settles full e = absurd settles
-
-pub inputs_cause : (old new : List Slot) (refused : Option Refused) (made : Result (ℕ × ℕ) Halt) (result : Result BddMove Halt) (when : When) (why : Refused) (P : Type 0) → SettlesInputs old new refused made result when why → (made ≡ Err halt.Budget → P) → result ≡ Err halt.Budget → P
-inputs_cause old new refused (Ok p) (Ok r) when why P settles full e = absurd (false≢true (sym (ap is_ok e)))
-inputs_cause old new refused (Err halt.Memory) (Err halt.Memory) when why P settles full e = absurd (false≢true (sym (ap is_memory e)))
-inputs_cause old new refused (Err halt.Budget) (Err halt.Budget) when why P settles full e = full refl
-inputs_cause old new refused (Ok p) (Err halt.Memory) when why P settles full e = absurd settles
-inputs_cause old new refused (Ok p) (Err halt.Budget) when why P settles full e = absurd settles
-inputs_cause old new refused (Err halt.Memory) (Ok r) when why P settles full e = absurd settles
-inputs_cause old new refused (Err halt.Budget) (Ok r) when why P settles full e = absurd settles
-inputs_cause old new refused (Err halt.Memory) (Err halt.Budget) when why P settles full e = absurd settles
-inputs_cause old new refused (Err halt.Budget) (Err halt.Memory) when why P settles full e = absurd settles
+      (inputs_outcome g own when lists c c' slots new refused object' t why arguments arguments_are f h tells leads into made result makes (λ is. refusal_fills g own lists c c' slots object' makes.keeps (subst (λ (r : Result (ℕ × ℕ) Halt). OnErr r (SameRoots c.state c'.state)) is makes.refused) N made cause (call_of why.asked) arguments calls is) (subst (λ (ss : List Slot). SettlesInputs ss new refused made result when why) room (subst (SettlesInputs mid new refused made result when) is_given settles)))

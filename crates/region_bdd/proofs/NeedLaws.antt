@@ -76,7 +76,7 @@ fours b = pow-add 2 b b ∙ sym (mul-pow 2 2 b)
 pub same_halt : {V W : Type 0} {e f : Halt} → ◌≡◌ {A = Result V Halt} (Err e) (Err f) → ◌≡◌ {A = Result W Halt} (Err e) (Err f)
 same_halt {V} {W} {e} {f} is = let one : e ≡ f = cc (is) in ap (λ (x : Halt). Err x) one
 
-below_need : (g : GameData) (budget levels : ℕ) → levels ≡ level_count (state_domains g) → budget ≤ 2 ^ (2 ^ levels) → budget < need_of_game g
+pub below_need : (g : GameData) (budget levels : ℕ) → levels ≡ level_count (state_domains g) → budget ≤ 2 ^ (2 ^ levels) → budget < need_of_game g
 below_need g budget levels are few =
     let same : 2 ^ (2 ^ levels) ≡ 2 ^ (4 ^ bits_of_game g) = ap (λ n. 2 ^ (2 ^ n)) (are ∙ levels_are g) ∙ ap (λ n. 2 ^ n) (fours (bits_of_game g)) in
     omega (arith, few, same)

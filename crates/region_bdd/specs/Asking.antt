@@ -7,7 +7,7 @@ use Rattle.bdd_ops.specs.Contents.{Contents}
 use Rattle.bdd_ops.specs.Calls.{KeepsRoots}
 use Rattle.region_bdd.specs.declared.own.Refused.{Refused}
 
--- the answer is whether the fact holds; what is kept stays
+-- the answer is whether the fact holds; what is kept stays, and a refusal is the one that came before
 pub record Answers (old new : Contents) (result : Result Bool Halt) (fact : Type 0) : Type 0 where
   pub answer : IfOk result (λ said. IsTrue said ↔ fact)
   pub roots : SameRoots old.state new.state

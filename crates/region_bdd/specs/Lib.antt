@@ -1,6 +1,7 @@
 pub mod Slots
 pub mod Held
 pub mod Needs
+pub mod Crowding
 pub mod Object
 pub mod Keeping
 pub mod TraitLaws
@@ -12,4 +13,3 @@ pub mod Room
 pub mod Leading
 pub mod Finding
 pub mod Making
-pub mod Examples

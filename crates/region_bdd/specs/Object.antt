@@ -11,6 +11,8 @@ use Rattle.regions.specs.declared.types.When.TheVariants.{First, Later}
 use Rattle.bdd_store.specs.State.{roots_at}
 use Rattle.bdd_ops.specs.Contents.{Contents, function_at}
 use Rattle.bit_compile.specs.Domains.{state_domains, level_count}
+use Rattle.bit_compile.specs.Compiled.{compiled}
+use Rattle.bit_compile.specs.Proper.{proper}
 use Rattle.state_diagrams.specs.declared.moves.Members.{Members}
 use Rattle.state_diagrams.specs.StateBits.{TellsStates, Tells, set_at}
 use Rattle.state_diagrams.specs.MoveBits.{TellsMoves, some_leads}
@@ -19,7 +21,9 @@ use Rattle.state_diagrams.specs.declared.moves.NextLevels.{NextLevels}
 use Rattle.state_diagrams.specs.Members.{MoveFunctions, move_functions, functions_at}
 use Rattle.state_diagrams.specs.Lists.{one_at, times_in}
 use Rattle.state_diagrams.specs.Goals.{TellGoals}
-use Rattle.early_products.specs.Early.{FitsEarly, roots_of_early}
+use Rattle.state_diagrams.specs.NamedMoves.{lists_at}
+use Rattle.state_diagrams.specs.NamedGame.{lines_of}
+use Rattle.early_products.specs.Early.{FitsEarly, AreLinesOf, roots_of_early}
 use Rattle.region_bdd.specs.declared.slots.Slot.{Slot}
 use Rattle.region_bdd.specs.declared.slots.Slot.TheVariants.{Free, Taken, Spent}
 use Rattle.region_bdd.specs.declared.slots.BddRegion.{BddRegion}
@@ -29,6 +33,7 @@ use Rattle.region_bdd.specs.declared.own.Asked.{Asked}
 use Rattle.region_bdd.specs.declared.own.Asked.TheVariants as asked
 use Rattle.region_bdd.specs.declared.own.Refused.{Refused}
 use Rattle.region_bdd.specs.Needs.{IsTight}
+use Rattle.region_bdd.specs.Crowding.{LeadsInto, IsJammed}
 use Rattle.region_bdd.specs.Slots.{Shown, Nothing, Set, OutputsInto, InputsInto, shown_of, shown_once, shown_meaning, shown_at, meanings_in, kept_in, roots_of_slots}
 
 -- ---- what the object keeps for itself
@@ -71,14 +76,23 @@ roots_of_own n own = one_at n own.step.nothing + (one_at n own.step.proper + (ti
 abbrev pub FitsOwnEarly : NextLevels → Contents → Own → Type 0
 FitsOwnEarly lists c own = FitsEarly (move_functions c own.step.later) lists c own.early
 
+-- What is kept are the diagrams of the game's own formulas: all states, its goals, and its lines with their products.
+pub record OwnIsNamed (g : GameData) (to : List ℕ) (c : Contents) (own : Own) : Type 0 where
+  pub states : function_at c own.step.proper ≡ proper (state_domains g) Now
+  pub assume : functions_at c own.assume.items ≡ map (λ goal. compiled g goal.holds) g.assume
+  pub goals : functions_at c own.goals.items ≡ map (λ goal. compiled g goal.holds) g.goals
+  pub first : lists_at c own.first ≡ lines_of g to First
+  pub later : lists_at c own.step.later ≡ lines_of g to Later
+  pub early : AreLinesOf (lines_of g to Later) c own.early
+
 -- ---- what slots hold
 
--- the functions tell states; that of inputs is true where every legal output leads into the set
+-- The functions tell states; that of inputs is true where every legal output leads into the set, and is named so.
 abbrev pub ShownFits : GameData → Shown → Type 0
 ShownFits g Nothing = Unit {0}
 ShownFits g (Set f) = TellsStates g Now f
 ShownFits g (OutputsInto when f) = TellsStates g Next f
-ShownFits g (InputsInto when f leads) = TellsStates g Now f × TellsMoves g when leads (λ b s. not (some_leads g (λ s. not (set_at g Now f s)) b s.position.input))
+ShownFits g (InputsInto when f leads) = TellsStates g Now f × TellsMoves g when leads (λ b s. not (some_leads g (λ s. not (set_at g Now f s)) b s.position.input)) × ∥ LeadsInto g when (set_at g Now f) leads ∥₁
 
 abbrev pub AllFit : GameData → Contents → List Slot → Type 0
 AllFit g c [] = Unit {0}
@@ -135,9 +149,11 @@ pub record IsObject (g : GameData) (c : Contents) (own : Own) (lists : NextLevel
   pub levels : c.state.table.levels ≡ level_count (state_domains g)
   pub lists_are : AreLevelsOf g lists
   pub early : FitsOwnEarly lists c own
+  pub named : ∥ OwnIsNamed g lists.to.items c own ∥₁
   pub sound : IsSound g c own slots
   pub unspent : IsOpen refused slots
   pub tight : IsTight refused c.state.table
+  pub jammed : IsJammed g c.state.table.budget (jam_in g (map (shown_once c) slots) refused)
 
 abbrev pub kept_of : GameData → Contents → List Slot → Option Refused → Kept BddRegion BddMove
 kept_of g c slots refused = kept_in g c.state.table.budget (jam_in g (map (shown_once c) slots) refused) (map (shown_of c) slots)

@@ -3,7 +3,9 @@ use Rattle.std.proofs.Common.{◌≡◌, ℕ, suc, pos, Bool, true, false, nat_l
 use Rattle.std.proofs.lemmas.Bool.{and_parts, false≢true}
 use Rattle.std.proofs.lemmas.List.{length-map}
 use mathlib.Core.Bool.{Bool-set}
-use mathlib.Core.HLevel.{×_prop, Σ_prop_path}
+use mathlib.Core.HLevel.{×_prop, ×₃_prop, Σ_prop_path}
+use Rattle.std.proofs.Math.Logic.{∥∥₁_prop}
+use Rattle.regions.specs.Kept.{Jam}
 use native.Mathlib.Nat.{ℕ_set}
 use Rattle.std.specs.Coded.{le_prop}
 use Rattle.spec_model.specs.declared.value.Value.TheVariants as value
@@ -36,9 +38,10 @@ use Rattle.region_bdd.specs.declared.search.Search.{Search}
 use Rattle.node_table.specs.Table.{Table}
 use Rattle.region_bdd.specs.Room.{IsRoom}
 use Rattle.region_bdd.specs.Needs.{IsTight}
-use Rattle.region_bdd.specs.Slots.{Shown, Nothing, Set, OutputsInto, InputsInto, shown_of}
+use Rattle.region_bdd.specs.Slots.{Shown, Nothing, Set, OutputsInto, InputsInto, shown_of, shown_once}
+use Rattle.region_bdd.specs.Crowding.{IsJammed}
 use Rattle.state_diagrams.specs.Goals.{TellGoals}
-use Rattle.region_bdd.specs.Object.{OwnFunctions, OwnFits, ShownFits, AllFit, NoneSpent, IsSound, IsOpen, IsObject}
+use Rattle.region_bdd.specs.Object.{OwnFunctions, OwnFits, ShownFits, AllFit, NoneSpent, IsSound, IsOpen, jam_in, IsObject}
 
 -- ---- a state is known by its values
 
@@ -131,7 +134,7 @@ module _ (g : GameData) where
   shown_one Nothing = λ x y. refl
   shown_one (Set f) = states_one g Now f
   shown_one (OutputsInto when f) = states_one g Next f
-  shown_one (InputsInto when f leads) = ×_prop (states_one g Now f) (moves_one when leads _)
+  shown_one (InputsInto when f leads) = ×₃_prop (states_one g Now f) (moves_one when leads _) ∥∥₁_prop
 
   all_one : (c : Contents) (slots : List Slot) → IsProp (AllFit g c slots)
   all_one c [] = λ x y. refl
@@ -153,6 +156,10 @@ open_one (Some r) slots = λ x y. refl
 tight_one : (refused : Option Refused) (t : Table) → IsProp (IsTight refused t)
 tight_one None t = λ x y. refl
 tight_one (Some r) t = λ x y i. le_prop x y i
+
+jammed_one : (g : GameData) (budget : ℕ) (jam : Option Jam) → IsProp (IsJammed g budget jam)
+jammed_one g budget None = λ x y. refl
+jammed_one g budget (Some jam) = ∥∥₁_prop
 
 next_of_one : (g : GameData) (test : ℕ → Bool) (levels : List ℕ) → IsProp (AreNextOf g test levels)
 next_of_one g test levels = λ x y i. record { has = λ k m known on level. Bool-set _ _ (x.has k m known on level) (y.has k m known on level) i; leaves = λ k m known off level. Bool-set _ _ (x.leaves k m known off level) (y.leaves k m known off level) i; leaves_present = λ k m known level. Bool-set _ _ (x.leaves_present k m known level) (y.leaves_present k m known level) i }
@@ -184,7 +191,7 @@ well_made_one : (g : GameData) → IsProp (WellMade g)
 well_made_one g = λ x y i. record { few_variables = le_prop x.few_variables y.few_variables i; names = Bool-set _ true x.names y.names i; domains = Bool-set _ true x.domains y.domains i; hidden = Bool-set _ true x.hidden y.hidden i; initial_asm = Bool-set _ true x.initial_asm y.initial_asm i; initial_gar = Bool-set _ true x.initial_gar y.initial_gar i; safe_asm = Bool-set _ true x.safe_asm y.safe_asm i; safe_gar = Bool-set _ true x.safe_gar y.safe_gar i; assume = Bool-set _ true x.assume y.assume i; goals = Bool-set _ true x.goals y.goals i }
 
 pub object_is_one : (g : GameData) (c : Contents) (own : Own) (lists : NextLevels) (slots : List Slot) (refused : Option Refused) → IsProp (IsObject g c own lists slots refused)
-object_is_one g c own lists slots refused = λ x y i. record { made = well_made_one g x.made y.made i; levels = ℕ_set _ _ x.levels y.levels i; lists_are = lists_one g lists x.lists_are y.lists_are i; early = early_one (move_functions c own.step.later) lists c own.early x.early y.early i; sound = sound_one g c own slots x.sound y.sound i; unspent = open_one refused slots x.unspent y.unspent i; tight = tight_one refused c.state.table x.tight y.tight i }
+object_is_one g c own lists slots refused = λ x y i. record { made = well_made_one g x.made y.made i; levels = ℕ_set _ _ x.levels y.levels i; lists_are = lists_one g lists x.lists_are y.lists_are i; early = early_one (move_functions c own.step.later) lists c own.early x.early y.early i; named = ∥∥₁_prop x.named y.named i; sound = sound_one g c own slots x.sound y.sound i; unspent = open_one refused slots x.unspent y.unspent i; tight = tight_one refused c.state.table x.tight y.tight i; jammed = jammed_one g c.state.table.budget (jam_in g (map (shown_once c) slots) refused) x.jammed y.jammed i }
 
 pub room_is_one : (levels : ℕ) (own : Own) (search : Search) → IsProp (IsRoom levels own search)
 room_is_one levels own search = λ x y i. record { bits = ℕ_set _ _ x.bits y.bits i; fixed = ℕ_set _ _ x.fixed y.fixed i; levels_are = ℕ_set _ _ x.levels_are y.levels_are i; first = le_prop x.first y.first i; later = le_prop x.later y.later i }

@@ -1,11 +1,14 @@
 //! Where some legal first input keeps the system out of a set, and whether there is such an input.
 
-ghost use Rattle.std.specs.Prelude.{◌≡◌, ◌↔◌, IfOk, IsTrue};
+ghost use Rattle.std.specs.Prelude.{◌≡◌, ◌↔◌, Err, IfOk, IfErr, IsTrue};
 ghost use Rattle.spec_model.specs.Diagrams.{Function, shifted};
 ghost use Rattle.bdd_store.specs.State.{IsRoot, AddsRoot};
 ghost use Rattle.bdd_ops.specs.Contents.{Contents, function_at};
 ghost use Rattle.bdd_ops.specs.Calls.{negated, RisesOver};
 ghost use Rattle.bit_compile.specs.Making.{Makes};
+ghost use Rattle.bit_compile.specs.Crowding.{HasCause};
+ghost use Rattle.state_diagrams.specs.NamedMoves.{lists_at};
+ghost use Rattle.state_diagrams.specs.NamedGame.{IsOfStep, IsOfRest};
 ghost use Rattle.state_diagrams.specs.Members.{AreMembers, move_functions, avoiding};
 ghost use Rattle.region_bdd.specs.Asking.{Answers};
 
@@ -27,11 +30,13 @@ pub fn avoiding_set(
     requires first { AreMembers diagrams.old own.now.first }
     requires rising { let old = diagrams.old in
         RisesOver old.state.table.levels levels.now.to.items (function_at old t.now) }
-    ensures { let old = diagrams.old in
+    ensures made { let old = diagrams.old in
         let next = shifted levels.now.to.items (function_at old t.now) in
         Makes old diagrams.new result
         (avoiding (move_functions old own.now.first) levels.now.reply.items
         levels.now.all.items next) }
+    ensures cause { let old = diagrams.old in
+        HasCause old diagrams.new result (IsOfStep (lists_at old own.now.first) levels.now (shifted levels.now.to.items (function_at old t.now))) }
 {
     let target = shift(diagrams, t, &levels.to)?;
     avoided(diagrams, target, &own.first, levels)
@@ -48,11 +53,13 @@ pub fn avoiding_rest(
     requires first { AreMembers diagrams.old own.now.first }
     requires rising { let old = diagrams.old in
         RisesOver old.state.table.levels levels.now.to.items (function_at old t.now) }
-    ensures { let old = diagrams.old in
+    ensures made { let old = diagrams.old in
         let next = shifted levels.now.to.items (function_at old t.now) in
         Makes old diagrams.new result
         (avoiding (move_functions old own.now.first) levels.now.reply.items
         levels.now.all.items (negated next)) }
+    ensures cause { let old = diagrams.old in
+        HasCause old diagrams.new result (IsOfRest (lists_at old own.now.first) levels.now (shifted levels.now.to.items (function_at old t.now))) }
 {
     let next = shift(diagrams, t, &levels.to)?;
     let target = not_spent(diagrams, next)?;
@@ -81,8 +88,9 @@ pub fn is_empty(
 ) -> Result<bool, Halt>
     requires made { IfOk made (λ r. IsRoot diagrams.old.state r) }
     requires nothing { IsRoot diagrams.old.state nothing.now }
-    ensures { (base : Contents) (f : Function) → Makes base diagrams.old made f →
+    ensures answers { (base : Contents) (f : Function) → Makes base diagrams.old made f →
         IsRoot base.state nothing.now → Answers base diagrams.new result (f ≡ function_at base nothing.now) }
+    ensures handed { IfErr result (λ halt. (made ≡ Err halt) × (diagrams.new ≡ diagrams.old)) }
 {
     match made {
         Ok(root) => Ok(is_nothing(diagrams, root, nothing)),
@@ -98,8 +106,9 @@ pub fn is_not_empty(
 ) -> Result<bool, Halt>
     requires made { IfOk made (λ r. IsRoot diagrams.old.state r) }
     requires nothing { IsRoot diagrams.old.state nothing.now }
-    ensures { (base : Contents) (f : Function) → Makes base diagrams.old made f →
+    ensures answers { (base : Contents) (f : Function) → Makes base diagrams.old made f →
         IsRoot base.state nothing.now → Answers base diagrams.new result (f ≡ function_at base nothing.now → ⊥) }
+    ensures handed { IfErr result (λ halt. (made ≡ Err halt) × (diagrams.new ≡ diagrams.old)) }
 {
     match made {
         Ok(root) => Ok(!is_nothing(diagrams, root, nothing)),

@@ -1,14 +1,13 @@
 //! What players force, as regions.
 
-ghost use Rattle.std.specs.Prelude.{◌≡◌, [], ◌∷◌, None, Err, IfOk, IfErr};
+ghost use Rattle.std.specs.Prelude.{◌≡◌, [], ◌∷◌, None, IfOk, IfErr};
 ghost use Rattle.spec_model.specs.Sets.{pre_sys as pre_sys_lem, pre_env as pre_env_lem};
 ghost use Rattle.regions.specs.Kept.{States, PreSys, PreEnv, HasRegion, MakesRegion, Halts, IsSameGame};
-ghost use Rattle.bdd_store.specs.State.{IsFull};
 ghost use Rattle.region_bdd.specs.Seen.{seen};
 
 use crate::keeping::settle;
 use crate::object::RegionBdd;
-use crate::own::{Asked, Refused};
+use crate::own::Asked;
 use crate::slots::BddRegion;
 use early_products::early::{environment_states, system_states};
 use regions::Halt;
@@ -23,7 +22,6 @@ impl RegionBdd {
         ensures halted { let k = seen self.old in
             IfErr result (Halts k (seen self.new) PreSys (States (k.set t.now) ∷ [])) }
         ensures keeps { IsSameGame (seen self.old) (seen self.new) }
-        ensures cause { result ≡ Err Halt.Budget → IsFull self.new.diagrams.state }
     {
         let Ok(()) = self.slots.room() else {
             return Err(Halt::Memory);
@@ -35,11 +33,7 @@ impl RegionBdd {
             &self.levels,
             &self.own.early,
         );
-        let why = Refused {
-            asked: Asked::PreSys,
-            first: Some(t.slot),
-            second: None,
-        };
+        let why = Asked::PreSys.of(Some(t.slot), None);
         settle(&mut self.slots, &mut self.refused, made, why)
     }
 
@@ -52,7 +46,6 @@ impl RegionBdd {
         ensures halted { let k = seen self.old in
             IfErr result (Halts k (seen self.new) PreEnv (States (k.set t.now) ∷ [])) }
         ensures keeps { IsSameGame (seen self.old) (seen self.new) }
-        ensures cause { result ≡ Err Halt.Budget → IsFull self.new.diagrams.state }
     {
         let Ok(()) = self.slots.room() else {
             return Err(Halt::Memory);
@@ -64,11 +57,7 @@ impl RegionBdd {
             &self.levels,
             &self.own.early,
         );
-        let why = Refused {
-            asked: Asked::PreEnv,
-            first: Some(t.slot),
-            second: None,
-        };
+        let why = Asked::PreEnv.of(Some(t.slot), None);
         settle(&mut self.slots, &mut self.refused, made, why)
     }
 }

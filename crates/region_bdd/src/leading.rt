@@ -1,11 +1,14 @@
 //! A set with where every legal output leads into it.
 
-ghost use Rattle.std.specs.Prelude.{Ok};
-ghost use Rattle.spec_model.specs.Diagrams.{Function};
+ghost use Rattle.std.specs.Prelude.{◌≡◌, Ok, Err};
+ghost use Rattle.spec_model.specs.Diagrams.{Function, shifted};
 ghost use Rattle.bdd_store.specs.State.{IsRoot};
 ghost use Rattle.bdd_ops.specs.Contents.{Contents, function_at};
 ghost use Rattle.bdd_ops.specs.Calls.{RisesOver};
 ghost use Rattle.bit_compile.specs.Making.{Makes};
+ghost use Rattle.bit_compile.specs.Crowding.{HasCause};
+ghost use Rattle.state_diagrams.specs.NamedMoves.{lists_at};
+ghost use Rattle.state_diagrams.specs.NamedGame.{IsOfRest};
 ghost use Rattle.state_diagrams.specs.Members.{AreMembers, move_functions};
 ghost use Rattle.region_bdd.specs.Leading.{leading_in, MakesTwo};
 
@@ -27,9 +30,11 @@ fn leading(
     requires members { AreMembers diagrams.old members.now }
     requires rising { let old = diagrams.old in
         RisesOver old.state.table.levels levels.now.to.items (function_at old t.now) }
-    ensures { let old = diagrams.old in
+    ensures made { let old = diagrams.old in
         let set = function_at old t.now in
         Makes old diagrams.new result (leading_in (move_functions old members.now) levels.now set) }
+    ensures cause { let old = diagrams.old in
+        HasCause old diagrams.new result (IsOfRest (lists_at old members.now) levels.now (shifted levels.now.to.items (function_at old t.now))) }
 {
     let next = shift(diagrams, t, &levels.to)?;
     let target = not_spent(diagrams, next)?;
@@ -40,8 +45,9 @@ fn leading(
 fn beside_made(diagrams: &mut Diagrams, t: &Root, made: Root) -> Result<(Root, Root), Halt>
     requires t { IsRoot diagrams.old.state t.now }
     requires made { IsRoot diagrams.old.state made }
-    ensures { (base : Contents) (h : Function) → Makes base diagrams.old (Ok made) h →
+    ensures made { (base : Contents) (h : Function) → Makes base diagrams.old (Ok made) h →
         IsRoot base.state t.now → MakesTwo base diagrams.new result (function_at base t.now) h }
+    ensures never { result ≡ Err Halt.Budget → ⊥ }
 {
     match keep(diagrams, t) {
         Ok(root) => Ok((root, made)),
@@ -63,10 +69,12 @@ pub fn with_leading(
     requires members { AreMembers diagrams.old members.now }
     requires rising { let old = diagrams.old in
         RisesOver old.state.table.levels levels.now.to.items (function_at old t.now) }
-    ensures { let old = diagrams.old in
+    ensures made { let old = diagrams.old in
         let set = function_at old t.now in
         let leads = leading_in (move_functions old members.now) levels.now set in
         MakesTwo old diagrams.new result set leads }
+    ensures cause { let old = diagrams.old in
+        HasCause old diagrams.new result (IsOfRest (lists_at old members.now) levels.now (shifted levels.now.to.items (function_at old t.now))) }
 {
     let leads = leading(diagrams, t, members, levels)?;
     beside_made(diagrams, t, leads)

@@ -4,10 +4,10 @@
 //! own formulas. Where a call of the store is refused at its second try, the call of the object answers `Budget` and the
 //! object tells from then on which call it was and all that was held.
 //!
-//! Contract: `RegionBdd::make` gives an object that holds nothing, and `RegionBdd` meets the trait `Regions` whole. A call of
-//! an object answers `Budget` only where its store then holds exactly its budget of nodes (`cause`), each for a diagram of its
-//! own; so the budget is then below the need of the game, and `make` answers it only there too. Which sets fill the budget
-//! isn't said yet.
+//! Contract: `RegionBdd::make` gives an object that holds nothing, and `RegionBdd` meets the trait `Regions` whole. Where a
+//! call answered `Budget`, all that was held fills the budget exactly, with named sets and with what one operation made so far
+//! (`a_jam_fills_the_budget`); so the budget is then below the need of the game. `make` answers it only where named sets of the
+//! game's own formulas fill it.
 //! Path: game → sets as diagrams → **regions as diagrams** → layers.
 #![tactic(auto)]
 
@@ -19,6 +19,7 @@ mod forcing;
 mod giving_back;
 mod impls;
 mod keeping;
+pub mod laws;
 mod leading;
 mod making;
 mod moves;
@@ -32,6 +33,3 @@ mod starting;
 
 pub use object::RegionBdd;
 pub use slots::{BddMove, BddRegion};
-
-#[cfg(test)]
-mod tests;

@@ -9,7 +9,10 @@ ghost use Rattle.region_bdd.specs.Slots.{kept_in};
 ghost use Rattle.region_bdd.specs.Object.{roots_of_own};
 ghost use Rattle.region_bdd.specs.Making.{MakesPart, times_in_sets, FitSets, times_in_goals, FitAllGoals};
 ghost use Rattle.region_bdd.specs.Making.{times_in_lines, FitAllLines, times_in_formulas, FitFormulas, FitOwn};
+ghost use Rattle.bit_compile.specs.Named.{IsOfProper};
+ghost use Rattle.state_diagrams.specs.NamedGame.{IsOfGame};
 ghost use Rattle.region_bdd.specs.Needs.{need_of_game};
+ghost use Rattle.region_bdd.specs.Crowding.{IsTooSmall};
 ghost use Rattle.region_bdd.specs.Object.{FitsOwnEarly};
 ghost use Rattle.region_bdd.specs.Room.{IsRoom, member_count};
 ghost use Rattle.region_bdd.specs.Seen.{seen};
@@ -35,16 +38,16 @@ use state_diagrams::members::{first_members, later_members};
 use state_diagrams::moves::{Members, NextLevels};
 use std::alloc::{AllocError, Global};
 
-/// No state and all states, at the present bits.
+/// All states and no state, at the present bits.
 fn sets(diagrams: &mut Diagrams, codes: &Codes) -> Result<(Root, Root), Halt>
     requires { level_count codes.now ≤ diagrams.old.state.table.levels }
-    ensures { MakesPart times_in_sets (FitSets codes.now) diagrams.old diagrams.new result }
+    ensures { MakesPart times_in_sets (FitSets codes.now) (IsOfProper codes.now At.Now) diagrams.old diagrams.new result }
 {
-    let nothing = constant(diagrams, false)?;
-    match proper(diagrams, codes, At::Now) {
-        Ok(all) => Ok((nothing, all)),
+    let all = proper(diagrams, codes, At::Now)?;
+    match constant(diagrams, false) {
+        Ok(nothing) => Ok((all, nothing)),
         Err(halt) => {
-            diagrams.release(nothing);
+            diagrams.release(all);
             Err(halt)
         }
     }
@@ -60,7 +63,7 @@ fn goals(
     requires codes { codes.now ≡ state_domains (game_data game.now) }
     requires levels { level_count codes.now ≤ diagrams.old.state.table.levels }
     ensures { let g = game_data game.now in
-        MakesPart times_in_goals (FitAllGoals g) diagrams.old diagrams.new result }
+        MakesPart times_in_goals (FitAllGoals g) (IsOfGame g) diagrams.old diagrams.new result }
 {
     let assume = goal_roots(diagrams, codes, game, &game.assume)?;
     match goal_roots(diagrams, codes, game, &game.goals) {
@@ -84,7 +87,7 @@ fn lines(
     requires levels { diagrams.old.state.table.levels ≡ level_count (state_domains (game_data game.now)) }
     requires lists { AreLevelsOf (game_data game.now) levels.now }
     ensures { let g = game_data game.now in
-        MakesPart times_in_lines (FitAllLines g) diagrams.old diagrams.new result }
+        MakesPart times_in_lines (FitAllLines g levels.now.to.items) (IsOfGame g) diagrams.old diagrams.new result }
 {
     let first = first_members(diagrams, codes, game, levels)?;
     match later_members(diagrams, codes, game, levels) {
@@ -108,7 +111,7 @@ fn formulas(
     requires levels { diagrams.old.state.table.levels ≡ level_count (state_domains (game_data game.now)) }
     requires lists { AreLevelsOf (game_data game.now) levels.now }
     ensures { let g = game_data game.now in
-        MakesPart times_in_formulas (FitFormulas g) diagrams.old diagrams.new result }
+        MakesPart times_in_formulas (FitFormulas g levels.now.to.items) (IsOfGame g) diagrams.old diagrams.new result }
 {
     let (assume, guaranteed) = goals(diagrams, codes, game)?;
     match lines(diagrams, codes, game, levels) {
@@ -135,10 +138,11 @@ fn own(
     requires codes { codes.now ≡ state_domains (game_data game.now) }
     requires levels { diagrams.old.state.table.levels ≡ level_count (state_domains (game_data game.now)) }
     requires lists { AreLevelsOf (game_data game.now) levels.now }
-    ensures part { MakesPart roots_of_own (FitOwn (game_data game.now)) diagrams.old diagrams.new result }
+    ensures part { let g = game_data game.now in
+        MakesPart roots_of_own (FitOwn g levels.now.to.items) (IsOfGame g) diagrams.old diagrams.new result }
     ensures early { IfOk result (λ own. FitsOwnEarly levels.now diagrams.new own) }
 {
-    let (nothing, all) = sets(diagrams, codes)?;
+    let (all, nothing) = sets(diagrams, codes)?;
     match formulas(diagrams, codes, game, levels) {
         Ok(parts) => {
             let ((assume, guaranteed), (first, later)) = parts;
@@ -156,8 +160,8 @@ fn own(
             })
         }
         Err(halt) => {
-            diagrams.release(nothing);
             diagrams.release(all);
+            diagrams.release(nothing);
             Err(halt)
         }
     }
@@ -182,13 +186,14 @@ fn room(alloc: Global, levels: u32, own: &Own) -> Result<Search, OutOfMemory>
 }
 
 impl RegionBdd {
-    /// The regions of a game, in a store of at most `budget` nodes, the two constants among them. `Budget`: the game's own
-    /// diagrams and unfinished results fill it. `Memory`: none was given.
+    /// The regions of a game, in a store of at most `budget` nodes, the two constants among them. `Budget`: sets of the game's
+    /// own formulas and one operation's unfinished results fill it exactly. `Memory`: none was given.
     pub fn make(alloc: Global, game: Game, budget: u32) -> Result<RegionBdd, Halt>
         requires made { WellMade (game_data game) }
         requires budget { 2 ≤ budget }
         ensures made { IfOk result (λ r. seen r ≡ kept_in (game_data game) budget None []) }
-        ensures cause { result ≡ Err Halt.Budget → budget < need_of_game (game_data game) }
+        ensures cause { let g = game_data game in
+            result ≡ Err Halt.Budget → IsTooSmall (need_of_game g) g budget }
     {
         let Ok(codes) = Codes::make(alloc, &game) else {
             return Err(Halt::Memory);

@@ -1,15 +1,14 @@
 //! Moves into regions.
 
-ghost use Rattle.std.specs.Prelude.{◌≡◌, [], ◌∷◌, None, Err, IfOk, IfErr};
+ghost use Rattle.std.specs.Prelude.{◌≡◌, [], ◌∷◌, None, IfOk, IfErr};
 ghost use Rattle.regions.specs.Kept.{States, Move, Outputs, Inputs, OutMoves, InMoves, HasRegion, HasMove, Makes, Halts, Spends, IsSameGame};
-ghost use Rattle.bdd_store.specs.State.{IsFull};
 ghost use Rattle.region_bdd.specs.Seen.{seen};
 
 use crate::giving_back::give_back;
 use crate::keeping::{settle_inputs, settle_outputs};
 use crate::leading::with_leading;
 use crate::object::RegionBdd;
-use crate::own::{Asked, Refused};
+use crate::own::Asked;
 use crate::slots::{BddMove, BddRegion};
 use regions::{Halt, When};
 use state_diagrams::steps::shift;
@@ -24,17 +23,12 @@ impl RegionBdd {
         ensures halted { let k = seen self.old in
             IfErr result (Halts k (seen self.new) (OutMoves when) (States (k.set t.now) ∷ [])) }
         ensures keeps { IsSameGame (seen self.old) (seen self.new) }
-        ensures cause { result ≡ Err Halt.Budget → IsFull self.new.diagrams.state }
     {
         let Ok(()) = self.slots.room() else {
             return Err(Halt::Memory);
         };
         let made = shift(&mut self.diagrams, self.slots.region(t), &self.levels.to);
-        let why = Refused {
-            asked: Asked::OutMoves(when),
-            first: Some(t.slot),
-            second: None,
-        };
+        let why = Asked::OutMoves(when).of(Some(t.slot), None);
         settle_outputs(&mut self.slots, &mut self.refused, made, when, why)
     }
 
@@ -47,7 +41,6 @@ impl RegionBdd {
         ensures halted { let k = seen self.old in
             IfErr result (Halts k (seen self.new) (InMoves when) (States (k.set t.now) ∷ [])) }
         ensures keeps { IsSameGame (seen self.old) (seen self.new) }
-        ensures cause { result ≡ Err Halt.Budget → IsFull self.new.diagrams.state }
     {
         let Ok(()) = self.slots.room() else {
             return Err(Halt::Memory);
@@ -58,11 +51,7 @@ impl RegionBdd {
             self.own.members(when),
             &self.levels,
         );
-        let why = Refused {
-            asked: Asked::InMoves(when),
-            first: Some(t.slot),
-            second: None,
-        };
+        let why = Asked::InMoves(when).of(Some(t.slot), None);
         settle_inputs(&mut self.slots, &mut self.refused, made, when, why)
     }
 

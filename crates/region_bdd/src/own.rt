@@ -52,6 +52,19 @@ pub struct Refused {
     pub second: Option<usize>,
 }
 
+impl Asked {
+    /// That this call was refused, and the slots of its arguments.
+    pub fn of(self, first: Option<usize>, second: Option<usize>) -> Refused
+        ensures { result ≡ record { asked = self; first = first; second = second } }
+    {
+        Refused {
+            asked: self,
+            first,
+            second,
+        }
+    }
+}
+
 impl Own {
     /// The diagram of a recurring goal.
     pub fn goal(&self, what: Recur) -> &Root

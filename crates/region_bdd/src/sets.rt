@@ -4,12 +4,11 @@ ghost use Rattle.std.specs.Prelude.{◌≡◌, ◌↔◌, ◌<◌, length, [], �
 ghost use Rattle.spec_model.specs.Sets.{no_states, all_states, both, either, rest};
 ghost use Rattle.regions.specs.Kept.{States, All, NoStates, Copy as CopyCall, And, Or, Not, Holding, HasRegion, MakesRegion, Halts, IsSameGame};
 ghost use Rattle.regions.specs.Rules.{goals_like, number_of, states_holding};
-ghost use Rattle.bdd_store.specs.State.{IsFull};
 ghost use Rattle.region_bdd.specs.Seen.{seen};
 
 use crate::keeping::settle;
 use crate::object::RegionBdd;
-use crate::own::{Asked, Refused};
+use crate::own::Asked;
 use crate::slots::BddRegion;
 use bit_compile::steps::{and, or, told};
 use regions::{Halt, Recur};
@@ -28,11 +27,7 @@ impl RegionBdd {
             return Err(Halt::Memory);
         };
         let made = told(self.diagrams.keep(&self.own.step.proper));
-        let why = Refused {
-            asked: Asked::All,
-            first: None,
-            second: None,
-        };
+        let why = Asked::All.of(None, None);
         settle(&mut self.slots, &mut self.refused, made, why)
     }
 
@@ -48,11 +43,7 @@ impl RegionBdd {
             return Err(Halt::Memory);
         };
         let made = told(self.diagrams.keep(&self.own.step.nothing));
-        let why = Refused {
-            asked: Asked::NoStates,
-            first: None,
-            second: None,
-        };
+        let why = Asked::NoStates.of(None, None);
         settle(&mut self.slots, &mut self.refused, made, why)
     }
 
@@ -69,11 +60,7 @@ impl RegionBdd {
             return Err(Halt::Memory);
         };
         let made = told(self.diagrams.keep(self.slots.region(a)));
-        let why = Refused {
-            asked: Asked::Copy,
-            first: Some(a.slot),
-            second: None,
-        };
+        let why = Asked::Copy.of(Some(a.slot), None);
         settle(&mut self.slots, &mut self.refused, made, why)
     }
 
@@ -87,7 +74,6 @@ impl RegionBdd {
         ensures halted { let set = (seen self.old).set in
             IfErr result (Halts (seen self.old) (seen self.new) And (States (set a.now) ∷ States (set b.now) ∷ [])) }
         ensures keeps { IsSameGame (seen self.old) (seen self.new) }
-        ensures cause { result ≡ Err Halt.Budget → IsFull self.new.diagrams.state }
     {
         let Ok(()) = self.slots.room() else {
             return Err(Halt::Memory);
@@ -97,11 +83,7 @@ impl RegionBdd {
             self.slots.region(a),
             self.slots.region(b),
         );
-        let why = Refused {
-            asked: Asked::And,
-            first: Some(a.slot),
-            second: Some(b.slot),
-        };
+        let why = Asked::And.of(Some(a.slot), Some(b.slot));
         settle(&mut self.slots, &mut self.refused, made, why)
     }
 
@@ -115,7 +97,6 @@ impl RegionBdd {
         ensures halted { let set = (seen self.old).set in
             IfErr result (Halts (seen self.old) (seen self.new) Or (States (set a.now) ∷ States (set b.now) ∷ [])) }
         ensures keeps { IsSameGame (seen self.old) (seen self.new) }
-        ensures cause { result ≡ Err Halt.Budget → IsFull self.new.diagrams.state }
     {
         let Ok(()) = self.slots.room() else {
             return Err(Halt::Memory);
@@ -125,11 +106,7 @@ impl RegionBdd {
             self.slots.region(a),
             self.slots.region(b),
         );
-        let why = Refused {
-            asked: Asked::Or,
-            first: Some(a.slot),
-            second: Some(b.slot),
-        };
+        let why = Asked::Or.of(Some(a.slot), Some(b.slot));
         settle(&mut self.slots, &mut self.refused, made, why)
     }
 
@@ -142,7 +119,6 @@ impl RegionBdd {
         ensures halted { let k = seen self.old in
             IfErr result (Halts k (seen self.new) Not (States (k.set a.now) ∷ [])) }
         ensures keeps { IsSameGame (seen self.old) (seen self.new) }
-        ensures cause { result ≡ Err Halt.Budget → IsFull self.new.diagrams.state }
     {
         let Ok(()) = self.slots.room() else {
             return Err(Halt::Memory);
@@ -153,11 +129,7 @@ impl RegionBdd {
             &self.own.step.nothing,
             &self.own.step.proper,
         );
-        let why = Refused {
-            asked: Asked::Not,
-            first: Some(a.slot),
-            second: None,
-        };
+        let why = Asked::Not.of(Some(a.slot), None);
         settle(&mut self.slots, &mut self.refused, made, why)
     }
 
@@ -169,18 +141,13 @@ impl RegionBdd {
             IfOk result (λ r. MakesRegion k (seen self.new) r (states_holding k.game what)) }
         ensures halted { IfErr result (Halts (seen self.old) (seen self.new) Holding []) }
         ensures keeps { IsSameGame (seen self.old) (seen self.new) }
-        ensures cause { result ≡ Err Halt.Budget → IsFull self.new.diagrams.state }
     {
         let Ok(()) = self.slots.room() else {
             return Err(Halt::Memory);
         };
         let own = &self.own;
         let made = and(&mut self.diagrams, own.goal(what), &own.step.proper);
-        let why = Refused {
-            asked: Asked::Holding,
-            first: None,
-            second: None,
-        };
+        let why = Asked::Holding.of(None, None);
         settle(&mut self.slots, &mut self.refused, made, why)
     }
 

@@ -1,15 +1,14 @@
 //! What players force at the first move.
 
-ghost use Rattle.std.specs.Prelude.{◌≡◌, [], ◌∷◌, None, Err, IfOk, IfErr};
+ghost use Rattle.std.specs.Prelude.{◌≡◌, [], ◌∷◌, None, IfOk, IfErr};
 ghost use Rattle.spec_model.specs.Sets.{system_forces, environment_forces};
 ghost use Rattle.regions.specs.Kept.{States, StartSys, StartEnv, HasRegion, Halts, Stays, IsSameGame};
-ghost use Rattle.bdd_store.specs.State.{IsFull};
 ghost use Rattle.region_bdd.specs.Seen.{seen};
 
 use crate::asking::{avoiding_rest, avoiding_set, is_empty, is_not_empty};
 use crate::keeping::settle_answer;
 use crate::object::RegionBdd;
-use crate::own::{Asked, Refused};
+use crate::own::Asked;
 use crate::slots::BddRegion;
 use regions::Halt;
 
@@ -24,7 +23,6 @@ impl RegionBdd {
         ensures halted { let k = seen self.old in
             IfErr result (Halts k (seen self.new) StartSys (States (k.set t.now) ∷ [])) }
         ensures keeps { IsSameGame (seen self.old) (seen self.new) }
-        ensures cause { result ≡ Err Halt.Budget → IsFull self.new.diagrams.state }
     {
         let made = avoiding_set(
             &mut self.diagrams,
@@ -33,11 +31,7 @@ impl RegionBdd {
             &self.levels,
         );
         let asked = is_empty(&mut self.diagrams, made, &self.own.step.nothing);
-        let why = Refused {
-            asked: Asked::StartSys,
-            first: Some(t.slot),
-            second: None,
-        };
+        let why = Asked::StartSys.of(Some(t.slot), None);
         settle_answer(&mut self.refused, asked, why)
     }
 
@@ -51,7 +45,6 @@ impl RegionBdd {
         ensures halted { let k = seen self.old in
             IfErr result (Halts k (seen self.new) StartEnv (States (k.set t.now) ∷ [])) }
         ensures keeps { IsSameGame (seen self.old) (seen self.new) }
-        ensures cause { result ≡ Err Halt.Budget → IsFull self.new.diagrams.state }
     {
         let made = avoiding_rest(
             &mut self.diagrams,
@@ -60,11 +53,7 @@ impl RegionBdd {
             &self.levels,
         );
         let asked = is_not_empty(&mut self.diagrams, made, &self.own.step.nothing);
-        let why = Refused {
-            asked: Asked::StartEnv,
-            first: Some(t.slot),
-            second: None,
-        };
+        let why = Asked::StartEnv.of(Some(t.slot), None);
         settle_answer(&mut self.refused, asked, why)
     }
 }

@@ -4,4 +4,3 @@ pub mod Held
 pub mod Into
 pub mod TraitLaws
 pub mod Finds
-pub mod Examples

@@ -12,8 +12,6 @@ mod moves;
 mod row;
 mod rows;
 mod slots;
-#[cfg(test)]
-mod tests;
 
 pub use rows::{RegionRows, RowsRefusal};
 pub use slots::{RowMove, RowRegion};

@@ -15,8 +15,6 @@ mod print;
 mod read;
 mod reader;
 mod row;
-#[cfg(test)]
-mod tests;
 pub mod typed_laws;
 mod value;
 mod word;

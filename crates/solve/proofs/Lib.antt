@@ -4,4 +4,7 @@ pub mod Budgets
 pub mod Places
 pub mod Served
 pub mod LostCores
-pub mod SamplesTyped
+pub mod Listed
+pub mod Naming
+pub mod Moments
+pub mod Layered

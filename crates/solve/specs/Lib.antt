@@ -1,4 +1,5 @@
 pub mod Spaces
+pub mod Crowded
 pub mod Budgets
 pub mod Winners
 pub mod Solved
@@ -7,4 +8,3 @@ pub mod Places
 pub mod Judged
 pub mod OneSpelling
 pub mod Separations
-pub mod Samples

@@ -11,6 +11,7 @@ use Rattle.gr1_env.specs.Held.{all_regions}
 use Rattle.gr1_env.specs.Solved.{counts_of, denials_of}
 use Rattle.controller.specs.Made.{AreLayersOf}
 use Rattle.counterstrategy.specs.Made.{AreLayersOf as AreLostLayersOf}
+use Rattle.solve.specs.Budgets.{HoldsNothing, HoldsOneMoment}
 use Rattle.solve.specs.declared.solving.Solved.{Solved}
 use Rattle.solve.specs.declared.solving.Solved.TheVariants.{BySystem, ByEnvironment}
 
@@ -25,3 +26,9 @@ module _ {G R M : Type 0} where
   abbrev pub HoldsLayers : {ghosts : Ghosts G R M} → Kept R M → Solved G R M ghosts → Type 0
   HoldsLayers k (BySystem layers) = (l : LayerSets) × AreLayersOf k layers.z layers.goals.items l
   HoldsLayers k (ByEnvironment layers) = (e : EnvLayerSets) × AreEnvLayersOf k layers.layers.items e
+
+  -- No budget ran out, and where nothing was held before, all that is held are iterates of one moment.
+  pub record IsSolved {ghosts : Ghosts G R M} (old new : Kept R M) (solved : Solved G R M ghosts) : Type 0 where
+    pub layers : HoldsLayers new solved
+    pub free : new.jam ≡ None
+    pub of_one_moment : HoldsNothing old → HoldsOneMoment new

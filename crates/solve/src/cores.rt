@@ -4,7 +4,7 @@ ghost use Rattle.std.specs.Prelude.{◌≤◌, IfOk, IfErr, IfSome, MatchOption}
 ghost use Rattle.spec_model.specs.Views.{spec_data};
 ghost use Rattle.spec_model.specs.WellTyped.{WellTyped};
 ghost use Rattle.spec_model.specs.Cores.{Realizable, Unrealizable, IsLeft, IsCore};
-ghost use Rattle.solve.specs.Budgets.{MayHalt, MayFail};
+ghost use Rattle.solve.specs.Budgets.{MayHaltInTurn, MayFail};
 
 use crate::answers::Numbers;
 use crate::deciding::whole_numbers;
@@ -23,7 +23,7 @@ pub fn core_of(alloc: Global, spec: &Spec, budget: u32) -> Result<Option<Vec<u32
     ensures answer { let s = spec_data spec.now in IfOk result (λ core. MatchOption core (Realizable s) (λ _. Unrealizable s)) }
     ensures left { IfOk result (λ core. IfSome core (λ left. IsLeft (spec_data spec.now) left.items)) }
     ensures core { IfOk result (λ core. IfSome core (λ left. IsCore (spec_data spec.now) left.items)) }
-    ensures cause { IfErr result (MayHalt budget (spec_data spec.now)) }
+    ensures cause { IfErr result (MayHaltInTurn budget (spec_data spec.now)) }
 {
     match whole_numbers(alloc, spec, budget)? {
         Numbers::Realizable { .. } => Ok(None),
@@ -41,7 +41,7 @@ pub fn core_of_lost(alloc: Global, spec: &Spec, budget: u32) -> Result<Vec<u32>,
     requires lost { Unrealizable (spec_data spec.now) }
     ensures left { IfOk result (λ left. IsLeft (spec_data spec.now) left.items) }
     ensures core { IfOk result (λ left. IsCore (spec_data spec.now) left.items) }
-    ensures cause { IfErr result (MayHalt budget (spec_data spec.now)) }
+    ensures cause { IfErr result (MayHaltInTurn budget (spec_data spec.now)) }
 {
     match tried_core(alloc, spec, budget) {
         Ok(core) => Ok(core),

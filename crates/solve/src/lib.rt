@@ -2,11 +2,12 @@
 //!
 //! The game of a specification is solved over sets of its states, first for the system, and where it doesn't win, for the
 //! environment. One of the two wins each game (Bloem et al. 2012, solving GR(1) games). Each call has a budget of nodes;
-//! where it runs out who wins is open, and it is below the specification's need (`cause`).
+//! where it runs out who wins is open, it is below the specification's need, and named sets of its game fill it (`cause`).
 //!
 //! Contract: `verdict`, whose numbers are true of all plays, and whose strategy is fresh and of that specification; `numbers`
 //! says the same and makes no strategy. `core_of` gives what is left of the guarantees of an unrealizable specification, tried
-//! in text order, and that it is a core; `separated` judges the specification whose one guarantee can never be met.
+//! in text order, and that it is a core; `separated` judges the specification whose one guarantee can never be met. Over any
+//! regions `solve_game` finds the winner's layers, and `system_play` and `environment_play` make its strategy of them.
 //! Path: specification → game → regions → layers → strategy → **verdict** → lines.
 #![tactic(auto)]
 
@@ -24,9 +25,7 @@ pub use answers::{Numbers, Verdict};
 pub use cores::{core_of, core_of_lost};
 pub use deciding::{numbers, verdict, whole_numbers, whole_verdict};
 pub use laws::{no_specification_is_won_by_both, one_of_both_wins};
+pub use playing::{environment_play, system_play};
 pub use separation::{Separation, separated};
-pub use solving::game_numbers;
+pub use solving::{Solved, game_numbers, solve_game};
 pub use space::Space;
-
-#[cfg(test)]
-mod tests;

@@ -7,7 +7,7 @@ ghost use Rattle.spec_model.specs.Laws.{NumbersRise};
 ghost use Rattle.gr1_law.specs.Layers.{LayerSets};
 ghost use Rattle.gr1_law.specs.EnvLayers.{EnvLayerSets};
 ghost use Rattle.controller.specs.Made.{AreLayersOf};
-ghost use Rattle.solve.specs.Budgets.{IsHalt};
+ghost use Rattle.solve.specs.Budgets.{PlayHalts};
 ghost use Rattle.solve.specs.Winners.{IsWonGame, IsLostGame};
 ghost use Rattle.solve.specs.Solved.{AreEnvLayersOf};
 ghost use Rattle.solve.specs.Verdicts.{IsPlayFor, IsCounterplayFor};
@@ -19,7 +19,7 @@ use gr1_sys::SysLayers;
 use regions::{Halt, MakeRefusal, Regions};
 use std::alloc::Global;
 
-/// K, and the system's strategy, which has made no move.
+/// K, and the system's strategy, which has made no move. `Budget`: the nodes ran out. `Memory`: none was given.
 pub fn system_play<G: Regions + Drop>(
     alloc: Global,
     g: G,
@@ -27,7 +27,7 @@ pub fn system_play<G: Regions + Drop>(
 ) -> Result<(u64, Controller<G>), Halt>
     requires free { (G.kept g).jam ≡ None }
     requires won { (l : LayerSets) × AreLayersOf (G.kept g) layers.z layers.goals.items l }
-    ensures cause { IfErr result (IsHalt G.kept (G.kept g)) }
+    ensures cause { IfErr result (PlayHalts G.kept (G.kept g)) }
     ensures won { IfOk result (λ p. IsWonGame (G.kept g).game p.0) }
     ensures plays { IfOk result (λ p. (s : Specification) → Agrees s (G.kept g).game → IsPlayFor G.kept s p.0 p.1) }
 {
@@ -38,7 +38,7 @@ pub fn system_play<G: Regions + Drop>(
     }
 }
 
-/// N, M, and the environment's strategy, which has given no input.
+/// N, M, and the environment's strategy, which has given no input. `Budget`: the nodes ran out. `Memory`: none was given.
 pub fn environment_play<G: Regions + Drop>(
     alloc: Global,
     g: G,
@@ -46,7 +46,7 @@ pub fn environment_play<G: Regions + Drop>(
 ) -> Result<(u64, u64, Counterstrategy<G>), Halt>
     requires free { (G.kept g).jam ≡ None }
     requires lost { (e : EnvLayerSets) × AreEnvLayersOf (G.kept g) layers.layers.items e }
-    ensures cause { IfErr result (IsHalt G.kept (G.kept g)) }
+    ensures cause { IfErr result (PlayHalts G.kept (G.kept g)) }
     ensures lost { IfOk result (λ p. IsLostGame (G.kept g).game p.0 p.1) }
     ensures plays { IfOk result (λ p. (s : Specification) → Agrees s (G.kept g).game → NumbersRise s.lines → IsCounterplayFor G.kept s p.0 p.1 p.2) }
 {

@@ -1,12 +1,11 @@
 //! The layers of the side that wins a game.
 
-ghost use Rattle.std.specs.Prelude.{◌≡◌, None, IfOk, IfErr, OnOk};
+ghost use Rattle.std.specs.Prelude.{◌≡◌, None, IfOk, IfErr};
 ghost use Rattle.spec_model.specs.WellMade.{WellMade};
 ghost use Rattle.regions.specs.Kept.{IsSameGame};
-ghost use Rattle.gr1_law.specs.EnvLayers.{EnvLayerSets};
-ghost use Rattle.solve.specs.Budgets.{IsHalt};
+ghost use Rattle.solve.specs.Budgets.{SolverHalts};
 ghost use Rattle.solve.specs.Winners.{EnvironmentForces};
-ghost use Rattle.solve.specs.Solved.{AreEnvLayersOf, HoldsLayers};
+ghost use Rattle.solve.specs.Solved.{IsSolved, HoldsLayers};
 ghost use Rattle.solve.specs.Verdicts.{AreNumbersOfGame};
 
 use crate::answers::Numbers;
@@ -28,9 +27,8 @@ fn environment_layers<G: Regions>(alloc: Global, g: &mut G) -> Result<EnvLayers<
     requires free { (G.kept g.old).jam ≡ None }
     requires made { WellMade (G.kept g.old).game }
     requires forces { EnvironmentForces (G.kept g.old).game }
-    ensures solved { IfOk result (λ l. (e : EnvLayerSets) × AreEnvLayersOf (G.kept g.new) l.layers.items e) }
-    ensures free { OnOk result ((G.kept g.new).jam ≡ None) }
-    ensures cause { IfErr result (IsHalt G.kept (G.kept g.old)) }
+    ensures solved { IfOk result (λ l. IsSolved (G.kept g.old) (G.kept g.new) (Solved.ByEnvironment l)) }
+    ensures cause { IfErr result (SolverHalts G.kept (G.kept g.old)) }
     ensures keeps { IsSameGame (G.kept g.old) (G.kept g.new) }
 {
     match solve_env(alloc, g) {
@@ -41,13 +39,12 @@ fn environment_layers<G: Regions>(alloc: Global, g: &mut G) -> Result<EnvLayers<
     }
 }
 
-/// The layers of the side that wins the game of these regions.
+/// The layers of the side that wins the game of these regions. `Budget`: the nodes ran out. `Memory`: none was given.
 pub fn solve_game<G: Regions>(alloc: Global, g: &mut G) -> Result<Solved<G>, Halt>
     requires free { (G.kept g.old).jam ≡ None }
     requires made { WellMade (G.kept g.old).game }
-    ensures holds { IfOk result (HoldsLayers (G.kept g.new)) }
-    ensures free { OnOk result ((G.kept g.new).jam ≡ None) }
-    ensures cause { IfErr result (IsHalt G.kept (G.kept g.old)) }
+    ensures solved { IfOk result (IsSolved (G.kept g.old) (G.kept g.new)) }
+    ensures cause { IfErr result (SolverHalts G.kept (G.kept g.old)) }
     ensures keeps { IsSameGame (G.kept g.old) (G.kept g.new) }
 {
     match solve_sys(alloc, g) {
@@ -82,7 +79,7 @@ pub fn game_numbers<G: Regions>(alloc: Global, g: &mut G) -> Result<Numbers, Hal
     requires free { (G.kept g.old).jam ≡ None }
     requires made { WellMade (G.kept g.old).game }
     ensures numbers { IfOk result (AreNumbersOfGame (G.kept g.old).game) }
-    ensures cause { IfErr result (IsHalt G.kept (G.kept g.old)) }
+    ensures cause { IfErr result (SolverHalts G.kept (G.kept g.old)) }
 {
     let solved = solve_game(alloc, g)?;
     Ok(counted(g, solved))

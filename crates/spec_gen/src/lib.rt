@@ -11,6 +11,3 @@ mod text;
 pub use text::arbiter;
 /// Memory ran out.
 pub use std::alloc::AllocError as OutOfMemory;
-
-#[cfg(test)]
-mod tests;

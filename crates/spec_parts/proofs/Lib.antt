@@ -1,2 +1,1 @@
-mod SampleTyped
 pub mod FewerHidden

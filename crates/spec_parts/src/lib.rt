@@ -9,6 +9,3 @@ mod restricting;
 
 pub use restricting::{forced, without};
 pub use std::alloc::AllocError as OutOfMemory;
-
-#[cfg(test)]
-mod tests;

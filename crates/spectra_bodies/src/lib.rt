@@ -11,7 +11,5 @@ mod definitions;
 pub mod laws;
 pub mod putting;
 pub mod reporting;
-#[cfg(test)]
-mod tests;
 mod types;
 mod unmeant;

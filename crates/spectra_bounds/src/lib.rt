@@ -10,6 +10,4 @@
 pub mod constants;
 pub mod cycles;
 pub mod numbers;
-#[cfg(test)]
-mod tests;
 pub mod types;

@@ -10,5 +10,3 @@ pub mod known;
 pub mod names;
 pub mod order;
 pub mod reporting;
-#[cfg(test)]
-mod tests;

@@ -2,27 +2,15 @@
 
 ghost use Rattle.std.specs.Prelude.{◌≡◌, ◌++◌, ◌∷◌, [], ◌<◌, ◌≤◌, length, get_or, OnOk, IfOk};
 ghost use Rattle.spectra_resolved.specs.Views.{resolved_data};
-ghost use Rattle.spectra_judge.specs.Around.{comes_before as comes_before_lem, AreRising};
+ghost use Rattle.spectra_judge.specs.Around.{AreRising};
 ghost use Rattle.spectra_brought.specs.Names.{names_in};
 ghost use Rattle.spectra_brought.specs.Orders.{is_behind as is_behind_lem, is_apart as is_apart_lem, IsPlaceAmong, AreInOrder};
 
 use crate::names::add_names;
+use spectra_judge::brought::comes_before;
 use spectra_resolved::spot::Spot;
 use spectra_resolved::tree::Resolved;
 use std::alloc::{AllocError, Global};
-
-/// Whether a place comes before another.
-pub fn comes_before(a: Spot, b: Spot) -> bool
-    ensures { result ≡ comes_before_lem a b }
-{
-    if a.file != b.file {
-        a.file < b.file
-    } else if a.line != b.line {
-        a.line < b.line
-    } else {
-        a.column < b.column
-    }
-}
 
 #[tactic(auto, using(spectra_judge::proofs::Lists::get_or_any))]
 // A place by its number. Past the end it would be `at`.

@@ -233,7 +233,7 @@ fn declare_item<'t>(
 }
 
 #[tactic(auto, using(spectra_items::proofs::Told::with_entries_append))]
-/// What several items declare in a name space. Each second declaration of a name is reported.
+/// What several items declare in a name space. Each second declaration of a name is reported, but for an enum name in two enums.
 pub fn space_of<'t>(
     alloc: Global,
     space: Space,

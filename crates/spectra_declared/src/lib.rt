@@ -11,6 +11,4 @@ pub mod declaring;
 pub mod items;
 mod limits;
 mod mentions;
-#[cfg(test)]
-mod tests;
 pub mod text;

@@ -103,7 +103,7 @@ fn text_of_items<'t>(
 }
 
 /// All that several files declare and say, with each name resolved. The last file is the main one. The fault that comes
-/// first among these is found: each fault of the declarations (7, 8, 17, 18), an unknown name (7), a name twice in an enum,
+/// first among these is found: each fault of the declarations (8, 17, 18), an unknown name (7), a name twice in an enum,
 /// among parameters or among the names of a pattern (8), a misused name (9), and a wrong number of arguments (16).
 pub fn resolved_text<'t>(
     alloc: Global,

@@ -23,14 +23,11 @@ fn variable(number: usize) -> Result<Expr, AllocError>
     Ok(Expr::Var(number as u32))
 }
 
-// An enum name by its number. No text has one past 16 bits.
-fn enum_name(number: usize) -> Result<Expr, AllocError>
-    ensures { IfOk result (λ e. formula e ≡ leaf_formula 0 (Leaf.EnumName number)) }
+// An enum name by its number, which is cut to 16 bits. No text without faults has one past these.
+fn enum_name(number: usize) -> Expr
+    ensures { formula result ≡ leaf_formula 0 (Leaf.EnumName number) }
 {
-    if number > 65_535 {
-        return Err(AllocError);
-    }
-    Ok(Expr::Const(Value::Name(number as u16)))
+    Expr::Const(Value::Name(number.min(65_535) as u16))
 }
 
 // A part without parts, behind so many parameters.
@@ -40,7 +37,7 @@ fn leaf_expr(params: usize, leaf: Leaf) -> Result<Expr, AllocError>
     match leaf {
         Leaf::Truth(b) => Ok(Expr::Const(Value::Bool(b))),
         Leaf::Number(z) => Ok(Expr::Const(Value::Int(z))),
-        Leaf::EnumName(n) => enum_name(n),
+        Leaf::EnumName(n) => Ok(enum_name(n)),
         Leaf::Variable(k) => variable(k),
         Leaf::Parameter(k) => variable(k),
         Leaf::Own(k) => match params.checked_add(k) {
@@ -99,8 +96,7 @@ fn joined(alloc: Global, word: BinaryWord, a: Expr, b: Expr) -> Result<Expr, All
 }
 
 /// The formula of an expression in which everything is put in, of a line where there are no parameters, or of a pattern's line
-/// with so many. The error is that memory is short, or that a number is past 32 bits or that of an enum name past 16, which no
-/// text has.
+/// with so many. The error is that memory is short, or that the number of a variable is past 32 bits, which no text has.
 #[cycle(erasing)]
 pub fn erase(alloc: Global, params: usize, t: &Resolved) -> Result<Expr, AllocError>
     ensures { IfOk result (λ e. formula e ≡ erased params (resolved_data t.now)) }

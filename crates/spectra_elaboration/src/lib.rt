@@ -16,5 +16,3 @@ pub mod levels;
 pub mod nodes;
 pub mod parts;
 pub mod putting;
-#[cfg(test)]
-mod tests;

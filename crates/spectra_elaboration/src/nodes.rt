@@ -20,7 +20,7 @@ use std::alloc::Global;
 
 /// What is left of a room behind a node and so many below it. `Large`: there is less room.
 pub fn left_of(room: usize, below: usize) -> Result<usize, Halt>
-    ensures { MatchResult result (λ left. left + (1 + below) ≡ room) (λ halt. halt ≡ Halt.Large → room < 1 + below) }
+    ensures { MatchResult result (λ left. left + (1 + below) ≡ room) (λ halt. (halt ≡ Halt.Large) × (room < 1 + below)) }
 {
     if below >= room {
         return Err(Halt::Large);

@@ -4,8 +4,8 @@
 //! here, which reads a tree at the front of the tokens. What it reads is of the grammar, and what is of the grammar it
 //! reads, in one way; the laws of that stand with the grammar, for the crates above.
 //!
-//! Contract: `whole` reads an expression, or stops at the first token that goes on none. Path: tokens → **trees** →
-//! specification.
+//! Contract: `whole` reads an expression, or stops at a token. That this token is the first that goes on none is a law of
+//! whole texts (`spectra_parser`). Path: tokens → **trees** → specification.
 #![tactic(auto)]
 
 pub mod fault;

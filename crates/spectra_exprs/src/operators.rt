@@ -1,6 +1,6 @@
 //! Tokens and operators at the front of what is left to read.
 
-ghost use Rattle.std.specs.Prelude.{◌≡◌, ◌<◌, option_map};
+ghost use Rattle.std.specs.Prelude.{◌≡◌, ◌<◌, IfErr, option_map};
 ghost use Rattle.spectra_trees.specs.Views.{expr_data};
 ghost use Rattle.spectra_trees.specs.Lexemes.{lexeme_of, lexemes_of};
 ghost use Rattle.spectra_exprs.specs.Read.{Gives, first_number as first_number_lem, starts as starts_lem, expect as expect_lem};
@@ -56,6 +56,7 @@ pub fn starts(tokens: &[Spelled<'_>], class: Class) -> bool
 #[tactic(auto, unfolding(crate::specs::Read::expect))]
 pub fn expect<'t>(tokens: Tokens<'t>, class: Class) -> Read<'t, &'t Spelled<'t>>
     ensures read { Gives (λ x. (lexeme_of x.0.now, lexemes_of x.1.now)) result (expect_lem class (lexemes_of tokens.now)) }
+    ensures told { IfErr result (λ e. e ≡ SyntaxFault.Memory → ⊥) }
 {
     match tokens.split_first() {
         Some((token, rest)) => {
@@ -216,6 +217,7 @@ pub fn starts_or(tokens: &[Spelled<'_>]) -> bool
 #[tactic(auto, unfolding(crate::specs::Operators::expect_or))]
 pub fn expect_or<'t>(tokens: Tokens<'t>) -> Read<'t, &'t Spelled<'t>>
     ensures read { Gives (λ x. (lexeme_of x.0.now, lexemes_of x.1.now)) result (expect_or_lem (lexemes_of tokens.now)) }
+    ensures told { IfErr result (λ e. e ≡ SyntaxFault.Memory → ⊥) }
 {
     if starts(tokens, Class::Bar) {
         return expect(tokens, Class::Bar);
@@ -251,6 +253,7 @@ pub fn is_operator(class: Class) -> bool
 #[tactic(auto, unfolding(crate::specs::Operators::closed))]
 pub fn closed<'t>(tree: ExprTree, tokens: Tokens<'t>) -> Read<'t, ExprTree>
     ensures read { Gives (λ x. (expr_data x.0, lexemes_of x.1.now)) result (closed_lem (expr_data tree) (lexemes_of tokens.now)) }
+    ensures told { IfErr result (λ e. e ≡ SyntaxFault.Memory → ⊥) }
 {
     match tokens.split_first() {
         Some((token, _)) if is_operator(token.class) => Err(SyntaxFault::Parentheses(token.number)),

@@ -8,5 +8,3 @@
 
 pub mod holing;
 pub mod laws;
-#[cfg(test)]
-mod tests;

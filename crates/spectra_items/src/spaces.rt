@@ -32,7 +32,7 @@ fn table_of<'t>(
     Ok(table)
 }
 
-/// What names stand for by these declarations alone. Each second one of a name is reported (8).
+/// What names stand for by these declarations alone. Each second one of a name is reported (8), but for an enum name in two enums.
 pub fn space_of<'t>(
     alloc: Global,
     findings: &mut Findings,

@@ -1,7 +1,10 @@
 -- The kind of an expression and that of its formula fit: they are the same.
-use Rattle.std.proofs.Common.{◌≡◌, ℤ, pos, true, false, ◌&&◌, if◌then◌else◌, [], ◌++◌, Option, Some, None, refl, sym, ap, subst, ◌∙◌, arith}
+use Rattle.std.proofs.Common.{◌≡◌, ℕ, ◌≤◌, ◌==◌, min, nat_lt, ℤ, pos, Bool, true, false, ◌&&◌, ◌||◌, if◌then◌else◌, List, [], ◌∷◌, ◌++◌, Option, Some, None, refl, sym, ap, subst, ◌∙◌, arith}
 use Rattle.std.specs.Prelude.{int_le, int_lt, ◌-ℤ◌}
+use Rattle.std.specs.List.{list_all, list_any}
 use Rattle.std.proofs.lemmas.Bool.{false≢true, and_parts}
+use Rattle.std.proofs.lemmas.Bool.Decides.{nat_tests}
+use Rattle.std.proofs.Math.Nat.{min-eq_left}
 use Rattle.std.proofs.lemmas.Int.{ints}
 use Rattle.spec_model.specs.declared.expr.Compare.{Compare}
 use Rattle.spec_model.specs.declared.expr.Compare.TheVariants as compares
@@ -18,16 +21,17 @@ use Rattle.spectra_judge.specs.Findings.{fault_if}
 use Rattle.spectra_judge.specs.Kinds.{Kind, Truth, Whole, SomeWhole, NameOf, OneName, Anything, is_truth, is_whole, can_equal, is_wide, added, subtracted, multiplied, reduced}
 use Rattle.spectra_judge.specs.Operators.{gives, takes}
 use Rattle.spectra_judge.specs.Judged.{wrong, wide, binary_faults}
-use Rattle.spectra_judge.specs.Erased.{prefix_formula, binary_formula, domain_kind}
+use Rattle.spectra_judge.specs.Erased.{prefix_formula, binary_formula, domain_kind, has_room}
 use Rattle.spectra_judge.proofs.Empty.{empty_parts, no_fault, right}
 use Rattle.spectra_judge.proofs.Spans.{narrow, whole-narrow, sum_span, difference_span, product_span}
 
--- the formula's kind is this one; what isn't known, and what fits everything, is no formula's
+-- The formula's kind is this one, and the names of a list have numbers of 16 bits, to which that of one name is cut. What isn't
+-- known, and what fits everything, is no formula's.
 abbrev pub Fits : Kind → Option model.Kind → Type 0
 Fits Truth o = o ≡ Some model.Truth
 Fits (Whole low high) o = o ≡ Some (model.Whole low high)
-Fits (NameOf names) o = o ≡ Some (model.NameOf names)
-Fits (OneName name) o = o ≡ Some (model.OneName name)
+Fits (NameOf names) o = (o ≡ Some (model.NameOf names)) × (list_all (λ n. nat_lt n 65_536) names ≡ true)
+Fits (OneName name) o = o ≡ Some (model.OneName (min name 65_535))
 Fits SomeWhole o = ⊥
 Fits Anything o = ⊥
 
@@ -64,6 +68,17 @@ pub record AreEqual (o p : Option model.Kind) : Type 0 where
   pub is_second : p ≡ Some second
   pub compare : model.can_equal first second ≡ true
 
+-- a name of such a list isn't cut
+name_kept : (n : ℕ) (names : List ℕ) → list_all (λ k. nat_lt k 65_536) names ≡ true → list_any (λ k. k == n) names ≡ true → Some (model.OneName (min n 65_535)) ≡ Some (model.OneName n)
+name_kept n [] room is = absurd (false≢true is)
+name_kept n (k ∷ names) room is =
+    let parts = and_parts (nat_lt k 65_536) (list_all (λ k. nat_lt k 65_536) names) room in by (k == n) refl parts.0 (name_kept n names parts.1) is
+  where
+    by : (b : Bool) → (k == n) ≡ b → nat_lt k 65_536 ≡ true → (list_any (λ k. k == n) names ≡ true → Some (model.OneName (min n 65_535)) ≡ Some (model.OneName n)) →
+        (b || list_any (λ k. k == n) names) ≡ true → Some (model.OneName (min n 65_535)) ≡ Some (model.OneName n)
+    by true same short rest is = let small : n ≤ 65_535 = grind (arith, nat_tests) in ap (λ m. Some (model.OneName m)) (min-eq_left small)
+    by false same short rest is = rest is
+
 pub equal_fits : (j k : Kind) (o p : Option model.Kind) → can_equal j k ≡ true → Fits j o → Fits k p → AreEqual o p
 equal_fits Truth Truth o p e a b = record { first = model.Truth; second = model.Truth; is_first = a; is_second = b; compare = refl }
 equal_fits Truth (Whole c d) o p e a b = absurd (false≢true e)
@@ -78,15 +93,15 @@ equal_fits (Whole l h) (NameOf ns) o p e a b = absurd (false≢true e)
 equal_fits (Whole l h) (OneName n) o p e a b = absurd (false≢true e)
 equal_fits (Whole l h) Anything o p e a b = absurd b
 equal_fits (NameOf ms) (NameOf ns) o p e a b =
-    record { first = model.NameOf ms; second = model.NameOf ns; is_first = a; is_second = b; compare = e }
+    record { first = model.NameOf ms; second = model.NameOf ns; is_first = a.0; is_second = b.0; compare = e }
 equal_fits (NameOf ms) (OneName n) o p e a b =
-    record { first = model.NameOf ms; second = model.OneName n; is_first = a; is_second = b; compare = e }
+    record { first = model.NameOf ms; second = model.OneName n; is_first = a.0; is_second = b ∙ name_kept n ms a.1 e; compare = e }
 equal_fits (NameOf ms) Truth o p e a b = absurd (false≢true e)
 equal_fits (NameOf ms) (Whole c d) o p e a b = absurd (false≢true e)
 equal_fits (NameOf ms) SomeWhole o p e a b = absurd b
 equal_fits (NameOf ms) Anything o p e a b = absurd b
 equal_fits (OneName m) (NameOf ns) o p e a b =
-    record { first = model.OneName m; second = model.NameOf ns; is_first = a; is_second = b; compare = e }
+    record { first = model.OneName m; second = model.NameOf ns; is_first = a ∙ name_kept m ns b.1 e; is_second = b.0; compare = e }
 equal_fits (OneName m) Truth o p e a b = absurd (false≢true e)
 equal_fits (OneName m) (Whole c d) o p e a b = absurd (false≢true e)
 equal_fits (OneName m) SomeWhole o p e a b = absurd b
@@ -102,10 +117,10 @@ compared_less : (c : Compare) → ((a b d e : ℤ) → model.can_compare c (mode
 compared_less c whole j k o p first second = (λ i. compared c (first.fits i) (second.fits i)) ∙ ap truth_if (whole first.low first.high second.low second.high)
 
 -- a variable's kind, and that of its domain
-pub domain_fits : (d : DomainData) → Fits (domain_kind d) (Some (model.kind_of_domain d))
-domain_fits TruthValues = refl
-domain_fits (WholeNumbers low high) = refl
-domain_fits (Enumeration names) = refl
+pub domain_fits : (d : DomainData) → has_room (domain_kind d) ≡ true → Fits (domain_kind d) (Some (model.kind_of_domain d))
+domain_fits TruthValues room = refl
+domain_fits (WholeNumbers low high) room = refl
+domain_fits (Enumeration names) room = (refl, room)
 
 -- ---- operators
 

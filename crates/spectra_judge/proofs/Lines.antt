@@ -1,8 +1,10 @@
 -- Expressions of lines and of patterns' lines, without faults and with everything put in, have typed formulas.
-use Rattle.std.proofs.Common.{◌≡◌, ℕ, zero, suc, ◌+◌, ◌<◌, ℤ, Bool, true, false, List, [], ◌∷◌, ◌++◌, length, map, get_or, slice_get, option_map, Some, nat_lt, replicate, refl, sym, ap, subst, ◌∙◌, arith}
-use Rattle.std.proofs.lemmas.Bool.{false≢true, and_from}
+use Rattle.std.proofs.Common.{◌≡◌, ℕ, zero, suc, ◌+◌, ◌<◌, ◌≤◌, min, ℤ, Bool, true, List, [], ◌∷◌, ◌++◌, length, map, get_or, slice_get, option_map, Some, nat_lt, replicate, refl, sym, ap, subst, ◌∙◌, arith}
+use Rattle.std.specs.List.{list_all}
+use Rattle.std.proofs.lemmas.Bool.{false≢true, and_parts, and_from}
 use Rattle.std.proofs.lemmas.Bool.Decides.{nat_tests}
 use Rattle.std.proofs.lemmas.List.{length-replicate}
+use Rattle.std.proofs.Math.Nat.{min-le_left}
 use Rattle.spec_model.specs.Typing as model
 use Rattle.spec_model.specs.Values.{DomainData, TruthValues}
 use Rattle.spec_model.specs.WellTyped.{is_typed}
@@ -17,7 +19,7 @@ use Rattle.spectra_judge.specs.Standings.{Bans, bans_of, is_wanted, wants_truth}
 use Rattle.spectra_judge.specs.Around.{Around, nothing_open}
 use Rattle.spectra_judge.specs.Known.{Known, Setting}
 use Rattle.spectra_judge.specs.Judged.{kind_of, wrong, wide, first_of, leaf_faults, faults, faults_of}
-use Rattle.spectra_judge.specs.Erased.{erased, is_put_in, in_line, in_pattern, domain_kind}
+use Rattle.spectra_judge.specs.Erased.{erased, is_put_in, in_line, in_pattern, domain_kind, has_room}
 use Rattle.spectra_judge.specs.Laws.{LineIsTyped, PatternIsTyped}
 use Rattle.spectra_judge.proofs.Empty.{empty_parts, no_fault, right}
 use Rattle.spectra_judge.proofs.Spans.{narrow, whole-narrow}
@@ -32,20 +34,25 @@ number_fits z at none = whole-narrow z z (narrow z z (no_fault (is_wide (Whole z
 below_is : (k n : ℕ) → nat_lt k n ≡ true → k < n
 below_is k n is = grind (arith, nat_tests)
 
+-- a name that is cut is one of so many all the more
+cut_below : (n names : ℕ) → nat_lt n names ≡ true → nat_lt (min n 65_535) names ≡ true
+cut_below n names is = let less : min n 65_535 ≤ n = min-le_left n 65_535 in grind (arith, nat_tests)
+
 -- a variable's kind is that of its domain
-variable_fits : (domains : List DomainData) (k : ℕ) → k < length domains → Fits (get_or (map domain_kind domains) k Anything) (option_map model.kind_of_domain (slice_get domains k))
-variable_fits [] k below = absurd (omega arith)
-variable_fits (d ∷ domains) zero below = domain_fits d
-variable_fits (d ∷ domains) (suc k) below = variable_fits domains k (omega arith)
+variable_fits : (domains : List DomainData) → list_all has_room (map domain_kind domains) ≡ true → (k : ℕ) → k < length domains
+    → Fits (get_or (map domain_kind domains) k Anything) (option_map model.kind_of_domain (slice_get domains k))
+variable_fits [] room k below = absurd (omega arith)
+variable_fits (d ∷ domains) room zero below = domain_fits d (and_parts (has_room (domain_kind d)) _ room).0
+variable_fits (d ∷ domains) room (suc k) below = variable_fits domains (and_parts (has_room (domain_kind d)) _ room).1 k (omega arith)
 
 -- and so it is where others stand before
-own_fits : (before domains : List DomainData) (j k : ℕ) → j ≡ length before + k → k < length domains
+own_fits : (before domains : List DomainData) → list_all has_room (map domain_kind domains) ≡ true → (j k : ℕ) → j ≡ length before + k → k < length domains
     → Fits (get_or (map domain_kind domains) k Anything) (option_map model.kind_of_domain (slice_get (before ++ domains) j))
-own_fits [] domains j k same below =
+own_fits [] domains room j k same below =
     let e : k ≡ j = omega arith in
-    subst (λ i. Fits (get_or (map domain_kind domains) k Anything) (option_map model.kind_of_domain (slice_get domains i))) e (variable_fits domains k below)
-own_fits (d ∷ before) domains zero k same below = absurd (omega arith)
-own_fits (d ∷ before) domains (suc j) k same below = own_fits before domains j k (omega arith) below
+    subst (λ i. Fits (get_or (map domain_kind domains) k Anything) (option_map model.kind_of_domain (slice_get domains i))) e (variable_fits domains room k below)
+own_fits (d ∷ before) domains room zero k same below = absurd (omega arith)
+own_fits (d ∷ before) domains room (suc j) k same below = own_fits before domains room j k (omega arith) below
 
 parameter_fits : (params : ℕ) (own : List DomainData) (k : ℕ) → k < params
     → Fits (get_or (replicate params Truth) k Anything) (option_map model.kind_of_domain (slice_get (replicate params TruthValues ++ own) k))
@@ -57,42 +64,42 @@ module _ (known : Known) (names : ℕ) (bans : Bans) where
   abbrev s : Setting
   s = record { known = known; bans = bans }
 
-  line_leaf : (domains : List DomainData) → known.variables ≡ map domain_kind domains → (l : Leaf) (o : Around) (at : Spot) → in_line names (length domains) l ≡ true → leaf_faults s o.next at l ≡ []
+  line_leaf : (domains : List DomainData) → known.variables ≡ map domain_kind domains → list_all has_room (map domain_kind domains) ≡ true → (l : Leaf) (o : Around) (at : Spot) → in_line names (length domains) l ≡ true → leaf_faults s o.next at l ≡ []
       → IsSound known (record { domains = domains; tables = [] }) names 0 o (Form.LeafOf l)
-  line_leaf domains same (leaf.Truth b) o at good none = record { fits = refl; stands = refl }
-  line_leaf domains same (leaf.Number z) o at good none = record { fits = number_fits z at none; stands = refl }
-  line_leaf domains same (leaf.EnumName n) o at good none = record { fits = refl; stands = good }
-  line_leaf domains same (leaf.Variable k) o at good none =
+  line_leaf domains same room (leaf.Truth b) o at good none = record { fits = refl; stands = refl }
+  line_leaf domains same room (leaf.Number z) o at good none = record { fits = number_fits z at none; stands = refl }
+  line_leaf domains same room (leaf.EnumName n) o at good none = record { fits = refl; stands = cut_below n names good }
+  line_leaf domains same room (leaf.Variable k) o at good none =
       record {
-        fits = subst (λ ks. Fits (get_or ks k Anything) (option_map model.kind_of_domain (slice_get domains k))) (sym same) (variable_fits domains k (below_is k (length domains) good));
+        fits = subst (λ ks. Fits (get_or ks k Anything) (option_map model.kind_of_domain (slice_get domains k))) (sym same) (variable_fits domains room k (below_is k (length domains) good));
         stands = refl;
       }
-  line_leaf domains same (leaf.Parameter k) o at good none = absurd (false≢true good)
-  line_leaf domains same (leaf.Own k) o at good none = absurd (false≢true good)
-  line_leaf domains same (leaf.Define k) o at good none = absurd (false≢true good)
-  line_leaf domains same (leaf.Hole h) o at good none = absurd (false≢true good)
+  line_leaf domains same room (leaf.Parameter k) o at good none = absurd (false≢true good)
+  line_leaf domains same room (leaf.Own k) o at good none = absurd (false≢true good)
+  line_leaf domains same room (leaf.Define k) o at good none = absurd (false≢true good)
+  line_leaf domains same room (leaf.Hole h) o at good none = absurd (false≢true good)
 
-  pattern_leaf : (params : ℕ) (own : List DomainData) → known.parameters ≡ replicate params Truth → known.own ≡ map domain_kind own → (l : Leaf) (o : Around) (at : Spot)
+  pattern_leaf : (params : ℕ) (own : List DomainData) → known.parameters ≡ replicate params Truth → known.own ≡ map domain_kind own → list_all has_room (map domain_kind own) ≡ true → (l : Leaf) (o : Around) (at : Spot)
       → in_pattern names params (length own) l ≡ true → leaf_faults s o.next at l ≡ []
       → IsSound known (record { domains = replicate params TruthValues ++ own; tables = [] }) names params o (Form.LeafOf l)
-  pattern_leaf params own same same' (leaf.Truth b) o at good none = record { fits = refl; stands = refl }
-  pattern_leaf params own same same' (leaf.Number z) o at good none = record { fits = number_fits z at none; stands = refl }
-  pattern_leaf params own same same' (leaf.EnumName n) o at good none = record { fits = refl; stands = good }
-  pattern_leaf params own same same' (leaf.Parameter k) o at good none =
+  pattern_leaf params own same same' room (leaf.Truth b) o at good none = record { fits = refl; stands = refl }
+  pattern_leaf params own same same' room (leaf.Number z) o at good none = record { fits = number_fits z at none; stands = refl }
+  pattern_leaf params own same same' room (leaf.EnumName n) o at good none = record { fits = refl; stands = cut_below n names good }
+  pattern_leaf params own same same' room (leaf.Parameter k) o at good none =
       record {
         fits = subst (λ ks. Fits (get_or ks k Anything) (option_map model.kind_of_domain (slice_get (replicate params TruthValues ++ own) k))) (sym same) (parameter_fits params own k (below_is k params good));
         stands = refl;
       }
-  pattern_leaf params own same same' (leaf.Own k) o at good none =
+  pattern_leaf params own same same' room (leaf.Own k) o at good none =
       let long : length (replicate params TruthValues) ≡ params = length-replicate params TruthValues in
       record {
         fits = subst (λ ks. Fits (get_or ks k Anything) (option_map model.kind_of_domain (slice_get (replicate params TruthValues ++ own) (params + k)))) (sym same')
-            (own_fits (replicate params TruthValues) own (params + k) k (omega arith) (below_is k (length own) good));
+            (own_fits (replicate params TruthValues) own room (params + k) k (omega arith) (below_is k (length own) good));
         stands = refl;
       }
-  pattern_leaf params own same same' (leaf.Variable k) o at good none = absurd (false≢true good)
-  pattern_leaf params own same same' (leaf.Define k) o at good none = absurd (false≢true good)
-  pattern_leaf params own same same' (leaf.Hole h) o at good none = absurd (false≢true good)
+  pattern_leaf params own same same' room (leaf.Variable k) o at good none = absurd (false≢true good)
+  pattern_leaf params own same same' room (leaf.Define k) o at good none = absurd (false≢true good)
+  pattern_leaf params own same same' room (leaf.Hole h) o at good none = absurd (false≢true good)
 
 -- ---- whole expressions
 
@@ -124,10 +131,10 @@ module _ (known : Known) (sc : model.Scope) (names params : ℕ) (good : Leaf �
       and_from _ _ (ap model.is_truth (truth_fits (kind_of known t) (model.kind_of sc (erased params t)) truth is.0)) is.1
 
 pub line_is_typed : LineIsTyped
-line_is_typed known names domains at t same wants put none =
-    typed known (record { domains = domains; tables = [] }) names 0 (in_line names (length domains)) at t (line_leaf known names (bans_of at) domains same) wants put none
+line_is_typed known names domains at t same room wants put none =
+    typed known (record { domains = domains; tables = [] }) names 0 (in_line names (length domains)) at t (line_leaf known names (bans_of at) domains same (sym (ap (list_all has_room) same) ∙ room)) wants put none
 
 pub pattern_is_typed : PatternIsTyped
-pattern_is_typed known names params own at t same same' wants put none =
+pattern_is_typed known names params own at t same same' room wants put none =
     typed known (record { domains = replicate params TruthValues ++ own; tables = [] }) names params (in_pattern names params (length own)) at t
-    (pattern_leaf known names (bans_of at) params own same same') wants put none
+    (pattern_leaf known names (bans_of at) params own same same' (sym (ap (list_all has_room) same') ∙ room)) wants put none

@@ -1,5 +1,5 @@
 -- An expression without faults, in which everything is put in, has a formula that is typed.
-use Rattle.std.proofs.Common.{◌≡◌, ℕ, ◌+◌, pos, Bool, true, false, List, [], ◌∷◌, ◌++◌, drop, get_or, is_some, refl, ap}
+use Rattle.std.proofs.Common.{◌≡◌, ℕ, pos, Bool, true, List, [], ◌∷◌, ◌++◌, drop, get_or, is_some, refl, ap}
 use Rattle.std.specs.Prelude.{int_le}
 use Rattle.std.proofs.lemmas.Bool.{false≢true, and_parts, and_from, not_from_false}
 use Rattle.spec_model.specs.Typing as model

@@ -1,5 +1,6 @@
 -- The formula of an expression in which everything is put in: the expression without its places.
-use Rattle.std.specs.Prelude.{ℕ, ◌+◌, Bool, true, false, ◌&&◌, nat_lt, [], ◌∷◌}
+use Rattle.std.specs.Prelude.{ℕ, ◌+◌, min, Bool, true, false, ◌&&◌, nat_lt, [], ◌∷◌}
+use Rattle.std.specs.List.{list_all}
 use Rattle.spec_model.specs.declared.value.Value.TheVariants as value
 use Rattle.spec_model.specs.declared.expr.Compare.TheVariants as compares
 use Rattle.spec_model.specs.declared.expr.Past.TheVariants as pasts
@@ -12,7 +13,7 @@ use Rattle.spectra_trees.specs.declared.tree.BinaryWord.TheVariants as binary
 use Rattle.spectra_resolved.specs.declared.tree.Leaf.{Leaf}
 use Rattle.spectra_resolved.specs.declared.tree.Leaf.TheVariants as leaf
 use Rattle.spectra_resolved.specs.Resolved.{ResolvedTree, tree, Form, ResolvedTrees}
-use Rattle.spectra_judge.specs.Kinds.{Kind, Truth, Whole, NameOf}
+use Rattle.spectra_judge.specs.Kinds.{Kind, Truth, Whole, NameOf, Anything}
 
 -- ---- the formula
 
@@ -20,11 +21,12 @@ use Rattle.spectra_judge.specs.Kinds.{Kind, Truth, Whole, NameOf}
 abbrev pub no_formula : Formula
 no_formula = Constant (value.Bool true)
 
--- The parameters of a pattern are its first variables, and its own ones follow.
+-- The parameters of a pattern are its first variables, and its own ones follow. The number of an enum name past 16 bits, which no
+-- text without faults has, is cut to these.
 abbrev pub leaf_formula : (params : ℕ) → Leaf → Formula
 leaf_formula params (leaf.Truth b) = Constant (value.Bool b)
 leaf_formula params (leaf.Number z) = Constant (value.Int z)
-leaf_formula params (leaf.EnumName n) = Constant (value.Name n)
+leaf_formula params (leaf.EnumName n) = Constant (value.Name (min n 65_535))
 leaf_formula params (leaf.Variable k) = Variable k
 leaf_formula params (leaf.Parameter k) = Variable k
 leaf_formula params (leaf.Own k) = Variable (params + k)
@@ -114,3 +116,9 @@ abbrev pub domain_kind : DomainData → Kind
 domain_kind TruthValues = Truth
 domain_kind (WholeNumbers low high) = Whole low high
 domain_kind (Enumeration names) = NameOf names
+
+-- the kind of a type whose enum names have numbers of 16 bits
+abbrev pub has_room : Kind → Bool
+has_room Anything = false
+has_room (NameOf names) = list_all (λ n. nat_lt n 65_536) names
+has_room _ = true

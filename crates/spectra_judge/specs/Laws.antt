@@ -1,5 +1,6 @@
 -- Laws over the definitions alone, each of which the function of its name in src/laws.rt proves.
 use Rattle.std.specs.Prelude.{◌≡◌, ℕ, nat_lt, true, false, List, [], ◌++◌, Option, Some, None, length, map, replicate, All, Contains}
+use Rattle.std.specs.List.{list_all}
 use Rattle.spec_model.specs.Values.{DomainData, TruthValues}
 use Rattle.spec_model.specs.Moves.{has_next}
 use Rattle.spec_model.specs.Syntax.{Formula}
@@ -12,7 +13,7 @@ use Rattle.spectra_judge.specs.Kinds.{Truth}
 use Rattle.spectra_judge.specs.Standings.{Bans, bans_of, wants_truth}
 use Rattle.spectra_judge.specs.Known.{Known, is_system}
 use Rattle.spectra_judge.specs.Judged.{faults_of}
-use Rattle.spectra_judge.specs.Erased.{erased, is_put_in, in_line, in_pattern, domain_kind}
+use Rattle.spectra_judge.specs.Erased.{erased, is_put_in, in_line, in_pattern, domain_kind, has_room}
 
 -- none where there are no faults, and else one of them that no other one comes before
 abbrev pub IsFirst : List Finding → Option Finding → Type 0
@@ -23,16 +24,16 @@ abbrev pub FirstIsLeast : Type 0
 FirstIsLeast = (fs : List Finding) → IsFirst fs (first_of_faults fs)
 
 -- An expression of a line in which everything is put in, without a fault where it stands, has a formula that is typed: its
--- variables have these domains, and so many enum names are declared.
+-- variables have these domains, whose enum names have numbers of 16 bits, and so many enum names are declared.
 abbrev pub LineIsTyped : Type 0
-LineIsTyped = (known : Known) (names : ℕ) (domains : List DomainData) (stand : Stand) (t : ResolvedTree) → known.variables ≡ map domain_kind domains →
+LineIsTyped = (known : Known) (names : ℕ) (domains : List DomainData) (stand : Stand) (t : ResolvedTree) → known.variables ≡ map domain_kind domains → list_all has_room known.variables ≡ true →
     wants_truth stand ≡ true → is_put_in (in_line names (length domains)) t ≡ true → faults_of known stand t ≡ [] →
     is_typed (record { domains = domains; tables = [] }) names (erased 0 t) ≡ true
 
--- So has one of a pattern's line, where there are so many parameters and its own variables have these domains.
+-- So has one of a pattern's line, where there are so many parameters and its own variables have these domains, with such names.
 abbrev pub PatternIsTyped : Type 0
 PatternIsTyped = (known : Known) (names params : ℕ) (own : List DomainData) (stand : Stand) (t : ResolvedTree) →
-    known.parameters ≡ replicate params Truth → known.own ≡ map domain_kind own →
+    known.parameters ≡ replicate params Truth → known.own ≡ map domain_kind own → list_all has_room known.own ≡ true →
     wants_truth stand ≡ true → is_put_in (in_pattern names params (length own)) t ≡ true → faults_of known stand t ≡ [] →
     is_typed (record { domains = replicate params TruthValues ++ own; tables = [] }) names (erased params t) ≡ true
 

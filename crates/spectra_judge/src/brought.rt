@@ -12,8 +12,8 @@ fn same_spot(a: Spot, b: Spot) -> bool
     a.file == b.file && a.line == b.line && a.column == b.column
 }
 
-// Whether a place comes before another.
-fn comes_before(a: Spot, b: Spot) -> bool
+/// Whether a place comes before another.
+pub fn comes_before(a: Spot, b: Spot) -> bool
     ensures { result ≡ comes_before_lem a b }
 {
     if a.file != b.file {

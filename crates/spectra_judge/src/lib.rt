@@ -9,7 +9,7 @@
 #![tactic(auto)]
 
 pub mod around;
-mod brought;
+pub mod brought;
 pub mod chains;
 pub mod findings;
 pub mod judging;
@@ -20,6 +20,4 @@ mod leaves;
 mod misplaced;
 pub mod operators;
 pub mod standing;
-#[cfg(test)]
-mod tests;
 pub mod walking;

@@ -7,7 +7,7 @@ ghost use Rattle.spectra_judge.specs.Operators.{takes as takes_lem, gives as giv
 use crate::kind::{Kind, can_equal, difference_of, is_truth, is_whole, product_of, sum_of};
 use spectra_trees::tree::{BinaryWord, PrefixWord};
 
-// Whether an operator between two operands takes these kinds.
+/// Whether an operator between two operands takes these kinds.
 pub fn takes(word: BinaryWord, a: Kind<'_>, b: Kind<'_>) -> bool
     ensures { result ≡ takes_lem word (kind_data a.entry) (kind_data b.entry) }
 {
@@ -28,7 +28,7 @@ pub fn takes(word: BinaryWord, a: Kind<'_>, b: Kind<'_>) -> bool
     }
 }
 
-// What an operator between two operands gives.
+/// What an operator between two operands gives.
 pub fn gives<'a>(word: BinaryWord, a: Kind<'a>, b: Kind<'a>) -> Kind<'a>
     ensures { kind_data result ≡ gives_lem word (kind_data a.entry) (kind_data b.entry) }
 {
@@ -40,7 +40,7 @@ pub fn gives<'a>(word: BinaryWord, a: Kind<'a>, b: Kind<'a>) -> Kind<'a>
     }
 }
 
-// Whether an operator between two operands speaks of the past.
+/// Whether an operator between two operands speaks of the past.
 pub fn is_past(word: BinaryWord) -> bool
     ensures { result ≡ is_past_lem word }
 {
@@ -50,7 +50,7 @@ pub fn is_past(word: BinaryWord) -> bool
     }
 }
 
-// Whether an operator before its operand speaks of the past.
+/// Whether an operator before its operand speaks of the past.
 pub fn is_past_prefix(word: PrefixWord) -> bool
     ensures { result ≡ is_past_prefix_lem word }
 {

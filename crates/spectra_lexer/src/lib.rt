@@ -27,6 +27,3 @@ pub use laws::{
 };
 pub use lexing::{MAX_BYTES, lex};
 pub use token::{Kind, Token};
-
-#[cfg(test)]
-mod tests;

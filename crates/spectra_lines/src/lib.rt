@@ -16,6 +16,4 @@ pub mod order;
 mod putting;
 mod reading;
 pub mod said;
-#[cfg(test)]
-mod tests;
 mod trees;

@@ -9,5 +9,3 @@
 pub mod kinds;
 pub mod notes;
 pub mod patterns;
-#[cfg(test)]
-mod tests;

@@ -142,6 +142,7 @@ fn imported(alloc: Global, word: &Spelled<'_>, quoted: &Spelled<'_>) -> Result<N
 #[tactic(auto, unfolding(crate::specs::Items::semicolon))]
 fn semicolon<'t>(names: Vec<Name>, tokens: Tokens<'t>) -> Read<'t, Vec<Name>>
     ensures read { Gives (λ x. (map name_data x.0.items, lexemes_of x.1.now)) result (semicolon_lem (map name_data names.items) (lexemes_of tokens.now)) }
+    ensures told { IfErr result (λ e. e ≡ SyntaxFault.Memory → ⊥) }
 {
     if !starts(tokens, Class::Semicolon) {
         return Ok((names, tokens));

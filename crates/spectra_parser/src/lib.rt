@@ -21,6 +21,3 @@ pub use parsing::{imports, parse};
 pub use spectra_exprs::fault::SyntaxFault;
 pub use spectra_trees::tree;
 pub use spectra_trees::tree::{Name, Place, Tree};
-
-#[cfg(test)]
-mod tests;

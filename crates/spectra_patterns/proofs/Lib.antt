@@ -1,10 +1,8 @@
 pub mod Found
-pub mod Chained
 pub mod Past
 pub mod Shaped
 pub mod Whole
 pub mod Regexes
 pub mod Named
-pub mod Examples
 pub mod Gathered
 pub mod Counted

@@ -26,7 +26,7 @@ use Rattle.spectra_resolved.specs.Resolved.{ResolvedTree, ResolvedRegex, Atom, S
 use Rattle.spectra_resolved.specs.Views.{regex_data}
 use Rattle.spectra_judge.specs.Known.{Known}
 use Rattle.spectra_judge.specs.Judged.{faults_of}
-use Rattle.spectra_judge.specs.Erased.{erased, is_put_in, in_line, domain_kind}
+use Rattle.spectra_judge.specs.Erased.{erased, is_put_in, in_line, domain_kind, has_room}
 use Rattle.spectra_resolved.specs.Findings.{with_faults}
 use Rattle.spectra_resolved.proofs.First.{with_faults_append}
 use Rattle.spectra_judge.proofs.Empty.{empty_parts}
@@ -140,7 +140,7 @@ mutual
 
 -- ---- brackets of the specification
 
-module _ (s : Specification) (known : Known) (same : known.variables ≡ map (λ v. domain_kind v.domain) s.variables) where
+module _ (s : Specification) (known : Known) (same : known.variables ≡ map (λ v. domain_kind v.domain) s.variables) (room : list_all has_room known.variables ≡ true) where
   abbrev names : ℕ
   names = length s.names
 
@@ -155,7 +155,7 @@ module _ (s : Specification) (known : Known) (same : known.variables ≡ map (λ
   atom_typed t put none =
       let long : length s.variables ≡ length domains = sym (length-map s.variables (λ v. v.domain)) in
       let here = subst (λ n. is_put_in (in_line names n) t ≡ true) long put in
-      and_from _ _ (line_is_typed known names domains stand.Atom t (same ∙ map-twice s.variables) refl here none)
+      and_from _ _ (line_is_typed known names domains stand.Atom t (same ∙ map-twice s.variables) room refl here none)
       (not_from_false (has_next (erased 0 t)) ((line_keeps_bans known names (length s.variables) stand.Atom t put none).next refl))
 
   mutual
@@ -183,14 +183,14 @@ module _ (s : Specification) (known : Known) (same : known.variables ≡ map (λ
       and_from _ _ repeats (and_from _ _ (subst (λ n. nat_le n 64 ≡ true) positions few) (atoms_typed r is.put_in is.faultless))
 
 pub trigger_typed : TriggerIsTyped
-trigger_typed s known cause effect same is is' right =
+trigger_typed s known cause effect same room is is' right =
     let t = trigger_of cause effect in
     let counts = and_parts (counts_well cause) (counts_well effect && is_narrow t) right in
     let counts' = and_parts (counts_well effect) (is_narrow t) counts.1 in
     let one = and_parts (nat_le (length (trigger_atoms t)) 8) _ counts'.1 in
     let two = and_parts (nat_le (length (brackets (written t.cause))) 64) _ one.1 in
     let three = and_parts (nat_le (length (brackets (written t.effect))) 64) (nat_le (trigger_states t) 256) two.1 in
-    and_from _ _ (side_typed s known same cause is counts.0 two.0) (and_from _ _ (side_typed s known same effect is' counts'.0 three.0) (and_from _ _ one.0 three.1))
+    and_from _ _ (side_typed s known same room cause is counts.0 two.0) (and_from _ _ (side_typed s known same room effect is' counts'.0 three.0) (and_from _ _ one.0 three.1))
 
 -- what is found in one of several expressions and what is left
 pub atoms_left : (known : Known) (rs : List Regex) (k : ℕ) (r : Regex) → k < length rs → r ≡ get_or rs k r → (found : Option Finding)

@@ -4,9 +4,11 @@ use Rattle.std.specs.List.{list_all}
 use Rattle.std.proofs.lemmas.Bool.{false≢true, and_parts, and_from, not_from_false}
 use Rattle.std.proofs.lemmas.Bool.Decides.{nat_tests}
 use Rattle.std.proofs.lemmas.List.{length-map}
+use Rattle.spec_model.specs.Values.{Enumeration}
 use Rattle.spec_model.specs.Moves.{has_next}
 use Rattle.spec_model.specs.Syntax.{Formula, PatternData}
 use Rattle.spec_model.specs.Sizes.{past_trees, domain_size, product}
+use Rattle.spec_model.specs.WellMade.{is_domain}
 use Rattle.spec_model.specs.WellTyped.{is_domain_of, is_typed, scope_of_pattern, reads_some, shifts_some, is_parameter, is_pattern_line, is_first_line, is_step_line, is_determined}
 use Rattle.pattern_rows.specs.Patterns.{IsPattern, is_goal_line, is_wide}
 use Rattle.spectra_resolved.specs.declared.findings.Finding.{Finding}
@@ -21,7 +23,7 @@ use Rattle.spectra_judge.specs.Standings.{bans_of, is_wanted, wants_truth}
 use Rattle.spectra_judge.specs.Around.{nothing_open}
 use Rattle.spectra_judge.specs.Known.{Known, Setting}
 use Rattle.spectra_judge.specs.Judged.{kind_of, wrong, first_of, faults, faults_of}
-use Rattle.spectra_judge.specs.Erased.{erased, is_put_in, in_pattern, domain_kind}
+use Rattle.spectra_judge.specs.Erased.{erased, is_put_in, in_pattern, domain_kind, has_room}
 use Rattle.spectra_judge.specs.Laws.{KeepsPatternBans}
 use Rattle.spectra_judge.proofs.Empty.{empty_parts, not_empty}
 use Rattle.spectra_judge.proofs.Lines.{pattern_is_typed}
@@ -58,12 +60,24 @@ domains_back names [] is = refl
 domains_back names (k ∷ ks) is =
     let parts = and_parts (is_type_kind names k) (list_all (is_type_kind names) ks) is in λ i. type_back names k parts.0 i ∷ domains_back names ks parts.1 i
 
+kind_room : (k : Kind) → is_type_kind 65_536 k ≡ true → has_room k ≡ true
+kind_room Truth is = refl
+kind_room (Whole low high) is = refl
+kind_room SomeWhole is = refl
+kind_room (NameOf ns) is = (and_parts (is_domain (Enumeration ns)) _ is).1
+kind_room (OneName n) is = refl
+kind_room Anything is = absurd (false≢true is)
+
+pub all_room : (ks : List Kind) → list_all (is_type_kind 65_536) ks ≡ true → list_all has_room ks ≡ true
+all_room [] is = refl
+all_room (k ∷ ks) is = let parts = and_parts (is_type_kind 65_536 k) _ is in and_from _ _ (kind_room k parts.0) (all_room ks parts.1)
+
 -- ---- lines
 
 zero_is : (xs : List Formula) → xs ≡ [] → (length xs == 0) ≡ true
 zero_is xs e = ap (λ ys. length ys == 0) e
 
-module _ (own : List Kind) (p : ResolvedPattern) (names : ℕ) (types : list_all (is_type_kind names) own ≡ true) where
+module _ (own : List Kind) (p : ResolvedPattern) (names : ℕ) (types : list_all (is_type_kind names) own ≡ true) (few : list_all (is_type_kind 65_536) own ≡ true) where
   abbrev known : Known
   known = pattern_known p.params own
 
@@ -78,7 +92,7 @@ module _ (own : List Kind) (p : ResolvedPattern) (names : ℕ) (types : list_all
 
   typed : (at : Stand) (t : ResolvedTree) → wants_truth at ≡ true → is_put_in good t ≡ true → faults_of known at t ≡ [] → is_typed (scope_of_pattern meaning) names (erased p.params t) ≡ true
   typed at t wants put none =
-      pattern_is_typed known names p.params (map domain_of own) at t refl (domains_back names own types) wants (subst (λ n. is_put_in (in_pattern names p.params n) t ≡ true) long put) none
+      pattern_is_typed known names p.params (map domain_of own) at t refl (domains_back names own types) (all_room own few) wants (subst (λ n. is_put_in (in_pattern names p.params n) t ≡ true) long put) none
 
   keeps : (at : Stand) (t : ResolvedTree) → is_put_in good t ≡ true → faults_of known at t ≡ [] → KeepsPatternBans p.params (bans_of at) (erased p.params t)
   keeps at t put none = pattern_keeps_bans known names p.params (length own) at t put none
@@ -140,9 +154,9 @@ shaped own p sound none =
     record {
       names = sound.names;
       domains = domains_typed sound.names own sound.types;
-      first = all_first own p sound.names sound.types p.lines sound.lines none;
-      step = all_step own p sound.names sound.types p.lines sound.lines none;
-      goals = all_goals own p sound.names sound.types p.lines sound.lines none;
+      first = all_first own p sound.names sound.types sound.few p.lines sound.lines none;
+      step = all_step own p sound.names sound.types sound.few p.lines sound.lines none;
+      goals = all_goals own p sound.names sound.types sound.few p.lines sound.lines none;
     }
 
 -- ---- the whole
@@ -188,9 +202,9 @@ pattern_typed own p sound none =
     and_from _ _ narrow.0
     (and_from _ _ (domains_typed sound.names own sound.types)
     (and_from _ _ narrow.1
-    (and_from _ _ (all_first own p sound.names sound.types p.lines sound.lines lines)
-    (and_from _ _ (all_step own p sound.names sound.types p.lines sound.lines lines)
-    (and_from _ _ (all_goals own p sound.names sound.types p.lines sound.lines lines) right.1)))))
+    (and_from _ _ (all_first own p sound.names sound.types sound.few p.lines sound.lines lines)
+    (and_from _ _ (all_step own p sound.names sound.types sound.few p.lines sound.lines lines)
+    (and_from _ _ (all_goals own p sound.names sound.types sound.few p.lines sound.lines lines) right.1)))))
 
 -- ---- what it means
 

@@ -1,5 +1,6 @@
 -- Laws over the definitions alone, each of which the function of its name in src/laws.rt proves.
 use Rattle.std.specs.Prelude.{◌≡◌, ℕ, ℤ, Bool, true, false, ◌&&◌, List, [], Some, length, map}
+use Rattle.std.specs.List.{list_all}
 use Rattle.spec_model.specs.Syntax.{Specification}
 use Rattle.spec_model.specs.WellTyped.{is_typed_pattern, is_typed_trigger}
 use Rattle.spectra_trees.specs.Data.{Expression}
@@ -12,7 +13,7 @@ use Rattle.spectra_resolved.specs.Resolved.{ResolvedRegex, Atom, Sequence, Choic
 use Rattle.spectra_resolved.specs.Texts.{ResolvedPattern}
 use Rattle.spectra_judge.specs.Kinds.{Kind}
 use Rattle.spectra_judge.specs.Known.{Known}
-use Rattle.spectra_judge.specs.Erased.{is_put_in, in_line, domain_kind}
+use Rattle.spectra_judge.specs.Erased.{is_put_in, in_line, domain_kind, has_room}
 use Rattle.spectra_patterns.specs.Patterns.{pattern_of, pattern_faults, IsSound}
 use Rattle.spectra_patterns.specs.Triggers.{atom_faults, regex_put_in, trigger_of, is_right}
 
@@ -42,9 +43,9 @@ pub record IsFaultless (s : Specification) (known : Known) (r : ResolvedRegex) :
   pub put_in : regex_put_in (in_line (length s.names) (length s.variables)) r ≡ true
   pub faultless : atom_faults known r ≡ []
 
--- a trigger without a fault means one that is well typed
+-- a trigger without a fault means one that is well typed, where the enum names of variables have numbers of 16 bits
 abbrev pub TriggerIsTyped : Type 0
-TriggerIsTyped = (s : Specification) (known : Known) (cause effect : ResolvedRegex) → known.variables ≡ map (λ v. domain_kind v.domain) s.variables →
+TriggerIsTyped = (s : Specification) (known : Known) (cause effect : ResolvedRegex) → known.variables ≡ map (λ v. domain_kind v.domain) s.variables → list_all has_room known.variables ≡ true →
     IsFaultless s known cause → IsFaultless s known effect → is_right cause effect ≡ true → is_typed_trigger s (trigger_of cause effect) ≡ true
 
 -- ---- names

@@ -1,4 +1,3 @@
-pub mod Erasing
 pub mod Patterns
 pub mod Triggers
 pub mod Laws

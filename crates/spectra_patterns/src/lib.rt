@@ -4,22 +4,18 @@
 //! A pattern sees nothing but its parameters, its own variables and enum names, so its lines are judged as they are
 //! written. A trigger's brackets are judged by what is known where it stands.
 //!
-//! Contract: `pattern` and `report_atoms`, `report_repeats` and `trigger` find each fault of the lists `pattern_faults`,
-//! `atom_faults`, `repeat_faults` and `width_faults`; by the laws, a pattern and a trigger without one are well typed.
-//! `report_hidden` finds the first line with which there are too many hidden tables.
+//! Contract: `pattern`, `report_atoms` and `report_repeats` find each fault of the lists `pattern_faults`, `atom_faults` and
+//! `repeat_faults`; `trigger` gives what a trigger means, or None where a repeat is wrong or it is too wide. By the laws, a pattern and a trigger
+//! without a fault are well typed. `report_hidden` finds the first line with which there are too many hidden tables.
 //! Path: text → tokens → trees → resolved trees → judge → **specification** → game → regions → layers → strategy → verdict →
 //! lines.
 #![tactic(auto)]
 
 mod counting;
 pub mod domains;
-pub mod erasing;
 mod gathering;
 pub mod hidden;
 pub mod laws;
-mod parts;
 pub mod patterns;
 mod stop;
-#[cfg(test)]
-mod tests;
 pub mod triggers;

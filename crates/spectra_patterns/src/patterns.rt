@@ -12,11 +12,11 @@ ghost use Rattle.spectra_judge.specs.Known.{known_data};
 ghost use Rattle.spectra_patterns.specs.Patterns.{line_faults, lines_faults, domain_of as domain_of_lem, first_in, step_in, goals_in, pattern_of, table_fault as table_fault_lem, table_faults, unless, pattern_faults, meant, is_type_kind, IsSound};
 
 use crate::domains::domain_of;
-use crate::erasing::erase;
 use pattern_rows::{RowFault, rows};
 use spec_model::spec;
 use spec_model::value::Domain;
 use spectra_brought::reporting::report_faults;
+use spectra_elaboration::erasing::erase;
 use spectra_judge::kind::Kind;
 use spectra_judge::known::Known;
 use spectra_resolved::findings::{Finding, Findings};

@@ -13,10 +13,10 @@ ghost use Rattle.spectra_judge.specs.Known.{known_data};
 ghost use Rattle.spectra_patterns.specs.Triggers.{atom_faults, each_atom_faults, count_of, regular_of, regulars_of, repeat_faults, is_narrow as is_narrow_lem, with_repeats, trigger_of as trigger_of_lem, meant_by};
 
 use crate::counting::{MAX_COUNT, counts_well};
-use crate::erasing::erase;
 use spec_model::expr;
 use spec_model::spec::Trigger;
 use spectra_brought::reporting::report_faults;
+use spectra_elaboration::erasing::erase;
 use spectra_judge::findings::report_if;
 use spectra_judge::known::Known;
 use spectra_resolved::findings::Findings;

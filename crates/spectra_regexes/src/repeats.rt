@@ -1,6 +1,6 @@
 //! What may stand behind a regular expression: how often it is repeated.
 
-ghost use Rattle.std.specs.Prelude.{◌≡◌, ◌<◌, string_bytes};
+ghost use Rattle.std.specs.Prelude.{◌≡◌, ◌<◌, IfErr, string_bytes};
 ghost use Rattle.spectra_trees.specs.Views.{regex_data, repeat_data};
 ghost use Rattle.spectra_trees.specs.Lexemes.{lexemes_of};
 ghost use Rattle.spectra_exprs.specs.Read.{Gives, all_of};
@@ -29,6 +29,7 @@ pub fn between<'t>(alloc: Global, low: String, tokens: Tokens<'t>) -> Read<'t, R
 #[tactic(auto, unfolding(crate::specs::Regexes::exactly_of))]
 pub fn exactly<'t>(low: String, tokens: Tokens<'t>) -> Read<'t, RepeatTree>
     ensures read { Gives (λ x. (repeat_data x.0, lexemes_of x.1.now)) result (exactly_of (string_bytes low) (lexemes_of tokens.now)) }
+    ensures told { IfErr result (λ e. e ≡ SyntaxFault.Memory → ⊥) }
 {
     let (_, rest) = expect(tokens, Class::CloseBrace)?;
     Ok((RepeatTree::Exactly(low), rest))

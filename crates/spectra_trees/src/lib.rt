@@ -10,6 +10,4 @@ pub mod class;
 pub mod faults;
 pub mod lexeme;
 mod spellings;
-#[cfg(test)]
-mod tests;
 pub mod tree;

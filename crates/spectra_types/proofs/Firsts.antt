@@ -41,7 +41,7 @@ means trees text s none is made = record { faultless = no_faults (faults_of tree
 
 -- ---- kinds of variables
 
-kinds_most : (text : ResolvedText) → length text.names ≤ 65_535 → (vs : List ResolvedVariable) → list_all (λ (v : ResolvedVariable). is_type_kind (length text.names) (kind_in text v.domain)) vs ≡ true →
+pub kinds_most : (text : ResolvedText) → length text.names ≤ 65_535 → (vs : List ResolvedVariable) → list_all (λ (v : ResolvedVariable). is_type_kind (length text.names) (kind_in text v.domain)) vs ≡ true →
     list_all (is_type_kind 65_536) (map (λ (v : ResolvedVariable). kind_in text v.domain) vs) ≡ true
 kinds_most text few [] all = refl
 kinds_most text few (v ∷ vs) all =

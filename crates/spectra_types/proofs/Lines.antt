@@ -23,7 +23,7 @@ use Rattle.spectra_resolved.specs.Texts.{ResolvedVariable, ResolvedBody, Initial
 use Rattle.spectra_judge.specs.Standings.{bans_of, wants_truth}
 use Rattle.spectra_judge.specs.Known.{is_system}
 use Rattle.spectra_judge.specs.Judged.{faults_of}
-use Rattle.spectra_judge.specs.Erased.{erased, is_put_in, in_line, domain_kind}
+use Rattle.spectra_judge.specs.Erased.{erased, is_put_in, in_line, domain_kind, has_room}
 use Rattle.spectra_judge.proofs.Empty.{empty_parts}
 use Rattle.spectra_judge.proofs.Lines.{line_is_typed}
 use Rattle.spectra_judge.proofs.Bans.{line_keeps_bans}
@@ -31,6 +31,7 @@ use Rattle.spectra_elaboration.specs.Written.{is_use}
 use Rattle.spectra_notes.specs.TypeKinds.{is_of_system, kind_in}
 use Rattle.spectra_bodies.specs.Faults.{declared_faults}
 use Rattle.spectra_patterns.specs.Patterns.{is_type_kind}
+use Rattle.spectra_patterns.proofs.Shaped.{all_room}
 use Rattle.spectra_lines.specs.Contents.{initial_stand, safety_stand, is_asm, Facts, tree_put, line_put}
 use Rattle.spectra_lines.specs.Lines.{as_written, known_with, as_put}
 use Rattle.spectra_lines.specs.Laws.{HasNoFault, HaveNoFault}
@@ -38,6 +39,7 @@ use Rattle.spectra_lines.specs.Meanings.{pattern_number, triggers_in, content_of
 use Rattle.spectra_sound.specs.Sound.{Sizes, sizes_of, is_sound_tree, is_pattern_use, is_sound_body, is_sound_line, fits_role, IsSound}
 use Rattle.spectra_types.specs.Meanings.{facts_of, variable_of}
 use Rattle.spectra_types.proofs.Domains.{kind_back, variables_meant}
+use Rattle.spectra_types.proofs.Firsts.{kinds_most}
 use Rattle.spectra_types.proofs.Bodies.{everything_put}
 use Rattle.spectra_types.proofs.Formulas.{AreBefore, next_before}
 
@@ -64,6 +66,10 @@ module _ (text : ResolvedText) where
   outputs_are [] k = refl
   outputs_are (v ∷ vs) zero = owner_is v.owner
   outputs_are (v ∷ vs) (suc k) = outputs_are vs k
+
+-- their enum names have numbers of 16 bits
+pub variables_room : (text : ResolvedText) → IsSound text → declared_faults text ≡ [] → list_all has_room (facts_of text).known.variables ≡ true
+variables_room text sound none = all_room (facts_of text).known.variables (kinds_most text sound.few_names text.variables (variables_meant text sound none))
 
 -- ---- expressions
 
@@ -103,7 +109,7 @@ module _ (text : ResolvedText) (sound : IsSound text) (none : declared_faults te
       let kept = line_keeps_bans known (length s.names) (length s.variables) at (tree_put f at t) parts second in (
         parts,
         record {
-          is_truth = line_is_typed known (length s.names) domains at (tree_put f at t) kinds wants in_domains second;
+          is_truth = line_is_typed known (length s.names) domains at (tree_put f at t) kinds (variables_room text sound none) wants in_domains second;
           next = kept.next;
           system = λ banned. ap (λ test. reads_some test (erased 0 (tree_put f at t))) (sym tests_are) ∙ kept.system banned;
           shifted = λ banned. ap (λ test. shifts_some test (erased 0 (tree_put f at t))) (sym tests_are) ∙ kept.shifted banned;

@@ -21,6 +21,7 @@ use Rattle.spectra_resolved.specs.Texts.{ResolvedType, Booleans, RangeOf, EnumOf
 use Rattle.spectra_items.specs.Types.{plain_entries, is_sound_enum, enum_number, enum_type, named_type, type_of}
 use Rattle.spectra_parser.specs.Shapes.{IsShapedType}
 use Rattle.spectra_judge.specs.Kinds.{Kind, Truth, Whole, SomeWhole, NameOf, OneName, Anything}
+use Rattle.spectra_judge.specs.Erased.{has_room}
 use Rattle.spectra_bounds.specs.Numbers.{Constants, constants, sound_number}
 use Rattle.spectra_bounds.specs.Types.{range_kind, meant_within, own_kind, type_kind}
 use Rattle.spectra_meant.specs.Laws.{is_anything, is_domain_kind}
@@ -29,7 +30,6 @@ use Rattle.spectra_meant.proofs.Numbers.{bound_near}
 use Rattle.spectra_patterns.specs.Patterns.{is_type_kind}
 use Rattle.spectra_sound.proofs.Numbers.{IsThere, number_in, IsNumbered, numbered, numbers_differ, numbers_below}
 use Rattle.spectra_sound.proofs.Types.{plain_differ}
-use Rattle.spectra_types.specs.Meanings.{has_room}
 
 -- ---- enums
 

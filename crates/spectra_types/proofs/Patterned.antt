@@ -2,38 +2,24 @@
 use Rattle.std.proofs.Common.{◌≡◌, ℕ, ◌+◌, ◌≤◌, true, not, List, [], ◌∷◌, ◌++◌, length, map, flat_map, refl, ap, ◌∙◌, arith}
 use Rattle.std.proofs.lemmas.List.{length-map}
 use Rattle.std.specs.List.{list_all, sum_by}
-use Rattle.std.proofs.lemmas.Bool.{false≢true, and_parts, and_from}
+use Rattle.std.proofs.lemmas.Bool.{and_parts, and_from}
 use Rattle.std.proofs.lemmas.List.Sums.{sum_by-cons, sum_by-append}
-use Rattle.spec_model.specs.Values.{Enumeration}
 use Rattle.spec_model.specs.Syntax.{Formula, PatternData}
 use Rattle.spec_model.specs.FormulaSizes.{nodes_in}
-use Rattle.spec_model.specs.WellMade.{is_domain}
 use Rattle.spec_model.specs.WellTyped.{is_typed_pattern, pattern_formulas}
 use Rattle.spectra_resolved.specs.Texts.{ResolvedType, ResolvedPatternLine, Initial, Safety, Recurring, ResolvedPattern, ResolvedText}
-use Rattle.spectra_judge.specs.Kinds.{Kind, Truth, Whole, SomeWhole, NameOf, OneName, Anything}
+use Rattle.spectra_judge.specs.Kinds.{Kind}
 use Rattle.spectra_judge.specs.Erased.{erased, is_put_in, in_pattern}
 use Rattle.spectra_elaboration.specs.Laws.{NodesAreThoseOfTheFormula}
 use Rattle.spectra_notes.specs.TypeKinds.{kind_in}
 use Rattle.spectra_patterns.specs.Patterns as patterns
 use Rattle.spectra_patterns.specs.Patterns.{first_in, step_in, goals_in, pattern_of, is_type_kind, line_tree}
-use Rattle.spectra_patterns.proofs.Shaped.{pattern_typed}
+use Rattle.spectra_patterns.proofs.Shaped.{all_room, pattern_typed}
 use Rattle.spectra_lines.specs.Parts.{TypedPattern}
 use Rattle.spectra_lines.specs.Laws.{nodes_of_pattern, nodes_of_patterns, are_all_sound, PatternsHaveNoFault}
 use Rattle.spectra_sound.specs.Sound.{Sizes, sizes_of, is_type, is_sound_pattern_line, is_sound_pattern}
-use Rattle.spectra_types.specs.Meanings.{has_room, own_kinds, is_sound, typed_pattern}
+use Rattle.spectra_types.specs.Meanings.{own_kinds, is_sound, typed_pattern}
 use Rattle.spectra_types.proofs.Domains.{type_most}
-
-kind_room : (k : Kind) → is_type_kind 65_536 k ≡ true → has_room k ≡ true
-kind_room Truth is = refl
-kind_room (Whole low high) is = refl
-kind_room SomeWhole is = refl
-kind_room (NameOf ns) is = (and_parts (is_domain (Enumeration ns)) _ is).1
-kind_room (OneName n) is = refl
-kind_room Anything is = absurd (false≢true is)
-
-all_room : (ks : List Kind) → list_all (is_type_kind 65_536) ks ≡ true → list_all has_room ks ≡ true
-all_room [] is = refl
-all_room (k ∷ ks) is = let parts = and_parts (is_type_kind 65_536 k) _ is in and_from _ _ (kind_room k parts.0) (all_room ks parts.1)
 
 module _ (text : ResolvedText) where
   abbrev z : Sizes

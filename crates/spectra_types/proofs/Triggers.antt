@@ -27,7 +27,7 @@ use Rattle.spectra_sound.specs.Sound as sounds
 use Rattle.spectra_sound.specs.Sound.{Sizes, sizes_of, is_sound_tree, is_sound_regex, are_sound_regexes, is_sound_body, is_sound_line, fits_role, IsSound}
 use Rattle.spectra_types.specs.Meanings.{facts_of, variable_of}
 use Rattle.spectra_types.proofs.Domains.{variables_meant}
-use Rattle.spectra_types.proofs.Lines.{kinds_are, tree_right}
+use Rattle.spectra_types.proofs.Lines.{kinds_are, variables_room, tree_right}
 
 -- ---- brackets
 
@@ -105,7 +105,7 @@ module _ (text : ResolvedText) (sound : IsSound text) (none : declared_faults te
       let kinds : (known_with f.known all).variables ≡ map (λ (v : VariableData). domain_kind v.domain) s.variables =
       kinds_are text (length text.names) text.variables (variables_meant text sound none) ∙ twice (map (variable_of text) text.variables)
       ∙ ap (map (λ (v : VariableData). domain_kind v.domain)) (sym variables_are) in
-      trigger_typed s (known_with f.known all) (regex_put f cause) (regex_put f effect) kinds (side all cause tests.0 a.0 b.0) (side all effect tests.1 a.1 b.1) (not-false _ (no_fault _ _ _ whole))
+      trigger_typed s (known_with f.known all) (regex_put f cause) (regex_put f effect) kinds (variables_room text sound none) (side all cause tests.0 a.0 b.0) (side all effect tests.1 a.1 b.1) (not-false _ (no_fault _ _ _ whole))
     where
       twice : (vs : List VariableData) → map domain_kind (map (λ (v : VariableData). v.domain) vs) ≡ map (λ (v : VariableData). domain_kind v.domain) vs
       twice [] = refl

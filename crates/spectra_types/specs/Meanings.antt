@@ -1,5 +1,5 @@
 -- All faults of several files, and the specification that files without one mean. The main file is the last.
-use Rattle.std.specs.Prelude.{Bool, true, false, not, ◌&&◌, nat_lt, List, ◌++◌, map}
+use Rattle.std.specs.Prelude.{Bool, not, ◌&&◌, List, ◌++◌, map}
 use Rattle.std.specs.List.{list_all}
 use Rattle.spec_model.specs.Syntax.{VariableData, Specification}
 use Rattle.spectra_trees.specs.Data.{TreeData}
@@ -7,7 +7,8 @@ use Rattle.spectra_resolved.specs.declared.findings.Finding.{Finding}
 use Rattle.spectra_resolved.specs.Texts.{ResolvedVariable, ResolvedPattern, ResolvedText}
 use Rattle.spectra_declared.specs.Wholes.{text_of}
 use Rattle.spectra_declared.specs.Wholes as names
-use Rattle.spectra_judge.specs.Kinds.{Kind, NameOf, Anything}
+use Rattle.spectra_judge.specs.Kinds.{Kind}
+use Rattle.spectra_judge.specs.Erased.{has_room}
 use Rattle.spectra_notes.specs.TypeKinds.{kind_in}
 use Rattle.spectra_notes.specs.Notes.{noted, known_in_line}
 use Rattle.spectra_bodies.specs.PutIn.{bodies}
@@ -21,12 +22,6 @@ use Rattle.spectra_lines.specs.Said.{lines_faults, lines_meant, triggers_meant, 
 
 abbrev pub facts_of : ResolvedText → Facts
 facts_of text = record { known = known_in_line (noted text); bodies = bodies text }
-
--- the kind of a type whose enum names have numbers of 16 bits
-abbrev pub has_room : Kind → Bool
-has_room Anything = false
-has_room (NameOf names) = list_all (λ n. nat_lt n 65_536) names
-has_room _ = true
 
 -- the kinds of a pattern's own variables
 abbrev pub own_kinds : ResolvedText → ResolvedPattern → List Kind

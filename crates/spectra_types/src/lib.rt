@@ -14,8 +14,6 @@ mod laws;
 mod meaning;
 mod patterns;
 mod resolving;
-#[cfg(test)]
-mod tests;
 
 pub use fault::TypeFault;
 pub use laws::{faultless_files_are_well_typed, faultless_files_have_room};

@@ -124,8 +124,8 @@ fn clear(alloc: Global, uses: &[Vec<usize>], order: &[usize]) -> Result<Vec<bool
     Ok(marks)
 }
 
-/// For each definition whether it is used in its own body, directly or through others. Where each stands in `order`
-/// behind those that it uses, no search is made.
+/// For each definition whether it is used in its own body, directly or through others. `order` only saves searches: those
+/// that stand in it behind all that they use need none.
 pub fn cycles(alloc: Global, uses: &[Vec<usize>], order: &[usize]) -> Result<Vec<bool>, AllocError>
     ensures { IfOk result (λ table. AreOnCycle (map (λ us. us.items) uses.now) (length uses.now) table.items) }
 {

@@ -11,6 +11,4 @@ pub mod cycles;
 mod marks;
 pub mod order;
 pub mod placing;
-#[cfg(test)]
-mod tests;
 pub mod uses;

@@ -16,6 +16,3 @@ pub use words::{Command, Request, Task, asked};
 
 /// Memory ran out.
 pub use std::alloc::AllocError as OutOfMemory;
-
-#[cfg(test)]
-mod tests;

@@ -20,7 +20,6 @@ use Rattle.state_diagrams.specs.StateBits.{bits_for, HasState, Tells}
 use Rattle.state_diagrams.specs.MoveBits.{HasBefore, TellsMoves, TellsBefore, IsOfNext, follows, AreNextOf, is_any_slot, is_reply_slot, some_leads, some_keeps_out}
 use Rattle.state_diagrams.specs.Members.{MoveFunctions, reply_of, avoiding}
 use Rattle.state_diagrams.specs.Forcing.{FitMoves, AssumeNothingOfReplies, HasMoves}
-use Rattle.state_diagrams.proofs.BitLemmas.{has_bits}
 use Rattle.state_diagrams.proofs.SetLemmas.{told_at, tells_by}
 use Rattle.state_diagrams.proofs.QuantLemmas.{some_there, there_some}
 use Rattle.state_diagrams.proofs.MoveLemmas.{before_kept, inputs_one, mixed, mixed_off, mixed_reply, mixed_state, reached_is, follows-reached}

@@ -14,3 +14,5 @@ pub mod ProperLemmas
 pub mod LevelLemmas
 pub mod GoalLemmas
 pub mod UpdateLemmas
+pub mod CauseLemmas
+pub mod NamedLemmas

@@ -30,7 +30,7 @@ times-push (r ∷ roots) x n = let more = times-push roots x n in omega (arith, 
 
 -- ---- refusals
 
-abbrev is_memory : {V : Type 0} → Result V Halt → Bool
+abbrev pub is_memory : {V : Type 0} → Result V Halt → Bool
 is_memory (Ok v) = false
 is_memory (Err halt.Budget) = false
 is_memory (Err halt.Memory) = true

@@ -1,9 +1,10 @@
 -- Members of moves, from the lists of roots that were made one after the other.
-use Rattle.std.proofs.Common.{◌≡◌, ℕ, ◌+◌, ◌<◌, Bool, true, false, ◌&&◌, Vec, Result, Ok, Err, IsErrAnd, is_ok, List, [], ◌∷◌, ◌++◌, slice_index, length, take, get_or, append_assoc, refl, sym, ◌∙◌, ap, subst, arith}
-use Rattle.std.proofs.lemmas.Bool.{and_parts, false≢true}
+use Rattle.std.proofs.Common.{◌≡◌, ℕ, ◌+◌, ◌<◌, Bool, true, false, ◌&&◌, Vec, Result, Ok, Err, IsErrAnd, List, [], ◌∷◌, ◌++◌, slice_index, length, take, get_or, append_assoc, refl, sym, ◌∙◌, ap, subst, arith}
+use Rattle.std.proofs.lemmas.Bool.{and_parts}
 use Rattle.std.proofs.lemmas.List.{map-append}
 use Rattle.std.proofs.lemmas.List.Folds.{list_all-append}
 use Rattle.std.specs.declared.alloc.Global.{Global}
+use Rattle.std.specs.List.{Contains}
 use Rattle.spec_model.specs.Diagrams.{Function}
 use Rattle.spec_model.specs.Games.{GameData, State}
 use Rattle.spec_model.specs.Steps.{Before, assumptions_hold, guarantees_hold}
@@ -12,12 +13,14 @@ use Rattle.spec_model.specs.WellMade.{WellMade}
 use Rattle.regions.specs.declared.types.When.{When}
 use Rattle.regions.specs.declared.types.Halt.{Halt}
 use Rattle.game_values.specs.declared.seen.At.TheVariants.{Next}
-use Rattle.bdd_store.specs.State.{IsRoot}
+use Rattle.bdd_store.specs.State.{IsRoot, roots_at}
 use Rattle.bdd_ops.specs.Contents.{Contents, function_at}
 use Rattle.bdd_ops.specs.Calls.{KeepsRoots}
 use Rattle.bit_compile.specs.Making.{Makes}
+use Rattle.bit_compile.specs.Crowding.{HasCause}
 use Rattle.bit_compile.specs.Domains.{state_domains}
 use Rattle.bit_compile.specs.Proper.{proper}
+use Rattle.bit_compile.proofs.Causes.{cause_handed, cause_ok}
 use Rattle.bit_compile.proofs.CyclesLemmas.{take_next}
 use Rattle.state_diagrams.specs.declared.moves.Members.{Members}
 use Rattle.state_diagrams.specs.declared.lines.Side.TheVariants.{Assumptions, Guarantees}
@@ -25,11 +28,15 @@ use Rattle.state_diagrams.specs.StateBits.{Tells}
 use Rattle.state_diagrams.specs.MoveBits.{TellsMoves, IsOfNext, LeadsToNext, follows}
 use Rattle.state_diagrams.specs.Members.{AreRoots, AreMembers, all_true, functions_at, MoveFunctions}
 use Rattle.state_diagrams.specs.Forcing.{FitMoves}
-use Rattle.state_diagrams.specs.Lists.{MakesList}
-use Rattle.state_diagrams.specs.Lines.{functions_judged, MakesMembers}
+use Rattle.state_diagrams.specs.Lists.{times_in, MakesList}
+use Rattle.state_diagrams.specs.Lines.{functions_judged}
+use Rattle.state_diagrams.specs.NamedMoves.{MoveLists}
+use Rattle.state_diagrams.specs.NamedGame.{lines_of, IsOfGame}
+use Rattle.state_diagrams.specs.MadeMembers.{MakesMembers}
 use Rattle.state_diagrams.proofs.SetLemmas.{told_at}
 use Rattle.state_diagrams.proofs.SpentLemmas.{functions_kept}
-use Rattle.state_diagrams.proofs.ListLemmas.{list_roots, list_before, times_here}
+use Rattle.state_diagrams.proofs.ListLemmas.{list_roots, list_before, list_back, times_here}
+use Rattle.state_diagrams.proofs.CauseLemmas.{list_cause}
 use Rattle.state_diagrams.proofs.LineLemmas.{side_told}
 
 -- one root more
@@ -118,14 +125,15 @@ module _ (base mid old new : Contents) (update outputs inputs : Vec ℕ Global) 
   abbrev made : Members
   made = record { inputs = inputs; outputs = outputs; update = update }
 
-  pub members_made : (g : GameData) (when : When) → FitMoves g when (record { inputs = all_true is; outputs = all_true os; update = all_true us }) → MakesMembers g when base new (Ok made)
-  members_made g when fit =
+  pub members_made : (g : GameData) (to : List ℕ) (when : When) → ◌≡◌ {A = MoveLists} (record { inputs = is; outputs = os; update = us }) (lines_of g to when) → FitMoves g when (record { inputs = all_true is; outputs = all_true os; update = all_true us }) → MakesMembers g to when base new (Ok made)
+  members_made g to when same fit =
       record {
         fit = subst (λ (m : MoveFunctions). FitMoves g when m) (λ i. record { inputs = all_true (sym third.meaning i); outputs = all_true (sym outputs_is i); update = all_true (sym update_is i) }) fit;
+        lines = (λ i. record { inputs = third.meaning i; outputs = outputs_is i; update = update_is i }) ∙ same;
         added = λ n. (let one = first.added n in let two = second.added n in let three = third.added n in omega (arith, one, two, three));
         refused = tt;
         keeps = keeps_after base old new (keeps_after base mid old first.keeps (list_before base mid update us first) second.keeps) (λ n root. list_before mid old outputs os second n (list_before base mid update us first n root)) third.keeps;
-        full = λ e. absurd (false≢true (sym (ap is_ok e)));
+        cause = cause_ok base new made (IsOfGame g);
       }
 
 -- ---- refusals
@@ -134,22 +142,35 @@ abbrev halt_or : {V : Type 0} → Halt → Result V Halt → Halt
 halt_or a (Ok v) = a
 halt_or a (Err h) = h
 
-pub root_fails : (old new : Contents) (h : Halt) (fs : List Function) (f : Function) → MakesList old new (Err h) fs → Makes old new (Err h) f
+root_fails : (old new : Contents) (h : Halt) (fs : List Function) (f : Function) → MakesList old new (Err h) fs → Makes old new (Err h) f
 root_fails old new h fs f list =
     record { meaning = tt; added = tt; refused = list.refused; keeps = list.keeps; full = λ e. list.full (ap (λ (k : Halt). Err k) (ap (halt_or h) e)) }
 
-pub members_fail : (g : GameData) (when : When) (old new : Contents) (h : Halt) (fs : List Function) → MakesList old new (Err h) fs → MakesMembers g when old new (Err h)
-members_fail g when old new h fs list =
-    record { fit = tt; added = tt; refused = list.refused; keeps = list.keeps; full = λ e. list.full (ap (λ (k : Halt). Err k) (ap (halt_or h) e)) }
+module _ (g : GameData) (to : List ℕ) (when : When) where
+  members_fail : (old new : Contents) (h : Halt) (fs : List Function) → MakesList old new (Err h) fs → HasCause {V = Vec ℕ Global} old new (Err h) (IsOfGame g) → MakesMembers g to when old new (Err h)
+  members_fail old new h fs list cause =
+      record { fit = tt; lines = tt; added = tt; refused = list.refused; keeps = list.keeps; cause = cause_handed old new (Err h) (Err h) h (IsOfGame g) refl refl cause }
 
--- a refusal that is handed on
-pub members_refused_by : (g : GameData) (when : When) (old new : Contents) (r : Result Members Halt) (h : Halt) (fs : List Function) → IsErrAnd r (λ y. y ≡ h) → MakesList old new (Err h) fs → MakesMembers g when old new r
-members_refused_by g when old new (Ok m) h fs is list = absurd is
-members_refused_by g when old new (Err y) h fs is list = members_fail g when old new y fs (subst (λ (k : Halt). MakesList old new (Err k) fs) (sym is) list)
+  -- a refusal that is handed on
+  pub members_refused_by : (old new : Contents) (r : Result Members Halt) (h : Halt) (fs : List Function) → IsErrAnd r (λ y. y ≡ h) → MakesList old new (Err h) fs → HasCause {V = Vec ℕ Global} old new (Err h) (IsOfGame g) → MakesMembers g to when old new r
+  members_refused_by old new (Ok m) h fs is list cause = absurd is
+  members_refused_by old new (Err y) h fs is list cause =
+      subst (λ (k : Halt). MakesMembers g to when old new (Err k)) (sym is) (members_fail old new h fs list cause)
+
+  -- where a list after another is refused, the first is given back
+  module _ (base old : Contents) (made : Vec ℕ Global) (us : List Function) (first : MakesList base old (Ok made) us) (named : (f : Function) → Contains us f → IsOfGame g f) (whole new : Contents) (h : Halt) (released : (n : ℕ) → roots_at whole.state n ≡ roots_at new.state n + times_in n made.items) (table : new.state.table ≡ whole.state.table) where
+    pub back_list : (fs gs : List Function) → MakesList old whole (Err h) fs → MakesList base new (Err h) gs
+    back_list fs gs list = list_back base old made us first whole new h (λ s. true) gs (root_fails old whole h fs (λ s. true) list) released table
+
+    pub back_cause : HasCause {V = Vec ℕ Global} old whole (Err h) (IsOfGame g) → HasCause {V = Vec ℕ Global} base new (Err h) (IsOfGame g)
+    back_cause = list_cause (IsOfGame g) (IsOfGame g) (λ f is. is) base old made us first named whole new (Err h) (Err h) (λ e. (e, table))
+
+    pub members_back : (fs : List Function) → MakesList old whole (Err h) fs → HasCause {V = Vec ℕ Global} old whole (Err h) (IsOfGame g) → MakesMembers g to when base new (Err h)
+    members_back fs list cause = members_fail base new h [] (back_list fs [] list) (back_cause cause)
 
 -- members that were made are kept
-pub members_kept : (g : GameData) (when : When) (old new : Contents) (m : Members) → MakesMembers g when old new (Ok m) → AreMembers new m
-members_kept g when old new m makes =
+pub members_kept : (g : GameData) (to : List ℕ) (when : When) (old new : Contents) (m : Members) → MakesMembers g to when old new (Ok m) → AreMembers new m
+members_kept g to when old new m makes =
     record {
       inputs = λ i below. (let here = times_here m.inputs.items i below in let all = makes.added (slice_index m.inputs.items i) in omega (arith, here, all));
       outputs = λ i below. (let here = times_here m.outputs.items i below in let all = makes.added (slice_index m.outputs.items i) in omega (arith, here, all));

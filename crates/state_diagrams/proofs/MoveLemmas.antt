@@ -1,20 +1,18 @@
 -- Which states have the same bits at some levels, and bits that are mixed of two states.
-use Rattle.std.proofs.Common.{◌≡◌, ℕ, zero, suc, ◌+◌, ◌-◌, ◌<◌, ◌≤◌, ◌==◌, nat_le, nat_lt, pos, Bool, true, false, not, ◌&&◌, cond, List, [], ◌∷◌, ◌++◌, length, length-append, map, get_or, Some, None, refl, sym, ◌∙◌, ap, subst, arith}
+use Rattle.std.proofs.Common.{◌≡◌, ℕ, suc, ◌+◌, ◌-◌, ◌<◌, ◌≤◌, ◌==◌, nat_le, nat_lt, pos, Bool, true, false, not, cond, List, [], ◌∷◌, ◌++◌, length, length-append, map, get_or, Some, None, refl, sym, ◌∙◌, ap, arith}
 use Rattle.std.proofs.lemmas.Bool.{and_parts, and_from, false≢true, leb-true, le-leb}
 use Rattle.std.proofs.lemmas.List.{length-map, get_or_append_left, get_or-append_right}
-use Rattle.std.specs.List.{list_any}
 use borrow.Author.Tests.{ltb-true, lt-ltb, eqb-true, eq-eqb}
 use Rattle.spec_model.specs.declared.value.Value.{Value}
 use Rattle.spec_model.specs.declared.value.Value.TheVariants as value
 use Rattle.spec_model.specs.Values.{Assignment, rank_of}
-use Rattle.spec_model.specs.Diagrams.{Bits, Function}
+use Rattle.spec_model.specs.Diagrams.{Bits}
 use Rattle.spec_model.specs.Moves.{is_env, domains_of}
 use Rattle.spec_model.specs.Games.{GameData, HiddenData, State, listed}
-use Rattle.spec_model.specs.Steps.{Before, is_state, is_input, is_output, are_hidden_values, reached}
-use Rattle.game_values.specs.declared.seen.At.{At}
+use Rattle.spec_model.specs.Steps.{Before, is_state, is_input, are_hidden_values, reached}
 use Rattle.game_values.specs.declared.seen.At.TheVariants.{Now, Next}
 use Rattle.bdd_ops.specs.Functions.{is_among}
-use Rattle.bit_compile.specs.Domains.{table_domain, state_domains}
+use Rattle.bit_compile.specs.Domains.{state_domains}
 use Rattle.bit_compile.specs.Codes.{has_number, level_at, width_at, code_at, domain_in}
 use Rattle.bit_compile.proofs.NumberLemmas.{has_number-same, one_number}
 use Rattle.bit_compile.proofs.SlotLemmas.{value_among, length-assignment}

@@ -1,9 +1,8 @@
 -- What "some values at these levels" says.
 use Rattle.std.proofs.Common.{◌≡◌, ℕ, ◌==◌, Bool, true, false, ◌||◌, List, [], ◌∷◌, cond, refl, sym, ◌∙◌, ap, inl, inr}
 use Rattle.std.proofs.lemmas.Bool.{or_cases, false≢true}
-use Rattle.std.proofs.lemmas.Bool.Decides.{nat_tests}
 use borrow.Author.Tests.{eqb-true, eq-eqb}
-use Rattle.spec_model.specs.Diagrams.{Bits, Function, with_bit, exists_at, exists_over}
+use Rattle.spec_model.specs.Diagrams.{Bits, Function, with_bit, exists_over}
 use Rattle.spec_model.proofs.Listed.{from_right}
 use Rattle.bdd_ops.specs.Functions.{is_among}
 

@@ -1,10 +1,9 @@
 -- What is left where arguments are given back.
 use Rattle.std.proofs.Common.{◌≡◌, ℕ, zero, suc, ◌+◌, ◌<◌, ◌==◌, Bool, true, false, Result, Ok, Err, List, [], ◌∷◌, length, map, slice_index, cond, refl, sym, ◌∙◌, ap, subst, arith, ◌&&◌, get_or, take, IsErrAnd}
 use Rattle.std.proofs.lemmas.Bool.Decides.{nat_tests}
-use Rattle.std.specs.List.{list_all}
 use borrow.Author.Tests.{eq-eqb}
 use Rattle.spec_model.specs.Diagrams.{Function, value, and_exists_over}
-use Rattle.bdd_store.specs.State.{State, IsRoot, roots_at, diagram_of, AddsRoot}
+use Rattle.bdd_store.specs.State.{IsRoot, roots_at, AddsRoot}
 use Rattle.bdd_ops.specs.Contents.{Contents, function_at}
 use Rattle.bdd_ops.specs.Calls.{KeepsRoots, negated}
 use Rattle.bdd_ops.specs.Functions.{joined, join_of}

@@ -1,8 +1,7 @@
 -- What players force, of the diagrams that are made for it.
-use Rattle.std.proofs.Common.{◌≡◌, ℕ, Bool, true, false, not, Result, Ok, Err, IfOk, List, sym, ◌∙◌, ap, subst}
-use Rattle.spec_model.specs.Diagrams.{Bits, Function, ite, shifted}
-use Rattle.spec_model.specs.Games.{GameData, State}
-use Rattle.spec_model.specs.Steps.{is_state}
+use Rattle.std.proofs.Common.{ℕ, true, false, not, Result, Ok, Err, IfOk, sym, ap, subst}
+use Rattle.spec_model.specs.Diagrams.{Function, ite, shifted}
+use Rattle.spec_model.specs.Games.{GameData}
 use Rattle.spec_model.specs.Sets.{StateSet, all_states, pre_sys, pre_env}
 use Rattle.game_values.specs.declared.seen.At.TheVariants.{Now, Next}
 use Rattle.regions.specs.declared.types.Halt.{Halt}
@@ -12,7 +11,7 @@ use Rattle.bdd_ops.specs.Contents.{Contents, function_at}
 use Rattle.bdd_ops.specs.Calls.{negated}
 use Rattle.bit_compile.specs.Making.{Makes}
 use Rattle.state_diagrams.specs.declared.moves.NextLevels.{NextLevels}
-use Rattle.state_diagrams.specs.StateBits.{HasState, Tells}
+use Rattle.state_diagrams.specs.StateBits.{Tells}
 use Rattle.state_diagrams.specs.Members.{MoveFunctions, avoiding}
 use Rattle.state_diagrams.specs.Forcing.{FitMoves, HasMoves, AreLevelsOf}
 use Rattle.state_diagrams.proofs.SetLemmas.{told_at}

@@ -1,5 +1,5 @@
 -- Operations on one, two or three kept roots, tried again on what is left.
-use Rattle.std.proofs.Common.{◌≡◌, ℕ, Result, Err, subst}
+use Rattle.std.proofs.Common.{ℕ, Result, Err, subst}
 use Rattle.spec_model.specs.Diagrams.{Diagram, Function}
 use Rattle.bdd_store.specs.declared.fault.StoreFault.{StoreFault}
 use Rattle.bdd_store.specs.declared.fault.StoreFault.TheVariants as fault

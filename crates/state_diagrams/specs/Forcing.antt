@@ -1,7 +1,7 @@
 -- What the kept diagrams of a game's moves have to tell, for what players force to be told by them.
-use Rattle.std.specs.Prelude.{◌≡◌, ℕ, true, ◌&&◌, List}
+use Rattle.std.specs.Prelude.{◌≡◌, true, ◌&&◌}
 use Rattle.spec_model.specs.Values.{Assignment}
-use Rattle.spec_model.specs.Games.{GameData, State}
+use Rattle.spec_model.specs.Games.{GameData}
 use Rattle.spec_model.specs.Steps.{Before, is_state, is_output, reached, legal_input, assumptions_hold, guarantees_hold, IsClosed}
 use Rattle.regions.specs.declared.types.When.{When}
 use Rattle.state_diagrams.specs.declared.moves.NextLevels.{NextLevels}

@@ -2,10 +2,12 @@ pub mod Laws
 pub mod StateBits
 pub mod MoveBits
 pub mod Members
+pub mod NamedMoves
 pub mod Forcing
 pub mod Lists
 pub mod Lines
 pub mod Levels
 pub mod Goals
 pub mod Updates
-pub mod Examples
+pub mod NamedGame
+pub mod MadeMembers

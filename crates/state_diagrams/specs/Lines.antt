@@ -1,5 +1,5 @@
 -- The lines of a game: when each is judged, and which functions of bits tell whether it holds.
-use Rattle.std.specs.Prelude.{◌≡◌, ℕ, ◌+◌, Bool, true, false, not, if◌then◌else◌, List, [], ◌∷◌, ◌++◌, map, Vec, Result, Ok, Err, IfOk, OnErr}
+use Rattle.std.specs.Prelude.{◌≡◌, ℕ, ◌+◌, Bool, true, false, not, if◌then◌else◌, List, [], ◌∷◌, ◌++◌, map, Vec, Result, Ok}
 use Rattle.std.specs.List.{flat_map, list_all}
 use Rattle.std.specs.declared.alloc.Global.{Global}
 use Rattle.spec_model.specs.Syntax.{Formula}
@@ -14,10 +14,7 @@ use Rattle.spec_model.specs.Diagrams.{Function, shifted}
 use Rattle.regions.specs.declared.types.When.{When}
 use Rattle.regions.specs.declared.types.When.TheVariants.{First, Later}
 use Rattle.regions.specs.declared.types.Halt.{Halt}
-use Rattle.regions.specs.declared.types.Halt.TheVariants as halt
-use Rattle.bdd_store.specs.State.{roots_at, SameRoots, IsFull}
 use Rattle.bdd_ops.specs.Contents.{Contents}
-use Rattle.bdd_ops.specs.Calls.{KeepsRoots}
 use Rattle.bit_compile.specs.Domains.{state_domains, level_count}
 use Rattle.bit_compile.specs.Compiled.{compiled}
 use Rattle.bit_compile.specs.Proper.{proper}
@@ -27,8 +24,6 @@ use Rattle.state_diagrams.specs.declared.lines.Side.TheVariants.{Assumptions, Gu
 use Rattle.state_diagrams.specs.declared.lines.LineScene.{LineScene}
 use Rattle.state_diagrams.specs.declared.moves.Members.{Members}
 use Rattle.state_diagrams.specs.MoveBits.{LeadsToNext}
-use Rattle.state_diagrams.specs.Members.{move_functions}
-use Rattle.state_diagrams.specs.Forcing.{FitMoves}
 use Rattle.state_diagrams.specs.Lists.{times_in, MakesList}
 
 -- ---- what lines are compiled in
@@ -122,12 +117,3 @@ side_functions g to side when = functions_judged g to side when ++ proper (state
 -- how often they have the root
 abbrev pub roots_of_members : ℕ → Members → ℕ
 roots_of_members n m = times_in n m.inputs.items + (times_in n m.outputs.items + times_in n m.update.items)
-
--- the result is members that fit the game's moves, or a refusal that leaves what is kept; `Budget` comes only where the
--- store holds exactly its budget of nodes
-pub record MakesMembers (g : GameData) (when : When) (old new : Contents) (result : Result Members Halt) : Type 0 where
-  pub fit : IfOk result (λ m. FitMoves g when (move_functions new m))
-  pub added : IfOk result (λ m. (n : ℕ) → roots_at new.state n ≡ roots_at old.state n + roots_of_members n m)
-  pub refused : OnErr result (SameRoots old.state new.state)
-  pub keeps : KeepsRoots old new
-  pub full : result ≡ Err halt.Budget → IsFull new.state

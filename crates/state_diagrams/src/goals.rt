@@ -8,7 +8,8 @@ ghost use Rattle.bit_compile.specs.Domains.{state_domains, level_count};
 ghost use Rattle.bit_compile.specs.Compiled.{compiled};
 ghost use Rattle.state_diagrams.specs.Members.{functions_at};
 ghost use Rattle.state_diagrams.specs.Lists.{MakesList};
-ghost use Rattle.state_diagrams.specs.Goals.{TellGoals};
+ghost use Rattle.bit_compile.specs.Crowding.{HasCause};
+ghost use Rattle.state_diagrams.specs.Goals.{TellGoals, IsOfGoals};
 
 use crate::lists::push_made;
 use bdd_ops::{Diagrams, Root};
@@ -30,6 +31,7 @@ pub fn goal_roots(
     requires formulas { list_all (λ goal. is_state_formula (scope_of (game_data game.now)) goal.holds) (map goal_data goals.now) ≡ true }
     ensures tell { IfOk result (λ roots. TellGoals (game_data game.now) (map goal_data goals.now) (functions_at diagrams.new roots.items)) }
     ensures made { MakesList diagrams.old diagrams.new result (map (λ goal. compiled (game_data game.now) goal.holds) (map goal_data goals.now)) }
+    ensures cause { HasCause diagrams.old diagrams.new result (IsOfGoals (game_data game.now) (map goal_data goals.now)) }
 {
     let mut roots = Vec::new(codes.alloc());
     for goal in goals {

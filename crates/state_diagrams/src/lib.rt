@@ -4,8 +4,8 @@
 //! other bits. So two diagrams stand for one set exactly where they are one function.
 //!
 //! Contract: `members` makes the lines of a game's first and later moves (`FitMoves`), `updates` and `goals` those of its
-//! hidden tables and goals, `levels` tells which bits are next ones, and `forcing` gives the states from which a player forces
-//! a set by them (`told`).
+//! hidden tables and goals, `levels` tells which bits are next ones, and `moves` tells where inputs avoid a set. Where the
+//! budget ends a call, `cause` names what fills it: sets of the game's formulas, and of those of the target.
 //! Path: codes, operations → **sets as diagrams** → regions as diagrams.
 #![tactic(auto)]
 
@@ -19,6 +19,4 @@ pub mod members;
 pub mod moves;
 pub mod spent;
 pub mod steps;
-#[cfg(test)]
-mod tests;
 pub mod updates;

@@ -3,7 +3,14 @@
 //! A late line is a formula over the state before and the next one, and its diagram is that of the formula. Any other
 //! line is a formula over the next state alone: its diagram reads the next bits where the formula's reads present ones.
 
-ghost use Rattle.std.specs.Prelude.{◌≡◌, map, true, false, IfOk};
+ghost use Rattle.std.specs.Prelude.{◌≡◌, ◌⊎◌, ◌++◌, List, Ok, map, true, false, IfOk};
+ghost use Rattle.std.specs.List.{Contains};
+ghost use Rattle.spec_model.specs.Diagrams.{Function};
+ghost use Rattle.bdd_ops.specs.Contents.{Contents};
+ghost use Rattle.bit_compile.specs.Crowding.{HasCause};
+ghost use Rattle.bit_compile.specs.Named.{IsNamedOf};
+ghost use Rattle.state_diagrams.specs.NamedGame.{IsOfGame};
+ghost use Rattle.state_diagrams.specs.MadeMembers.{IsOfLines};
 ghost use Rattle.spec_model.specs.Moves.{has_next};
 ghost use Rattle.spec_model.specs.Views.{formula};
 ghost use Rattle.spec_model.specs.GameViews.{game_data};
@@ -51,8 +58,9 @@ fn line_root(diagrams: &mut Diagrams, scene: &LineScene, late: bool, e: &Expr) -
     requires levels { diagrams.old.state.table.levels ≡ scene_levels scene.now }
     requires formula { is_step_formula (scope_of (game_seen scene.now)) (formula e.now) ≡ true }
     requires late { late ≡ false → has_next (formula e.now) ≡ false }
-    ensures { let g = game_seen scene.now in
+    ensures made { let g = game_seen scene.now in
         Makes diagrams.old diagrams.new result (line_function g scene.now.to.now late (formula e.now)) }
+    ensures cause { HasCause diagrams.old diagrams.new result (IsNamedOf (game_seen scene.now) (formula e.now)) }
 {
     let whole = compile(diagrams, scene.codes, scene.game, e)?;
     if late {
@@ -86,9 +94,11 @@ fn with_line(
     requires formula { is_step_formula (scope_of (game_seen scene.now)) (formula e.now) ≡ true }
     requires late { late ≡ false → has_next (formula e.now) ≡ false }
     requires so_far { IsMade diagrams.old so_far }
-    ensures { let g = game_seen scene.now in
+    ensures made { let g = game_seen scene.now in
         Appends diagrams.old diagrams.new so_far result
         (line_functions g scene.now.to.now when late (formula e.now)) }
+    ensures cause { (base : Contents) (fs : List Function) → MakesList base diagrams.old (Ok so_far) fs →
+        HasCause base diagrams.new result (λ f. Contains fs f ⊎ IsNamedOf (game_seen scene.now) (formula e.now) f) }
 {
     if !is_judged(when, late) {
         return Ok(so_far);
@@ -123,9 +133,12 @@ fn with_lines(
     requires levels { diagrams.old.state.table.levels ≡ scene_levels scene.now }
     requires formulas { AreStepLines (game_seen scene.now) (line_data lines.now) }
     requires so_far { IsMade diagrams.old so_far }
-    ensures { let g = game_seen scene.now in
+    ensures made { let g = game_seen scene.now in
         Appends diagrams.old diagrams.new so_far result
         (functions_of g scene.now.to.now when (is_late g side) (line_data lines.now)) }
+    ensures cause { let g = game_seen scene.now in
+        (base : Contents) (fs : List Function) → MakesList base diagrams.old (Ok so_far) fs →
+        HasCause base diagrams.new result (IsOfLines g (fs ++ functions_of g scene.now.to.now when (is_late g side) (line_data lines.now)) (line_data lines.now)) }
 {
     let Ok(late) = marks(scene.game, side, lines) else {
         release_list(diagrams, so_far);
@@ -167,8 +180,9 @@ fn first_roots(
 ) -> Result<Vec<Root>, Halt>
     requires scene { IsLineScene scene.now }
     requires levels { diagrams.old.state.table.levels ≡ scene_levels scene.now }
-    ensures { let g = game_seen scene.now in
+    ensures made { let g = game_seen scene.now in
         MakesList diagrams.old diagrams.new result (first_functions g scene.now.to.now side when) }
+    ensures cause { HasCause diagrams.old diagrams.new result (IsOfGame (game_seen scene.now)) }
 {
     let none = Vec::new(scene.alloc());
     match when {
@@ -190,8 +204,9 @@ pub fn line_roots(
 ) -> Result<Vec<Root>, Halt>
     requires scene { IsLineScene scene.now }
     requires levels { diagrams.old.state.table.levels ≡ scene_levels scene.now }
-    ensures { let g = game_seen scene.now in
+    ensures made { let g = game_seen scene.now in
         MakesList diagrams.old diagrams.new result (functions_judged g scene.now.to.now side when) }
+    ensures cause { HasCause diagrams.old diagrams.new result (IsOfGame (game_seen scene.now)) }
 {
     let first = first_roots(diagrams, scene, when, side)?;
     let lines = safety_of(scene.game, side);

@@ -1,6 +1,6 @@
 //! Lists of roots, made one after the other: where one is refused, all so far are given back.
 
-ghost use Rattle.std.specs.Prelude.{◌≡◌, ◌+◌, ◌≤◌, ◌++◌, ◌∷◌, [], ℕ, Ok, List};
+ghost use Rattle.std.specs.Prelude.{◌≡◌, ◌+◌, ◌≤◌, ◌++◌, ◌∷◌, [], ℕ, Ok, Err, List};
 ghost use Rattle.spec_model.specs.Diagrams.{Function};
 ghost use Rattle.bdd_store.specs.State.{roots_at};
 ghost use Rattle.bdd_ops.specs.Contents.{Contents};
@@ -29,7 +29,8 @@ pub fn push_made(
     made: Result<Root, Halt>,
 ) -> Result<Vec<Root>, Halt>
     requires { (base mid : Contents) × (fs : List Function) × (f : Function) × MakesList base mid (Ok roots) fs × Makes mid diagrams.old made f }
-    ensures { (base mid : Contents) (fs : List Function) (f : Function) → MakesList base mid (Ok roots) fs → Makes mid diagrams.old made f → MakesList base diagrams.new result (fs ++ f ∷ []) }
+    ensures made { (base mid : Contents) (fs : List Function) (f : Function) → MakesList base mid (Ok roots) fs → Makes mid diagrams.old made f → MakesList base diagrams.new result (fs ++ f ∷ []) }
+    ensures handed { result ≡ Err Halt.Budget → (made ≡ Err Halt.Budget) × (diagrams.new.state.table ≡ diagrams.old.state.table) }
 {
     match made {
         Ok(root) => {

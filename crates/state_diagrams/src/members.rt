@@ -1,6 +1,6 @@
 //! The members of a game's moves: the diagrams of its lines, of the next states, and of what the hidden tables become.
 
-ghost use Rattle.std.specs.Prelude.{◌≡◌, ◌++◌, List, Ok};
+ghost use Rattle.std.specs.Prelude.{◌≡◌, ◌++◌, List, Ok, Err};
 ghost use Rattle.spec_model.specs.Diagrams.{Function};
 ghost use Rattle.spec_model.specs.GameViews.{game_data};
 ghost use Rattle.spec_model.specs.WellMade.{WellMade};
@@ -10,7 +10,11 @@ ghost use Rattle.state_diagrams.specs.MoveBits.{TellsMoves, follows};
 ghost use Rattle.state_diagrams.specs.Members.{AreRoots, all_true, functions_at};
 ghost use Rattle.state_diagrams.specs.Forcing.{AreLevelsOf};
 ghost use Rattle.state_diagrams.specs.Lists.{MakesList};
-ghost use Rattle.state_diagrams.specs.Lines.{IsLineScene, game_seen, scene_levels, side_functions, IsMade, MakesMembers};
+ghost use Rattle.state_diagrams.specs.Lines.{IsLineScene, game_seen, scene_levels, side_functions, IsMade};
+ghost use Rattle.state_diagrams.specs.Updates.{update_functions};
+ghost use Rattle.bit_compile.specs.Crowding.{HasCause};
+ghost use Rattle.state_diagrams.specs.NamedGame.{IsOfGame};
+ghost use Rattle.state_diagrams.specs.MadeMembers.{MakesMembers};
 
 use crate::lines::{LineScene, Side, line_roots};
 use crate::lists::{push_made, release_list};
@@ -33,8 +37,9 @@ fn side_roots(
 ) -> Result<Vec<Root>, Halt>
     requires scene { IsLineScene scene.now }
     requires levels { diagrams.old.state.table.levels ≡ scene_levels scene.now }
-    ensures { let g = game_seen scene.now in
+    ensures made { let g = game_seen scene.now in
         MakesList diagrams.old diagrams.new result (side_functions g scene.now.to.now side when) }
+    ensures cause { HasCause diagrams.old diagrams.new result (IsOfGame (game_seen scene.now)) }
 {
     let lines = line_roots(diagrams, scene, when, side)?;
     let next = proper(diagrams, scene.codes, At::Next);
@@ -49,9 +54,10 @@ pub fn with_kept(
 ) -> Result<Vec<Root>, Halt>
     requires { (base : Contents) × (fs : List Function) ×
         MakesList base diagrams.old (Ok so_far) fs × AreRoots base roots.now }
-    ensures { (base : Contents) (fs : List Function) →
+    ensures made { (base : Contents) (fs : List Function) →
         MakesList base diagrams.old (Ok so_far) fs → AreRoots base roots.now →
         MakesList base diagrams.new result (fs ++ functions_at base roots.now) }
+    ensures never { result ≡ Err Halt.Budget → ⊥ }
 {
     let mut list = so_far;
     for root in roots {
@@ -72,9 +78,10 @@ fn input_roots(
     requires scene { IsLineScene scene.now }
     requires levels { diagrams.old.state.table.levels ≡ scene_levels scene.now }
     requires update { AreRoots diagrams.old update.now }
-    ensures { let g = game_seen scene.now in
+    ensures made { let g = game_seen scene.now in
         MakesList diagrams.old diagrams.new result
         (side_functions g scene.now.to.now Side.Assumptions when ++ functions_at diagrams.old update.now) }
+    ensures cause { HasCause diagrams.old diagrams.new result (IsOfGame (game_seen scene.now)) }
 {
     let lines = side_roots(diagrams, scene, when, Side::Assumptions)?;
     with_kept(diagrams, lines, update)
@@ -93,9 +100,9 @@ fn with_inputs(
     requires lists { (base mid : Contents) × (us os : List Function) ×
         MakesList base mid (Ok update) us × MakesList mid diagrams.old (Ok outputs) os }
     ensures { let g = game_seen scene.now in
-        (base mid : Contents) (us : List Function) → MakesList base mid (Ok update) us →
+        (base mid : Contents) → MakesList base mid (Ok update) (update_functions g when) →
         MakesList mid diagrams.old (Ok outputs) (side_functions g scene.now.to.now Side.Guarantees when) →
-        TellsMoves g when (all_true us) (follows g) → MakesMembers g when base diagrams.new result }
+        TellsMoves g when (all_true (update_functions g when)) (follows g) → MakesMembers g scene.now.to.now when base diagrams.new result }
 {
     match input_roots(diagrams, scene, when, &update) {
         Ok(inputs) => Ok(Members {
@@ -122,8 +129,8 @@ fn with_lines_of(
     requires levels { diagrams.old.state.table.levels ≡ scene_levels scene.now }
     requires list { IsMade diagrams.old update }
     ensures { let g = game_seen scene.now in
-        (base : Contents) (us : List Function) → MakesList base diagrams.old (Ok update) us →
-        TellsMoves g when (all_true us) (follows g) → MakesMembers g when base diagrams.new result }
+        (base : Contents) → MakesList base diagrams.old (Ok update) (update_functions g when) →
+        TellsMoves g when (all_true (update_functions g when)) (follows g) → MakesMembers g scene.now.to.now when base diagrams.new result }
 {
     match side_roots(diagrams, scene, when, Side::Guarantees) {
         Ok(outputs) => with_inputs(diagrams, scene, when, update, outputs),
@@ -146,7 +153,7 @@ fn members_at(
     requires codes { codes.now ≡ state_domains (game_data game.now) }
     requires levels { diagrams.old.state.table.levels ≡ level_count (state_domains (game_data game.now)) }
     requires lists { AreLevelsOf (game_data game.now) levels.now }
-    ensures { MakesMembers (game_data game.now) when diagrams.old diagrams.new result }
+    ensures { MakesMembers (game_data game.now) levels.now.to.items when diagrams.old diagrams.new result }
 {
     let update = update_members(diagrams, codes, game, when)?;
     let scene = LineScene {
@@ -168,7 +175,7 @@ pub fn first_members(
     requires codes { codes.now ≡ state_domains (game_data game.now) }
     requires levels { diagrams.old.state.table.levels ≡ level_count (state_domains (game_data game.now)) }
     requires lists { AreLevelsOf (game_data game.now) levels.now }
-    ensures { MakesMembers (game_data game.now) When.First diagrams.old diagrams.new result }
+    ensures { MakesMembers (game_data game.now) levels.now.to.items When.First diagrams.old diagrams.new result }
 {
     members_at(diagrams, codes, game, levels, When::First)
 }
@@ -184,7 +191,7 @@ pub fn later_members(
     requires codes { codes.now ≡ state_domains (game_data game.now) }
     requires levels { diagrams.old.state.table.levels ≡ level_count (state_domains (game_data game.now)) }
     requires lists { AreLevelsOf (game_data game.now) levels.now }
-    ensures { MakesMembers (game_data game.now) When.Later diagrams.old diagrams.new result }
+    ensures { MakesMembers (game_data game.now) levels.now.to.items When.Later diagrams.old diagrams.new result }
 {
     members_at(diagrams, codes, game, levels, When::Later)
 }

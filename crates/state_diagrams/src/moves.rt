@@ -7,6 +7,8 @@ ghost use Rattle.bdd_ops.specs.Contents.{Contents};
 ghost use Rattle.bdd_ops.specs.Calls.{negated};
 ghost use Rattle.bit_compile.specs.Making.{Makes};
 ghost use Rattle.state_diagrams.specs.Members.{AreMembers, move_functions, reply_of, avoiding};
+ghost use Rattle.bit_compile.specs.Crowding.{HasCause};
+ghost use Rattle.state_diagrams.specs.NamedMoves.{IsOfAvoiding, lists_at};
 
 use crate::spent::{beside, exists_spent, join_spent, not_spent};
 use bdd_ops::{Diagrams, Root};
@@ -41,7 +43,8 @@ fn replies(
     levels: &NextLevels,
 ) -> Result<Root, Halt>
     requires { (base : Contents) × (f : Function) × Makes base diagrams.old (Ok target) f × AreMembers base members.now }
-    ensures { (base : Contents) (f : Function) → Makes base diagrams.old (Ok target) f → AreMembers base members.now → Makes base diagrams.new result (reply_of (move_functions base members.now) levels.now.reply.items f) }
+    ensures made { (base : Contents) (f : Function) → Makes base diagrams.old (Ok target) f → AreMembers base members.now → Makes base diagrams.new result (reply_of (move_functions base members.now) levels.now.reply.items f) }
+    ensures cause { (base : Contents) (f : Function) → Makes base diagrams.old (Ok target) f → AreMembers base members.now → HasCause base diagrams.new result (IsOfAvoiding (lists_at base members.now) levels.now.reply.items f) }
 {
     let (target, legal) = beside(diagrams, target, &members.outputs)?;
     let reached = join_spent(diagrams, target, legal)?;
@@ -57,7 +60,8 @@ pub fn kept_out(
     levels: &NextLevels,
 ) -> Result<Root, Halt>
     requires { (base : Contents) × (f : Function) × Makes base diagrams.old (Ok target) f × AreMembers base members.now }
-    ensures { (base : Contents) (f : Function) → Makes base diagrams.old (Ok target) f → AreMembers base members.now → Makes base diagrams.new result (negated (reply_of (move_functions base members.now) levels.now.reply.items f)) }
+    ensures made { (base : Contents) (f : Function) → Makes base diagrams.old (Ok target) f → AreMembers base members.now → Makes base diagrams.new result (negated (reply_of (move_functions base members.now) levels.now.reply.items f)) }
+    ensures cause { (base : Contents) (f : Function) → Makes base diagrams.old (Ok target) f → AreMembers base members.now → HasCause base diagrams.new result (IsOfAvoiding (lists_at base members.now) levels.now.reply.items f) }
 {
     let leads = replies(diagrams, target, members, levels)?;
     not_spent(diagrams, leads)
@@ -71,7 +75,8 @@ pub fn avoided(
     levels: &NextLevels,
 ) -> Result<Root, Halt>
     requires { (base : Contents) × (f : Function) × Makes base diagrams.old (Ok target) f × AreMembers base members.now }
-    ensures { (base : Contents) (f : Function) → Makes base diagrams.old (Ok target) f → AreMembers base members.now → Makes base diagrams.new result (avoiding (move_functions base members.now) levels.now.reply.items levels.now.all.items f) }
+    ensures made { (base : Contents) (f : Function) → Makes base diagrams.old (Ok target) f → AreMembers base members.now → Makes base diagrams.new result (avoiding (move_functions base members.now) levels.now.reply.items levels.now.all.items f) }
+    ensures cause { (base : Contents) (f : Function) → Makes base diagrams.old (Ok target) f → AreMembers base members.now → HasCause base diagrams.new result (IsOfAvoiding (lists_at base members.now) levels.now.reply.items f) }
 {
     let out = kept_out(diagrams, target, members, levels)?;
     let (out, legal) = beside(diagrams, out, &members.inputs)?;

@@ -11,6 +11,8 @@ ghost use Rattle.bdd_ops.specs.Contents.{Contents, function_at};
 ghost use Rattle.bdd_ops.specs.Calls.{negated, RisesOver};
 ghost use Rattle.bit_compile.specs.Making.{Makes};
 ghost use Rattle.state_diagrams.specs.Members.{AreRoots, all_true, functions_at};
+ghost use Rattle.bit_compile.specs.Crowding.{HasCause};
+ghost use Rattle.state_diagrams.specs.NamedMoves.{IsThis, IsEither, IsFirstOfAll, IsBesideAll};
 
 use crate::steps::{and_exists, ite, shift};
 use bdd_ops::{Diagrams, Root};
@@ -21,7 +23,8 @@ use regions::Halt;
 pub fn and_spent(diagrams: &mut Diagrams, a: Root, b: &Root) -> Result<Root, Halt>
     requires a_kept { IsRoot diagrams.old.state a }
     requires b_kept { IsRoot diagrams.old.state b.now }
-    ensures { (base : Contents) (f : Function) → Makes base diagrams.old (Ok a) f → Makes base diagrams.new result (joined (join_of true) f (function_at diagrams.old b.now)) }
+    ensures made { (base : Contents) (f : Function) → Makes base diagrams.old (Ok a) f → Makes base diagrams.new result (joined (join_of true) f (function_at diagrams.old b.now)) }
+    ensures cause { (base : Contents) (f : Function) → Makes base diagrams.old (Ok a) f → HasCause base diagrams.new result (IsThis f) }
 {
     let whole = and(diagrams, &a, b);
     diagrams.release(a);
@@ -33,7 +36,8 @@ pub fn join_spent(diagrams: &mut Diagrams, a: Root, b: Root) -> Result<Root, Hal
     requires a_kept { IsRoot diagrams.old.state a }
     requires b_kept { IsRoot diagrams.old.state b }
     requires apart { a ≡ b → 1 < roots_at diagrams.old.state a }
-    ensures { (base mid : Contents) (f g : Function) → Makes base mid (Ok a) f → Makes mid diagrams.old (Ok b) g → Makes base diagrams.new result (joined (join_of true) f g) }
+    ensures made { (base mid : Contents) (f g : Function) → Makes base mid (Ok a) f → Makes mid diagrams.old (Ok b) g → Makes base diagrams.new result (joined (join_of true) f g) }
+    ensures cause { (base mid : Contents) (f g : Function) → Makes base mid (Ok a) f → Makes mid diagrams.old (Ok b) g → HasCause base diagrams.new result (IsEither f g) }
 {
     let whole = and(diagrams, &a, &b);
     diagrams.release(b);
@@ -46,7 +50,8 @@ pub fn exists_spent(diagrams: &mut Diagrams, a: Root, b: Root, levels: &[u32]) -
     requires a_kept { IsRoot diagrams.old.state a }
     requires b_kept { IsRoot diagrams.old.state b }
     requires apart { a ≡ b → 1 < roots_at diagrams.old.state a }
-    ensures { (base mid : Contents) (f g : Function) → Makes base mid (Ok a) f → Makes mid diagrams.old (Ok b) g → Makes base diagrams.new result (and_exists_over levels.now f g) }
+    ensures made { (base mid : Contents) (f g : Function) → Makes base mid (Ok a) f → Makes mid diagrams.old (Ok b) g → Makes base diagrams.new result (and_exists_over levels.now f g) }
+    ensures cause { (base mid : Contents) (f g : Function) → Makes base mid (Ok a) f → Makes mid diagrams.old (Ok b) g → HasCause base diagrams.new result (IsEither f g) }
 {
     let whole = and_exists(diagrams, &a, &b, levels);
     diagrams.release(b);
@@ -57,7 +62,8 @@ pub fn exists_spent(diagrams: &mut Diagrams, a: Root, b: Root, levels: &[u32]) -
 /// The diagram that is true where `a` is false. It is given back.
 pub fn not_spent(diagrams: &mut Diagrams, a: Root) -> Result<Root, Halt>
     requires { IsRoot diagrams.old.state a }
-    ensures { (base : Contents) (f : Function) → Makes base diagrams.old (Ok a) f → Makes base diagrams.new result (negated f) }
+    ensures made { (base : Contents) (f : Function) → Makes base diagrams.old (Ok a) f → Makes base diagrams.new result (negated f) }
+    ensures cause { (base : Contents) (f : Function) → Makes base diagrams.old (Ok a) f → HasCause base diagrams.new result (IsThis f) }
 {
     let other = not(diagrams, &a);
     diagrams.release(a);
@@ -69,7 +75,8 @@ pub fn ite_spent(diagrams: &mut Diagrams, a: Root, b: &Root, c: &Root) -> Result
     requires a_kept { IsRoot diagrams.old.state a }
     requires b_kept { IsRoot diagrams.old.state b.now }
     requires c_kept { IsRoot diagrams.old.state c.now }
-    ensures { (base : Contents) (f : Function) → Makes base diagrams.old (Ok a) f → Makes base diagrams.new result (ite f (function_at diagrams.old b.now) (function_at diagrams.old c.now)) }
+    ensures made { (base : Contents) (f : Function) → Makes base diagrams.old (Ok a) f → Makes base diagrams.new result (ite f (function_at diagrams.old b.now) (function_at diagrams.old c.now)) }
+    ensures cause { (base : Contents) (f : Function) → Makes base diagrams.old (Ok a) f → HasCause base diagrams.new result (IsThis f) }
 {
     let whole = ite(diagrams, &a, b, c);
     diagrams.release(a);
@@ -80,7 +87,8 @@ pub fn ite_spent(diagrams: &mut Diagrams, a: Root, b: &Root, c: &Root) -> Result
 pub fn shift_spent(diagrams: &mut Diagrams, a: Root, to: &[u32]) -> Result<Root, Halt>
     requires kept { IsRoot diagrams.old.state a }
     requires rising { RisesOver diagrams.old.state.table.levels to.now (function_at diagrams.old a) }
-    ensures { (base : Contents) (f : Function) → Makes base diagrams.old (Ok a) f → Makes base diagrams.new result (shifted to.now f) }
+    ensures made { (base : Contents) (f : Function) → Makes base diagrams.old (Ok a) f → Makes base diagrams.new result (shifted to.now f) }
+    ensures cause { (base : Contents) (f : Function) → Makes base diagrams.old (Ok a) f → HasCause base diagrams.new result (IsThis f) }
 {
     let moved = shift(diagrams, &a, to);
     diagrams.release(a);
@@ -90,7 +98,8 @@ pub fn shift_spent(diagrams: &mut Diagrams, a: Root, to: &[u32]) -> Result<Root,
 /// The conjunction of several diagrams, joined in their order.
 pub fn all_of(diagrams: &mut Diagrams, members: &[Root]) -> Result<Root, Halt>
     requires { AreRoots diagrams.old members.now }
-    ensures { Makes diagrams.old diagrams.new result (all_true (functions_at diagrams.old members.now)) }
+    ensures made { Makes diagrams.old diagrams.new result (all_true (functions_at diagrams.old members.now)) }
+    ensures cause { HasCause diagrams.old diagrams.new result (IsFirstOfAll (functions_at diagrams.old members.now)) }
 {
     let mut whole = told(diagrams.constant(true))?;
     for member in members {
@@ -106,6 +115,7 @@ pub fn beside(diagrams: &mut Diagrams, held: Root, members: &[Root]) -> Result<(
     ensures same { IfOk result (λ p. p.0 ≡ held) }
     ensures made { IfOk result (λ p. Makes diagrams.old diagrams.new (Ok p.1) (all_true (functions_at diagrams.old members.now))) }
     ensures refused { IfErr result (λ halt. (base : Contents) (f : Function) → Makes base diagrams.old (Ok held) f → Makes base diagrams.new (Err halt) f) }
+    ensures cause { (base : Contents) (f : Function) → Makes base diagrams.old (Ok held) f → HasCause base diagrams.new result (IsBesideAll f (functions_at diagrams.old members.now)) }
 {
     match all_of(diagrams, members) {
         Ok(all) => Ok((held, all)),

@@ -10,6 +10,8 @@ ghost use Rattle.state_diagrams.specs.Members.{all_true, functions_at};
 ghost use Rattle.state_diagrams.specs.MoveBits.{TellsMoves, follows};
 ghost use Rattle.state_diagrams.specs.Lists.{MakesList};
 ghost use Rattle.state_diagrams.specs.Updates.{update_functions};
+ghost use Rattle.bit_compile.specs.Crowding.{HasCause};
+ghost use Rattle.state_diagrams.specs.NamedGame.{IsOfGame};
 
 use crate::lists::push_made;
 use bdd_ops::{Diagrams, Root};
@@ -30,7 +32,8 @@ fn update_member(
     requires codes { codes.now ≡ state_domains (game_data game.now) }
     requires levels { level_count codes.now ≤ diagrams.old.state.table.levels }
     requires known { k < length (game_data game.now).hidden }
-    ensures { Makes diagrams.old diagrams.new result (get_or (update_functions (game_data game.now) when) k never) }
+    ensures made { Makes diagrams.old diagrams.new result (get_or (update_functions (game_data game.now) when) k never) }
+    ensures cause { HasCause diagrams.old diagrams.new result (IsOfGame (game_data game.now)) }
 {
     match when {
         When::First => codes.has_code(diagrams, At::Next, k, game.hidden[k].first as usize),
@@ -51,6 +54,7 @@ pub fn update_members(
     requires codes { codes.now ≡ state_domains (game_data game.now) }
     requires levels { level_count codes.now ≤ diagrams.old.state.table.levels }
     ensures made { MakesList diagrams.old diagrams.new result (update_functions (game_data game.now) when) }
+    ensures cause { HasCause diagrams.old diagrams.new result (IsOfGame (game_data game.now)) }
     ensures told { IfOk result (λ roots. TellsMoves (game_data game.now) when (all_true (functions_at diagrams.new roots.items)) (follows (game_data game.now))) }
 {
     let mut roots = Vec::new(codes.alloc());

@@ -18,6 +18,3 @@ mod reading;
 pub use fitting::fit;
 pub use fixing::{fix, loosen};
 pub use reading::read;
-
-#[cfg(test)]
-mod tests;

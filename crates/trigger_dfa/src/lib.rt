@@ -21,8 +21,6 @@ mod same;
 mod side;
 mod states;
 mod table;
-#[cfg(test)]
-mod tests;
 mod walk;
 
 pub use fault::DfaFault;

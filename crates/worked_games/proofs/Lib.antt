@@ -1,2 +1,1 @@
-mod InputMoves
-mod OutputMoves
+mod CoreSamplesTyped

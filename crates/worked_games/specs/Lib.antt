@@ -1,3 +1,2 @@
-pub mod Games
-pub mod Replies
-pub mod Notes
+pub mod CoreSamples
+pub mod SmallGame

@@ -1,74 +1,72 @@
-//! N and M of small games, worked out by hand from their layers.
-//!
-//! ```text
-//! foretold   N = 1, M = 2: next(r) is against g, so all states are in the first layer, each by one iterate
-//! blocked    N = 2, M = 2: a never comes again, and the first move adds the states with g
-//! crossed    N = 2, M = 5: g is false at each state; a and b are met in turns, each within two positions
-//! granted    the system wins
-//! ```
-//!
-//! And the layers, N and M of these games, and of one of 64 states, as a plain program finds them.
+//! The layers, N and M of five small games: those over rows and those over diagrams are the ones that a plain program finds.
 
-mod games;
 mod plain;
 
-ghost use Rattle.std.specs.Prelude.{◌≡◌, None};
+ghost use Rattle.std.specs.Prelude.{◌≡◌, None, IfSome};
 ghost use Rattle.spec_model.specs.GameViews.{game_data};
 ghost use Rattle.spec_model.specs.WellMade.{WellMade};
 ghost use Rattle.regions.specs.Kept.{HasRegion, IsSameGame, Stays};
 ghost use Rattle.gr1_sys.specs.Held.{HasEach};
 ghost use Rattle.gr1_env.specs.Held.{all_regions};
 
-use games::{blocked, crossed, foretold, granted, spent};
 use gr1_env::{EnvLayer, solve_env};
+use hidden_game::expand;
 use plain::{Name, Plain, bit, is_state, layer, solved, variables};
+use region_bdd::RegionBdd;
 use region_rows::RegionRows;
 use regions::{Halt, Regions};
 use spec_model::game::Game;
 use spec_model::value::Value;
+use spectra_lexer::lex;
+use spectra_parser::parse;
+use spectra_types::resolve;
 use std::alloc::Global;
-use std::process::Abort;
 use std::test::Fail;
 
-/// N and M of the layers, which are spent.
-fn numbers_of<G: Regions>(alloc: Global, g: &mut G) -> Result<Option<(u64, u64)>, Halt>
-    requires { (G.kept g.old).jam ≡ None }
-    ensures { IsSameGame (G.kept g.old) (G.kept g.new) }
+/// The games of the plain program, as texts.
+const GAMES: [(Name, &str); 5] = [
+    (
+        Name::Foretold,
+        "spec X env boolean r; sys boolean g; gar alw g <-> next(r);",
+    ),
+    (
+        Name::Blocked,
+        "spec X env boolean r; sys boolean g; gar alw g -> r; gar alwEv g;",
+    ),
+    (
+        Name::Crossed,
+        "spec X env boolean a; env boolean b; sys boolean g; asm alwEv a; asm alwEv b; asm alw !(a & b); gar alwEv g; gar alw !g;",
+    ),
+    (
+        Name::Granted,
+        "spec X env boolean r; sys boolean g; gar alw r -> g; gar alwEv g;",
+    ),
+    (
+        Name::Spent,
+        "spec X env boolean a; env boolean b; env boolean c; sys boolean g; sys boolean p; sys boolean q; asm alwEv a; asm alwEv b; asm alwEv c; asm alw !(a & b); asm alw !(a & c); asm alw !(b & c); gar alwEv g; gar alwEv q; gar alw next(p) -> p; gar alw next(q) -> q; gar alw next(g) -> p & !next(p) | q & !next(q);",
+    ),
+];
+
+/// The budget of diagrams.
+const NODES: u32 = 65_537;
+
+/// The game of a text, where it has one.
+fn game_of(alloc: Global, text: &[u8]) -> Option<Game>
+    ensures { IfSome result (λ game. WellMade (game_data game)) }
 {
-    match solve_env(alloc, g)? {
-        Some(layers) => {
-            let numbers = (layers.n(), layers.m());
-            layers.spend_all(g);
-            Ok(Some(numbers))
-        }
-        None => Ok(None),
+    let Ok(tokens) = lex(alloc, text) else {
+        return None;
+    };
+    let Ok(tree) = parse(alloc, text, &tokens) else {
+        return None;
+    };
+    let Ok(spec) = resolve(alloc, &[tree]) else {
+        return None;
+    };
+    match expand(alloc, &spec) {
+        Ok(game) => Some(game),
+        Err(_) => None,
     }
-}
-
-fn numbers(rt: &impl Abort, alloc: Global, game: Game) -> Option<(u64, u64)>
-    requires { WellMade (game_data game) }
-{
-    let mut rows = RegionRows::make(alloc, game).expect(rt, "at most 64 states");
-    numbers_of(alloc, &mut rows).expect(rt, "memory")
-}
-
-#[test]
-fn n_and_m_are_told_where_the_environment_wins(rt: HostRuntime) -> Result<(), Fail> {
-    let alloc = rt.alloc();
-    assert!(rt;
-        numbers(&rt, alloc, foretold(alloc)?) == Some((1, 2)),
-        "g tells the next r"
-    );
-    assert!(rt;
-        numbers(&rt, alloc, blocked(alloc)?) == Some((2, 2)),
-        "g only with a"
-    );
-    assert!(rt;
-        numbers(&rt, alloc, crossed(alloc)?) == Some((2, 5)),
-        "a and b in turns, g never"
-    );
-    assert!(rt; numbers(&rt, alloc, granted(alloc)?) == None, "g answers a");
-    Ok(())
 }
 
 fn values(s: u32) -> [Value; 6] {
@@ -127,32 +125,21 @@ fn same_solution<G: Regions>(alloc: Global, g: &mut G, name: Name) -> Result<boo
     }
 }
 
-fn is_same(rt: &impl Abort, alloc: Global, game: Game, name: Name) -> bool
-    requires { WellMade (game_data game) }
-{
-    let mut rows = RegionRows::make(alloc, game).expect(rt, "at most 64 states");
-    same_solution(alloc, &mut rows, name).expect(rt, "memory")
-}
-
 #[test]
-fn layers_are_those_of_a_plain_program(rt: HostRuntime) -> Result<(), Fail> {
+fn layers_are_those_of_a_plain_program_over_both_kinds_of_regions(
+    rt: HostRuntime,
+) -> Result<(), Fail> {
     let alloc = rt.alloc();
-    assert!(rt;
-        is_same(&rt, alloc, foretold(alloc)?, Name::Foretold),
-        "foretold"
-    );
-    assert!(rt;
-        is_same(&rt, alloc, blocked(alloc)?, Name::Blocked),
-        "blocked"
-    );
-    assert!(rt;
-        is_same(&rt, alloc, crossed(alloc)?, Name::Crossed),
-        "crossed"
-    );
-    assert!(rt;
-        is_same(&rt, alloc, granted(alloc)?, Name::Granted),
-        "granted"
-    );
-    assert!(rt; is_same(&rt, alloc, spent(alloc)?, Name::Spent), "spent");
+    for (name, text) in GAMES {
+        let game = game_of(alloc, text.as_bytes()).expect(&rt, "a sound text");
+        let mut rows = RegionRows::make(alloc, game)?;
+        assert!(rt; same_solution(alloc, &mut rows, name)?, "rows: {text}");
+        let game = game_of(alloc, text.as_bytes()).expect(&rt, "a sound text");
+        let mut diagrams = RegionBdd::make(alloc, game, NODES)?;
+        assert!(rt;
+            same_solution(alloc, &mut diagrams, name)?,
+            "diagrams: {text}"
+        );
+    }
     Ok(())
 }

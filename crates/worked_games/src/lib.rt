@@ -1,14 +1,13 @@
-//! Small games that are worked out by hand: solved, and played by both strategies, over rows.
+//! Small games, with what is found of them: the environment's layers of both kinds of regions beside those of a plain program,
+//! sets and moves over rows, and cores and separations by hand.
 //!
-//! It has tests alone: what they show of `gr1_sys`, `gr1_env`, `controller` and `counterstrategy` no clause says, that these
-//! calls succeed, and that the numbers and the replies are those of the games. Path: regions → layers → strategy.
+//! It has tests alone: they show what no clause says, that a call succeeds, and that the definitions of regions, layers and
+//! verdicts say what is meant. Path: game → **regions** → **layers** → strategy → **verdict**.
 #![tactic(auto)]
 
 #[cfg(test)]
-mod controllers;
-#[cfg(test)]
-mod counterstrategies;
+mod cores;
 #[cfg(test)]
 mod environment_layers;
 #[cfg(test)]
-mod system_layers;
+mod rows;

@@ -3,7 +3,7 @@
 
 ghost use Rattle.std.specs.Prelude.{◌≤◌};
 
-/// The games of the tests, as `games` has them.
+/// The games of the tests, as `GAMES` has their texts.
 #[derive(Clone, Copy)]
 pub enum Name {
     Foretold,

@@ -65,7 +65,7 @@ either_block-returns t c =
 pub block-returns-then-none : goal.block-returns-then-none
 block-returns-then-none t c =
     let old = c.args.diagrams.now in
-    subst (λ (g : Function). Makes old c.constant.new.diagrams c.constant.result g) (none_pass (passes c.args.test.now) old c.args.xs.now c.args.ys.now (rw c.each_is-none.ensures at c.if-none.true)) c.constant.ensures
+    subst (λ (g : Function). Makes old c.constant.new.diagrams c.constant.result g) (none_pass (passes c.args.test.now) old c.args.xs.now c.args.ys.now (rw c.each_is-none.ensures at c.if-none.true)) c.constant.ensures.made
 
 pub block-returns-then-all : goal.block-returns-then-all
 block-returns-then-all t c =

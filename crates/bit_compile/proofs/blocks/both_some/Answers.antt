@@ -12,11 +12,11 @@ pub and_some-whole-requires-clause-kept : goal.and_some-whole-requires-clause-ke
 and_some-whole-requires-clause-kept c =
     let old = c.args.diagrams.now in
     let mid = c.folded.new.diagrams in
-    still_kept old.state mid.state c.args.ys.now (root_added old mid c.in_ok-first.first _ c.in_ok-first.ensures) c.requires.ys_kept
+    still_kept old.state mid.state c.args.ys.now (root_added old mid c.in_ok-first.first _ c.in_ok-first.ensures.made) c.requires.ys_kept
 
 pub returns : goal.returns
 returns c =
-    let made = c.in_ok-first.ensures in
+    let made = c.in_ok-first.ensures.made in
     let old = c.args.diagrams.now in
     let mid = c.folded.new.diagrams in
     let xs = c.args.xs.now in
@@ -25,4 +25,4 @@ returns c =
     let is = ap (λ (f : Function). (λ (s : Bits). f s && some_of (map (λ (y : CaseRoot). function_at mid y.root) ys) s)) made.meaning
     ∙ ap (λ (fs : List Function). (λ (s : Bits). first s && some_of fs s)) (functions_stay old mid ys made.keeps c.requires.ys_kept) in
     given_back old mid c.and_some-whole.new.diagrams c.release.new.self c.in_ok-first.first _ _ made c.release.ensures.released c.release.ensures.table c.and_some-whole.result
-    (subst (λ (g : Function). Makes mid c.and_some-whole.new.diagrams c.and_some-whole.result g) is c.and_some-whole.ensures)
+    (subst (λ (g : Function). Makes mid c.and_some-whole.new.diagrams c.and_some-whole.result g) is c.and_some-whole.ensures.made)

@@ -1,4 +1,4 @@
-use Rattle.std.proofs.Common.{◌+◌, ◌∙◌, ◌++◌, [], ◌∷◌, Ok, List, ap, refl, sym, subst, arith, take, get_or, false}
+use Rattle.std.proofs.Common.{◌+◌, ◌∙◌, ◌++◌, [], ◌∷◌, Ok, List, ap, refl, sym, subst, arith, take, get_or, false, inr}
 use Rattle.std.proofs.lemmas.List.{map-append}
 use Rattle.spec_model.specs.declared.value.Value.{Value}
 use Rattle.spec_model.specs.declared.value.Value.TheVariants as value
@@ -11,6 +11,11 @@ use Rattle.bit_compile.proofs.Between.{root_before, together, together_after, no
 use Rattle.bit_compile.proofs.Readiness.{ready_stays, had_stays}
 use Rattle.bit_compile.proofs.Folding.{all_next}
 use Rattle.bit_compile.proofs.CyclesLemmas.{take_next, take_all, got}
+use Rattle.bit_compile.proofs.Causes.{cause_among, cause_handed, cause_ok}
+use Rattle.bit_compile.proofs.NamedCases.{source_named}
+use Rattle.bit_compile.proofs.NamedSteps.{first_named}
+use Rattle.bit_compile.specs.Named.{IsOfEach, IsOfSource}
+use Rattle.std.proofs.lemmas.List.Elements.{Contains-get_or}
 use Rattle.bit_compile.proofs.cases.cases_from.Goals as goal
 
 pub loop-value-init : goal.loop-value-init
@@ -49,7 +54,7 @@ loop-value-preserved c =
     let x : CaseRoot = record { value = v; root = c.in-Ok-case_root.root } in
     let f = had_by first src v in
     let before = cases_by first src (take i vs) in
-    let step = subst (λ (g : Function). Makes l new (Ok x.root) g) (had_stays first l inv.keeps src v parts.0) c.in-Ok-case_root.ensures in
+    let step = subst (λ (g : Function). Makes l new (Ok x.root) g) (had_stays first l inv.keeps src v parts.0) c.in-Ok-case_root.ensures.made in
     let more = one_more first l new c.loop-value.cases.items before x f inv.made inv.keeps step in
     let longer = ap (cases_by first src) (take_next vs i v c.loop-value-test.true is) ∙ map-append (λ (w : Value). record { value = w; holds = had_by first src w }) (take i vs) (v ∷ []) in
     record {
@@ -62,21 +67,40 @@ loop-value-preserved c =
     }
 
 pub release_all-requires : goal.release_all-requires
-release_all-requires c = together_after c.loop-value.diagrams c.case_root.new.diagrams c.loop-value.cases.items _ _ (together c.args.diagrams.now c.loop-value.diagrams c.loop-value.cases.items _ c.loop-value.invariant.made) c.in-Err.ensures
+release_all-requires c = together_after c.loop-value.diagrams c.case_root.new.diagrams c.loop-value.cases.items _ _ (together c.args.diagrams.now c.loop-value.diagrams c.loop-value.cases.items _ c.loop-value.invariant.made) c.in-Err.ensures.made
 
-pub returns-in-Err-clause-leaves : goal.returns-in-Err-clause-leaves
-returns-in-Err-clause-leaves c =
+pub returns-in-Err : goal.returns-in-Err
+returns-in-Err c =
     let first = c.args.diagrams.now in
     let l = c.loop-value.diagrams in
     let inv = c.loop-value.invariant in
+    let src = c.args.source.now in
+    let vs = c.args.values.now in
+    let i = c.loop-value.value-index in
     let xs = c.loop-value.cases.items in
-    leaves_refusal first c.release_all.new.diagrams c.in-Err.halt _
-    (makes_between first l c.case_root.new.diagrams c.release_all.new.diagrams _ (between_cases first l xs _ inv.made inv.keeps) c.release_all.ensures.released c.release_all.ensures.table _ _ c.in-Err.ensures)
+    let v = get_or vs i (value.Bool false) in
+    let is = got vs i (value.Bool false) v c.loop-value-test.true in
+    let parts = all_next (IsReady first src) vs i v c.loop-value-test.true is inv.ready in
+    let named = IsOfEach vs (had_by first src) (IsOfSource first src) in
+    let step = IsOfSource l src v in
+    let wider : (f : Function) → step f → named f = λ f is. (v, Contains-get_or vs i (value.Bool false) c.loop-value-test.true, inr (source_named first l inv.keeps src v parts.0 f is)) in
+    let mid = c.case_root.new.diagrams in
+    let new = c.release_all.new.diagrams in
+    record {
+      made = tt;
+      leaves = leaves_refusal first new c.in-Err.halt _ (makes_between first l mid new _ (between_cases first l xs _ inv.made inv.keeps) c.release_all.ensures.released c.release_all.ensures.table _ _ c.in-Err.ensures.made);
+      cause = cause_handed first new _ _ c.in-Err.halt named refl refl
+          (cause_among step named wider first l xs (cases_by first src (take i vs)) inv.made inv.keeps (first_named vs (had_by first src) (IsOfSource first src) i) mid new _ c.release_all.ensures.table c.in-Err.ensures.cause);
+    }
 
-pub returns-clause-made : goal.returns-clause-made
-returns-clause-made c =
+pub returns : goal.returns
+returns c =
     let first = c.args.diagrams.now in
-    subst (λ (vs : List Value). AddsCases first c.loop-value.diagrams c.loop-value.cases.items (cases_by first c.args.source.now vs)) (take_all c.args.values.now c.loop-value.value-index c.loop-value-test.false) c.loop-value.invariant.made
-
-pub returns-clause-leaves : goal.returns-clause-leaves
-returns-clause-leaves c = ok_leaves c.args.diagrams.now c.loop-value.diagrams _ c.loop-value.invariant.keeps
+    let l = c.loop-value.diagrams in
+    let src = c.args.source.now in
+    let vs = c.args.values.now in
+    record {
+      made = subst (λ (ws : List Value). AddsCases first l c.loop-value.cases.items (cases_by first src ws)) (take_all vs c.loop-value.value-index c.loop-value-test.false) c.loop-value.invariant.made;
+      leaves = ok_leaves first l _ c.loop-value.invariant.keeps;
+      cause = cause_ok first l c.loop-value.cases (IsOfEach vs (had_by first src) (IsOfSource first src));
+    }

@@ -1,4 +1,4 @@
-use Rattle.std.proofs.Common.{◌≡◌, Ok, drop, map}
+use Rattle.std.proofs.Common.{◌≡◌, Ok, take, drop, map}
 use Rattle.bdd_ops.specs.Functions.{joined, join_of}
 use Rattle.bdd_ops.specs.Contents.{function_at}
 use Rattle.bit_compile.specs.Making.{Makes}
@@ -12,5 +12,6 @@ invariant-loop-case l =
     record {
       made : Makes first l.diagrams (Ok l.whole) (function_at l.diagrams l.whole);
       kept : AreKept first.state (drop l.case-index l.cases);
+      so_far : function_at l.diagrams l.whole ≡ folded l.fold (take l.case-index (map (λ x. function_at first x.root) l.cases));
       same : joined (join_of (is_all l.fold)) (function_at l.diagrams l.whole) (folded l.fold (map (λ x. function_at first x.root) (drop l.case-index l.cases))) ≡ folded l.fold (map (λ x. function_at first x.root) l.cases);
     }

@@ -12,7 +12,7 @@ use Rattle.early_products.proofs.front.front_of.Goals as goal
 pub loop-member-init : goal.loop-member-init
 loop-member-init c =
     record {
-      made = c.in_ok-lines.ensures;
+      made = c.in_ok-lines.ensures.made;
       counted = refl;
     }
 

@@ -1,21 +1,48 @@
-use Rattle.std.proofs.Common.{ℕ, List, sym, subst}
-use Rattle.spec_model.specs.Diagrams.{shifted}
+use Rattle.std.proofs.Common.{ℕ, Err, inl, List, sym, subst}
+use Rattle.spec_model.specs.Diagrams.{Function, shifted}
 use Rattle.bdd_ops.specs.Contents.{function_at}
 use Rattle.bdd_ops.specs.Calls.{RisesOver}
+use Rattle.bit_compile.specs.Making.{Makes}
+use Rattle.bit_compile.specs.Crowding.{HasCause}
+use Rattle.bit_compile.specs.NamedCodes.{NoFunction}
+use Rattle.bit_compile.proofs.Causes.{cause_wider, no_name}
+use Rattle.state_diagrams.specs.Members.{move_functions, avoiding}
+use Rattle.state_diagrams.specs.NamedMoves.{IsOfAvoiding, lists_at}
+use Rattle.state_diagrams.specs.NamedGame.{IsOfStep}
+use Rattle.state_diagrams.proofs.CauseLemmas.{cause_by, cause_moved}
 use Rattle.state_diagrams.proofs.SpentLemmas.{refused_by}
 use Rattle.region_bdd.proofs.asking.avoiding_set.Goals as goal
 
 pub shift-requires-clause-rising : goal.shift-requires-clause-rising
 shift-requires-clause-rising c = subst (λ (to : List ℕ). RisesOver c.args.diagrams.now.state.table.levels to (function_at c.args.diagrams.now c.args.t.now)) (sym c.deref.ensures.value) c.requires.rising
 
-pub returns-in_err-target : goal.returns-in_err-target
-returns-in_err-target c = refused_by c.args.diagrams.now c.shift.new.diagrams c.from_residual.result c.in_err-target.field-0.0 (shifted c.deref.result.now (function_at c.args.diagrams.now c.args.t.now)) _ c.from_residual.ensures.1 c.in_err-target.ensures.makes
+pub returns-in_err-target-clause-made : goal.returns-in_err-target-clause-made
+returns-in_err-target-clause-made c = refused_by c.args.diagrams.now c.shift.new.diagrams c.from_residual.result c.in_err-target.field-0.0 (shifted c.deref.result.now (function_at c.args.diagrams.now c.args.t.now)) _ c.from_residual.ensures.1 c.in_err-target.ensures.makes
+
+pub returns-in_err-target-clause-cause : goal.returns-in_err-target-clause-cause
+returns-in_err-target-clause-cause c =
+    let old = c.args.diagrams.now in
+    let new = c.shift.new.diagrams in
+    let h = c.in_err-target.field-0.0 in
+    let N : Function → Type 0 = IsOfStep (lists_at old c.args.own.now.first) c.args.levels.now (shifted c.args.levels.now.to.items (function_at old c.args.t.now)) in
+    cause_by old new c.from_residual.result h N c.from_residual.ensures.1
+    (cause_wider NoFunction N (no_name N) old new (Err h) (cause_moved c.deref.result.now old new c.args.t.now (shifted c.deref.result.now (function_at old c.args.t.now)) (Err h) c.requires.t c.in_err-target.ensures))
 
 pub avoided-requires : goal.avoided-requires
 avoided-requires c = (c.args.diagrams.now, shifted c.deref.result.now (function_at c.args.diagrams.now c.args.t.now), c.in_ok-target.ensures.makes, c.requires.first)
 
-pub returns : goal.returns
-returns c =
+pub returns-clause-made : goal.returns-clause-made
+returns-clause-made c =
     let old = c.args.diagrams.now in
-    let made = c.avoided.ensures old (shifted c.deref.result.now (function_at old c.args.t.now)) c.in_ok-target.ensures.makes c.requires.first in
-    rw c.deref.ensures.value at made
+    let made = c.avoided.ensures.made old (shifted c.deref.result.now (function_at old c.args.t.now)) c.in_ok-target.ensures.makes c.requires.first in
+    subst (λ (to : List ℕ). Makes old c.avoided.new.diagrams c.avoided.result (avoiding (move_functions old c.args.own.now.first) c.args.levels.now.reply.items c.args.levels.now.all.items (shifted to (function_at old c.args.t.now)))) c.deref.ensures.value made
+
+pub returns-clause-cause : goal.returns-clause-cause
+returns-clause-cause c =
+    let old = c.args.diagrams.now in
+    let new = c.avoided.new.diagrams in
+    let m = lists_at old c.args.own.now.first in
+    let levels = c.args.levels.now in
+    let f = shifted c.deref.result.now (function_at old c.args.t.now) in
+    subst (λ (to : List ℕ). HasCause old new c.avoided.result (IsOfStep m levels (shifted to (function_at old c.args.t.now)))) c.deref.ensures.value
+    (cause_wider (IsOfAvoiding m levels.reply.items f) (IsOfStep m levels f) (λ h is. inl is) old new c.avoided.result (c.avoided.ensures.cause old f c.in_ok-target.ensures.makes c.requires.first))

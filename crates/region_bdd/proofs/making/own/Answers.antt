@@ -1,14 +1,54 @@
+use Rattle.std.proofs.Common.{ℕ, Ok, Err, inl, inr, ◌∙◌, arith, subst}
+use Rattle.spec_model.specs.Diagrams.{Function}
+use Rattle.spec_model.specs.Values.{DomainData}
 use Rattle.spec_model.specs.GameViews.{game_data}
-use Rattle.region_bdd.proofs.MakingLaws.{own_made, later_members, early_after}
+use Rattle.game_values.specs.declared.seen.At.TheVariants.{Now}
+use Rattle.bit_compile.specs.Named.{IsOfProper}
+use Rattle.state_diagrams.specs.NamedGame.{IsOfGame, values}
+use Rattle.region_bdd.specs.Object.{roots_of_own}
+use Rattle.region_bdd.specs.Making.{times_in_sets, FitSets, times_in_formulas, FitFormulas, FitOwn}
+use Rattle.region_bdd.proofs.MakingLaws.{own_made, later_members, early_after, part_refused, handed_part, part_wider, sets_named, proper_named}
 use Rattle.region_bdd.proofs.making.own.Goals as goal
 
+pub returns-in_err-all-clause-part : goal.returns-in_err-all-clause-part
+returns-in_err-all-clause-part c =
+    let g = game_data c.args.game.now in
+    let ds = c.args.codes.now in
+    let old = c.args.diagrams.now in
+    let h = c.in_err-all.field-0.0 in
+    handed_part roots_of_own (FitOwn g c.args.levels.now.to.items) times_in_sets (FitSets ds) (IsOfGame g) old c.sets.new.diagrams c.from_residual.result h c.from_residual.ensures.1
+    (part_wider times_in_sets (FitSets ds) (IsOfProper ds Now) (IsOfGame g) (proper_named g ds c.requires.codes) old c.sets.new.diagrams (Err h) c.in_err-all.ensures)
+
 pub make-early-requires : goal.make-early-requires
-make-early-requires c = later_members (game_data c.args.game.now) c.sets.new.diagrams c.formulas.new.diagrams c.in-Ok.parts c.in-Ok.ensures
+make-early-requires c = later_members (game_data c.args.game.now) c.sets.new.diagrams c.formulas.new.diagrams c.args.levels.now.to.items (IsOfGame (game_data c.args.game.now)) c.in-Ok.parts c.in-Ok.ensures
 
 pub returns-in-Ok-clause-part : goal.returns-in-Ok-clause-part
 returns-in-Ok-clause-part c =
-    own_made (game_data c.args.game.now) c.args.codes.now c.args.diagrams.now c.sets.new.diagrams c.formulas.new.diagrams c.make-early.new.diagrams c.in_ok-nothing.nothing c.in_ok-nothing.all c.in-Ok.parts c.make-early.result c.requires.codes c.in_ok-nothing.ensures c.in-Ok.ensures c.make-early.ensures.added c.make-early.ensures.keeps
+    let g = game_data c.args.game.now in
+    let ds = c.args.codes.now in
+    let old = c.args.diagrams.now in
+    let mid = c.sets.new.diagrams in
+    let p : ℕ × ℕ = (c.in_ok-all.all, c.in_ok-all.nothing) in
+    own_made g c.args.levels.now.to.items ds (IsOfGame g) old mid c.formulas.new.diagrams c.make-early.new.diagrams c.in_ok-all.nothing c.in_ok-all.all c.in-Ok.parts c.make-early.result c.requires.codes
+    (part_wider times_in_sets (FitSets ds) (IsOfProper ds Now) (IsOfGame g) (proper_named g ds c.requires.codes) old mid (Ok p) c.in_ok-all.ensures)
+    c.in-Ok.ensures c.make-early.ensures.added c.make-early.ensures.keeps c.make-early.ensures.lines
 
 pub returns-in-Ok-clause-early : goal.returns-in-Ok-clause-early
 returns-in-Ok-clause-early c =
-    early_after (game_data c.args.game.now) c.sets.new.diagrams c.formulas.new.diagrams c.make-early.new.diagrams c.in-Ok.parts c.args.levels.now c.make-early.result c.in-Ok.ensures c.make-early.ensures.keeps c.make-early.ensures.fits
+    let g = game_data c.args.game.now in
+    early_after g c.sets.new.diagrams c.formulas.new.diagrams c.make-early.new.diagrams c.args.levels.now.to.items (IsOfGame g) c.in-Ok.parts c.args.levels.now c.make-early.result c.in-Ok.ensures c.make-early.ensures.keeps c.make-early.ensures.fits
+
+pub returns-in-Err-clause-part : goal.returns-in-Err-clause-part
+returns-in-Err-clause-part c =
+    let g = game_data c.args.game.now in
+    let ds = c.args.codes.now in
+    let old = c.args.diagrams.now in
+    let mid = c.sets.new.diagrams in
+    let to = c.args.levels.now.to.items in
+    let p : ℕ × ℕ = (c.in_ok-all.all, c.in_ok-all.nothing) in
+    let first = part_wider times_in_sets (FitSets ds) (IsOfProper ds Now) (IsOfGame g) (proper_named g ds c.requires.codes) old mid (Ok p) c.in_ok-all.ensures in
+    part_refused times_in_sets (FitSets ds) (IsOfGame g) old mid p first
+    times_in_formulas (FitFormulas g to) roots_of_own (FitOwn g to) c.formulas.new.diagrams c.release-in-Err.new.self c.in-Err.halt c.in-Err.ensures
+    (sets_named g ds mid p c.requires.codes first.fit)
+    (λ n. (let one = c.release.ensures.released n in let two = c.release-in-Err.ensures.released n in omega (arith, one, two)))
+    (c.release-in-Err.ensures.table ∙ c.release.ensures.table)

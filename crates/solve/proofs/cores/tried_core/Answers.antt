@@ -69,5 +69,9 @@ returns-clause-core c =
 
 pub returns-in_err-places-clause-cause : goal.returns-in_err-places-clause-cause
 returns-in_err-places-clause-cause c =
+    let s = spec_data c.args.spec.now in
+    let numbers : c.in_ok-numbers.numbers.items ≡ guarantees_of s = c.in_ok-numbers.ensures ∙ ap (λ (ls : List Line). map (λ l. l.number) (filter (λ l. is_guarantee l.role) (map line_data ls))) c.deref.ensures.value in
+    let long : vec_len c.in_ok-numbers.numbers ≡ length c.in_ok-numbers.numbers.items = search rules in
+    let count : c.len.result ≡ length (guarantees_of s) = c.len.ensures ∙ (long ∙ ap length numbers) in
     handed (MayFail c.args.budget (spec_data c.args.spec.now)) c.from_residual-in_err-places.result c.in_err-places.field-0.0 c.from_residual-in_err-places.ensures.1
-    (tried_halt (spec_data c.args.spec.now) c.args.budget c.in_ok-parts.parts _ c.in_ok-parts.ensures.whole c.in_ok-parts.ensures.budget _ c.in_err-places.field-0.0 c.in_err-places.ensures.cause)
+    (tried_halt s c.requires.typed c.args.budget c.in_ok-parts.parts _ c.in_ok-parts.ensures.whole c.in_ok-parts.ensures.budget c.len.result count c.in_err-places.field-0.0 c.in_err-places.ensures.cause)

@@ -2,7 +2,7 @@ use Rattle.std.proofs.Common.{◌∙◌}
 use Rattle.spec_model.specs.Views.{spec_data}
 use Rattle.hidden_game.proofs.MadeGames.{lines_rise}
 use Rattle.solve.specs.Budgets.{MayHalt}
-use Rattle.solve.proofs.Budgets.{handed, may_halt, later_may_halt}
+use Rattle.solve.proofs.Budgets.{handed, holds_nothing, may_halt, play_may_halt}
 use Rattle.solve.proofs.Served.{agrees_with, won_by, lost_by}
 use Rattle.solve.proofs.deciding.whole_verdict.Goals as goal
 
@@ -27,9 +27,21 @@ returns-in_err-layers-clause-cause c =
 pub returns-in_err-k-in-BySystem-clause-cause : goal.returns-in_err-k-in-BySystem-clause-cause
 returns-in_err-k-in-BySystem-clause-cause c =
     let halt = c.in_err-k-in-BySystem.field-0.0 in
-    handed (MayHalt c.args.budget (spec_data c.args.spec.now)) c.from_residual-in_err-k-in-BySystem.result halt c.from_residual-in_err-k-in-BySystem.ensures.1 (later_may_halt (spec_data c.args.spec.now) c.args.budget _ c.in_ok-g.ensures.made _ c.in_ok-layers.ensures.keeps halt c.in_err-k-in-BySystem.ensures.cause)
+    handed (MayHalt c.args.budget (spec_data c.args.spec.now)) c.from_residual-in_err-k-in-BySystem.result halt c.from_residual-in_err-k-in-BySystem.ensures.1 (play_may_halt (spec_data c.args.spec.now) c.args.budget _ c.in_ok-g.ensures.made _ c.in_ok-layers.ensures.keeps (c.in_ok-layers.ensures.solved.of_one_moment (holds_nothing _ c.in_ok-g.ensures.made.held)) halt c.in_err-k-in-BySystem.ensures.cause)
 
 pub returns-in_err-n-in-ByEnvironment-clause-cause : goal.returns-in_err-n-in-ByEnvironment-clause-cause
 returns-in_err-n-in-ByEnvironment-clause-cause c =
     let halt = c.in_err-n-in-ByEnvironment.field-0.0 in
-    handed (MayHalt c.args.budget (spec_data c.args.spec.now)) c.from_residual-in_err-n-in-ByEnvironment.result halt c.from_residual-in_err-n-in-ByEnvironment.ensures.1 (later_may_halt (spec_data c.args.spec.now) c.args.budget _ c.in_ok-g.ensures.made _ c.in_ok-layers.ensures.keeps halt c.in_err-n-in-ByEnvironment.ensures.cause)
+    handed (MayHalt c.args.budget (spec_data c.args.spec.now)) c.from_residual-in_err-n-in-ByEnvironment.result halt c.from_residual-in_err-n-in-ByEnvironment.ensures.1 (play_may_halt (spec_data c.args.spec.now) c.args.budget _ c.in_ok-g.ensures.made _ c.in_ok-layers.ensures.keeps (c.in_ok-layers.ensures.solved.of_one_moment (holds_nothing _ c.in_ok-g.ensures.made.held)) halt c.in_err-n-in-ByEnvironment.ensures.cause)
+
+pub system_play-requires-clause-free : goal.system_play-requires-clause-free
+system_play-requires-clause-free c = c.in_ok-layers.ensures.solved.free
+
+pub system_play-requires-clause-won : goal.system_play-requires-clause-won
+system_play-requires-clause-won c = let h = rw c.in-BySystem.is at c.in_ok-layers.ensures.solved.layers in h
+
+pub environment_play-requires-clause-free : goal.environment_play-requires-clause-free
+environment_play-requires-clause-free c = c.in_ok-layers.ensures.solved.free
+
+pub environment_play-requires-clause-lost : goal.environment_play-requires-clause-lost
+environment_play-requires-clause-lost c = let h = rw c.in-ByEnvironment.is at c.in_ok-layers.ensures.solved.layers in h

@@ -3,8 +3,13 @@ use Rattle.spec_model.specs.Games.{GameData}
 use Rattle.spec_model.specs.Agreement.{Agrees}
 use Rattle.gr1_law.specs.EnvLayers.{denial_count}
 use Rattle.gr1_env.specs.declared.layers.EnvLayer.{EnvLayer}
+use Rattle.gr1_env.specs.Held.{all_regions}
 use Rattle.gr1_env.specs.Solved.{counts_of}
+use Rattle.gr1_sys.proofs.Lists.{together_each}
+use Rattle.counterstrategy.specs.Made.{tale_of}
+use Rattle.counterstrategy.proofs.Begun.{layers_each, delays_each}
 use Rattle.solve.proofs.Found.{lost_game}
+use Rattle.solve.proofs.Moments.{env_told}
 use Rattle.solve.proofs.Budgets.{play_halt}
 use Rattle.solve.proofs.playing.environment_play.Goals as goal
 
@@ -28,4 +33,8 @@ returns-in-Ok-clause-plays g c =
     }
 
 pub returns-in-Err-clause-cause : goal.returns-in-Err-clause-cause
-returns-in-Err-clause-cause g c = play_halt g.G.Regions.kept (g.G.Regions.kept c.args.g) c.in-Err.field-0.g c.in-Err.ensures.refused.game _ c.in-Err.field-0.halt c.in-Err.ensures.refused.told
+returns-in-Err-clause-cause g c =
+    let k = g.G.Regions.kept c.args.g in
+    let ls = c.args.layers.layers.items in
+    let all = together_each k (all_regions ls) c.requires.lost.1.are.held in
+    play_halt g.G.Regions.kept k c.in-Err.field-0.g c.in-Err.ensures.refused.game (tale_of k ls) (env_told k ls (layers_each k ls all) (delays_each k ls all)) c.in-Err.field-0.halt c.in-Err.ensures.refused.told

@@ -2,18 +2,15 @@ use Rattle.std.proofs.Common.{sym, subst}
 use Rattle.spec_model.specs.WellMade.{WellMade}
 use Rattle.controller.proofs.Serving.{solved_layers}
 use Rattle.solve.proofs.Found.{forced_where_lost}
-use Rattle.solve.proofs.Budgets.{sys_halt, later_halt}
+use Rattle.solve.proofs.Layered.{system_holds}
+use Rattle.solve.specs.Budgets.{SolverHalts}
+use Rattle.solve.proofs.Budgets.{handed, sys_halt, later_halt, nothing_still, solved_later}
 use Rattle.solve.proofs.solving.solve_game.Goals as goal
 
-pub returns-in-Ok-Some-clause-holds : goal.returns-in-Ok-Some-clause-holds
-returns-in-Ok-Some-clause-holds g c =
+pub returns-in-Ok-Some-clause-solved : goal.returns-in-Ok-Some-clause-solved
+returns-in-Ok-Some-clause-solved g c =
     let h = rw c.in-Ok-Some.field-0-is at c.in-Ok-Some.ensures in
-    (h.solved.0, solved_layers _ _ _ _ _ c.requires.made h.keeps h.solved.1)
-
-pub returns-in-Ok-Some-clause-free : goal.returns-in-Ok-Some-clause-free
-returns-in-Ok-Some-clause-free g c =
-    let h = rw c.in-Ok-Some.field-0-is at c.in-Ok-Some.ensures in
-    h.solved.1.jam
+    record { layers = (h.solved.0, solved_layers _ _ _ _ _ c.requires.made h.keeps h.solved.1); free = h.solved.1.jam; of_one_moment = system_holds _ _ _ _ h.solved.0 h.solved.1 h.keeps }
 
 pub environment_layers-requires-clause-forces : goal.environment_layers-requires-clause-forces
 environment_layers-requires-clause-forces g c =
@@ -27,3 +24,15 @@ environment_layers-requires-clause-made g c =
 
 pub returns-in-Err-clause-cause : goal.returns-in-Err-clause-cause
 returns-in-Err-clause-cause g c = sys_halt g.G.Regions.kept (g.G.Regions.kept c.args.g.now) c.solve_sys.new.g c.solve_sys.ensures.keeps c.in-Err.halt c.in-Err.ensures.told
+
+pub returns-in_ok-environment_layers-in-Ok-None-clause-solved : goal.returns-in_ok-environment_layers-in-Ok-None-clause-solved
+returns-in_ok-environment_layers-in-Ok-None-clause-solved g c =
+    let h = rw c.in-Ok-None.field-0-is at c.in-Ok-None.ensures in
+    solved_later _ _ _ _ (nothing_still _ _ h.solved.stays) c.in_ok-environment_layers-in-Ok-None.ensures.solved
+
+pub returns-in_err-environment_layers-in-Ok-None-clause-cause : goal.returns-in_err-environment_layers-in-Ok-None-clause-cause
+returns-in_err-environment_layers-in-Ok-None-clause-cause g c =
+    let h = rw c.in-Ok-None.field-0-is at c.in-Ok-None.ensures in
+    let k = g.G.Regions.kept c.args.g.now in
+    let halt = c.in_err-environment_layers-in-Ok-None.field-0.0 in
+    handed (SolverHalts g.G.Regions.kept k) c.from_residual.result halt c.from_residual.ensures.1 (later_halt g.G.Regions.kept k (g.G.Regions.kept c.solve_sys.new.g) h.keeps (nothing_still _ _ h.solved.stays) halt c.in_err-environment_layers-in-Ok-None.ensures.cause)

@@ -121,7 +121,7 @@ fill_links-returns-in_err-rest t c =
     let nodes = nodes_are c.loop-link.left (filled_within w (resolved_data l.second)) c.in_ok-second.second c.in_ok-second.ensures in
     let left = link_nodes_left (put_within w) w.brought (arguments_within w) c.args.links.now c.loop-link.link-index l c.loop-link-test.true c.link-item.is in
     stop_links c.args.room (map (link_within w) (map link_data c.args.links.now)) halt c.from_residual-in_err-rest.result c.from_residual-in_err-rest.ensures.1
-    (λ e. let few = c.in_err-rest.ensures e in omega (arith, few, count, left, nodes))
+    (λ e. let few = c.in_err-rest.ensures.1 in omega (arith, few, count, left, nodes))
 
 pub fill_links-returns-in_err-push : goal.fill_links-returns-in_err-push
 fill_links-returns-in_err-push t c =

@@ -1,5 +1,10 @@
 use Rattle.std.proofs.Common.{[]}
-use Rattle.state_diagrams.specs.Lines.{game_seen}
+use Rattle.regions.specs.declared.types.When.TheVariants.{First}
+use Rattle.bit_compile.proofs.Causes.{cause_ok, cause_wider}
+use Rattle.state_diagrams.specs.NamedGame.{IsOfGame}
+use Rattle.state_diagrams.specs.MadeMembers.{IsOfLines}
+use Rattle.state_diagrams.specs.Lines.{game_seen, first_lines, first_functions}
+use Rattle.state_diagrams.proofs.NamedLemmas.{of_first}
 use Rattle.state_diagrams.proofs.ListLemmas.{no_list}
 use Rattle.state_diagrams.proofs.LineLemmas.{first_formulas}
 use Rattle.state_diagrams.proofs.lines.first_roots.Goals as goal
@@ -7,8 +12,20 @@ use Rattle.state_diagrams.proofs.lines.first_roots.Goals as goal
 pub with_lines-requires-clause-formulas : goal.with_lines-requires-clause-formulas
 with_lines-requires-clause-formulas c = rw c.first_of-lines.ensures (first_formulas (game_seen c.args.scene.now) c.args.side c.requires.scene.made)
 
-pub returns-in-First : goal.returns-in-First
-returns-in-First c =
+pub returns-in-First-clause-made : goal.returns-in-First-clause-made
+returns-in-First-clause-made c =
     let old = c.args.diagrams.now in
-    let all = c.with_lines.ensures old [] (no_list old c.new-none.result c.new-none.ensures.items) in
+    let all = c.with_lines.ensures.made old [] (no_list old c.new-none.result c.new-none.ensures.items) in
     rw c.in-First.is (rw (c.first_of-lines.ensures, c.in-First.is) at all)
+
+pub returns-in-First-clause-cause : goal.returns-in-First-clause-cause
+returns-in-First-clause-cause c =
+    let old = c.args.diagrams.now in
+    let g = game_seen c.args.scene.now in
+    let to = c.args.scene.now.to.now in
+    let side = c.args.side in
+    let all = c.with_lines.ensures.cause old [] (no_list old c.new-none.result c.new-none.ensures.items) in
+    cause_wider (IsOfLines g (first_functions g to side First) (first_lines g side)) (IsOfGame g) (of_first g to First c.requires.scene.to side) old c.with_lines.new.diagrams c.with_lines.result (rw (c.first_of-lines.ensures, c.in-First.is) at all)
+
+pub returns-in-Later-clause-cause : goal.returns-in-Later-clause-cause
+returns-in-Later-clause-cause c = cause_ok c.args.diagrams.now c.args.diagrams.now c.new-none.result (IsOfGame (game_seen c.args.scene.now))

@@ -4,8 +4,8 @@ use Rattle.bit_compile.specs.Making.{Makes}
 use Rattle.state_diagrams.proofs.ListLemmas.{list_more}
 use Rattle.state_diagrams.proofs.lists.push_made.Goals as goal
 
-pub returns-in-Ok-reserve : goal.returns-in-Ok-reserve
-returns-in-Ok-reserve c = λ base mid fs f list made.
+pub returns-in-Ok-reserve-clause-made : goal.returns-in-Ok-reserve-clause-made
+returns-in-Ok-reserve-clause-made c = λ base mid fs f list made.
     list_more base mid c.args.roots fs list c.args.diagrams.now c.in-Ok.root f c.push_reserved.new.self
     (subst (λ (r : Result ℕ Halt). Makes mid c.args.diagrams.now r f) c.in-Ok.is made)
     (c.push_reserved.ensures.items ∙ ap (λ (xs : List ℕ). xs ++ c.in-Ok.root ∷ []) c.in-Ok-reserve.ensures.items)

@@ -10,7 +10,10 @@ use Rattle.region_bdd.proofs.GoalLaws.{goal_there, goal_root, tells_goal}
 use Rattle.region_bdd.specs.declared.own.Refused.{Refused}
 use Rattle.region_bdd.specs.declared.own.Asked.TheVariants as asked
 use Rattle.region_bdd.specs.Object.{kept_of}
-use Rattle.region_bdd.proofs.OutcomeLaws.{answered, budget_cause}
+use Rattle.region_bdd.proofs.OutcomeLaws.{answered}
+use Rattle.bit_compile.specs.NamedCodes.{NoFunction}
+use Rattle.bit_compile.proofs.Causes.{cause_join}
+use Rattle.region_bdd.proofs.SetCalls.{proper_root}
 use Rattle.region_bdd.proofs.object.RegionBdd.holding.Goals as goal
 
 pub goal-requires : goal.goal-requires
@@ -37,7 +40,7 @@ returns-clause-made c =
     let d = o.diagrams in
     let now = kept_of g d slots o.refused in
     let why : Refused = record { asked = asked.Holding; first = None; second = None } in
-    let done = answered g o.own o.levels d slots c.and-made.new.diagrams c.room.new.self.slots.items c.settle.new.slots.slots.items o.refused c.settle.new.refused c.args.self.now.whole c.requires.free c.room.ensures.keeps (joined (join_of true) (function_at d c.goal.result.now) (function_at d o.own.step.proper)) (states_holding g c.args.what) (subst (λ (n : ℕ). Tells g Now (joined (join_of true) (function_at d n) (function_at d o.own.step.proper)) (states_holding g c.args.what)) c.goal.ensures (tells_goal g o.own o.levels d slots o.refused c.args.self.now.whole c.args.what c.requires.there)) why ([]) (refl) c.and-made.result c.settle.result (c.and-made.ensures.makes) c.settle.ensures in
+    let done = answered g o.own o.levels d slots c.and-made.new.diagrams c.room.new.self.slots.items c.settle.new.slots.slots.items o.refused c.settle.new.refused c.args.self.now.whole c.requires.free c.room.ensures.keeps (joined (join_of true) (function_at d c.goal.result.now) (function_at d o.own.step.proper)) (states_holding g c.args.what) (subst (λ (n : ℕ). Tells g Now (joined (join_of true) (function_at d n) (function_at d o.own.step.proper)) (states_holding g c.args.what)) c.goal.ensures (tells_goal g o.own o.levels d slots o.refused c.args.self.now.whole c.args.what c.requires.there)) why ([]) (refl) c.and-made.result c.settle.result (c.and-made.ensures.makes) NoFunction (cause_join true d c.and-made.new.diagrams c.goal.result.now o.own.step.proper _ NoFunction c.and-made.result (subst (λ (n : ℕ). IsRoot d.state n) c.goal.ensures (goal_root g o.own o.levels d slots o.refused c.args.self.now.whole c.args.what c.requires.there)) (proper_root g o.own o.levels d slots o.refused c.args.self.now.whole) c.and-made.ensures) (λ own_is h none. absurd none) c.of-why.result c.of-why.ensures c.settle.ensures in
     done.made
 
 pub returns-clause-halted : goal.returns-clause-halted
@@ -48,7 +51,7 @@ returns-clause-halted c =
     let d = o.diagrams in
     let now = kept_of g d slots o.refused in
     let why : Refused = record { asked = asked.Holding; first = None; second = None } in
-    let done = answered g o.own o.levels d slots c.and-made.new.diagrams c.room.new.self.slots.items c.settle.new.slots.slots.items o.refused c.settle.new.refused c.args.self.now.whole c.requires.free c.room.ensures.keeps (joined (join_of true) (function_at d c.goal.result.now) (function_at d o.own.step.proper)) (states_holding g c.args.what) (subst (λ (n : ℕ). Tells g Now (joined (join_of true) (function_at d n) (function_at d o.own.step.proper)) (states_holding g c.args.what)) c.goal.ensures (tells_goal g o.own o.levels d slots o.refused c.args.self.now.whole c.args.what c.requires.there)) why ([]) (refl) c.and-made.result c.settle.result (c.and-made.ensures.makes) c.settle.ensures in
+    let done = answered g o.own o.levels d slots c.and-made.new.diagrams c.room.new.self.slots.items c.settle.new.slots.slots.items o.refused c.settle.new.refused c.args.self.now.whole c.requires.free c.room.ensures.keeps (joined (join_of true) (function_at d c.goal.result.now) (function_at d o.own.step.proper)) (states_holding g c.args.what) (subst (λ (n : ℕ). Tells g Now (joined (join_of true) (function_at d n) (function_at d o.own.step.proper)) (states_holding g c.args.what)) c.goal.ensures (tells_goal g o.own o.levels d slots o.refused c.args.self.now.whole c.args.what c.requires.there)) why ([]) (refl) c.and-made.result c.settle.result (c.and-made.ensures.makes) NoFunction (cause_join true d c.and-made.new.diagrams c.goal.result.now o.own.step.proper _ NoFunction c.and-made.result (subst (λ (n : ℕ). IsRoot d.state n) c.goal.ensures (goal_root g o.own o.levels d slots o.refused c.args.self.now.whole c.args.what c.requires.there)) (proper_root g o.own o.levels d slots o.refused c.args.self.now.whole) c.and-made.ensures) (λ own_is h none. absurd none) c.of-why.result c.of-why.ensures c.settle.ensures in
     done.halted
 
 pub invariant_of-self-2 : goal.invariant_of-self-2
@@ -59,10 +62,5 @@ invariant_of-self-2 c =
     let d = o.diagrams in
     let now = kept_of g d slots o.refused in
     let why : Refused = record { asked = asked.Holding; first = None; second = None } in
-    let done = answered g o.own o.levels d slots c.and-made.new.diagrams c.room.new.self.slots.items c.settle.new.slots.slots.items o.refused c.settle.new.refused c.args.self.now.whole c.requires.free c.room.ensures.keeps (joined (join_of true) (function_at d c.goal.result.now) (function_at d o.own.step.proper)) (states_holding g c.args.what) (subst (λ (n : ℕ). Tells g Now (joined (join_of true) (function_at d n) (function_at d o.own.step.proper)) (states_holding g c.args.what)) c.goal.ensures (tells_goal g o.own o.levels d slots o.refused c.args.self.now.whole c.args.what c.requires.there)) why ([]) (refl) c.and-made.result c.settle.result (c.and-made.ensures.makes) c.settle.ensures in
+    let done = answered g o.own o.levels d slots c.and-made.new.diagrams c.room.new.self.slots.items c.settle.new.slots.slots.items o.refused c.settle.new.refused c.args.self.now.whole c.requires.free c.room.ensures.keeps (joined (join_of true) (function_at d c.goal.result.now) (function_at d o.own.step.proper)) (states_holding g c.args.what) (subst (λ (n : ℕ). Tells g Now (joined (join_of true) (function_at d n) (function_at d o.own.step.proper)) (states_holding g c.args.what)) c.goal.ensures (tells_goal g o.own o.levels d slots o.refused c.args.self.now.whole c.args.what c.requires.there)) why ([]) (refl) c.and-made.result c.settle.result (c.and-made.ensures.makes) NoFunction (cause_join true d c.and-made.new.diagrams c.goal.result.now o.own.step.proper _ NoFunction c.and-made.result (subst (λ (n : ℕ). IsRoot d.state n) c.goal.ensures (goal_root g o.own o.levels d slots o.refused c.args.self.now.whole c.args.what c.requires.there)) (proper_root g o.own o.levels d slots o.refused c.args.self.now.whole) c.and-made.ensures) (λ own_is h none. absurd none) c.of-why.result c.of-why.ensures c.settle.ensures in
     record { whole = done.object; coded = o.coded; room = o.room }
-
-pub returns-clause-cause : goal.returns-clause-cause
-returns-clause-cause c =
-    let why : Refused = record { asked = asked.Holding; first = None; second = None } in
-    budget_cause c.room.new.self.slots.items c.settle.new.slots.slots.items c.settle.new.refused c.and-made.result c.settle.result why _ c.settle.ensures c.and-made.ensures.makes.full

@@ -1,4 +1,4 @@
-use Rattle.std.proofs.Common.{List, [], ◌∷◌, Some, None, sym, subst}
+use Rattle.std.proofs.Common.{inr, List, [], ◌∷◌, Some, None, sym, subst}
 use Rattle.spec_model.specs.GameViews.{game_data}
 use Rattle.regions.specs.Kept.{States}
 use Rattle.bdd_ops.specs.Contents.{function_at}
@@ -13,9 +13,14 @@ use Rattle.region_bdd.specs.Slots.{HasContent, HasRegionRoot}
 use Rattle.region_bdd.specs.Leading.{members_at, leading_in, MakesTwo}
 use Rattle.region_bdd.specs.Object.{kept_of}
 use Rattle.region_bdd.proofs.ObjectLaws.{region_root}
-use Rattle.region_bdd.proofs.MoveOutcomes.{inputs_answered, inputs_cause}
+use Rattle.region_bdd.proofs.MoveOutcomes.{inputs_answered}
 use Rattle.region_bdd.proofs.SetCalls.{held_root, region_tells, one_argument}
 use Rattle.region_bdd.proofs.LeadingLaws.{members_kept, leading_tells}
+use Rattle.bit_compile.specs.Crowding.{HasCause}
+use Rattle.state_diagrams.specs.NamedMoves.{lists_at}
+use Rattle.state_diagrams.specs.NamedGame.{IsOfRest}
+use Rattle.spec_model.specs.Diagrams.{shifted}
+use Rattle.region_bdd.proofs.CallNames.{leads_into, rest_of}
 use Rattle.region_bdd.proofs.object.RegionBdd.in_moves.Goals as goal
 
 pub region-requires : goal.region-requires
@@ -65,8 +70,9 @@ invariant_of-self-2 c =
     let h = leading_in (move_functions d (members_at o.own c.args.when)) o.levels f in
     let now = kept_of g d slots o.refused in
     let why : Refused = record { asked = asked.InMoves c.args.when; first = Some c.args.t.now.slot; second = None } in
-    let makes = subst (λ (m : Members). MakesTwo d c.with_leading-made.new.diagrams c.with_leading-made.result f (leading_in (move_functions d m) o.levels f)) c.members.ensures c.with_leading-made.ensures in
-    let done = inputs_answered g o.own c.args.when o.levels d c.with_leading-made.new.diagrams slots c.room.new.self.slots.items c.settle_inputs.new.slots.slots.items o.refused c.settle_inputs.new.refused o.whole c.requires.free c.room.ensures.keeps (now.set c.args.t.now) why (States (now.set c.args.t.now) ∷ []) (one_argument g o.own o.levels d slots o.refused o.whole c.args.t.now c.region.result.now here) f h (region_tells g o.own o.levels d slots o.refused o.whole c.args.t.now c.region.result.now here) (leading_tells g o.own o.levels d slots o.refused o.whole c.args.when c.args.t.now c.region.result.now here) c.with_leading-made.result c.settle_inputs.result makes c.settle_inputs.ensures in
+    let makes = subst (λ (m : Members). MakesTwo d c.with_leading-made.new.diagrams c.with_leading-made.result f (leading_in (move_functions d m) o.levels f)) c.members.ensures c.with_leading-made.ensures.made in
+    let cause = subst (λ (m : Members). HasCause d c.with_leading-made.new.diagrams c.with_leading-made.result (IsOfRest (lists_at d m) o.levels (shifted o.levels.to.items f))) c.members.ensures c.with_leading-made.ensures.cause in
+    let done = inputs_answered g o.own c.args.when o.levels d c.with_leading-made.new.diagrams slots c.room.new.self.slots.items c.settle_inputs.new.slots.slots.items o.refused c.settle_inputs.new.refused o.whole c.requires.free c.room.ensures.keeps (now.set c.args.t.now) why (States (now.set c.args.t.now) ∷ []) (one_argument g o.own o.levels d slots o.refused o.whole c.args.t.now c.region.result.now here) f h (region_tells g o.own o.levels d slots o.refused o.whole c.args.t.now c.region.result.now here) (leading_tells g o.own o.levels d slots o.refused o.whole c.args.when c.args.t.now c.region.result.now here) (leads_into g o.own o.levels d slots o.refused o.whole c.args.t.now c.region.result.now here c.args.when) c.with_leading-made.result c.settle_inputs.result makes (IsOfRest (lists_at d (members_at o.own c.args.when)) o.levels (shifted o.levels.to.items f)) cause (λ own_is k is. inr (rest_of g o.own o.levels d slots o.refused o.whole c.args.t.now c.region.result.now here c.args.when c.with_leading-made.new.diagrams c.requires.free makes.keeps own_is k is)) c.of-why.result c.of-why.ensures c.settle_inputs.ensures in
     record { whole = done.object; coded = o.coded; room = o.room }
 
 pub returns-clause-made : goal.returns-clause-made
@@ -80,8 +86,9 @@ returns-clause-made c =
     let h = leading_in (move_functions d (members_at o.own c.args.when)) o.levels f in
     let now = kept_of g d slots o.refused in
     let why : Refused = record { asked = asked.InMoves c.args.when; first = Some c.args.t.now.slot; second = None } in
-    let makes = subst (λ (m : Members). MakesTwo d c.with_leading-made.new.diagrams c.with_leading-made.result f (leading_in (move_functions d m) o.levels f)) c.members.ensures c.with_leading-made.ensures in
-    let done = inputs_answered g o.own c.args.when o.levels d c.with_leading-made.new.diagrams slots c.room.new.self.slots.items c.settle_inputs.new.slots.slots.items o.refused c.settle_inputs.new.refused o.whole c.requires.free c.room.ensures.keeps (now.set c.args.t.now) why (States (now.set c.args.t.now) ∷ []) (one_argument g o.own o.levels d slots o.refused o.whole c.args.t.now c.region.result.now here) f h (region_tells g o.own o.levels d slots o.refused o.whole c.args.t.now c.region.result.now here) (leading_tells g o.own o.levels d slots o.refused o.whole c.args.when c.args.t.now c.region.result.now here) c.with_leading-made.result c.settle_inputs.result makes c.settle_inputs.ensures in
+    let makes = subst (λ (m : Members). MakesTwo d c.with_leading-made.new.diagrams c.with_leading-made.result f (leading_in (move_functions d m) o.levels f)) c.members.ensures c.with_leading-made.ensures.made in
+    let cause = subst (λ (m : Members). HasCause d c.with_leading-made.new.diagrams c.with_leading-made.result (IsOfRest (lists_at d m) o.levels (shifted o.levels.to.items f))) c.members.ensures c.with_leading-made.ensures.cause in
+    let done = inputs_answered g o.own c.args.when o.levels d c.with_leading-made.new.diagrams slots c.room.new.self.slots.items c.settle_inputs.new.slots.slots.items o.refused c.settle_inputs.new.refused o.whole c.requires.free c.room.ensures.keeps (now.set c.args.t.now) why (States (now.set c.args.t.now) ∷ []) (one_argument g o.own o.levels d slots o.refused o.whole c.args.t.now c.region.result.now here) f h (region_tells g o.own o.levels d slots o.refused o.whole c.args.t.now c.region.result.now here) (leading_tells g o.own o.levels d slots o.refused o.whole c.args.when c.args.t.now c.region.result.now here) (leads_into g o.own o.levels d slots o.refused o.whole c.args.t.now c.region.result.now here c.args.when) c.with_leading-made.result c.settle_inputs.result makes (IsOfRest (lists_at d (members_at o.own c.args.when)) o.levels (shifted o.levels.to.items f)) cause (λ own_is k is. inr (rest_of g o.own o.levels d slots o.refused o.whole c.args.t.now c.region.result.now here c.args.when c.with_leading-made.new.diagrams c.requires.free makes.keeps own_is k is)) c.of-why.result c.of-why.ensures c.settle_inputs.ensures in
     done.made
 
 pub returns-clause-halted : goal.returns-clause-halted
@@ -95,8 +102,9 @@ returns-clause-halted c =
     let h = leading_in (move_functions d (members_at o.own c.args.when)) o.levels f in
     let now = kept_of g d slots o.refused in
     let why : Refused = record { asked = asked.InMoves c.args.when; first = Some c.args.t.now.slot; second = None } in
-    let makes = subst (λ (m : Members). MakesTwo d c.with_leading-made.new.diagrams c.with_leading-made.result f (leading_in (move_functions d m) o.levels f)) c.members.ensures c.with_leading-made.ensures in
-    let done = inputs_answered g o.own c.args.when o.levels d c.with_leading-made.new.diagrams slots c.room.new.self.slots.items c.settle_inputs.new.slots.slots.items o.refused c.settle_inputs.new.refused o.whole c.requires.free c.room.ensures.keeps (now.set c.args.t.now) why (States (now.set c.args.t.now) ∷ []) (one_argument g o.own o.levels d slots o.refused o.whole c.args.t.now c.region.result.now here) f h (region_tells g o.own o.levels d slots o.refused o.whole c.args.t.now c.region.result.now here) (leading_tells g o.own o.levels d slots o.refused o.whole c.args.when c.args.t.now c.region.result.now here) c.with_leading-made.result c.settle_inputs.result makes c.settle_inputs.ensures in
+    let makes = subst (λ (m : Members). MakesTwo d c.with_leading-made.new.diagrams c.with_leading-made.result f (leading_in (move_functions d m) o.levels f)) c.members.ensures c.with_leading-made.ensures.made in
+    let cause = subst (λ (m : Members). HasCause d c.with_leading-made.new.diagrams c.with_leading-made.result (IsOfRest (lists_at d m) o.levels (shifted o.levels.to.items f))) c.members.ensures c.with_leading-made.ensures.cause in
+    let done = inputs_answered g o.own c.args.when o.levels d c.with_leading-made.new.diagrams slots c.room.new.self.slots.items c.settle_inputs.new.slots.slots.items o.refused c.settle_inputs.new.refused o.whole c.requires.free c.room.ensures.keeps (now.set c.args.t.now) why (States (now.set c.args.t.now) ∷ []) (one_argument g o.own o.levels d slots o.refused o.whole c.args.t.now c.region.result.now here) f h (region_tells g o.own o.levels d slots o.refused o.whole c.args.t.now c.region.result.now here) (leading_tells g o.own o.levels d slots o.refused o.whole c.args.when c.args.t.now c.region.result.now here) (leads_into g o.own o.levels d slots o.refused o.whole c.args.t.now c.region.result.now here c.args.when) c.with_leading-made.result c.settle_inputs.result makes (IsOfRest (lists_at d (members_at o.own c.args.when)) o.levels (shifted o.levels.to.items f)) cause (λ own_is k is. inr (rest_of g o.own o.levels d slots o.refused o.whole c.args.t.now c.region.result.now here c.args.when c.with_leading-made.new.diagrams c.requires.free makes.keeps own_is k is)) c.of-why.result c.of-why.ensures c.settle_inputs.ensures in
     done.halted
 
 pub returns-clause-keeps : goal.returns-clause-keeps
@@ -110,11 +118,7 @@ returns-clause-keeps c =
     let h = leading_in (move_functions d (members_at o.own c.args.when)) o.levels f in
     let now = kept_of g d slots o.refused in
     let why : Refused = record { asked = asked.InMoves c.args.when; first = Some c.args.t.now.slot; second = None } in
-    let makes = subst (λ (m : Members). MakesTwo d c.with_leading-made.new.diagrams c.with_leading-made.result f (leading_in (move_functions d m) o.levels f)) c.members.ensures c.with_leading-made.ensures in
-    let done = inputs_answered g o.own c.args.when o.levels d c.with_leading-made.new.diagrams slots c.room.new.self.slots.items c.settle_inputs.new.slots.slots.items o.refused c.settle_inputs.new.refused o.whole c.requires.free c.room.ensures.keeps (now.set c.args.t.now) why (States (now.set c.args.t.now) ∷ []) (one_argument g o.own o.levels d slots o.refused o.whole c.args.t.now c.region.result.now here) f h (region_tells g o.own o.levels d slots o.refused o.whole c.args.t.now c.region.result.now here) (leading_tells g o.own o.levels d slots o.refused o.whole c.args.when c.args.t.now c.region.result.now here) c.with_leading-made.result c.settle_inputs.result makes c.settle_inputs.ensures in
+    let makes = subst (λ (m : Members). MakesTwo d c.with_leading-made.new.diagrams c.with_leading-made.result f (leading_in (move_functions d m) o.levels f)) c.members.ensures c.with_leading-made.ensures.made in
+    let cause = subst (λ (m : Members). HasCause d c.with_leading-made.new.diagrams c.with_leading-made.result (IsOfRest (lists_at d m) o.levels (shifted o.levels.to.items f))) c.members.ensures c.with_leading-made.ensures.cause in
+    let done = inputs_answered g o.own c.args.when o.levels d c.with_leading-made.new.diagrams slots c.room.new.self.slots.items c.settle_inputs.new.slots.slots.items o.refused c.settle_inputs.new.refused o.whole c.requires.free c.room.ensures.keeps (now.set c.args.t.now) why (States (now.set c.args.t.now) ∷ []) (one_argument g o.own o.levels d slots o.refused o.whole c.args.t.now c.region.result.now here) f h (region_tells g o.own o.levels d slots o.refused o.whole c.args.t.now c.region.result.now here) (leading_tells g o.own o.levels d slots o.refused o.whole c.args.when c.args.t.now c.region.result.now here) (leads_into g o.own o.levels d slots o.refused o.whole c.args.t.now c.region.result.now here c.args.when) c.with_leading-made.result c.settle_inputs.result makes (IsOfRest (lists_at d (members_at o.own c.args.when)) o.levels (shifted o.levels.to.items f)) cause (λ own_is k is. inr (rest_of g o.own o.levels d slots o.refused o.whole c.args.t.now c.region.result.now here c.args.when c.with_leading-made.new.diagrams c.requires.free makes.keeps own_is k is)) c.of-why.result c.of-why.ensures c.settle_inputs.ensures in
     done.same
-
-pub returns-clause-cause : goal.returns-clause-cause
-returns-clause-cause c =
-    let why : Refused = record { asked = asked.InMoves c.args.when; first = Some c.args.t.now.slot; second = None } in
-    inputs_cause c.room.new.self.slots.items c.settle_inputs.new.slots.slots.items c.settle_inputs.new.refused c.with_leading-made.result c.settle_inputs.result c.args.when why _ c.settle_inputs.ensures c.with_leading-made.ensures.full

@@ -2,8 +2,8 @@ use Rattle.std.proofs.Common.{rules, ◌≡◌, ℕ, Err, sym, ◌∙◌, ap, su
 use Rattle.spec_model.specs.GameViews.{game_data}
 use Rattle.bit_compile.specs.Domains.{level_count}
 use Rattle.region_bdd.specs.Room.{IsRoom}
-use Rattle.region_bdd.proofs.MakingLaws.{object_made}
-use Rattle.region_bdd.proofs.NeedLaws.{same_halt, filled_below_need}
+use Rattle.region_bdd.proofs.MakingLaws.{object_made, too_small}
+use Rattle.region_bdd.proofs.NeedLaws.{same_halt}
 use Rattle.region_bdd.proofs.object.RegionBdd.make.Goals as goal
 
 pub invariant_of-result : goal.invariant_of-result
@@ -18,6 +18,4 @@ invariant_of-result c =
 pub returns-in_err-own-clause-cause : goal.returns-in_err-own-clause-cause
 returns-in_err-own-clause-cause c = λ e.
     let handed : c.from_residual.result ≡ Err c.in_err-own.field-0.0 = search rules in
-    filled_below_need (game_data c.args.game) c.own.new.diagrams.state.table c.args.budget c.levels.result
-    (c.own.ensures.part.keeps.budget ∙ c.in-Ok-make.ensures.has_budget) (c.own.ensures.part.keeps.levels ∙ c.in-Ok-make.ensures.has_levels)
-    (c.levels.ensures ∙ ap level_count c.in-Ok.ensures.domains) (c.in_err-own.ensures.part.full (same_halt (sym handed ∙ e)))
+    too_small (game_data c.args.game) c.levels.result c.args.budget c.in-Ok-make.diagrams c.own.new.diagrams (Err c.in_err-own.field-0.0) (c.levels.ensures ∙ ap level_count c.in-Ok.ensures.domains) c.in-Ok-make.ensures c.in_err-own.ensures.part.keeps c.in_err-own.ensures.part.cause (same_halt (sym handed ∙ e))

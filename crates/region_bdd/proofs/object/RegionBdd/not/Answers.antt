@@ -11,8 +11,10 @@ use Rattle.region_bdd.specs.declared.own.Asked.TheVariants as asked
 use Rattle.region_bdd.specs.Slots.{HasContent, HasRegionRoot}
 use Rattle.region_bdd.specs.Object.{kept_of}
 use Rattle.region_bdd.proofs.ObjectLaws.{region_root}
-use Rattle.region_bdd.proofs.OutcomeLaws.{answered, budget_cause}
-use Rattle.region_bdd.proofs.SetCalls.{held_root, one_argument, tells_not}
+use Rattle.region_bdd.proofs.OutcomeLaws.{answered}
+use Rattle.region_bdd.proofs.SetCalls.{nothing_root, proper_root, held_root, one_argument, tells_not}
+use Rattle.bit_compile.specs.NamedCodes.{NoFunction}
+use Rattle.state_diagrams.proofs.CauseLemmas.{cause_choice}
 use Rattle.region_bdd.proofs.object.RegionBdd.not.Goals as goal
 
 pub region-requires : goal.region-requires
@@ -41,7 +43,7 @@ returns-clause-made c =
     let here_a = subst (λ (ss : List Slot). HasContent ss c.args.a.now.slot (Region c.region.result.now)) c.room.ensures.keeps c.region.ensures in
     let now = kept_of g d slots o.refused in
     let why : Refused = record { asked = asked.Not; first = Some c.args.a.now.slot; second = None } in
-    let done = answered g o.own o.levels d slots c.ite-made.new.diagrams c.room.new.self.slots.items c.settle.new.slots.slots.items o.refused c.settle.new.refused c.args.self.now.whole c.requires.free c.room.ensures.keeps (choice (function_at d c.region.result.now) (function_at d o.own.step.nothing) (function_at d o.own.step.proper)) (rest g (now.set c.args.a.now)) (tells_not g o.own o.levels d slots o.refused c.args.self.now.whole c.args.a.now c.region.result.now here_a) why (States (now.set c.args.a.now) ∷ []) (one_argument g o.own o.levels d slots o.refused c.args.self.now.whole c.args.a.now c.region.result.now here_a) c.ite-made.result c.settle.result (c.ite-made.ensures.makes) c.settle.ensures in
+    let done = answered g o.own o.levels d slots c.ite-made.new.diagrams c.room.new.self.slots.items c.settle.new.slots.slots.items o.refused c.settle.new.refused c.args.self.now.whole c.requires.free c.room.ensures.keeps (choice (function_at d c.region.result.now) (function_at d o.own.step.nothing) (function_at d o.own.step.proper)) (rest g (now.set c.args.a.now)) (tells_not g o.own o.levels d slots o.refused c.args.self.now.whole c.args.a.now c.region.result.now here_a) why (States (now.set c.args.a.now) ∷ []) (one_argument g o.own o.levels d slots o.refused c.args.self.now.whole c.args.a.now c.region.result.now here_a) c.ite-made.result c.settle.result (c.ite-made.ensures.makes) NoFunction (cause_choice d c.ite-made.new.diagrams c.region.result.now o.own.step.nothing o.own.step.proper _ c.ite-made.result (held_root g o.own o.levels d slots o.refused c.args.self.now.whole c.args.a.now c.region.result.now here_a) (nothing_root g o.own o.levels d slots o.refused c.args.self.now.whole) (proper_root g o.own o.levels d slots o.refused c.args.self.now.whole) c.ite-made.ensures) (λ own_is h none. absurd none) c.of-why.result c.of-why.ensures c.settle.ensures in
     done.made
 
 pub returns-clause-halted : goal.returns-clause-halted
@@ -53,7 +55,7 @@ returns-clause-halted c =
     let here_a = subst (λ (ss : List Slot). HasContent ss c.args.a.now.slot (Region c.region.result.now)) c.room.ensures.keeps c.region.ensures in
     let now = kept_of g d slots o.refused in
     let why : Refused = record { asked = asked.Not; first = Some c.args.a.now.slot; second = None } in
-    let done = answered g o.own o.levels d slots c.ite-made.new.diagrams c.room.new.self.slots.items c.settle.new.slots.slots.items o.refused c.settle.new.refused c.args.self.now.whole c.requires.free c.room.ensures.keeps (choice (function_at d c.region.result.now) (function_at d o.own.step.nothing) (function_at d o.own.step.proper)) (rest g (now.set c.args.a.now)) (tells_not g o.own o.levels d slots o.refused c.args.self.now.whole c.args.a.now c.region.result.now here_a) why (States (now.set c.args.a.now) ∷ []) (one_argument g o.own o.levels d slots o.refused c.args.self.now.whole c.args.a.now c.region.result.now here_a) c.ite-made.result c.settle.result (c.ite-made.ensures.makes) c.settle.ensures in
+    let done = answered g o.own o.levels d slots c.ite-made.new.diagrams c.room.new.self.slots.items c.settle.new.slots.slots.items o.refused c.settle.new.refused c.args.self.now.whole c.requires.free c.room.ensures.keeps (choice (function_at d c.region.result.now) (function_at d o.own.step.nothing) (function_at d o.own.step.proper)) (rest g (now.set c.args.a.now)) (tells_not g o.own o.levels d slots o.refused c.args.self.now.whole c.args.a.now c.region.result.now here_a) why (States (now.set c.args.a.now) ∷ []) (one_argument g o.own o.levels d slots o.refused c.args.self.now.whole c.args.a.now c.region.result.now here_a) c.ite-made.result c.settle.result (c.ite-made.ensures.makes) NoFunction (cause_choice d c.ite-made.new.diagrams c.region.result.now o.own.step.nothing o.own.step.proper _ c.ite-made.result (held_root g o.own o.levels d slots o.refused c.args.self.now.whole c.args.a.now c.region.result.now here_a) (nothing_root g o.own o.levels d slots o.refused c.args.self.now.whole) (proper_root g o.own o.levels d slots o.refused c.args.self.now.whole) c.ite-made.ensures) (λ own_is h none. absurd none) c.of-why.result c.of-why.ensures c.settle.ensures in
     done.halted
 
 pub invariant_of-self-2 : goal.invariant_of-self-2
@@ -65,10 +67,5 @@ invariant_of-self-2 c =
     let here_a = subst (λ (ss : List Slot). HasContent ss c.args.a.now.slot (Region c.region.result.now)) c.room.ensures.keeps c.region.ensures in
     let now = kept_of g d slots o.refused in
     let why : Refused = record { asked = asked.Not; first = Some c.args.a.now.slot; second = None } in
-    let done = answered g o.own o.levels d slots c.ite-made.new.diagrams c.room.new.self.slots.items c.settle.new.slots.slots.items o.refused c.settle.new.refused c.args.self.now.whole c.requires.free c.room.ensures.keeps (choice (function_at d c.region.result.now) (function_at d o.own.step.nothing) (function_at d o.own.step.proper)) (rest g (now.set c.args.a.now)) (tells_not g o.own o.levels d slots o.refused c.args.self.now.whole c.args.a.now c.region.result.now here_a) why (States (now.set c.args.a.now) ∷ []) (one_argument g o.own o.levels d slots o.refused c.args.self.now.whole c.args.a.now c.region.result.now here_a) c.ite-made.result c.settle.result (c.ite-made.ensures.makes) c.settle.ensures in
+    let done = answered g o.own o.levels d slots c.ite-made.new.diagrams c.room.new.self.slots.items c.settle.new.slots.slots.items o.refused c.settle.new.refused c.args.self.now.whole c.requires.free c.room.ensures.keeps (choice (function_at d c.region.result.now) (function_at d o.own.step.nothing) (function_at d o.own.step.proper)) (rest g (now.set c.args.a.now)) (tells_not g o.own o.levels d slots o.refused c.args.self.now.whole c.args.a.now c.region.result.now here_a) why (States (now.set c.args.a.now) ∷ []) (one_argument g o.own o.levels d slots o.refused c.args.self.now.whole c.args.a.now c.region.result.now here_a) c.ite-made.result c.settle.result (c.ite-made.ensures.makes) NoFunction (cause_choice d c.ite-made.new.diagrams c.region.result.now o.own.step.nothing o.own.step.proper _ c.ite-made.result (held_root g o.own o.levels d slots o.refused c.args.self.now.whole c.args.a.now c.region.result.now here_a) (nothing_root g o.own o.levels d slots o.refused c.args.self.now.whole) (proper_root g o.own o.levels d slots o.refused c.args.self.now.whole) c.ite-made.ensures) (λ own_is h none. absurd none) c.of-why.result c.of-why.ensures c.settle.ensures in
     record { whole = done.object; coded = o.coded; room = o.room }
-
-pub returns-clause-cause : goal.returns-clause-cause
-returns-clause-cause c =
-    let why : Refused = record { asked = asked.Not; first = Some c.args.a.now.slot; second = None } in
-    budget_cause c.room.new.self.slots.items c.settle.new.slots.slots.items c.settle.new.refused c.ite-made.result c.settle.result why _ c.settle.ensures c.ite-made.ensures.makes.full

@@ -13,8 +13,10 @@ use Rattle.region_bdd.specs.declared.own.Asked.TheVariants as asked
 use Rattle.region_bdd.specs.Slots.{HasContent, HasRegionRoot}
 use Rattle.region_bdd.specs.Object.{kept_of}
 use Rattle.region_bdd.proofs.ObjectLaws.{region_root}
-use Rattle.region_bdd.proofs.OutcomeLaws.{answered, budget_cause}
+use Rattle.region_bdd.proofs.OutcomeLaws.{answered}
 use Rattle.region_bdd.proofs.SetCalls.{held_root, region_tells, two_arguments}
+use Rattle.bit_compile.specs.NamedCodes.{NoFunction}
+use Rattle.bit_compile.proofs.Causes.{cause_join}
 use Rattle.region_bdd.proofs.object.RegionBdd.or.Goals as goal
 
 pub region-requires : goal.region-requires
@@ -63,7 +65,7 @@ returns-clause-made c =
     let here_b = subst (λ (ss : List Slot). HasContent ss c.args.b.now.slot (Region c.region-2.result.now)) c.room.ensures.keeps c.region-2.ensures in
     let now = kept_of g d slots o.refused in
     let why : Refused = record { asked = asked.Or; first = Some c.args.a.now.slot; second = Some c.args.b.now.slot } in
-    let done = answered g o.own o.levels d slots c.or-made.new.diagrams c.room.new.self.slots.items c.settle.new.slots.slots.items o.refused c.settle.new.refused c.args.self.now.whole c.requires.free c.room.ensures.keeps (joined (join_of false) (function_at d c.region.result.now) (function_at d c.region-2.result.now)) (either (now.set c.args.a.now) (now.set c.args.b.now)) (tells_either g Now _ _ _ _ (region_tells g o.own o.levels d slots o.refused c.args.self.now.whole c.args.a.now c.region.result.now here_a) (region_tells g o.own o.levels d slots o.refused c.args.self.now.whole c.args.b.now c.region-2.result.now here_b)) why (States (now.set c.args.a.now) ∷ States (now.set c.args.b.now) ∷ []) (two_arguments g o.own o.levels d slots o.refused c.args.self.now.whole c.args.a.now c.args.b.now c.region.result.now c.region-2.result.now here_a here_b) c.or-made.result c.settle.result (c.or-made.ensures.makes) c.settle.ensures in
+    let done = answered g o.own o.levels d slots c.or-made.new.diagrams c.room.new.self.slots.items c.settle.new.slots.slots.items o.refused c.settle.new.refused c.args.self.now.whole c.requires.free c.room.ensures.keeps (joined (join_of false) (function_at d c.region.result.now) (function_at d c.region-2.result.now)) (either (now.set c.args.a.now) (now.set c.args.b.now)) (tells_either g Now _ _ _ _ (region_tells g o.own o.levels d slots o.refused c.args.self.now.whole c.args.a.now c.region.result.now here_a) (region_tells g o.own o.levels d slots o.refused c.args.self.now.whole c.args.b.now c.region-2.result.now here_b)) why (States (now.set c.args.a.now) ∷ States (now.set c.args.b.now) ∷ []) (two_arguments g o.own o.levels d slots o.refused c.args.self.now.whole c.args.a.now c.args.b.now c.region.result.now c.region-2.result.now here_a here_b) c.or-made.result c.settle.result (c.or-made.ensures.makes) NoFunction (cause_join false d c.or-made.new.diagrams c.region.result.now c.region-2.result.now _ NoFunction c.or-made.result (held_root g o.own o.levels d slots o.refused c.args.self.now.whole c.args.a.now c.region.result.now here_a) (held_root g o.own o.levels d slots o.refused c.args.self.now.whole c.args.b.now c.region-2.result.now here_b) c.or-made.ensures) (λ own_is h none. absurd none) c.of-why.result c.of-why.ensures c.settle.ensures in
     done.made
 
 pub returns-clause-halted : goal.returns-clause-halted
@@ -76,7 +78,7 @@ returns-clause-halted c =
     let here_b = subst (λ (ss : List Slot). HasContent ss c.args.b.now.slot (Region c.region-2.result.now)) c.room.ensures.keeps c.region-2.ensures in
     let now = kept_of g d slots o.refused in
     let why : Refused = record { asked = asked.Or; first = Some c.args.a.now.slot; second = Some c.args.b.now.slot } in
-    let done = answered g o.own o.levels d slots c.or-made.new.diagrams c.room.new.self.slots.items c.settle.new.slots.slots.items o.refused c.settle.new.refused c.args.self.now.whole c.requires.free c.room.ensures.keeps (joined (join_of false) (function_at d c.region.result.now) (function_at d c.region-2.result.now)) (either (now.set c.args.a.now) (now.set c.args.b.now)) (tells_either g Now _ _ _ _ (region_tells g o.own o.levels d slots o.refused c.args.self.now.whole c.args.a.now c.region.result.now here_a) (region_tells g o.own o.levels d slots o.refused c.args.self.now.whole c.args.b.now c.region-2.result.now here_b)) why (States (now.set c.args.a.now) ∷ States (now.set c.args.b.now) ∷ []) (two_arguments g o.own o.levels d slots o.refused c.args.self.now.whole c.args.a.now c.args.b.now c.region.result.now c.region-2.result.now here_a here_b) c.or-made.result c.settle.result (c.or-made.ensures.makes) c.settle.ensures in
+    let done = answered g o.own o.levels d slots c.or-made.new.diagrams c.room.new.self.slots.items c.settle.new.slots.slots.items o.refused c.settle.new.refused c.args.self.now.whole c.requires.free c.room.ensures.keeps (joined (join_of false) (function_at d c.region.result.now) (function_at d c.region-2.result.now)) (either (now.set c.args.a.now) (now.set c.args.b.now)) (tells_either g Now _ _ _ _ (region_tells g o.own o.levels d slots o.refused c.args.self.now.whole c.args.a.now c.region.result.now here_a) (region_tells g o.own o.levels d slots o.refused c.args.self.now.whole c.args.b.now c.region-2.result.now here_b)) why (States (now.set c.args.a.now) ∷ States (now.set c.args.b.now) ∷ []) (two_arguments g o.own o.levels d slots o.refused c.args.self.now.whole c.args.a.now c.args.b.now c.region.result.now c.region-2.result.now here_a here_b) c.or-made.result c.settle.result (c.or-made.ensures.makes) NoFunction (cause_join false d c.or-made.new.diagrams c.region.result.now c.region-2.result.now _ NoFunction c.or-made.result (held_root g o.own o.levels d slots o.refused c.args.self.now.whole c.args.a.now c.region.result.now here_a) (held_root g o.own o.levels d slots o.refused c.args.self.now.whole c.args.b.now c.region-2.result.now here_b) c.or-made.ensures) (λ own_is h none. absurd none) c.of-why.result c.of-why.ensures c.settle.ensures in
     done.halted
 
 pub invariant_of-self-2 : goal.invariant_of-self-2
@@ -89,10 +91,5 @@ invariant_of-self-2 c =
     let here_b = subst (λ (ss : List Slot). HasContent ss c.args.b.now.slot (Region c.region-2.result.now)) c.room.ensures.keeps c.region-2.ensures in
     let now = kept_of g d slots o.refused in
     let why : Refused = record { asked = asked.Or; first = Some c.args.a.now.slot; second = Some c.args.b.now.slot } in
-    let done = answered g o.own o.levels d slots c.or-made.new.diagrams c.room.new.self.slots.items c.settle.new.slots.slots.items o.refused c.settle.new.refused c.args.self.now.whole c.requires.free c.room.ensures.keeps (joined (join_of false) (function_at d c.region.result.now) (function_at d c.region-2.result.now)) (either (now.set c.args.a.now) (now.set c.args.b.now)) (tells_either g Now _ _ _ _ (region_tells g o.own o.levels d slots o.refused c.args.self.now.whole c.args.a.now c.region.result.now here_a) (region_tells g o.own o.levels d slots o.refused c.args.self.now.whole c.args.b.now c.region-2.result.now here_b)) why (States (now.set c.args.a.now) ∷ States (now.set c.args.b.now) ∷ []) (two_arguments g o.own o.levels d slots o.refused c.args.self.now.whole c.args.a.now c.args.b.now c.region.result.now c.region-2.result.now here_a here_b) c.or-made.result c.settle.result (c.or-made.ensures.makes) c.settle.ensures in
+    let done = answered g o.own o.levels d slots c.or-made.new.diagrams c.room.new.self.slots.items c.settle.new.slots.slots.items o.refused c.settle.new.refused c.args.self.now.whole c.requires.free c.room.ensures.keeps (joined (join_of false) (function_at d c.region.result.now) (function_at d c.region-2.result.now)) (either (now.set c.args.a.now) (now.set c.args.b.now)) (tells_either g Now _ _ _ _ (region_tells g o.own o.levels d slots o.refused c.args.self.now.whole c.args.a.now c.region.result.now here_a) (region_tells g o.own o.levels d slots o.refused c.args.self.now.whole c.args.b.now c.region-2.result.now here_b)) why (States (now.set c.args.a.now) ∷ States (now.set c.args.b.now) ∷ []) (two_arguments g o.own o.levels d slots o.refused c.args.self.now.whole c.args.a.now c.args.b.now c.region.result.now c.region-2.result.now here_a here_b) c.or-made.result c.settle.result (c.or-made.ensures.makes) NoFunction (cause_join false d c.or-made.new.diagrams c.region.result.now c.region-2.result.now _ NoFunction c.or-made.result (held_root g o.own o.levels d slots o.refused c.args.self.now.whole c.args.a.now c.region.result.now here_a) (held_root g o.own o.levels d slots o.refused c.args.self.now.whole c.args.b.now c.region-2.result.now here_b) c.or-made.ensures) (λ own_is h none. absurd none) c.of-why.result c.of-why.ensures c.settle.ensures in
     record { whole = done.object; coded = o.coded; room = o.room }
-
-pub returns-clause-cause : goal.returns-clause-cause
-returns-clause-cause c =
-    let why : Refused = record { asked = asked.Or; first = Some c.args.a.now.slot; second = Some c.args.b.now.slot } in
-    budget_cause c.room.new.self.slots.items c.settle.new.slots.slots.items c.settle.new.refused c.or-made.result c.settle.result why _ c.settle.ensures c.or-made.ensures.makes.full

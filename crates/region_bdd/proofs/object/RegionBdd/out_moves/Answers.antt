@@ -13,8 +13,10 @@ use Rattle.region_bdd.specs.declared.own.Asked.TheVariants as asked
 use Rattle.region_bdd.specs.Slots.{HasContent, HasRegionRoot}
 use Rattle.region_bdd.specs.Object.{kept_of}
 use Rattle.region_bdd.proofs.ObjectLaws.{region_root}
-use Rattle.region_bdd.proofs.MoveOutcomes.{outputs_answered, outputs_cause}
+use Rattle.region_bdd.proofs.MoveOutcomes.{outputs_answered}
 use Rattle.region_bdd.proofs.SetCalls.{held_root, region_tells, one_argument}
+use Rattle.bit_compile.specs.NamedCodes.{NoFunction}
+use Rattle.state_diagrams.proofs.CauseLemmas.{cause_moved}
 use Rattle.region_bdd.proofs.object.RegionBdd.out_moves.Goals as goal
 
 pub region-requires : goal.region-requires
@@ -59,7 +61,7 @@ invariant_of-self-2 c =
     let now = kept_of g d slots o.refused in
     let why : Refused = record { asked = asked.OutMoves c.args.when; first = Some c.args.t.now.slot; second = None } in
     let makes = subst (λ (to : List ℕ). Makes d c.shift-made.new.diagrams c.shift-made.result (shifted to f)) c.deref.ensures.value c.shift-made.ensures.makes in
-    let done = outputs_answered g o.own c.args.when o.levels d c.shift-made.new.diagrams slots c.room.new.self.slots.items c.settle_outputs.new.slots.slots.items o.refused c.settle_outputs.new.refused o.whole c.requires.free c.room.ensures.keeps (now.set c.args.t.now) why (States (now.set c.args.t.now) ∷ []) (one_argument g o.own o.levels d slots o.refused o.whole c.args.t.now c.region.result.now here_t) (shifted o.levels.to.items f) (tells_next g o.levels.to.items o.whole.lists_are.to f (now.set c.args.t.now) tells) c.shift-made.result c.settle_outputs.result makes c.settle_outputs.ensures in
+    let done = outputs_answered g o.own c.args.when o.levels d c.shift-made.new.diagrams slots c.room.new.self.slots.items c.settle_outputs.new.slots.slots.items o.refused c.settle_outputs.new.refused o.whole c.requires.free c.room.ensures.keeps (now.set c.args.t.now) why (States (now.set c.args.t.now) ∷ []) (one_argument g o.own o.levels d slots o.refused o.whole c.args.t.now c.region.result.now here_t) (shifted o.levels.to.items f) (tells_next g o.levels.to.items o.whole.lists_are.to f (now.set c.args.t.now) tells) c.shift-made.result c.settle_outputs.result makes NoFunction (cause_moved c.deref.result.now d c.shift-made.new.diagrams c.region.result.now _ c.shift-made.result (held_root g o.own o.levels d slots o.refused o.whole c.args.t.now c.region.result.now here_t) c.shift-made.ensures) (λ own_is h none. absurd none) c.of-why.result c.of-why.ensures c.settle_outputs.ensures in
     record { whole = done.object; coded = o.coded; room = o.room }
 
 pub returns-clause-made : goal.returns-clause-made
@@ -74,7 +76,7 @@ returns-clause-made c =
     let now = kept_of g d slots o.refused in
     let why : Refused = record { asked = asked.OutMoves c.args.when; first = Some c.args.t.now.slot; second = None } in
     let makes = subst (λ (to : List ℕ). Makes d c.shift-made.new.diagrams c.shift-made.result (shifted to f)) c.deref.ensures.value c.shift-made.ensures.makes in
-    let done = outputs_answered g o.own c.args.when o.levels d c.shift-made.new.diagrams slots c.room.new.self.slots.items c.settle_outputs.new.slots.slots.items o.refused c.settle_outputs.new.refused o.whole c.requires.free c.room.ensures.keeps (now.set c.args.t.now) why (States (now.set c.args.t.now) ∷ []) (one_argument g o.own o.levels d slots o.refused o.whole c.args.t.now c.region.result.now here_t) (shifted o.levels.to.items f) (tells_next g o.levels.to.items o.whole.lists_are.to f (now.set c.args.t.now) tells) c.shift-made.result c.settle_outputs.result makes c.settle_outputs.ensures in
+    let done = outputs_answered g o.own c.args.when o.levels d c.shift-made.new.diagrams slots c.room.new.self.slots.items c.settle_outputs.new.slots.slots.items o.refused c.settle_outputs.new.refused o.whole c.requires.free c.room.ensures.keeps (now.set c.args.t.now) why (States (now.set c.args.t.now) ∷ []) (one_argument g o.own o.levels d slots o.refused o.whole c.args.t.now c.region.result.now here_t) (shifted o.levels.to.items f) (tells_next g o.levels.to.items o.whole.lists_are.to f (now.set c.args.t.now) tells) c.shift-made.result c.settle_outputs.result makes NoFunction (cause_moved c.deref.result.now d c.shift-made.new.diagrams c.region.result.now _ c.shift-made.result (held_root g o.own o.levels d slots o.refused o.whole c.args.t.now c.region.result.now here_t) c.shift-made.ensures) (λ own_is h none. absurd none) c.of-why.result c.of-why.ensures c.settle_outputs.ensures in
     done.made
 
 pub returns-clause-halted : goal.returns-clause-halted
@@ -89,10 +91,5 @@ returns-clause-halted c =
     let now = kept_of g d slots o.refused in
     let why : Refused = record { asked = asked.OutMoves c.args.when; first = Some c.args.t.now.slot; second = None } in
     let makes = subst (λ (to : List ℕ). Makes d c.shift-made.new.diagrams c.shift-made.result (shifted to f)) c.deref.ensures.value c.shift-made.ensures.makes in
-    let done = outputs_answered g o.own c.args.when o.levels d c.shift-made.new.diagrams slots c.room.new.self.slots.items c.settle_outputs.new.slots.slots.items o.refused c.settle_outputs.new.refused o.whole c.requires.free c.room.ensures.keeps (now.set c.args.t.now) why (States (now.set c.args.t.now) ∷ []) (one_argument g o.own o.levels d slots o.refused o.whole c.args.t.now c.region.result.now here_t) (shifted o.levels.to.items f) (tells_next g o.levels.to.items o.whole.lists_are.to f (now.set c.args.t.now) tells) c.shift-made.result c.settle_outputs.result makes c.settle_outputs.ensures in
+    let done = outputs_answered g o.own c.args.when o.levels d c.shift-made.new.diagrams slots c.room.new.self.slots.items c.settle_outputs.new.slots.slots.items o.refused c.settle_outputs.new.refused o.whole c.requires.free c.room.ensures.keeps (now.set c.args.t.now) why (States (now.set c.args.t.now) ∷ []) (one_argument g o.own o.levels d slots o.refused o.whole c.args.t.now c.region.result.now here_t) (shifted o.levels.to.items f) (tells_next g o.levels.to.items o.whole.lists_are.to f (now.set c.args.t.now) tells) c.shift-made.result c.settle_outputs.result makes NoFunction (cause_moved c.deref.result.now d c.shift-made.new.diagrams c.region.result.now _ c.shift-made.result (held_root g o.own o.levels d slots o.refused o.whole c.args.t.now c.region.result.now here_t) c.shift-made.ensures) (λ own_is h none. absurd none) c.of-why.result c.of-why.ensures c.settle_outputs.ensures in
     done.halted
-
-pub returns-clause-cause : goal.returns-clause-cause
-returns-clause-cause c =
-    let why : Refused = record { asked = asked.OutMoves c.args.when; first = Some c.args.t.now.slot; second = None } in
-    outputs_cause c.room.new.self.slots.items c.settle_outputs.new.slots.slots.items c.settle_outputs.new.refused c.shift-made.result c.settle_outputs.result c.args.when why _ c.settle_outputs.ensures c.shift-made.ensures.makes.full

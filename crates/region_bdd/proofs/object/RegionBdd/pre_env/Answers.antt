@@ -1,4 +1,4 @@
-use Rattle.std.proofs.Common.{true, List, [], ◌∷◌, Some, None, sym, subst}
+use Rattle.std.proofs.Common.{inr, true, List, [], ◌∷◌, Some, None, sym, subst}
 use Rattle.spec_model.specs.Diagrams.{shifted}
 use Rattle.spec_model.specs.GameViews.{game_data}
 use Rattle.spec_model.specs.Sets.{pre_env as environment_forces_set}
@@ -16,8 +16,12 @@ use Rattle.region_bdd.specs.Slots.{HasContent, HasRegionRoot}
 use Rattle.region_bdd.specs.Object.{kept_of}
 use Rattle.early_products.proofs.KeepingLemmas.{keeps_itself}
 use Rattle.region_bdd.proofs.ObjectLaws.{region_root, early_roots}
-use Rattle.region_bdd.proofs.OutcomeLaws.{answered, budget_cause}
+use Rattle.region_bdd.proofs.OutcomeLaws.{answered}
 use Rattle.region_bdd.proofs.SetCalls.{later_roots, held_root, region_tells, one_argument, tells_kept_in}
+use Rattle.regions.specs.declared.types.When.TheVariants.{Later}
+use Rattle.state_diagrams.specs.NamedMoves.{lists_at}
+use Rattle.state_diagrams.specs.NamedGame.{IsOfRest}
+use Rattle.region_bdd.proofs.CallNames.{rest_of}
 use Rattle.region_bdd.proofs.object.RegionBdd.pre_env.Goals as goal
 
 pub region-requires : goal.region-requires
@@ -64,7 +68,7 @@ returns-clause-made c =
     let here_t = subst (λ (ss : List Slot). HasContent ss c.args.t.now.slot (Region c.region.result.now)) c.room.ensures.keeps c.region.ensures in
     let now = kept_of g d slots o.refused in
     let why : Refused = record { asked = asked.PreEnv; first = Some c.args.t.now.slot; second = None } in
-    let done = answered g o.own o.levels d slots c.environment_states-made.new.diagrams c.room.new.self.slots.items c.settle.new.slots.slots.items o.refused c.settle.new.refused c.args.self.now.whole c.requires.free c.room.ensures.keeps (joined (join_of true) (avoiding (move_functions d o.own.step.later) o.levels.reply.items o.levels.all.items (negated (shifted o.levels.to.items (function_at d c.region.result.now)))) (function_at d o.own.step.proper)) (environment_forces_set g (now.set c.args.t.now)) (tells_kept_in g o.own o.levels d slots o.refused c.args.self.now.whole c.args.t.now c.region.result.now here_t) why (States (now.set c.args.t.now) ∷ []) (one_argument g o.own o.levels d slots o.refused c.args.self.now.whole c.args.t.now c.region.result.now here_t) c.environment_states-made.result c.settle.result (c.environment_states-made.ensures) c.settle.ensures in
+    let done = answered g o.own o.levels d slots c.environment_states-made.new.diagrams c.room.new.self.slots.items c.settle.new.slots.slots.items o.refused c.settle.new.refused c.args.self.now.whole c.requires.free c.room.ensures.keeps (joined (join_of true) (avoiding (move_functions d o.own.step.later) o.levels.reply.items o.levels.all.items (negated (shifted o.levels.to.items (function_at d c.region.result.now)))) (function_at d o.own.step.proper)) (environment_forces_set g (now.set c.args.t.now)) (tells_kept_in g o.own o.levels d slots o.refused c.args.self.now.whole c.args.t.now c.region.result.now here_t) why (States (now.set c.args.t.now) ∷ []) (one_argument g o.own o.levels d slots o.refused c.args.self.now.whole c.args.t.now c.region.result.now here_t) c.environment_states-made.result c.settle.result c.environment_states-made.ensures.made (IsOfRest (lists_at d o.own.step.later) o.levels (shifted o.levels.to.items (function_at d c.region.result.now))) c.environment_states-made.ensures.cause (λ own_is h is. inr (rest_of g o.own o.levels d slots o.refused c.args.self.now.whole c.args.t.now c.region.result.now here_t Later c.environment_states-made.new.diagrams c.requires.free c.environment_states-made.ensures.made.keeps own_is h is)) c.of-why.result c.of-why.ensures c.settle.ensures in
     done.made
 
 pub returns-clause-halted : goal.returns-clause-halted
@@ -76,7 +80,7 @@ returns-clause-halted c =
     let here_t = subst (λ (ss : List Slot). HasContent ss c.args.t.now.slot (Region c.region.result.now)) c.room.ensures.keeps c.region.ensures in
     let now = kept_of g d slots o.refused in
     let why : Refused = record { asked = asked.PreEnv; first = Some c.args.t.now.slot; second = None } in
-    let done = answered g o.own o.levels d slots c.environment_states-made.new.diagrams c.room.new.self.slots.items c.settle.new.slots.slots.items o.refused c.settle.new.refused c.args.self.now.whole c.requires.free c.room.ensures.keeps (joined (join_of true) (avoiding (move_functions d o.own.step.later) o.levels.reply.items o.levels.all.items (negated (shifted o.levels.to.items (function_at d c.region.result.now)))) (function_at d o.own.step.proper)) (environment_forces_set g (now.set c.args.t.now)) (tells_kept_in g o.own o.levels d slots o.refused c.args.self.now.whole c.args.t.now c.region.result.now here_t) why (States (now.set c.args.t.now) ∷ []) (one_argument g o.own o.levels d slots o.refused c.args.self.now.whole c.args.t.now c.region.result.now here_t) c.environment_states-made.result c.settle.result (c.environment_states-made.ensures) c.settle.ensures in
+    let done = answered g o.own o.levels d slots c.environment_states-made.new.diagrams c.room.new.self.slots.items c.settle.new.slots.slots.items o.refused c.settle.new.refused c.args.self.now.whole c.requires.free c.room.ensures.keeps (joined (join_of true) (avoiding (move_functions d o.own.step.later) o.levels.reply.items o.levels.all.items (negated (shifted o.levels.to.items (function_at d c.region.result.now)))) (function_at d o.own.step.proper)) (environment_forces_set g (now.set c.args.t.now)) (tells_kept_in g o.own o.levels d slots o.refused c.args.self.now.whole c.args.t.now c.region.result.now here_t) why (States (now.set c.args.t.now) ∷ []) (one_argument g o.own o.levels d slots o.refused c.args.self.now.whole c.args.t.now c.region.result.now here_t) c.environment_states-made.result c.settle.result c.environment_states-made.ensures.made (IsOfRest (lists_at d o.own.step.later) o.levels (shifted o.levels.to.items (function_at d c.region.result.now))) c.environment_states-made.ensures.cause (λ own_is h is. inr (rest_of g o.own o.levels d slots o.refused c.args.self.now.whole c.args.t.now c.region.result.now here_t Later c.environment_states-made.new.diagrams c.requires.free c.environment_states-made.ensures.made.keeps own_is h is)) c.of-why.result c.of-why.ensures c.settle.ensures in
     done.halted
 
 pub invariant_of-self-2 : goal.invariant_of-self-2
@@ -88,13 +92,8 @@ invariant_of-self-2 c =
     let here_t = subst (λ (ss : List Slot). HasContent ss c.args.t.now.slot (Region c.region.result.now)) c.room.ensures.keeps c.region.ensures in
     let now = kept_of g d slots o.refused in
     let why : Refused = record { asked = asked.PreEnv; first = Some c.args.t.now.slot; second = None } in
-    let done = answered g o.own o.levels d slots c.environment_states-made.new.diagrams c.room.new.self.slots.items c.settle.new.slots.slots.items o.refused c.settle.new.refused c.args.self.now.whole c.requires.free c.room.ensures.keeps (joined (join_of true) (avoiding (move_functions d o.own.step.later) o.levels.reply.items o.levels.all.items (negated (shifted o.levels.to.items (function_at d c.region.result.now)))) (function_at d o.own.step.proper)) (environment_forces_set g (now.set c.args.t.now)) (tells_kept_in g o.own o.levels d slots o.refused c.args.self.now.whole c.args.t.now c.region.result.now here_t) why (States (now.set c.args.t.now) ∷ []) (one_argument g o.own o.levels d slots o.refused c.args.self.now.whole c.args.t.now c.region.result.now here_t) c.environment_states-made.result c.settle.result (c.environment_states-made.ensures) c.settle.ensures in
+    let done = answered g o.own o.levels d slots c.environment_states-made.new.diagrams c.room.new.self.slots.items c.settle.new.slots.slots.items o.refused c.settle.new.refused c.args.self.now.whole c.requires.free c.room.ensures.keeps (joined (join_of true) (avoiding (move_functions d o.own.step.later) o.levels.reply.items o.levels.all.items (negated (shifted o.levels.to.items (function_at d c.region.result.now)))) (function_at d o.own.step.proper)) (environment_forces_set g (now.set c.args.t.now)) (tells_kept_in g o.own o.levels d slots o.refused c.args.self.now.whole c.args.t.now c.region.result.now here_t) why (States (now.set c.args.t.now) ∷ []) (one_argument g o.own o.levels d slots o.refused c.args.self.now.whole c.args.t.now c.region.result.now here_t) c.environment_states-made.result c.settle.result c.environment_states-made.ensures.made (IsOfRest (lists_at d o.own.step.later) o.levels (shifted o.levels.to.items (function_at d c.region.result.now))) c.environment_states-made.ensures.cause (λ own_is h is. inr (rest_of g o.own o.levels d slots o.refused c.args.self.now.whole c.args.t.now c.region.result.now here_t Later c.environment_states-made.new.diagrams c.requires.free c.environment_states-made.ensures.made.keeps own_is h is)) c.of-why.result c.of-why.ensures c.settle.ensures in
     record { whole = done.object; coded = o.coded; room = o.room }
-
-pub returns-clause-cause : goal.returns-clause-cause
-returns-clause-cause c =
-    let why : Refused = record { asked = asked.PreEnv; first = Some c.args.t.now.slot; second = None } in
-    budget_cause c.room.new.self.slots.items c.settle.new.slots.slots.items c.settle.new.refused c.environment_states-made.result c.settle.result why _ c.settle.ensures c.environment_states-made.ensures.full
 
 pub environment_states-made-requires-clause-kept : goal.environment_states-made-requires-clause-kept
 environment_states-made-requires-clause-kept c =

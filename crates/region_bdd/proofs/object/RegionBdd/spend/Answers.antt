@@ -1,10 +1,14 @@
-use Rattle.std.proofs.Common.{Option, sym, ◌∙◌, ap, subst}
+use Rattle.std.proofs.Common.{List, map, Option, sym, ◌∙◌, ap, subst}
 use Rattle.spec_model.specs.GameViews.{game_data}
 use Rattle.regions.specs.Kept.{Region as RegionItem, Spends}
 use Rattle.region_bdd.specs.declared.slots.Content.TheVariants.{Region}
 use Rattle.region_bdd.specs.declared.own.Refused.{Refused}
 use Rattle.region_bdd.specs.Needs.{IsTight}
-use Rattle.region_bdd.specs.Object.{IsOpen, kept_of}
+use Rattle.region_bdd.specs.Slots.{Shown, shown_once}
+use Rattle.region_bdd.specs.Crowding.{IsJammed}
+use Rattle.region_bdd.specs.Object.{IsObject, IsOpen, jam_in, kept_of}
+use Rattle.region_bdd.proofs.SlotLaws.{once_marked}
+use Rattle.region_bdd.proofs.Refusals.{still_named}
 use Rattle.region_bdd.proofs.ObjectLaws.{region_root, spends_freed, spends_marked, some_refused, not_refused, early_fits, same_table}
 use Rattle.region_bdd.proofs.SetCalls.{held_root}
 use Rattle.region_bdd.proofs.object.RegionBdd.spend.Goals as goal
@@ -45,6 +49,8 @@ invariant_of-self c =
             sound = spent.1;
             unspent = subst (λ (r : Option Refused). IsOpen r new) (sym some.1) tt;
             tight = c.args.self.now.whole.tight;
+            named = c.args.self.now.whole.named;
+            jammed = subst (λ (shown : List Shown). IsJammed g o.diagrams.state.table.budget (jam_in g shown o.refused)) (sym (once_marked o.diagrams slots new c.args.a.slot c.spend.ensures)) c.args.self.now.whole.jammed;
           };
       coded = c.args.self.now.coded;
       room = c.args.self.now.room;
@@ -90,6 +96,8 @@ invariant_of-self-2 c =
             sound = spent.1;
             unspent = subst (λ (r : Option Refused). IsOpen r new) (sym none) spent.2;
             tight = subst (λ (r : Option Refused). IsTight r c.release.new.self.state.table) (sym none) tt;
+            named = still_named g o.own o.levels o.diagrams c.release.new.self slots (subst (λ (r : Option Refused). IsObject g o.diagrams o.own o.levels slots r) none o.whole) (same_table o.diagrams c.release.new.self c.release.ensures.table);
+            jammed = subst (λ (r : Option Refused). IsJammed g c.release.new.self.state.table.budget (jam_in g (map (shown_once c.release.new.self) new) r)) (sym none) tt;
           };
       coded = c.args.self.now.coded;
       room = c.args.self.now.room;

@@ -1,4 +1,4 @@
-use Rattle.std.proofs.Common.{◌≡◌, [], ◌∷◌, Some, None}
+use Rattle.std.proofs.Common.{inr, ◌≡◌, [], ◌∷◌, Some, None}
 use Rattle.spec_model.specs.GameViews.{game_data}
 use Rattle.spec_model.specs.Sets.{system_forces}
 use Rattle.regions.specs.Kept.{States}
@@ -12,6 +12,11 @@ use Rattle.region_bdd.proofs.ObjectLaws.{region_root, none_refused}
 use Rattle.region_bdd.proofs.AskLaws.{told, answers_by, roots_made}
 use Rattle.region_bdd.proofs.SetCalls.{held_root, nothing_root, region_tells, one_argument}
 use Rattle.region_bdd.proofs.StartLaws.{first_roots, kept_function, system_answer}
+use Rattle.regions.specs.declared.types.When.TheVariants.{First}
+use Rattle.state_diagrams.specs.NamedMoves.{lists_at}
+use Rattle.state_diagrams.specs.NamedGame.{IsOfStep}
+use Rattle.spec_model.specs.Diagrams.{shifted}
+use Rattle.region_bdd.proofs.CallNames.{asked_cause, step_of}
 use Rattle.region_bdd.proofs.object.RegionBdd.start_sys.Goals as goal
 
 pub region-requires : goal.region-requires
@@ -53,7 +58,7 @@ is_empty-asked-requires-clause-made c =
     let slots = o.slots.slots.items in
     let d = o.diagrams in
     let here = c.region.ensures in
-    roots_made d c.avoiding_set-made.new.diagrams c.avoiding_set-made.result (kept_function g o.own o.levels d slots o.refused o.whole c.args.t.now c.region.result.now here) c.avoiding_set-made.ensures
+    roots_made d c.avoiding_set-made.new.diagrams c.avoiding_set-made.result (kept_function g o.own o.levels d slots o.refused o.whole c.args.t.now c.region.result.now here) c.avoiding_set-made.ensures.made
 
 pub is_empty-asked-requires-clause-nothing : goal.is_empty-asked-requires-clause-nothing
 is_empty-asked-requires-clause-nothing c =
@@ -62,7 +67,7 @@ is_empty-asked-requires-clause-nothing c =
     let slots = o.slots.slots.items in
     let d = o.diagrams in
     let here = c.region.ensures in
-    still_root d c.avoiding_set-made.new.diagrams c.avoiding_set-made.result _ c.avoiding_set-made.ensures o.own.step.nothing (nothing_root g o.own o.levels d slots o.refused o.whole)
+    still_root d c.avoiding_set-made.new.diagrams c.avoiding_set-made.result _ c.avoiding_set-made.ensures.made o.own.step.nothing (nothing_root g o.own o.levels d slots o.refused o.whole)
 
 pub settle_answer-requires : goal.settle_answer-requires
 settle_answer-requires c =
@@ -79,7 +84,7 @@ returns-clause-answer c =
     let f = kept_function g o.own o.levels d slots o.refused o.whole c.args.t.now c.region.result.now here in
     let now = kept_of g d slots o.refused in
     let why : Refused = record { asked = asked.StartSys; first = Some c.args.t.now.slot; second = None } in
-    let done = told g o.own o.levels d c.is_empty-asked.new.diagrams slots o.refused c.settle_answer.new.refused o.whole c.requires.free (f ≡ function_at d o.own.step.nothing) why (States (now.set c.args.t.now) ∷ []) (one_argument g o.own o.levels d slots o.refused o.whole c.args.t.now c.region.result.now here) c.is_empty-asked.result c.settle_answer.result (c.is_empty-asked.ensures d f c.avoiding_set-made.ensures (nothing_root g o.own o.levels d slots o.refused o.whole)) c.settle_answer.ensures in
+    let done = told g o.own o.levels d c.is_empty-asked.new.diagrams slots o.refused c.settle_answer.new.refused o.whole c.requires.free (f ≡ function_at d o.own.step.nothing) why (States (now.set c.args.t.now) ∷ []) (one_argument g o.own o.levels d slots o.refused o.whole c.args.t.now c.region.result.now here) c.is_empty-asked.result c.settle_answer.result (c.is_empty-asked.ensures.answers d f c.avoiding_set-made.ensures.made (nothing_root g o.own o.levels d slots o.refused o.whole)) (IsOfStep (lists_at d o.own.first) o.levels (shifted o.levels.to.items (function_at d c.region.result.now))) (asked_cause d c.avoiding_set-made.new.diagrams c.is_empty-asked.new.diagrams c.avoiding_set-made.result c.is_empty-asked.result (IsOfStep (lists_at d o.own.first) o.levels (shifted o.levels.to.items (function_at d c.region.result.now))) c.is_empty-asked.ensures.handed c.avoiding_set-made.ensures.cause) (λ own_is h is. inr (step_of g o.own o.levels d slots o.refused o.whole c.args.t.now c.region.result.now here First c.is_empty-asked.new.diagrams c.requires.free (c.is_empty-asked.ensures.answers d f c.avoiding_set-made.ensures.made (nothing_root g o.own o.levels d slots o.refused o.whole)).keeps own_is h is)) c.of-why.result c.of-why.ensures c.settle_answer.ensures in
     answers_by c.settle_answer.result (f ≡ function_at d o.own.step.nothing) (system_forces g (now.set c.args.t.now) None) _ done.answer done.stays (λ said answer. system_answer g o.own o.levels d slots o.refused o.whole c.args.t.now c.region.result.now here said answer)
 
 pub returns-clause-halted : goal.returns-clause-halted
@@ -92,7 +97,7 @@ returns-clause-halted c =
     let f = kept_function g o.own o.levels d slots o.refused o.whole c.args.t.now c.region.result.now here in
     let now = kept_of g d slots o.refused in
     let why : Refused = record { asked = asked.StartSys; first = Some c.args.t.now.slot; second = None } in
-    let done = told g o.own o.levels d c.is_empty-asked.new.diagrams slots o.refused c.settle_answer.new.refused o.whole c.requires.free (f ≡ function_at d o.own.step.nothing) why (States (now.set c.args.t.now) ∷ []) (one_argument g o.own o.levels d slots o.refused o.whole c.args.t.now c.region.result.now here) c.is_empty-asked.result c.settle_answer.result (c.is_empty-asked.ensures d f c.avoiding_set-made.ensures (nothing_root g o.own o.levels d slots o.refused o.whole)) c.settle_answer.ensures in
+    let done = told g o.own o.levels d c.is_empty-asked.new.diagrams slots o.refused c.settle_answer.new.refused o.whole c.requires.free (f ≡ function_at d o.own.step.nothing) why (States (now.set c.args.t.now) ∷ []) (one_argument g o.own o.levels d slots o.refused o.whole c.args.t.now c.region.result.now here) c.is_empty-asked.result c.settle_answer.result (c.is_empty-asked.ensures.answers d f c.avoiding_set-made.ensures.made (nothing_root g o.own o.levels d slots o.refused o.whole)) (IsOfStep (lists_at d o.own.first) o.levels (shifted o.levels.to.items (function_at d c.region.result.now))) (asked_cause d c.avoiding_set-made.new.diagrams c.is_empty-asked.new.diagrams c.avoiding_set-made.result c.is_empty-asked.result (IsOfStep (lists_at d o.own.first) o.levels (shifted o.levels.to.items (function_at d c.region.result.now))) c.is_empty-asked.ensures.handed c.avoiding_set-made.ensures.cause) (λ own_is h is. inr (step_of g o.own o.levels d slots o.refused o.whole c.args.t.now c.region.result.now here First c.is_empty-asked.new.diagrams c.requires.free (c.is_empty-asked.ensures.answers d f c.avoiding_set-made.ensures.made (nothing_root g o.own o.levels d slots o.refused o.whole)).keeps own_is h is)) c.of-why.result c.of-why.ensures c.settle_answer.ensures in
     done.halted
 
 pub returns-clause-keeps : goal.returns-clause-keeps
@@ -105,21 +110,8 @@ returns-clause-keeps c =
     let f = kept_function g o.own o.levels d slots o.refused o.whole c.args.t.now c.region.result.now here in
     let now = kept_of g d slots o.refused in
     let why : Refused = record { asked = asked.StartSys; first = Some c.args.t.now.slot; second = None } in
-    let done = told g o.own o.levels d c.is_empty-asked.new.diagrams slots o.refused c.settle_answer.new.refused o.whole c.requires.free (f ≡ function_at d o.own.step.nothing) why (States (now.set c.args.t.now) ∷ []) (one_argument g o.own o.levels d slots o.refused o.whole c.args.t.now c.region.result.now here) c.is_empty-asked.result c.settle_answer.result (c.is_empty-asked.ensures d f c.avoiding_set-made.ensures (nothing_root g o.own o.levels d slots o.refused o.whole)) c.settle_answer.ensures in
+    let done = told g o.own o.levels d c.is_empty-asked.new.diagrams slots o.refused c.settle_answer.new.refused o.whole c.requires.free (f ≡ function_at d o.own.step.nothing) why (States (now.set c.args.t.now) ∷ []) (one_argument g o.own o.levels d slots o.refused o.whole c.args.t.now c.region.result.now here) c.is_empty-asked.result c.settle_answer.result (c.is_empty-asked.ensures.answers d f c.avoiding_set-made.ensures.made (nothing_root g o.own o.levels d slots o.refused o.whole)) (IsOfStep (lists_at d o.own.first) o.levels (shifted o.levels.to.items (function_at d c.region.result.now))) (asked_cause d c.avoiding_set-made.new.diagrams c.is_empty-asked.new.diagrams c.avoiding_set-made.result c.is_empty-asked.result (IsOfStep (lists_at d o.own.first) o.levels (shifted o.levels.to.items (function_at d c.region.result.now))) c.is_empty-asked.ensures.handed c.avoiding_set-made.ensures.cause) (λ own_is h is. inr (step_of g o.own o.levels d slots o.refused o.whole c.args.t.now c.region.result.now here First c.is_empty-asked.new.diagrams c.requires.free (c.is_empty-asked.ensures.answers d f c.avoiding_set-made.ensures.made (nothing_root g o.own o.levels d slots o.refused o.whole)).keeps own_is h is)) c.of-why.result c.of-why.ensures c.settle_answer.ensures in
     done.same
-
-pub returns-clause-cause : goal.returns-clause-cause
-returns-clause-cause c =
-    let o = c.args.self.now in
-    let g = game_data o.game in
-    let slots = o.slots.slots.items in
-    let d = o.diagrams in
-    let here = c.region.ensures in
-    let f = kept_function g o.own o.levels d slots o.refused o.whole c.args.t.now c.region.result.now here in
-    let now = kept_of g d slots o.refused in
-    let why : Refused = record { asked = asked.StartSys; first = Some c.args.t.now.slot; second = None } in
-    let done = told g o.own o.levels d c.is_empty-asked.new.diagrams slots o.refused c.settle_answer.new.refused o.whole c.requires.free (f ≡ function_at d o.own.step.nothing) why (States (now.set c.args.t.now) ∷ []) (one_argument g o.own o.levels d slots o.refused o.whole c.args.t.now c.region.result.now here) c.is_empty-asked.result c.settle_answer.result (c.is_empty-asked.ensures d f c.avoiding_set-made.ensures (nothing_root g o.own o.levels d slots o.refused o.whole)) c.settle_answer.ensures in
-    done.cause
 
 pub invariant_of-self : goal.invariant_of-self
 invariant_of-self c =
@@ -131,5 +123,5 @@ invariant_of-self c =
     let f = kept_function g o.own o.levels d slots o.refused o.whole c.args.t.now c.region.result.now here in
     let now = kept_of g d slots o.refused in
     let why : Refused = record { asked = asked.StartSys; first = Some c.args.t.now.slot; second = None } in
-    let done = told g o.own o.levels d c.is_empty-asked.new.diagrams slots o.refused c.settle_answer.new.refused o.whole c.requires.free (f ≡ function_at d o.own.step.nothing) why (States (now.set c.args.t.now) ∷ []) (one_argument g o.own o.levels d slots o.refused o.whole c.args.t.now c.region.result.now here) c.is_empty-asked.result c.settle_answer.result (c.is_empty-asked.ensures d f c.avoiding_set-made.ensures (nothing_root g o.own o.levels d slots o.refused o.whole)) c.settle_answer.ensures in
+    let done = told g o.own o.levels d c.is_empty-asked.new.diagrams slots o.refused c.settle_answer.new.refused o.whole c.requires.free (f ≡ function_at d o.own.step.nothing) why (States (now.set c.args.t.now) ∷ []) (one_argument g o.own o.levels d slots o.refused o.whole c.args.t.now c.region.result.now here) c.is_empty-asked.result c.settle_answer.result (c.is_empty-asked.ensures.answers d f c.avoiding_set-made.ensures.made (nothing_root g o.own o.levels d slots o.refused o.whole)) (IsOfStep (lists_at d o.own.first) o.levels (shifted o.levels.to.items (function_at d c.region.result.now))) (asked_cause d c.avoiding_set-made.new.diagrams c.is_empty-asked.new.diagrams c.avoiding_set-made.result c.is_empty-asked.result (IsOfStep (lists_at d o.own.first) o.levels (shifted o.levels.to.items (function_at d c.region.result.now))) c.is_empty-asked.ensures.handed c.avoiding_set-made.ensures.cause) (λ own_is h is. inr (step_of g o.own o.levels d slots o.refused o.whole c.args.t.now c.region.result.now here First c.is_empty-asked.new.diagrams c.requires.free (c.is_empty-asked.ensures.answers d f c.avoiding_set-made.ensures.made (nothing_root g o.own o.levels d slots o.refused o.whole)).keeps own_is h is)) c.of-why.result c.of-why.ensures c.settle_answer.ensures in
     record { whole = done.object; coded = o.coded; room = o.room }

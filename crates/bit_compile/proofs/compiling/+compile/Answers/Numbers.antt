@@ -1,0 +1,115 @@
+-- The numbers that an operation gives, with where each is had.
+use Rattle.std.proofs.Common.{ℕ, ◌≤◌, [], ◌∷◌, List, map, sym, subst, rules, w64, inl, inr}
+use Rattle.spec_model.specs.declared.value.Value.{Value}
+use Rattle.spec_model.specs.declared.value.Value.TheVariants as value
+use Rattle.spec_model.specs.Views.{formula}
+use Rattle.spec_model.specs.Values.{values_of}
+use Rattle.spec_model.specs.Syntax.{Remainder}
+use Rattle.bit_compile.specs.declared.cases.CaseRoot.{CaseRoot}
+use Rattle.bit_compile.specs.declared.operation.Operation.TheVariants.{Mod}
+use Rattle.bit_compile.specs.Domains.{IsCountable, level_count}
+use Rattle.bit_compile.specs.Compiled.{values_in, span_of}
+use Rattle.bit_compile.specs.CaseRoots.{cases_at}
+use Rattle.bit_compile.specs.Scenes.{cases_seen, codes_seen, entries_seen, game_seen}
+use Rattle.std.proofs.lemmas.Int.{to_z-of_z}
+use Rattle.bit_compile.proofs.CyclesLemmas.{values-cases}
+use Rattle.bit_compile.proofs.Pairing.{made_left, others_kept, seen_kept, seen_values}
+use Rattle.bit_compile.proofs.Causes.{cause_wider}
+use Rattle.bit_compile.proofs.Outcomes.{cases_handed}
+use Rattle.bit_compile.proofs.CompilingSteps.{operated_made, operated_with_made, remainders_made}
+use Rattle.bit_compile.proofs.NamedFormulas.{part_named}
+use Rattle.bit_compile.specs.Named.{IsNamedIn, IsNamedOr, IsOfOperated, IsOfResults}
+use Rattle.bit_compile.proofs.compiling.+compile.Goals as goal
+
+pub operated-release_all-requires : goal.operated-release_all-requires
+operated-release_all-requires t c =
+    let first = c.in_ok-xs.ensures in
+    let then = c.operated_with-cases.ensures in
+    made_left c.args.diagrams.now c.cases_of.new.diagrams c.in_ok-xs.xs.items c.deref.result.now _ first.made first.leaves.keeps c.deref.ensures.value (λ v. v.items) c.operated_with-cases.new.diagrams c.operated_with-cases.result _ then.made then.leaves
+
+pub operated-returns-in_err-xs : goal.operated-returns-in_err-xs
+operated-returns-in_err-xs t c =
+    let named = IsOfOperated c.args.scene.now c.args.at c.args.op (formula c.args.a.now) (formula c.args.b.now) in
+    cases_handed c.args.diagrams.now c.cases_of.new.diagrams c.cases_of.result c.in_err-xs.field-0.0 named c.in_err-xs.was c.cases_of.ensures.leaves (cause_wider (IsNamedIn c.args.scene.now c.args.at (formula c.args.a.now)) named (λ f is. inl is) _ _ _ c.cases_of.ensures.cause) c.from_residual.result _ (search rules)
+
+pub operated-returns : goal.operated-returns
+operated-returns t c =
+    let first = c.in_ok-xs.ensures in
+    operated_made c.args.scene.now c.args.at c.args.diagrams.now c.cases_of.new.diagrams c.operated_with-cases.new.diagrams c.release_all.new.diagrams c.release_all.ensures.table c.in_ok-xs.xs.items c.deref.result.now c.deref.ensures.value c.release_all.ensures.released first.leaves.keeps
+    (formula c.args.a.now) first.made c.args.op (formula c.args.b.now) c.operated_with-cases.result c.operated_with-cases.ensures
+
+pub operated_with-operation_cases-cases-requires-clause-span : goal.operated_with-operation_cases-cases-requires-clause-span
+operated_with-operation_cases-cases-requires-clause-span t c =
+    let first = c.in_ok-ys.ensures in
+    let g = game_seen c.args.scene.now in
+    let b = formula c.args.b.now in
+    subst (λ (vs : List Value). IsCountable (span_of c.args.op (map (λ (x : CaseRoot). x.value) c.args.xs.now) vs))
+    (sym (seen_values c.args.diagrams.now c.cases_of.new.diagrams c.in_ok-ys.ys.items c.deref.result.now _ first.made first.leaves.keeps c.deref.ensures.value (values_in g b) (values-cases g (entries_seen c.args.scene.now) c.args.at b))) c.requires.span
+
+pub operated_with-operation_cases-cases-requires-clause-xs_kept : goal.operated_with-operation_cases-cases-requires-clause-xs_kept
+operated_with-operation_cases-cases-requires-clause-xs_kept t c =
+    let first = c.in_ok-ys.ensures in
+    others_kept c.args.diagrams.now c.cases_of.new.diagrams c.in_ok-ys.ys.items c.deref.result.now _ first.made first.leaves.keeps c.deref.ensures.value c.args.xs.now c.requires.kept
+
+pub operated_with-operation_cases-cases-requires-clause-ys_kept : goal.operated_with-operation_cases-cases-requires-clause-ys_kept
+operated_with-operation_cases-cases-requires-clause-ys_kept t c =
+    let first = c.in_ok-ys.ensures in
+    seen_kept c.args.diagrams.now c.cases_of.new.diagrams c.in_ok-ys.ys.items c.deref.result.now _ first.made first.leaves.keeps c.deref.ensures.value
+
+pub operated_with-release_all-requires : goal.operated_with-release_all-requires
+operated_with-release_all-requires t c =
+    let first = c.in_ok-ys.ensures in
+    let then = c.operation_cases-cases.ensures in
+    made_left c.args.diagrams.now c.cases_of.new.diagrams c.in_ok-ys.ys.items c.deref.result.now _ first.made first.leaves.keeps c.deref.ensures.value (λ v. v.items) c.operation_cases-cases.new.diagrams c.operation_cases-cases.result _ then.made then.leaves
+
+pub operated_with-returns-in_err-ys : goal.operated_with-returns-in_err-ys
+operated_with-returns-in_err-ys t c =
+    let named = IsNamedOr c.args.scene.now c.args.at (formula c.args.b.now) (IsOfResults c.args.op (cases_at c.args.diagrams.now c.args.xs.now) (cases_seen c.args.scene.now c.args.at (formula c.args.b.now)) (values_of (span_of c.args.op (map (λ (x : CaseRoot). x.value) c.args.xs.now) (values_in (game_seen c.args.scene.now) (formula c.args.b.now))))) in
+    cases_handed c.args.diagrams.now c.cases_of.new.diagrams c.cases_of.result c.in_err-ys.field-0.0 named c.in_err-ys.was c.cases_of.ensures.leaves (cause_wider (IsNamedIn c.args.scene.now c.args.at (formula c.args.b.now)) named (λ f is. inl is) _ _ _ c.cases_of.ensures.cause) c.from_residual.result _ (search rules)
+
+pub operated_with-returns : goal.operated_with-returns
+operated_with-returns t c =
+    let first = c.in_ok-ys.ensures in
+    operated_with_made c.args.scene.now c.args.at c.args.diagrams.now c.cases_of.new.diagrams c.operation_cases-cases.new.diagrams c.release_all.new.diagrams c.release_all.ensures.table c.in_ok-ys.ys.items c.deref.result.now c.deref.ensures.value c.release_all.ensures.released first.leaves.keeps
+    (formula c.args.b.now) first.made c.args.op c.args.xs.now c.operation_cases-cases.result c.requires.kept c.operation_cases-cases.ensures
+
+pub remainders-remainder_cases-cases-requires-clause-span : goal.remainders-remainder_cases-cases-requires-clause-span
+remainders-remainder_cases-cases-requires-clause-span t c =
+    let first = c.in_ok-xs.ensures in
+    let g = game_seen c.args.scene.now in
+    let a = formula c.args.a.now in
+    rw (to_z-of_z w64 c.args.n c.ranges.n) (subst (λ (vs : List Value). IsCountable (span_of Mod vs (value.Int c.args.n ∷ [])))
+    (sym (seen_values c.args.diagrams.now c.cases_of.new.diagrams c.in_ok-xs.xs.items c.deref.result.now _ first.made first.leaves.keeps c.deref.ensures.value (values_in g a) (values-cases g (entries_seen c.args.scene.now) c.args.at a))) c.requires.known.1)
+
+pub remainders-remainder_cases-cases-requires-clause-xs_kept : goal.remainders-remainder_cases-cases-requires-clause-xs_kept
+remainders-remainder_cases-cases-requires-clause-xs_kept t c =
+    let first = c.in_ok-xs.ensures in
+    seen_kept c.args.diagrams.now c.cases_of.new.diagrams c.in_ok-xs.xs.items c.deref.result.now _ first.made first.leaves.keeps c.deref.ensures.value
+
+pub remainders-release_all-requires : goal.remainders-release_all-requires
+remainders-release_all-requires t c =
+    let first = c.in_ok-xs.ensures in
+    let then = c.remainder_cases-cases.ensures in
+    made_left c.args.diagrams.now c.cases_of.new.diagrams c.in_ok-xs.xs.items c.deref.result.now _ first.made first.leaves.keeps c.deref.ensures.value (λ v. v.items) c.remainder_cases-cases.new.diagrams c.remainder_cases-cases.result _ then.made then.leaves
+
+pub remainders-returns-in_err-xs : goal.remainders-returns-in_err-xs
+remainders-returns-in_err-xs t c =
+    let named = IsNamedIn c.args.scene.now c.args.at (Remainder (formula c.args.a.now) c.args.n) in
+    cases_handed c.args.diagrams.now c.cases_of.new.diagrams c.cases_of.result c.in_err-xs.field-0.0 named c.in_err-xs.was c.cases_of.ensures.leaves (cause_wider (IsNamedIn c.args.scene.now c.args.at (formula c.args.a.now)) named (part_named c.args.scene.now c.args.at (formula c.args.a.now) (formula c.args.a.now) named (λ f is. inl (inr (inl is))) (λ f is. inr is)) _ _ _ c.cases_of.ensures.cause) c.from_residual.result _ (search rules)
+
+pub remainders-returns : goal.remainders-returns
+remainders-returns t c =
+    let first = c.in_ok-xs.ensures in
+    remainders_made c.args.scene.now c.args.at c.args.diagrams.now c.cases_of.new.diagrams c.remainder_cases-cases.new.diagrams c.release_all.new.diagrams c.release_all.ensures.table c.in_ok-xs.xs.items c.deref.result.now c.deref.ensures.value c.release_all.ensures.released first.leaves.keeps
+    (formula c.args.a.now) first.made c.args.n _ c.remainder_cases-cases.result (to_z-of_z w64 c.args.n c.ranges.n) c.remainder_cases-cases.ensures
+
+pub operated-operated_with-cases-requires : goal.operated-operated_with-cases-requires
+operated-operated_with-cases-requires t c =
+    let first = c.in_ok-xs.ensures in
+    let g = game_seen c.args.scene.now in
+    let a = formula c.args.a.now in
+    let kept = seen_kept c.args.diagrams.now c.cases_of.new.diagrams c.in_ok-xs.xs.items c.deref.result.now _ first.made first.leaves.keeps c.deref.ensures.value in
+    let levels : level_count (codes_seen c.args.scene.now) ≤ c.cases_of.new.diagrams.state.table.levels = subst (λ (n : ℕ). level_count (codes_seen c.args.scene.now) ≤ n) (sym first.leaves.keeps.levels) c.requires.levels in
+    let span = subst (λ (vs : List Value). IsCountable (span_of c.args.op vs (values_in g (formula c.args.b.now))))
+    (sym (seen_values c.args.diagrams.now c.cases_of.new.diagrams c.in_ok-xs.xs.items c.deref.result.now _ first.made first.leaves.keeps c.deref.ensures.value (values_in g a) (values-cases g (entries_seen c.args.scene.now) c.args.at a))) c.requires.span in
+    search rules

@@ -1,0 +1,70 @@
+-- What a budget is filled with where it ends a call: diagrams that are held, and what one operation on them made so far.
+use Rattle.std.specs.Prelude.{◌≡◌, ◌<◌, ◌⊎◌, ℕ, Bool, false, List, [], ◌∷◌, Result, Err}
+use Rattle.std.specs.List.{AllByRecursion}
+use Rattle.spec_model.specs.Diagrams.{Diagram, Function, value, IsPartOf, IsReduced}
+use Rattle.node_table.specs.Table.{Table, IsLive, diagram_at}
+use Rattle.bdd_store.specs.State.{State, IsEdge, IsRoot, diagram_of, IsFilled}
+use Rattle.bdd_ops.specs.Functions.{join_of}
+use Rattle.bdd_ops.specs.Contents.{Contents}
+use Rattle.bdd_ops.specs.Calls.{IsNegatedPart}
+use Rattle.bdd_ops.specs.Steps.{IsJoinOfParts, IsChoiceOfParts, IsUnfinished, IsRelatedPart, IsShiftedPart}
+use Rattle.regions.specs.declared.types.Halt.{Halt}
+use Rattle.bit_compile.specs.Making.{Makes}
+use Rattle.regions.specs.declared.types.Halt.TheVariants as halt
+
+-- one operation on diagrams: a level's bit, a negation, two joined, a choice, "some make both true", and levels moved
+pub data Running : Type 0 where
+  bit : ℕ → Running
+  negation : Diagram → Running
+  join : Bool → Diagram → Diagram → Running
+  choice : Diagram → Diagram → Diagram → Running
+  related : List ℕ → Diagram → Diagram → Running
+  moved : List ℕ → Diagram → Running
+
+abbrev pub arguments_of : Running → List Diagram
+arguments_of (bit level) = []
+arguments_of (negation a) = a ∷ []
+arguments_of (join all a b) = a ∷ b ∷ []
+arguments_of (choice a b c) = a ∷ b ∷ c ∷ []
+arguments_of (related levels a b) = a ∷ b ∷ []
+arguments_of (moved to a) = a ∷ []
+
+-- what it makes on the way: its result on parts of its arguments, or two such results joined
+abbrev pub IsUnfinishedOf : Running → Diagram → Type 0
+IsUnfinishedOf (bit level) made = value made ≡ (λ s. s level)
+IsUnfinishedOf (negation a) made = IsNegatedPart a made
+IsUnfinishedOf (join all a b) made = IsJoinOfParts (join_of all) a b made
+IsUnfinishedOf (choice a b c) made = IsChoiceOfParts a b c made
+IsUnfinishedOf (related levels a b) made = IsUnfinished (join_of false) (IsRelatedPart levels a b) made
+IsUnfinishedOf (moved to a) made = IsShiftedPart to a made
+
+-- the node stands in a diagram that is held, whose nodes are all in the table
+pub record StandsIn (t : Table) (IsHeld : Diagram → Type 0) (n : ℕ) : Type 0 where
+  pub root : ℕ
+  pub live : IsLive t root
+  pub held : IsHeld (diagram_at t root)
+  pub part : IsPartOf (diagram_at t n) (diagram_at t root)
+
+-- The table holds exactly its budget of nodes: the constants, parts of diagrams that are held, and unfinished results of
+-- one operation on such diagrams.
+pub record IsCrowdedBy (t : Table) (IsHeld : Diagram → Type 0) : Type 0 where
+  pub filled : IsFilled t
+  pub running : Running
+  pub on_held : AllByRecursion IsHeld (arguments_of running)
+  pub reduced : AllByRecursion IsReduced (arguments_of running)
+  pub needed : (n : ℕ) → IsLive t n → (n < 2) ⊎ (StandsIn t IsHeld n ⊎ IsUnfinishedOf running (diagram_at t n))
+
+-- a root of the diagram was kept, or its function is named
+abbrev pub IsHeldSince : State → (Function → Type 0) → Diagram → Type 0
+IsHeldSince old IsNamed d = ((r : ℕ) × IsRoot old r × (d ≡ diagram_of old r)) ⊎ IsNamed (value d)
+
+-- `Budget` comes only where the diagrams kept at first, which are all there, and diagrams of named functions, with the
+-- unfinished results of one operation on them, are exactly as many nodes as the budget
+pub record HasCause {V : Type 0} (old new : Contents) (result : Result V Halt) (IsNamed : Function → Type 0) : Type 0 where
+  pub crowded : result ≡ Err halt.Budget → IsCrowdedBy new.state.table (IsHeldSince old.state IsNamed)
+  pub rooted : result ≡ Err halt.Budget → (n : ℕ) → IsRoot old.state n → IsEdge new.state n
+
+-- a root of this function, or a refusal that leaves what is kept and has this cause
+pub record MakesNamed (old new : Contents) (result : Result ℕ Halt) (f : Function) (IsNamed : Function → Type 0) : Type 0 where
+  pub made : Makes old new result f
+  pub cause : HasCause old new result IsNamed

@@ -1,5 +1,0 @@
-use Rattle.spectra.proofs.Enough.{enough}
-use Rattle.spectra.proofs.laws.enough_nodes_never_run_out.Goals as goal
-
-pub returns : goal.returns
-returns c = enough

@@ -1,5 +1,0 @@
-use Rattle.spectra.proofs.Readings.{one_meaning}
-use Rattle.spectra.proofs.laws.no_text_means_two_specifications.Goals as goal
-
-pub returns : goal.returns
-returns c = one_meaning

@@ -1,0 +1,149 @@
+-- What causes the statuses that tell of a failure.
+use Rattle.std.proofs.Common.{◌⊎◌, ℕ, List, [], ◌∷◌, ◌++◌, Option, inl, inr, sym, subst, arith}
+use Rattle.sp_outside.specs.Causes.{Rose}
+use Rattle.sp_outside.specs.Files.{Files, told_file}
+use Rattle.spectra_trees.specs.Data.{TreeData}
+use Rattle.spec_model.specs.Syntax.{Specification}
+use Rattle.session.specs.declared.talking.End.{End}
+use Rattle.session.specs.declared.talking.End.TheVariants as ends
+use Rattle.session.specs.declared.auditing.AuditEnd.{AuditEnd}
+use Rattle.session.specs.declared.auditing.AuditEnd.TheVariants as audits
+use Rattle.session.specs.AuditTalks.{AuditTalk}
+use Rattle.spectra_words.specs.declared.words.Command.{Command}
+use Rattle.spectra_words.specs.declared.words.Command.TheVariants.{Synth}
+use Rattle.spectra_words.specs.Commands.{AsksArbiter}
+use Rattle.spec_gen.specs.Arbiter.{arbiter_text}
+use Rattle.spectra_top.specs.declared.status.Status.{Status}
+use Rattle.spectra_top.specs.declared.status.Status.TheVariants.{Done, Other, Words, Refused, Assumption, Budget, BadLine, ShelfFault, InputFault, OutputFault, Memory, NoFile, Limit}
+use Rattle.spectra_top.specs.Endings.{Ending, status_of, realizable, unrealizable}
+use Rattle.spectra_top.specs.Streams.{Moment, Writes, Ends, whole, cut, WantsMemory, headed, no_room}
+use Rattle.spectra_top.specs.Streams as headings
+use Rattle.spectra_top.specs.Sessions as sessions
+use Rattle.spectra_top.specs.Sessions.{Talk, Closes, HoldsSession, session, cut_at_once, ending_after, RunTalks, counter_ending_after, CounterTalks, most_positions, audit_ending_after}
+use Rattle.spectra_top.specs.Reading.{Told, import_names}
+use Rattle.spectra_top.specs.Top.{Stops, Decides, ServesTrees, ServesTree, ServesText, ServesFile, ServesWords, ServesArbiter, arbiter_name, HasCause, StopsBelowLine, IsCaused}
+use Rattle.spectra_top.specs.Top as top
+
+module _ (failed : Type 0) (before after : Moment) where
+  abbrev Caused : Status → Type 0
+  Caused status = HasCause failed (WantsMemory before after Memory) before after status
+
+  by_writing : (line : List ℕ) (expected status : Status) → Caused expected → Writes line expected before after status → Caused status
+  by_writing line expected _ given (whole unread is) = given
+  by_writing line expected _ given (cut unread part rose) = rose
+
+  by_wanting : (status : Status) → WantsMemory before after status → Caused status
+  by_wanting status wants = subst Caused (sym wants.is) (subst (WantsMemory before after) wants.is wants)
+
+  by_closing : (last : Ending) (talked : Option (List ℕ)) (status : Status) → Caused (status_of last) → Closes last talked after.written (Rose before.write_faults after.write_faults) status → Caused status
+  by_closing last talked _ given (sessions.whole is) = given
+  by_closing last talked _ given (sessions.cut part rose) = rose
+
+  by_session : (verdict : Ending) (Talks : Talk) (ending_of : End → Ending) (status : Status) →
+      ((end : End) (greeted talked : Option (List ℕ)) → Talks before.left after.left greeted talked (Rose before.read_faults after.read_faults) (Rose before.write_faults after.write_faults) end → Caused (status_of (ending_of end))) →
+      HoldsSession verdict Talks ending_of before after status → Caused status
+  by_session verdict Talks ending_of status by_talk (session held) = by_closing (ending_of held.end) held.talked status (by_talk held.end held.greeted held.talked held.talk) held.closes
+  by_session verdict Talks ending_of _ by_talk (cut_at_once unread part rose) = rose
+
+  by_run : (s : Specification) (k : ℕ) (end : End) (greeted talked : Option (List ℕ)) →
+      RunTalks s k before.left after.left greeted talked (Rose before.read_faults after.read_faults) (Rose before.write_faults after.write_faults) end → Caused (status_of (ending_after end))
+  by_run s k ends.Finished greeted talked talk = tt
+  by_run s k (ends.Broken label) greeted talked talk = tt
+  by_run s k (ends.BadLine n) greeted talked talk = tt
+  by_run s k ends.StateLimit greeted talked talk = tt
+  by_run s k ends.ReadFault greeted talked talk = talk.ends.0
+  by_run s k ends.WriteFault greeted talked talk = talk.ends.0
+
+  by_counter : (s : Specification) (n m : ℕ) (end : End) (greeted talked : Option (List ℕ)) →
+      CounterTalks s n m before.left after.left greeted talked (Rose before.read_faults after.read_faults) (Rose before.write_faults after.write_faults) end → Caused (status_of (counter_ending_after end))
+  by_counter s n m ends.Finished greeted talked talk = tt
+  by_counter s n m (ends.Broken label) greeted talked talk = tt
+  by_counter s n m (ends.BadLine k) greeted talked talk = tt
+  by_counter s n m ends.StateLimit greeted talked talk = tt
+  by_counter s n m ends.ReadFault greeted talked talk = talk.ends.0
+  by_counter s n m ends.WriteFault greeted talked talk = talk.ends.0
+
+  by_audit : (s : Specification) (end : AuditEnd) → AuditTalk s most_positions before.left after.left (Rose before.read_faults after.read_faults) end → Caused (status_of (audit_ending_after end))
+  by_audit s (audits.Whole n) talk = tt
+  by_audit s (audits.Broken finding) talk = tt
+  by_audit s (audits.BadLine n) talk = tt
+  by_audit s audits.StateLimit talk = tt
+  by_audit s audits.ReadFault talk = talk.ends.1.0
+
+  module _ (command : Command) (nodes : ℕ) where
+    by_deciding : (s : Specification) (status : Status) → Decides command nodes s before after status → Caused status
+    by_deciding s status (top.won k is wins writes) = by_writing _ Done status tt writes
+    by_deciding s status (top.held k is wins holds) = by_session (realizable k) (RunTalks s k) ending_after status (by_run s k) holds
+    by_deciding s status (top.lost n m is loses writes) = by_writing _ Other status tt writes
+    by_deciding s status (top.won_instead k is wins writes) = by_writing _ Other status tt writes
+    by_deciding s status (top.has_core n m core is loses left is_core writes) = by_writing _ Done status tt writes
+    by_deciding s status (top.countered n m is loses holds) = by_session (unrealizable n m) (CounterTalks s n m) counter_ending_after status (by_counter s n m) holds
+    by_deciding s status (top.separates n m is loses writes) = by_writing _ Done status tt writes
+    by_deciding s status (top.separates_not k is wins writes) = by_writing _ Other status tt writes
+    by_deciding s status (top.audits is audit) = by_closing (audit_ending_after audit.end) before.written status (by_audit s audit.end audit.talk) audit.closes
+    by_deciding s status (top.budget decides short filled writes) = by_writing _ Budget status tt writes
+    by_deciding s status (top.no_memory wants) = by_wanting status wants
+
+    module _ (name : List ℕ) where
+      of_trees : (names : List (List ℕ)) (trees : List TreeData) (status : Status) → ServesTrees command nodes name before after names trees status → Caused status
+      of_trees names trees status (top.mistyped number tree line column is writes) = by_writing _ Refused status tt writes
+      of_trees names trees status (top.means s means decides) = by_deciding s status decides
+      of_trees names trees status (top.no_memory wants) = by_wanting status wants
+
+      stopped : (told : Option (Option (List ℕ))) (file : List ℕ) (e : Ending) (status : Status) → Stops told failed file e → Ends e before after status → Caused status
+      stopped told file _ status (top.missing none) writes = by_writing _ NoFile status tt writes
+      stopped told file _ status (top.failed rose) writes = by_writing _ ShelfFault status rose writes
+      stopped told file _ status (top.is_refused text number line column holds is) writes = by_writing _ Refused status tt writes
+
+      of_tree : (told : Told) (main : TreeData) (status : Status) → ServesTree command nodes told failed name before after main status → Caused status
+      of_tree told main status (top.stopped file e next stops writes) = stopped (told file) file e status stops writes
+      of_tree told main status (top.together imported read serves) = of_trees (import_names name main) (imported ++ main ∷ []) status serves
+      of_tree told main status (top.no_memory wants) = by_wanting status wants
+
+      of_text : (told : Told) (text : List ℕ) (status : Status) → ServesText command nodes told failed name before after text status → Caused status
+      of_text told text status (top.is_refused number line column is writes) = by_writing _ Refused status tt writes
+      of_text told text status (top.of_tree main reads serves) = of_tree told main status serves
+      of_text told text status (top.no_memory wants) = by_wanting status wants
+
+      of_file : (told : Told) (status : Status) → ServesFile command nodes told failed name before after status → Caused status
+      of_file told status (top.stopped e stops writes) = stopped (told name) name e status stops writes
+      of_file told status (top.of_tree main reads serves) = of_tree told main status serves
+      of_file told status (top.no_memory wants) = by_wanting status wants
+
+-- a cause between two moments is one between earlier and later ones
+module _ (failed wanted wanted' : Type 0) (before between after : Moment) (of_reads : Rose between.read_faults after.read_faults → Rose before.read_faults after.read_faults)
+    (of_writes : Rose between.write_faults after.write_faults → Rose before.write_faults after.write_faults) (of_memory : wanted → wanted') where
+  caused_before : (status : Status) → HasCause failed wanted between after status → HasCause failed wanted' before after status
+  caused_before Done cause = tt
+  caused_before Other cause = tt
+  caused_before Words cause = tt
+  caused_before Refused cause = tt
+  caused_before Assumption cause = tt
+  caused_before Budget cause = tt
+  caused_before BadLine cause = tt
+  caused_before ShelfFault cause = cause
+  caused_before InputFault cause = of_reads cause
+  caused_before OutputFault cause = of_writes cause
+  caused_before Memory cause = of_memory cause
+  caused_before NoFile cause = tt
+  caused_before Limit cause = tt
+
+module _ (words : List (List ℕ)) (failed : Type 0) (before after : Moment) where
+  at_once : (status : Status) → HasCause failed (WantsMemory before after Memory) before after status → IsCaused words failed before after status
+  at_once status cause = caused_before failed (WantsMemory before after Memory) (WantsMemory before after Memory ⊎ StopsBelowLine words before after) before before after (λ rose. rose) (λ rose. rose) inl status cause
+
+  -- below the line of an arbiter
+  of_arbiter : (told : Told) (clients nodes : ℕ) → AsksArbiter words clients nodes → (status : Status) → ServesArbiter told failed clients nodes before after status → IsCaused words failed before after status
+  of_arbiter told clients nodes asks status (headed between line serves) =
+      caused_before failed (WantsMemory between after Memory) (WantsMemory before after Memory ⊎ StopsBelowLine words before after) before between after
+      (λ rose. subst (λ (n : ℕ). Rose n after.read_faults) line.unread.faults rose) (λ rose. let later = line.later in omega (arith, later, rose))
+      (λ wants. inr (record { clients = clients; nodes = nodes; between = between; asks = asks; headed = line; wants = wants })) status
+      (of_text failed between after Synth nodes arbiter_name told (arbiter_text clients) status serves)
+  of_arbiter told clients nodes asks _ (headings.cut_at_once unread part rose) = rose
+  of_arbiter told clients nodes asks status (no_room wants) = at_once status (by_wanting failed before after status wants)
+
+  pub is_caused : (shelf : Option Files) (status : Status) → ServesWords words shelf failed before after status → IsCaused words failed before after status
+  is_caused shelf status (top.no_command nothing writes) = at_once status (by_writing failed before after _ Words status tt writes)
+  is_caused shelf status (top.asked command name nodes asks serves) = at_once status (of_file failed before after command nodes name (told_file shelf) status serves)
+  is_caused shelf status (top.arbiter clients nodes asks serves) = of_arbiter (told_file shelf) clients nodes asks status serves
+  is_caused shelf status (top.no_memory wants) = at_once status (by_wanting failed before after status wants)

@@ -1,0 +1,78 @@
+-- With enough nodes the node budget is never reached.
+use Rattle.std.proofs.Common.{◌≤◌, ℕ, List, Option, arith, sym, subst}
+use Rattle.sp_outside.specs.Causes.{Rose}
+use Rattle.spec_model.specs.Syntax.{Specification}
+use Rattle.spec_model.specs.Needs.{need_of}
+use Rattle.session.specs.declared.talking.End.{End}
+use Rattle.session.specs.declared.talking.End.TheVariants as ends
+use Rattle.session.specs.declared.auditing.AuditEnd.{AuditEnd}
+use Rattle.session.specs.declared.auditing.AuditEnd.TheVariants as audits
+use Rattle.spectra_words.specs.declared.words.Command.{Command}
+use Rattle.spectra_top.specs.declared.status.Status.{Status}
+use Rattle.spectra_top.specs.declared.status.Status.TheVariants.{Budget}
+use Rattle.spectra_top.specs.Endings.{Ending, status_of}
+use Rattle.spectra_top.specs.Streams.{Moment, Writes, whole, cut, WantsMemory}
+use Rattle.spectra_top.specs.Sessions as sessions
+use Rattle.spectra_top.specs.Sessions.{Talk, Closes, HoldsSession, session, cut_at_once, ending_after, counter_ending_after, audit_ending_after}
+use Rattle.spectra_top.specs.Top.{Decides, solved_for, NeverRunsOut}
+use Rattle.spectra_top.specs.Top as top
+
+abbrev IsOther : Status → Type 0
+IsOther Budget = ⊥
+IsOther _ = Unit {0}
+
+module _ (before after : Moment) where
+  by_writing : (line : List ℕ) (expected status : Status) → IsOther expected → Writes line expected before after status → IsOther status
+  by_writing line expected _ other (whole unread is) = other
+  by_writing line expected _ other (cut unread part rose) = tt
+
+  by_wanting : (status : Status) → WantsMemory before after status → IsOther status
+  by_wanting status wants = subst IsOther (sym wants.is) tt
+
+  by_closing : (last : Ending) (talked written : Option (List ℕ)) (rose_out : Type 0) (status : Status) → IsOther (status_of last) → Closes last talked written rose_out status → IsOther status
+  by_closing last talked written rose_out _ other (sessions.whole is) = other
+  by_closing last talked written rose_out _ other (sessions.cut part rose) = tt
+
+  by_session : (verdict : Ending) (Talks : Talk) (ending_of : End → Ending) (status : Status) → ((end : End) → IsOther (status_of (ending_of end))) → HoldsSession verdict Talks ending_of before after status → IsOther status
+  by_session verdict Talks ending_of status other (session held) = by_closing (ending_of held.end) held.talked after.written (Rose before.write_faults after.write_faults) status (other held.end) held.closes
+  by_session verdict Talks ending_of _ other (cut_at_once unread part rose) = tt
+
+  by_run : (end : End) → IsOther (status_of (ending_after end))
+  by_run ends.Finished = tt
+  by_run (ends.Broken label) = tt
+  by_run (ends.BadLine n) = tt
+  by_run ends.StateLimit = tt
+  by_run ends.ReadFault = tt
+  by_run ends.WriteFault = tt
+
+  by_counter : (end : End) → IsOther (status_of (counter_ending_after end))
+  by_counter ends.Finished = tt
+  by_counter (ends.Broken label) = tt
+  by_counter (ends.BadLine n) = tt
+  by_counter ends.StateLimit = tt
+  by_counter ends.ReadFault = tt
+  by_counter ends.WriteFault = tt
+
+  by_audit : (end : AuditEnd) → IsOther (status_of (audit_ending_after end))
+  by_audit (audits.Whole n) = tt
+  by_audit (audits.Broken finding) = tt
+  by_audit (audits.BadLine n) = tt
+  by_audit audits.StateLimit = tt
+  by_audit audits.ReadFault = tt
+
+  module _ (command : Command) (nodes : ℕ) (s : Specification) (enough_nodes : need_of (solved_for command s) ≤ nodes) where
+    decided : (status : Status) → Decides command nodes s before after status → IsOther status
+    decided status (top.won k is by ends) = by_writing _ _ status tt ends
+    decided status (top.held k is by holds) = by_session _ _ ending_after status by_run holds
+    decided status (top.lost n m is by ends) = by_writing _ _ status tt ends
+    decided status (top.won_instead k is by ends) = by_writing _ _ status tt ends
+    decided status (top.has_core n m core is by left core' ends) = by_writing _ _ status tt ends
+    decided status (top.countered n m is by counters) = by_session _ _ counter_ending_after status by_counter counters
+    decided status (top.separates n m is by ends) = by_writing _ _ status tt ends
+    decided status (top.separates_not k is by ends) = by_writing _ _ status tt ends
+    decided status (top.audits is log) = by_closing (audit_ending_after log.end) before.written after.written (Rose before.write_faults after.write_faults) status (by_audit log.end) log.closes
+    decided status (top.budget other few filled ends) = absurd (omega (arith, few, enough_nodes))
+    decided status (top.no_memory wants) = by_wanting status wants
+
+pub enough : (command : Command) (nodes : ℕ) (s : Specification) (before after : Moment) → NeverRunsOut command nodes s before after
+enough command nodes s before after enough_nodes decides = decided before after command nodes s enough_nodes Budget decides

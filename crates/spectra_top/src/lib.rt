@@ -1,0 +1,28 @@
+//! All that the program `spectra` does: from words, files and streams to lines and a status.
+//!
+//! `synth FILE` reads a specification, with the files that it imports, and says whether it is realizable. `run FILE` says the
+//! same and, where the system wins, answers each line of the input by one line, so that the exchanged lines are one play of
+//! legal moves that keeps what recurs within the printed K rounds. Where the environment wins, `counter FILE` answers each line
+//! by a note and the next input, so that the exchanged lines beat the system within the printed N and M, and `core FILE` names
+//! the guarantees of an unrealizable core. `separate FILE` says whether the environment, by its assumptions alone, beats a
+//! system that can never meet its guarantee. `audit FILE` reads a log of positions, and says which line of the specification
+//! is broken first, and where. `gen N` does as `synth` for an arbiter of N clients. The verdict is decided over sets of the
+//! states of the specification's game, by at most as many nodes at a time as `--nodes` says.
+//!
+//! Contract: `top::spectra`. Path: words and bytes → tokens → trees → specification → verdict → **lines and status**.
+#![tactic(auto)]
+
+mod auditing;
+mod closing;
+pub mod countering;
+mod deciding;
+mod generating;
+pub mod holding;
+mod importing;
+pub mod laws;
+mod placing;
+pub mod reading;
+mod saying;
+mod serving;
+pub mod status;
+pub mod top;

@@ -1,0 +1,3 @@
+pub mod CodedGames
+pub mod JudgedGame
+pub mod FollowerGame

@@ -1,0 +1,2 @@
+pub mod FormedPatterns
+pub mod MixedTyped

@@ -1,0 +1,2 @@
+pub mod TriedPatterns
+pub mod MixedLines
