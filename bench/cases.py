@@ -1,62 +1,98 @@
 #!/usr/bin/env python3
-"""cases.py [WORD]: the plain program (reference/) on the texts of crates/worked_runs/src/tests/whole/, whose answers were worked out by
-hand, or on those in whose sentence a word stands. It says where the two differ.
+"""cases.py [PROGRAM [WORD]]: the plain program (reference/), and PROGRAM where one is named, on the rows of crates/worked_rows/data,
+or on those in whose sentence WORD stands. It says where one of them writes something else than the row has, or has another status,
+how many rows it compared, and how many it left out and why.
 """
-import json
-import re
+import subprocess
 import sys
+import tempfile
+from collections import Counter
+from math import prod
 from pathlib import Path
 
 TOP = Path(__file__).resolve().parent
 sys.path.insert(0, str(TOP))
 
+from plain import COMMANDS, deep  # noqa: E402
+from reference.game import Game  # noqa: E402
 from reference.talks import answer, lines_of  # noqa: E402
 from reference.text import NoText, Shelf, Text  # noqa: E402
+from rows import rows  # noqa: E402
 
-TEXT = r'"(?:[^"\\]|\\.)*"'
-CASE = re.compile(
-    rf"Case \{{\s*shows: ({TEXT}),\s*files: &\[(.*?)\],\s*command: ({TEXT}),\s*input: ({TEXT}),\s*"
-    rf"written: ({TEXT}),\s*status: (\d+),\s*\}}",
-    re.S,
-)
+MOST_STATES = 1_000
+MOST_BYTES = 20_000
 
 
-def cases():
-    """The sentence of each case, its files, the main one first, the command, the input, what is written, and the status."""
-    for file in sorted((TOP.parent / "crates/worked_runs/src/tests/whole").glob("*.rt")):
-        source = file.read_text()
-        found = CASE.findall(source)
-        assert len(found) == source.count("    Case {"), file
-        for shows, files, command, given, written, status in found:
-            named = [json.loads(text) for text in re.findall(TEXT, files)]
-            pairs = list(zip(named[::2], named[1::2]))
-            yield json.loads(shows), pairs, *map(json.loads, (command, given, written)), int(status)
+class LeftOut(Exception):
+    """Why a row isn't compared."""
 
 
-def answered(files, command, given):
-    """What the plain program writes, and its status."""
-    shelf = Shelf({name: text.encode() for name, text in files})
+def state_count(game):
+    domains = [domain for _, domain in game.inputs + game.outputs] + [table.values for table in game.tables]
+    return prod(len(domain) for domain in domains)
+
+
+def plain(row):
+    """What the plain program writes for a row, and its status."""
+    if len(row.words) != 2 or row.words[0] not in COMMANDS:
+        raise LeftOut("the words are no command of the plain program")
+    if any(len(text.replace(b" ", b"")) > MOST_BYTES for text in row.files.values()):
+        raise LeftOut("a text is too long for the plain program")
+    command, name = row.words
     try:
-        text = Text(files[0][0], shelf)
+        text = Text(name, Shelf(row.files))
     except NoText as refused:
-        return refused.line + "\n", refused.status
-    lines, status = answer(command, text, lines_of(given))
-    return "".join(line + "\n" for line in lines), status
+        return (refused.line + "\n").encode(), refused.status
+    if command != "audit" and state_count(Game(text)) > MOST_STATES:
+        raise LeftOut("there are too many states for the plain program")
+    lines, status = answer(command, text, lines_of(row.input.decode()))
+    return "".join(line + "\n" for line in lines).encode(), status
+
+
+def built(program, row):
+    """What a built program writes for a row, in a folder with its files, and its status."""
+    if any(name.startswith("/") or name.endswith("/") for name in row.files) or row.written.endswith(b"/\n"):
+        raise LeftOut("a file lies outside of the folder, or has a folder's name")
+    with tempfile.TemporaryDirectory() as folder:
+        for name, text in row.files.items():
+            file = Path(folder, name)
+            file.parent.mkdir(parents=True, exist_ok=True)
+            file.write_bytes(text)
+        run = subprocess.run([program, *row.words], input=row.input, capture_output=True, cwd=folder)
+    return run.stdout, run.returncode
+
+
+def compare(name, play, chosen):
+    """Plays the rows in one way; says how many differ."""
+    compared = differences = 0
+    out = Counter()
+    for row in chosen:
+        try:
+            if row.fails():
+                raise LeftOut("a device fails")
+            got = play(row)
+        except LeftOut as why:
+            out[str(why)] += 1
+            continue
+        compared += 1
+        if got != (row.written, row.status):
+            differences += 1
+            print(f"{row.place}: {row.shows}\n  the row {row.written!r}, {row.status}\n  {name} {got[0]!r}, {got[1]}", flush=True)
+    print(f"{name}: {compared} rows compared, {differences} differ, {sum(out.values())} left out")
+    for why, count in out.most_common():
+        print(f"  {count}: {why}")
+    return differences
 
 
 def main():
-    word = sys.argv[1] if len(sys.argv) > 1 else ""
-    count = differences = 0
-    for shows, files, command, given, written, status in cases():
-        if word in shows:
-            count += 1
-            got = answered(files, command, given)
-            if got != (written, status):
-                differences += 1
-                print(f"{shows}\n{files[0][1]}by hand {written!r}, with status {status}, and here {got[0]!r}, with status {got[1]}")
-    print(f"{count} texts, of which {differences} differ")
-    return 1 if differences else 0
+    program, word = [*sys.argv[1:], "", ""][:2]
+    chosen = [row for row in rows() if word in row.shows]
+    differ = compare("the plain program", plain, chosen)
+    if program:
+        path = str(Path(program).resolve())
+        differ += compare("the program", lambda row: built(path, row), chosen)
+    return 1 if differ else 0
 
 
 if __name__ == "__main__":
-    sys.exit(main())
+    sys.exit(deep(main))

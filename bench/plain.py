@@ -1,7 +1,8 @@
 #!/usr/bin/env python3
 """plain.py COMMAND FILE [INPUT]: what the program should write, by plain sets of states.
 
-COMMAND is one of the program's, or `layers`. It shares nothing with the crates: a state is some tuples of values, a set is a
+COMMAND is one of the program's, or `layers`. The input is that of the file INPUT, or else the standard input, of which each
+line is answered before the next is read. It shares nothing with the crates: a state is some tuples of values, a set is a
 Python set, and each greatest or least set is found by going on until nothing changes (reference/). It is slow: try it on
 texts of a few hundred states. It reads the whole language of docs/LANGUAGE.md, with what FILE imports, and tells the fault of
 a text that is refused.
@@ -10,6 +11,7 @@ a text that is refused.
 assumptions count from 0, ranks from 1. A set has a digit for each state: hidden values, inputs and then outputs, each in
 declared order, the first one slowest; a `_` stands where the input changes. The last line has K and who wins.
 """
+import os
 import sys
 import threading
 from pathlib import Path
@@ -18,10 +20,13 @@ sys.path.insert(0, str(Path(__file__).resolve().parent))
 
 from reference.game import Game  # noqa: E402
 from reference.layers import round_count, winning  # noqa: E402
-from reference.talks import answer, lines_of  # noqa: E402
+from reference.talks import lines_of, talk  # noqa: E402
 from reference.text import NoText, Shelf, Text  # noqa: E402
 
 COMMANDS = ("synth", "run", "counter", "core", "separate", "audit", "layers")
+USAGE = f"""usage: plain.py COMMAND FILE [INPUT]
+COMMAND is one of {' '.join(COMMANDS)}; without INPUT the standard input is read.
+It writes what spectra writes, slowly and without a proof: python3 bench/plain.py run examples/lift.spectra examples/lift.run.in"""
 
 
 class Disk(Shelf):
@@ -50,9 +55,29 @@ def write_layers(game):
     print(f"K={round_count(goals)}, the {winner} wins")
 
 
+def typed():
+    """The lines of the standard input, each as it comes."""
+    for line in sys.stdin.buffer:
+        text = line.decode("utf-8", "replace")
+        yield text[:-1].removesuffix("\r") if text.endswith("\n") else text
+
+
+def write(given):
+    """Writes each line as it comes; the status behind the last."""
+    while True:
+        try:
+            print(next(given), flush=True)
+        except StopIteration as end:
+            return end.value
+        except BrokenPipeError:
+            os.dup2(os.open(os.devnull, os.O_WRONLY), sys.stdout.fileno())
+            return 9
+
+
 def main():
     if len(sys.argv) not in (3, 4) or sys.argv[1] not in COMMANDS:
-        sys.exit("usage: plain.py COMMAND FILE [INPUT]")
+        print(USAGE, file=sys.stderr)
+        return 2
     try:
         text = Text(sys.argv[2], Disk())
     except NoText as refused:
@@ -61,21 +86,22 @@ def main():
     if sys.argv[1] == "layers":
         write_layers(Game(text))
         return 0
-    given = Path(sys.argv[3]).read_text(encoding="utf-8") if len(sys.argv) == 4 else ""
-    lines, status = answer(sys.argv[1], text, lines_of(given))
-    print("\n".join(lines))
-    return status
+    lines = lines_of(Path(sys.argv[3]).read_text(encoding="utf-8")) if len(sys.argv) == 4 else typed()
+    return write(talk(sys.argv[1], text, lines))
 
 
 def deep(call):
     """What a call gives, with room for texts whose formulas are deep."""
     threading.stack_size(512 * 1024 * 1024)
     given = []
-    thread = threading.Thread(target=lambda: given.append(call()))
+    thread = threading.Thread(target=lambda: given.append(call()), daemon=True)
     thread.start()
     thread.join()
     return given[0] if given else 1
 
 
 if __name__ == "__main__":
-    sys.exit(deep(main))
+    try:
+        sys.exit(deep(main))
+    except KeyboardInterrupt:
+        os._exit(130)

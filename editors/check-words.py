@@ -1,5 +1,6 @@
 #!/usr/bin/env python3
-"""Compares the words of the syntax files with the lexer's table of reserved words: each stands in each file, and no other."""
+"""Compares the words of the syntax files with the lexer's table of reserved words: each stands in each file, and no other. The files
+that VS Code's package.json names are there, and its problem matcher takes a fault apart."""
 import json
 import re
 import sys
@@ -23,14 +24,31 @@ def vim_words():
 
 def textmate_words():
     """The words of the grammar for editors that read TextMate's."""
-    grammar = json.loads((TOP / "editors/textmate/spectra.tmLanguage.json").read_text())
+    grammar = json.loads((TOP / "editors/vscode/spectra.tmLanguage.json").read_text())
     rows = grammar["repository"]["words"]["patterns"]
     return {word for row in rows for word in re.fullmatch(r"\\b\((.*)\)\\b", row["match"]).group(1).split("|")}
+
+
+def package_faults():
+    """What is wrong with the folder for VS Code."""
+    folder = TOP / "editors/vscode"
+    given = json.loads((folder / "package.json").read_text())["contributes"]
+    json.loads((folder / "language-configuration.json").read_text())
+    named = [one["configuration"] for one in given["languages"]] + [one["path"] for one in given["grammars"]]
+    yield from (f"no file {name}" for name in named if not (folder / name).is_file())
+    pattern = given["problemMatchers"][0]["pattern"]
+    found = re.fullmatch(pattern["regexp"], "a folder/door.spectra:3:17: fault 7 Unknown")
+    parts = [found and found.group(pattern[part]) for part in ("file", "line", "column", "message")]
+    if parts != ["a folder/door.spectra", "3", "17", "fault 7 Unknown"]:
+        yield f"the problem matcher gives {parts}"
 
 
 def main():
     reserved = reserved_words()
     status = 0
+    for fault in package_faults():
+        print(f"vscode: {fault}")
+        status = 1
     for name, words in (("vim", vim_words()), ("textmate", textmate_words())):
         for what, some in (("missing", reserved - words), ("not reserved", words - reserved)):
             if some:

@@ -75,6 +75,7 @@ class Judge:
 
     def __init__(self, kind_of_variable, kind_of_define, kinds_of_parameters):
         self.variable, self.define, self.wanted = kind_of_variable, kind_of_define, kinds_of_parameters
+        self.made = {}
 
     def kind(self, t, inside):
         """The kind of an expression; `inside` has the kinds of parameters and of own variables around it."""
@@ -98,8 +99,15 @@ class Judge:
         if form == "mod":
             return ("whole", 0, t.says - 1) if t.says > 0 else SOME
         if form in ARITHMETIC:
-            return given(form, *(self.kind(o, inside) for o in t.operands))
+            return self.kind_of_numbers(t, inside)
         return TRUTH
+
+    def kind_of_numbers(self, t, inside):
+        """The kind of a sum, difference or product, found once: sums may nest deep. The tree is kept, so that no other has its id."""
+        key = (id(t), id(inside))
+        if key not in self.made:
+            self.made[key] = t, inside, given(t.form, *(self.kind(o, inside) for o in t.operands))
+        return self.made[key][2]
 
     def faults(self, t, stand, inside):
         """Every fault of an expression where it stands."""

@@ -3,7 +3,7 @@ ghost use Rattle.bdd_cache.specs.Kept.{IsLive, HasLiveNodes};
 
 /// One answer: operation `op` on the nodes `a`, `b` and `c` gives the node `r`. An operation of fewer nodes has the
 /// constant 0 in their places.
-#[derive(Clone, Copy, Debug, PartialEq, Eq)]
+#[derive(Clone, Copy, PartialEq, Eq)]
 pub struct Answer {
     pub op: u32,
     pub a: u32,

@@ -3,7 +3,8 @@ use Rattle.std.proofs.Common.{◌≡◌, ℕ, inl, sym, ◌∙◌, ap, subst, re
 use Rattle.spec_model.specs.Diagrams.{Diagram, Function, value, ite}
 use Rattle.node_table.specs.Table.{diagram_at}
 use Rattle.bdd_store.specs.State.{IsEdge, diagram_of, KeepsEdges}
-use Rattle.bdd_ops.specs.Functions.{split, IgnoresTo}
+use Rattle.bdd_ops.specs.Functions.{split}
+use Rattle.bdd_ops.specs.Reading.{IgnoresTo}
 use Rattle.bdd_ops.specs.Contents.{Contents, function_at}
 use Rattle.bdd_ops.specs.Steps.{Grows, IsChoice, IsChoiceOfParts, SameNodes, IsSplitAt, IsSplit}
 use Rattle.bdd_ops.proofs.DiagramLemmas.{part_of_itself}

@@ -1,9 +1,10 @@
 -- What reduced diagrams read, and their parts.
 use Rattle.std.proofs.Common.{◌≡◌, ℕ, ◌<◌, ◌≤◌, inl, inr, sym, ◌∙◌, ap, subst, refl, arith, Bool, true, false, if◌then◌else◌}
 use Rattle.std.proofs.lemmas.Bool.{cases_order}
-use Rattle.spec_model.specs.Diagrams.{Diagram, constant, branch, Bits, value, with_bit, IsLater, IsReduced, IsWithin, IsPartOf, Reads}
+use Rattle.spec_model.specs.Diagrams.{Diagram, constant, branch, Bits, value, with_bit, IsLater, IsReduced, IsWithin, IsPartOf}
+use Rattle.spec_model.specs.DiagramReads.{Reads}
 use Rattle.spec_model.proofs.Diagrams.{same_function, value-with_bit, value_at_false, value_at_true}
-use Rattle.bdd_ops.specs.Functions.{Ignores, IgnoresTo}
+use Rattle.bdd_ops.specs.Reading.{Ignores, IgnoresTo}
 use Rattle.bdd_ops.proofs.FunctionLemmas.{with_bit-swapped}
 
 -- a diagram of later levels is one of levels later than an earlier one

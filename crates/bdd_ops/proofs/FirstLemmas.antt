@@ -3,7 +3,8 @@ use Rattle.std.proofs.Common.{◌≡◌, ◌⊎◌, ℕ, zero, suc, ◌<◌, ◌
 use Rattle.std.proofs.lemmas.Bool.{cases_eq, cases_order}
 use Rattle.std.proofs.lemmas.List.{get_or_past}
 use Rattle.std.proofs.lemmas.Nat.{mul-le, row_fits}
-use Rattle.spec_model.specs.Diagrams.{Bits, Function, bits_of}
+use Rattle.spec_model.specs.Diagrams.{Bits, Function}
+use Rattle.spec_model.specs.DiagramReads.{bits_of}
 use Rattle.bdd_ops.specs.Paths.{AgreesAt, Agrees, fixed_at, NotAfter, IsFirst, HasNone}
 use Rattle.bdd_ops.specs.Together.{first_bit, AreFirst, IsFirstWith, HasNoneWith}
 use Rattle.bdd_ops.proofs.PathLemmas.{agrees_from, agrees_later, bit_cases}

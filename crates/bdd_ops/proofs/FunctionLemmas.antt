@@ -2,8 +2,10 @@
 use Rattle.std.proofs.Common.{◌≡◌, ◌≢◌, ◌==◌, ℕ, ◌⊎◌, inl, inr, sym, ◌∙◌, ap, subst, refl, Bool, true, false, ◌&&◌, ◌||◌, if◌then◌else◌, List, [], ◌∷◌}
 use Rattle.std.proofs.lemmas.Bool.{cases_eq}
 use Rattle.std.proofs.lemmas.Bool.Decides.{eqb_tells}
-use Rattle.spec_model.specs.Diagrams.{Bits, Function, with_bit, ite, exists_over, forall_over}
-use Rattle.bdd_ops.specs.Functions.{split, Ignores, Join, joined, joined_at, joined_over, is_among, IsQuantifier}
+use Rattle.spec_model.specs.Diagrams.{Bits, Function, with_bit, ite, exists_over}
+use Rattle.spec_model.specs.DiagramReads.{forall_over}
+use Rattle.bdd_ops.specs.Functions.{split, Join, joined, joined_at, joined_over, is_among, IsQuantifier}
+use Rattle.bdd_ops.specs.Reading.{Ignores}
 
 -- ---- bits
 

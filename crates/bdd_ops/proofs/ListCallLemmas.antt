@@ -1,6 +1,7 @@
 -- Calls with a list of levels, said of the list itself.
 use Rattle.std.proofs.Common.{◌≡◌, ℕ, sym, subst, refl, List, Bool, true, false, Result}
-use Rattle.spec_model.specs.Diagrams.{Function, value, exists_over, forall_over, and_exists_over, shifted}
+use Rattle.spec_model.specs.Diagrams.{Function, value, exists_over, and_exists_over, shifted}
+use Rattle.spec_model.specs.DiagramReads.{forall_over}
 use Rattle.node_table.specs.Table.{Table, diagram_at}
 use Rattle.bdd_store.specs.declared.fault.StoreFault.{StoreFault}
 use Rattle.bdd_store.specs.State.{diagram_of}

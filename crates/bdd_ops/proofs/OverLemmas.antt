@@ -3,7 +3,8 @@ use Rattle.std.proofs.Common.{◌≡◌, ℕ, ◌<◌, inl, inr, sym, ◌∙◌,
 use Rattle.std.proofs.lemmas.Bool.Decides.{eqb_tells}
 use Rattle.spec_model.specs.Diagrams.{Diagram, constant, Function, value, IsPartOf}
 use Rattle.bdd_store.specs.State.{diagram_of, KeepsEdges}
-use Rattle.bdd_ops.specs.Functions.{split, Ignores, IgnoresTo, Join, joined, joined_over, join_of, is_among, IsQuantifier}
+use Rattle.bdd_ops.specs.Functions.{split, Join, joined, joined_over, join_of, is_among, IsQuantifier}
+use Rattle.bdd_ops.specs.Reading.{Ignores, IgnoresTo}
 use Rattle.bdd_ops.specs.Contents.{Contents, function_at}
 use Rattle.bdd_ops.specs.Steps.{Grows, HasFunction, IsUnfinished, IsQuantifiedPart, JoinsOrSplits, joined_or_split}
 use Rattle.bdd_ops.proofs.DiagramLemmas.{part_of_part}

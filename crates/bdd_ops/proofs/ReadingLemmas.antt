@@ -2,9 +2,10 @@
 use Rattle.std.proofs.Common.{◌≡◌, ◌≢◌, ◌==◌, ℕ, ◌⊎◌, inl, inr, sym, ap, subst, refl, true, false, not, ◌||◌, List, [], ◌∷◌, eq-eqb}
 use Rattle.std.proofs.lemmas.Bool.{false≢true}
 use Rattle.std.proofs.lemmas.Bool.Decides.{eqb_tells}
-use Rattle.spec_model.specs.Diagrams.{Function, exists_over, forall_over}
-use Rattle.bdd_ops.specs.Functions.{Ignores, Join, joined, joined_at, joined_over, join_of, is_among}
-use Rattle.bdd_ops.specs.Reading.{ChoicesReadNoMore, QuantifiersReadLess}
+use Rattle.spec_model.specs.Diagrams.{Function, exists_over}
+use Rattle.spec_model.specs.DiagramReads.{forall_over}
+use Rattle.bdd_ops.specs.Functions.{Join, joined, joined_at, joined_over, join_of, is_among}
+use Rattle.bdd_ops.specs.Reading.{ChoicesReadNoMore, QuantifiersReadLess, Ignores}
 use Rattle.bdd_ops.proofs.FunctionLemmas.{with_bit-twice, with_bit-other, ignores-joined_at, ignores-joined_over, exists_over-joined, forall_over-joined}
 
 pub bit_ignores : (level other : ℕ) → other ≢ level → Ignores other (λ s. s level)

@@ -4,7 +4,8 @@ use Rattle.spec_model.specs.Diagrams.{Diagram, constant, Function, value, IsPart
 use Rattle.bdd_store.specs.declared.edge.Edge.{Edge}
 use Rattle.bdd_store.specs.declared.fault.StoreFault.{StoreFault}
 use Rattle.bdd_store.specs.State.{IsEdge, diagram_of, KeepsEdges}
-use Rattle.bdd_ops.specs.Functions.{split, IgnoresTo, joined, joined_over, join_of, is_among}
+use Rattle.bdd_ops.specs.Functions.{split, joined, joined_over, join_of, is_among}
+use Rattle.bdd_ops.specs.Reading.{IgnoresTo}
 use Rattle.bdd_ops.specs.Contents.{Contents, function_at, list_at}
 use Rattle.bdd_ops.specs.Steps.{Grows, HasFunction, IsSplitAt, IsUnfinished, IsQuantifiedPart, IsRelatedPart, IsConjunctionAt, JoinsOrSplits, joined_or_split}
 use Rattle.bdd_ops.proofs.DiagramLemmas.{part_of_itself, part_of_part}

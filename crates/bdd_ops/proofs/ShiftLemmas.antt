@@ -1,8 +1,10 @@
 -- The step of a shift.
 use Rattle.std.proofs.Common.{◌≡◌, ◌≢◌, ℕ, ◌<◌, ◌≤◌, inl, sym, ◌∙◌, ap, subst, refl, arith, List, [], length, slice_index_or}
-use Rattle.spec_model.specs.Diagrams.{Diagram, constant, branch, Function, with_bit, value, shifted, IsReduced, IsWithin, IsPartOf, Reads}
+use Rattle.spec_model.specs.Diagrams.{Diagram, constant, branch, Function, with_bit, value, shifted, IsReduced, IsWithin, IsPartOf}
+use Rattle.spec_model.specs.DiagramReads.{Reads}
 use Rattle.bdd_store.specs.State.{IsEdge, diagram_of, KeepsEdges}
-use Rattle.bdd_ops.specs.Functions.{split, IgnoresTo}
+use Rattle.bdd_ops.specs.Functions.{split}
+use Rattle.bdd_ops.specs.Reading.{IgnoresTo}
 use Rattle.bdd_ops.specs.Contents.{Contents, function_at, list_at}
 use Rattle.bdd_ops.specs.Steps.{Grows, HasFunction, IsSplitAt, IsSplit, IsShiftedPart, IsShift, level_of, level_at}
 use Rattle.bdd_ops.specs.Calls.{RisesOver}

@@ -6,7 +6,8 @@ use Rattle.bdd_store.specs.declared.edge.Edge.{Edge}
 use Rattle.bdd_store.specs.declared.fault.StoreFault.{StoreFault}
 use Rattle.node_table.specs.Table.{diagram_at}
 use Rattle.bdd_store.specs.State.{State, IsStore, IsEdge, HasAnswer, diagram_of, KeepsEdges, MakesOnly, SameRoots, HasParts, IsNewStore}
-use Rattle.bdd_ops.specs.Functions.{split, Ignores, IgnoresTo, joined, joined_over, join_of}
+use Rattle.bdd_ops.specs.Functions.{split, joined, joined_over, join_of}
+use Rattle.bdd_ops.specs.Reading.{Ignores, IgnoresTo}
 use Rattle.bdd_ops.specs.Contents.{Contents, IsAnswer, IsRight, AreRight, function_at, list_at, over_op}
 use Rattle.bdd_ops.specs.Steps.{Grows, IsChoiceOfParts, IsSplitAt, level_of, level_at, IsSplit, HasFunction}
 use Rattle.std.proofs.lemmas.List.{length-append, map-append}

@@ -1,11 +1,12 @@
 -- What a call of diagrams gives and leaves.
-use Rattle.std.specs.Prelude.{◌≡◌, ◌<◌, ℕ, not, List, length, slice_index_or, Result, Err, IfOk, OnErr}
-use Rattle.spec_model.specs.Diagrams.{Diagram, Function, value, IsPartOf}
+use Rattle.std.specs.Prelude.{◌≡◌, ◌<◌, ℕ, List, length, slice_index_or, Result, Err, IfOk, OnErr}
+use Rattle.spec_model.specs.Diagrams.{Diagram, Function}
 use Rattle.bdd_store.specs.declared.fault.StoreFault.{StoreFault}
 use Rattle.bdd_store.specs.declared.fault.StoreFault.TheVariants.{Full}
 use Rattle.bdd_store.specs.State.{State, IsEdge, IsRoot, diagram_of, MakesOnly, AddsRoot, SameRoots, IsFull}
-use Rattle.bdd_ops.specs.Functions.{DependsOn}
+use Rattle.bdd_ops.specs.Reading.{DependsOn}
 use Rattle.bdd_ops.specs.Contents.{Contents, function_at}
+pub use Rattle.bdd_ops.specs.Unfinished.{negated, IsNegatedPart}
 
 -- each kept root is the diagram that it was, and the levels and the budget stay
 pub record KeepsRoots (old new : Contents) : Type 0 where
@@ -28,16 +29,6 @@ pub record GivesRoot (old new : Contents) (result : Result ℕ StoreFault) (f : 
   pub made : MakesOnly old.state new.state MayMake
   pub full : result ≡ Err Full → IsFull new.state
   pub rooted : result ≡ Err Full → HasRoots new.state
-
--- the negation
-abbrev pub negated : Function → Function
-negated f s = not (f s)
-
--- the diagram is a part's negation
-pub record IsNegatedPart (a made : Diagram) : Type 0 where
-  pub x : Diagram
-  pub x_part : IsPartOf x a
-  pub is_negated : value made ≡ negated (value x)
 
 -- the list gives each of so many levels that the function reads one of them, and rises over them
 pub record RisesOver (levels : ℕ) (to : List ℕ) (f : Function) : Type 0 where

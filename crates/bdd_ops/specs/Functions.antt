@@ -1,22 +1,10 @@
 -- Boolean functions split at a level, and quantified over a list of levels.
-use Rattle.std.specs.Prelude.{◌≡◌, ◌==◌, ◌≤◌, ℕ, Bool, true, false, ◌&&◌, ◌||◌, if◌then◌else◌, List, [], ◌∷◌}
-use Rattle.spec_model.specs.Diagrams.{Bits, Function, with_bit}
+use Rattle.std.specs.Prelude.{◌≡◌, ◌==◌, ℕ, Bool, true, false, ◌&&◌, ◌||◌, if◌then◌else◌, List, [], ◌∷◌}
+use Rattle.spec_model.specs.Diagrams.{Function, with_bit}
 
 -- the first where the level's bit is false, the second where it is true
 abbrev pub split : ℕ → Function → Function → Function
 split level low high s = if s level then high s else low s
-
--- the function doesn't read the level
-abbrev pub Ignores : ℕ → Function → Type 0
-Ignores level f = (s : Bits) (b : Bool) → f (with_bit s level b) ≡ f s
-
--- the function reads the level
-abbrev pub DependsOn : ℕ → Function → Type 0
-DependsOn level f = Ignores level f → ⊥
-
--- the function reads no level up to this one
-abbrev pub IgnoresTo : ℕ → Function → Type 0
-IgnoresTo level f = (m : ℕ) → m ≤ level → Ignores m f
 
 -- a way to join two truth values: `or` for "some", `and` for "all"
 abbrev pub Join : Type 0

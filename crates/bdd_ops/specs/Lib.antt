@@ -1,5 +1,6 @@
 pub mod Functions
 pub mod Contents
+pub mod Unfinished
 pub mod Steps
 pub mod Calls
 pub mod Paths

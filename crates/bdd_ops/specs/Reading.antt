@@ -1,8 +1,21 @@
 -- Which levels the functions of the operations read at most.
-use Rattle.std.specs.Prelude.{◌≡◌, ℕ, Bool, true, List}
-use Rattle.spec_model.specs.Diagrams.{Function, ite, exists_over, forall_over, and_exists_over}
-use Rattle.bdd_ops.specs.Functions.{Ignores, joined, join_of, is_among}
-use Rattle.bdd_ops.specs.Calls.{negated}
+use Rattle.std.specs.Prelude.{◌≡◌, ℕ, Bool, true, List, ◌≤◌}
+use Rattle.spec_model.specs.Diagrams.{Function, ite, exists_over, and_exists_over, Bits, with_bit}
+use Rattle.spec_model.specs.DiagramReads.{forall_over}
+use Rattle.bdd_ops.specs.Functions.{joined, join_of, is_among}
+use Rattle.bdd_ops.specs.Unfinished.{negated}
+
+-- the function doesn't read the level
+abbrev pub Ignores : ℕ → Function → Type 0
+Ignores level f = (s : Bits) (b : Bool) → f (with_bit s level b) ≡ f s
+
+-- the function reads the level
+abbrev pub DependsOn : ℕ → Function → Type 0
+DependsOn level f = Ignores level f → ⊥
+
+-- the function reads no level up to this one
+abbrev pub IgnoresTo : ℕ → Function → Type 0
+IgnoresTo level f = (m : ℕ) → m ≤ level → Ignores m f
 
 -- choices, `and`, `or` and `not` read no level that their arguments ignore
 pub record ChoicesReadNoMore (level : ℕ) (f g h : Function) : Type 0 where

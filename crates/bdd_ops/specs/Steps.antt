@@ -1,9 +1,12 @@
 -- What one step of an operation gives and leaves.
-use Rattle.std.specs.Prelude.{◌≡◌, ◌<◌, ◌⊎◌, ℕ, true, false, List, length, slice_index_or, if◌then◌else◌}
-use Rattle.spec_model.specs.Diagrams.{Diagram, constant, branch, Function, value, ite, shifted, IsPartOf, Reads}
+use Rattle.std.specs.Prelude.{◌≡◌, ◌<◌, ◌⊎◌, ℕ, true, List, length, slice_index_or, if◌then◌else◌}
+use Rattle.spec_model.specs.Diagrams.{Diagram, constant, branch, Function, value, ite, IsPartOf}
+use Rattle.spec_model.specs.DiagramReads.{Reads}
 use Rattle.bdd_store.specs.State.{IsEdge, diagram_of, KeepsEdges, MakesOnly, SameRoots}
-use Rattle.bdd_ops.specs.Functions.{split, IgnoresTo, Join, joined, joined_over, join_of, is_among}
+use Rattle.bdd_ops.specs.Functions.{split, Join, joined, joined_over, join_of, is_among}
+use Rattle.bdd_ops.specs.Reading.{IgnoresTo}
 use Rattle.bdd_ops.specs.Contents.{Contents, function_at}
+pub use Rattle.bdd_ops.specs.Unfinished.{IsChoiceOfParts, IsJoinOfParts, JoinsResults, IsUnfinished, IsRelatedPart, IsShiftedPart}
 
 -- the diagram's level, and for a constant the number of levels
 abbrev pub level_of : ℕ → Diagram → ℕ
@@ -34,16 +37,6 @@ pub record IsSplitAt (c : Contents) (level n low high : ℕ) : Type 0 where
   pub high_part : IsPartOf (diagram_of c.state high) (diagram_of c.state n)
   pub function : function_at c n ≡ split level (function_at c low) (function_at c high)
 
--- the diagram is the choice between parts of these three
-pub record IsChoiceOfParts (a b c made : Diagram) : Type 0 where
-  pub x : Diagram
-  pub y : Diagram
-  pub z : Diagram
-  pub x_part : IsPartOf x a
-  pub y_part : IsPartOf y b
-  pub z_part : IsPartOf z c
-  pub is_choice : value made ≡ ite (value x) (value y) (value z)
-
 -- the node is live and is the choice between the three
 pub record IsChoice (new : Contents) (f g h : Function) (n : ℕ) : Type 0 where
   pub live : IsEdge new.state n
@@ -60,30 +53,10 @@ pub record IsSplit (new : Contents) (level : ℕ) (low high : Function) (n : ℕ
   pub live : IsEdge new.state n
   pub function : function_at new n ≡ split level low high
 
--- the diagram joins parts of these two
-pub record IsJoinOfParts (join : Join) (a b made : Diagram) : Type 0 where
-  pub x : Diagram
-  pub y : Diagram
-  pub x_part : IsPartOf x a
-  pub y_part : IsPartOf y b
-  pub is_join : value made ≡ joined join (value x) (value y)
-
 -- the node is live and has this function
 pub record HasFunction (new : Contents) (f : Function) (n : ℕ) : Type 0 where
   pub live : IsEdge new.state n
   pub function : function_at new n ≡ f
-
--- the diagram joins parts of two results
-pub record JoinsResults (join : Join) (IsResult : Diagram → Type 0) (made : Diagram) : Type 0 where
-  pub first : Diagram
-  pub second : Diagram
-  pub first_is : IsResult first
-  pub second_is : IsResult second
-  pub joins : IsJoinOfParts join first second made
-
--- the diagram is a result, or joins parts of two
-abbrev pub IsUnfinished : Join → (Diagram → Type 0) → Diagram → Type 0
-IsUnfinished join IsResult made = IsResult made ⊎ JoinsResults join IsResult made
 
 -- the diagram is a part's function after these levels are quantified
 pub record IsQuantifiedPart (join : Join) (levels : List ℕ) (a made : Diagram) : Type 0 where
@@ -99,25 +72,11 @@ joined_or_split join levels level low high = if is_among level levels then joine
 abbrev pub JoinsOrSplits : Join → List ℕ → ℕ → Diagram → Diagram → Diagram → Type 0
 JoinsOrSplits join levels level low high made = IsJoinOfParts join low high made ⊎ (value made ≡ joined_or_split join levels level (value low) (value high))
 
--- the diagram is "some make both true" of parts
-pub record IsRelatedPart (levels : List ℕ) (a b made : Diagram) : Type 0 where
-  pub x : Diagram
-  pub y : Diagram
-  pub x_part : IsPartOf x a
-  pub y_part : IsPartOf y b
-  pub is_related : value made ≡ joined_over (join_of false) levels (joined (join_of true) (value x) (value y))
-
 -- the node is the conjunction of two, and its parts are conjunctions of theirs
 pub record IsConjunctionAt (c : Contents) (a b n : ℕ) : Type 0 where
   pub live : IsEdge c.state n
   pub function : function_at c n ≡ joined (join_of true) (function_at c a) (function_at c b)
   pub parts : (x : Diagram) → IsPartOf x (diagram_of c.state n) → IsJoinOfParts (join_of true) (diagram_of c.state a) (diagram_of c.state b) x
-
--- the diagram is a part's, with its levels moved
-pub record IsShiftedPart (to : List ℕ) (a made : Diagram) : Type 0 where
-  pub x : Diagram
-  pub x_part : IsPartOf x a
-  pub is_shifted : value made ≡ shifted to (value x)
 
 -- the list gives each level that the diagram reads a level, and rises over them
 pub record IsShift (levels : ℕ) (to : List ℕ) (d : Diagram) : Type 0 where

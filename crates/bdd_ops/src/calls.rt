@@ -1,7 +1,8 @@
 //! The calls that give roots.
 
 ghost use Rattle.std.specs.Prelude.{◌≡◌, ◌<◌, length, true, false, IfOk};
-ghost use Rattle.spec_model.specs.Diagrams.{ite, value, exists_over, forall_over, and_exists_over, shifted};
+ghost use Rattle.spec_model.specs.Diagrams.{ite, value, exists_over, and_exists_over, shifted};
+ghost use Rattle.spec_model.specs.DiagramReads.{forall_over};
 ghost use Rattle.bdd_store.specs.State.{IsRoot, diagram_of};
 ghost use Rattle.bdd_ops.specs.Functions.{joined, joined_over, join_of};
 ghost use Rattle.bdd_ops.specs.Contents.{function_at, list_at};

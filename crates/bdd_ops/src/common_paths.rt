@@ -2,7 +2,7 @@
 
 ghost use Rattle.std.specs.Prelude.{◌≡◌, ◌<◌, ◌≤◌, ◌+◌, ◌-◌, ◌*◌, ℕ, true, false, length, IsTrue, slice_index_or};
 ghost use Rattle.std.specs.List.{All};
-ghost use Rattle.spec_model.specs.Diagrams.{bits_of};
+ghost use Rattle.spec_model.specs.DiagramReads.{bits_of};
 ghost use Rattle.bdd_store.specs.State.{IsEdge};
 ghost use Rattle.bdd_ops.specs.Paths.{IsFirst, HasNone};
 ghost use Rattle.bdd_ops.specs.Together.{IsRow, all_in, AreFirst, IsFirstWith, HasNoneWith};

@@ -2,7 +2,8 @@ ghost use Rattle.std.specs.Prelude.{◌≡◌, ◌<◌, ◌≤◌, ◌↔◌, �
 ghost use Rattle.spec_model.specs.Diagrams.{IsReduced, IsWithin, constant, value};
 ghost use Rattle.node_table.specs.Table.{count_of};
 ghost use Rattle.bdd_store.specs.State.{IsEdge, IsRoot, diagram_of, SameRoots, AddsRoot, IsFull, IsNewStore, IsReached, IsConstant, HasParts};
-ghost use Rattle.bdd_ops.specs.Functions.{split, Ignores, IgnoresTo, joined};
+ghost use Rattle.bdd_ops.specs.Functions.{split, joined};
+ghost use Rattle.bdd_ops.specs.Reading.{Ignores, IgnoresTo};
 ghost use Rattle.bdd_ops.specs.Contents.{Contents, AreRight, function_at};
 ghost use Rattle.bdd_ops.specs.Calls.{KeepsRoots};
 ghost use Rattle.bdd_ops.specs.Steps.{IsSplitAt, IsSplit, Grows, level_at};

@@ -4,8 +4,7 @@
 
 ghost use Rattle.std.specs.Prelude.{◌≢◌, ℕ, List};
 ghost use Rattle.spec_model.specs.Diagrams.{Function};
-ghost use Rattle.bdd_ops.specs.Functions.{Ignores};
-ghost use Rattle.bdd_ops.specs.Reading.{ChoicesReadNoMore, QuantifiersReadLess};
+ghost use Rattle.bdd_ops.specs.Reading.{ChoicesReadNoMore, QuantifiersReadLess, Ignores};
 
 /// A level's bit reads no other level.
 pub fn a_bit_reads_its_level()

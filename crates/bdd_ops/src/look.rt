@@ -1,7 +1,7 @@
 //! The calls that look at a diagram. They take no memory.
 
 ghost use Rattle.std.specs.Prelude.{◌≡◌, length};
-ghost use Rattle.spec_model.specs.Diagrams.{bits_of};
+ghost use Rattle.spec_model.specs.DiagramReads.{bits_of};
 ghost use Rattle.bdd_store.specs.State.{IsRoot};
 ghost use Rattle.bdd_ops.specs.Contents.{function_at};
 

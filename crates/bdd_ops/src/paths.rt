@@ -1,7 +1,8 @@
 //! The first bits that make a diagram true. Nothing here takes memory.
 
 ghost use Rattle.std.specs.Prelude.{◌≡◌, ◌<◌, ◌≤◌, ◌+◌, ◌-◌, ◌↔◌, ℕ, true, false, length, IsTrue, slice_index_or};
-ghost use Rattle.spec_model.specs.Diagrams.{bits_of, constant};
+ghost use Rattle.spec_model.specs.Diagrams.{constant};
+ghost use Rattle.spec_model.specs.DiagramReads.{bits_of};
 ghost use Rattle.bdd_store.specs.State.{IsEdge, IsRoot, diagram_of};
 ghost use Rattle.bdd_ops.specs.Contents.{function_at};
 ghost use Rattle.bdd_ops.specs.Steps.{level_at};

@@ -3,7 +3,8 @@
 ghost use Rattle.std.specs.Prelude.{◌≡◌, ◌<◌, Bool, true, not, length, IfOk, IsTrue, MatchBool};
 ghost use Rattle.bdd_store.specs.State.{IsEdge, diagram_of, IsFull};
 ghost use Rattle.spec_model.specs.Diagrams.{constant};
-ghost use Rattle.bdd_ops.specs.Functions.{joined_over, join_of, is_among, IgnoresTo};
+ghost use Rattle.bdd_ops.specs.Functions.{joined_over, join_of, is_among};
+ghost use Rattle.bdd_ops.specs.Reading.{IgnoresTo};
 ghost use Rattle.bdd_ops.specs.Contents.{function_at, list_at};
 ghost use Rattle.bdd_ops.specs.Steps.{HasFunction, IsUnfinished, IsQuantifiedPart, JoinsOrSplits, joined_or_split, Grows, level_at};
 

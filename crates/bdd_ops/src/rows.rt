@@ -2,7 +2,8 @@
 
 ghost use Rattle.std.specs.Prelude.{◌≡◌, ◌<◌, ◌≤◌, ◌+◌, ℕ, false, length, min, IsTrue};
 ghost use Rattle.std.specs.List.{All};
-ghost use Rattle.spec_model.specs.Diagrams.{Bits, bits_of};
+ghost use Rattle.spec_model.specs.Diagrams.{Bits};
+ghost use Rattle.spec_model.specs.DiagramReads.{bits_of};
 ghost use Rattle.bdd_store.specs.State.{IsEdge};
 ghost use Rattle.bdd_ops.specs.Steps.{level_at};
 ghost use Rattle.bdd_ops.specs.Paths.{Agrees};

@@ -3,7 +3,7 @@
 ghost use Rattle.std.specs.Prelude.{◌≡◌, [], ◌∷◌, ◌++◌, ◌<◌, ◌≤◌, ◌+◌, false, length, IfOk, IsTrue};
 ghost use Rattle.std.specs.List.{All};
 ghost use Rattle.bdd_store.specs.State.{IsRoot};
-ghost use Rattle.spec_model.specs.Diagrams.{bits_of};
+ghost use Rattle.spec_model.specs.DiagramReads.{bits_of};
 ghost use Rattle.bdd_ops.specs.Paths.{IsFirst, HasNone};
 ghost use Rattle.bdd_ops.specs.Together.{Together, all_of};
 

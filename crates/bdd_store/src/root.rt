@@ -10,7 +10,6 @@ use std::alloc::AllocError;
 use std::marker::Model;
 
 /// A diagram that is kept until its root is released: what it reaches isn't freed. It has to be given back.
-#[derive(Debug)]
 pub struct Root {
     pub(crate) node: u32,
 }

@@ -2,9 +2,10 @@
 use Rattle.std.proofs.Common.{◌≡◌, ℕ, ◌+◌, ◌<◌, Bool, true, false, List, length, get_or, ◌∙◌, arith, ◌⊎◌, inl, inr}
 use Rattle.spec_model.specs.declared.value.Value.{Value}
 use Rattle.spec_model.specs.Values.{DomainData}
-use Rattle.spec_model.specs.Diagrams.{bits_of}
+use Rattle.spec_model.specs.DiagramReads.{bits_of}
 use Rattle.game_values.specs.declared.seen.At.{At}
-use Rattle.bit_compile.specs.Codes.{has_number, level_at, width_at, code_at, HasValues, IsOutside}
+use Rattle.bit_compile.specs.Codes.{has_number, level_at, width_at, code_at, HasValues}
+use Rattle.bit_compile.specs.Laid.{IsOutside}
 use Rattle.bit_compile.proofs.NumberLemmas.{has_number-same}
 use Rattle.bit_compile.proofs.SlotLemmas.{earlier_before, others_outside}
 

@@ -30,7 +30,8 @@ use Rattle.bit_compile.specs.CaseRoots.{AddsCases, AreKept, MakesCases, cases_at
 use Rattle.bit_compile.specs.Crowding.{MakesNamed}
 use Rattle.bit_compile.specs.Known.{operated_cases}
 use Rattle.bit_compile.specs.NamedCodes.{NoFunction}
-use Rattle.bit_compile.specs.Named.{AreNamedIn, AreOfFormulas, IsFirstOf, IsNamedIn, IsNamedOr, IsOfFormula, IsOfOperated, IsOfPairs, IsOfRemainders, IsOfResults, IsOfSame, IsOfTablesIn, IsTruth}
+use Rattle.bit_compile.specs.Named.{AreOfFormulas, IsFirstOf, IsOfFormula, IsOfPairs, IsOfRemainders, IsOfResults, IsOfSame, IsTruth}
+use Rattle.bit_compile.specs.NamedScenes.{AreNamedIn, IsNamedIn, IsNamedOr, IsOfOperated, IsOfTablesIn}
 use Rattle.bit_compile.specs.Scenes.{cases_seen, entries_seen, game_seen, truth_seen}
 use Rattle.bit_compile.proofs.MakingLemmas.{is_root, root_added}
 use Rattle.bit_compile.proofs.Between.{function_stays}

@@ -16,7 +16,8 @@ use Rattle.spec_model.specs.Moves.{is_env, domains_of}
 use Rattle.spec_model.specs.Games.{HiddenData, GameData}
 use Rattle.spec_model.specs.WellMade.{all_differ, is_domain, is_table, are_tables}
 use Rattle.game_values.proofs.Lists.{map_drop}
-use Rattle.bit_compile.specs.Domains.{IsCountable, table_domain, state_domains}
+use Rattle.bit_compile.specs.Domains.{table_domain, state_domains}
+use Rattle.bit_compile.specs.Laid.{IsCountable}
 use Rattle.spec_model.specs.Values.{DomainData, TruthValues, Enumeration, WholeNumbers, rising_from, same_value, rank_of}
 use Rattle.spec_model.specs.Sizes.{domain_size}
 

@@ -16,7 +16,7 @@ use Rattle.spec_model.specs.WellMade.{is_domain}
 use Rattle.spec_model.proofs.Domains.{in_range}
 use Rattle.game_values.proofs.Spans.{IsWithin}
 use Rattle.bit_compile.specs.declared.operation.Operation.TheVariants.{Add, Sub, Mul, Mod}
-use Rattle.bit_compile.specs.Domains.{IsCountable}
+use Rattle.bit_compile.specs.Laid.{IsCountable}
 use Rattle.bit_compile.specs.Compiled.{variable_domain, least, greatest, least_product, greatest_product, span_of, values_in}
 use Rattle.bit_compile.proofs.DomainLemmas.{domain_countable, length-rising}
 

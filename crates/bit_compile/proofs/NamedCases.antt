@@ -10,7 +10,8 @@ use Rattle.bit_compile.specs.declared.cases.Source.{Source}
 use Rattle.bit_compile.specs.declared.cases.Source.TheVariants as source
 use Rattle.bit_compile.specs.Compiled.{Case, gives, leads}
 use Rattle.bit_compile.specs.CaseRoots.{cases_at, IsReady}
-use Rattle.bit_compile.specs.Named.{IsOfPairs, IsOfLetter, IsOfSource}
+use Rattle.bit_compile.specs.Named.{IsOfPairs, IsOfLetter}
+use Rattle.bit_compile.specs.NamedScenes.{IsOfSource}
 use Rattle.bit_compile.proofs.Between.{cases_stay, functions_stay}
 
 -- on the way to a value as things stand now, and as they stood

@@ -27,7 +27,8 @@ use Rattle.bit_compile.specs.NamedCodes.{IsOfNumber}
 use Rattle.bit_compile.specs.Compiled.{Case, Entries, span_of, both_truths, cases_in, entries_of, gives, is_code, only, place_of, some_pair, truth_in, truths_in, values_in, variable_domain}
 use Rattle.bit_compile.specs.CaseRoots.{cases_at, true_cases}
 use Rattle.bit_compile.specs.Scenes.{IsScene, codes_seen, entries_seen, game_seen}
-use Rattle.bit_compile.specs.Named.{AreNamedIn, AreOfFormulas, IsNamedIn, IsOfCoded, IsOfFormula, IsOfHidden, IsOfPairs, IsOfResults, IsOfTable, IsOfTables, IsOfTablesIn, IsOfUpdate}
+use Rattle.bit_compile.specs.Named.{AreOfFormulas, IsOfCoded, IsOfFormula, IsOfHidden, IsOfPairs, IsOfResults, IsOfTable, IsOfTables, IsOfUpdate}
+use Rattle.bit_compile.specs.NamedScenes.{AreNamedIn, IsNamedIn, IsOfTablesIn}
 use Rattle.bit_compile.proofs.CyclesLemmas.{truth_case}
 use Rattle.bit_compile.proofs.Folding.{drop_next}
 use Rattle.bit_compile.proofs.EntryLemmas.{functions_of}

@@ -16,7 +16,7 @@ use Rattle.spec_model.specs.Games.{GameData, HiddenData, letter_of}
 use Rattle.spec_model.specs.Steps.{is_output_variable}
 use Rattle.spec_model.specs.WellMade.{WellMade, is_table, are_tables, is_state_formula, is_step_formula, is_stepwise, scope_of, awaits_output}
 use Rattle.spec_model.specs.Diagrams.{Bits, Function, with_bit}
-use Rattle.bdd_ops.specs.Functions.{Ignores}
+use Rattle.bdd_ops.specs.Reading.{Ignores}
 use Rattle.game_values.specs.declared.seen.At.{At}
 use Rattle.game_values.specs.declared.seen.At.TheVariants.{Now, Next}
 use Rattle.game_values.proofs.TableSteps.{table_atoms}

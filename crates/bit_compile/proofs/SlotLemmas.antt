@@ -10,8 +10,9 @@ use Rattle.spec_model.specs.Values.{DomainData, TruthValues, is_assignment, same
 use Rattle.game_values.specs.declared.seen.At.{At}
 use Rattle.game_values.specs.declared.seen.At.TheVariants.{Now, Next}
 use Rattle.bit_compile.specs.declared.slots.Slot.{Slot}
-use Rattle.bit_compile.specs.Domains.{width_of, level_count, IsCountable}
-use Rattle.bit_compile.specs.Codes.{AreLaidOut, slots_from, domain_in, width_at, level_at, IsOutside}
+use Rattle.bit_compile.specs.Domains.{width_of, level_count}
+use Rattle.bit_compile.specs.Laid.{IsCountable, AreLaidOut, slots_from, IsOutside}
+use Rattle.bit_compile.specs.Codes.{domain_in, width_at, level_at}
 
 pub length-slots : (ds : List DomainData) (level : ℕ) → length (slots_from level ds) ≡ length ds
 length-slots [] level = refl

@@ -21,8 +21,10 @@ use Rattle.bit_compile.specs.declared.pairs.Test.TheVariants as test
 use Rattle.bit_compile.specs.declared.folds.Fold.{Fold}
 use Rattle.bit_compile.specs.declared.folds.Fold.TheVariants.{All, Some}
 use Rattle.bit_compile.specs.Crowding.{HasCause}
-use Rattle.bit_compile.specs.Domains.{level_count, IsCountable}
-use Rattle.bit_compile.specs.Compiled.{Case, is_code, is_not, some_pair, gives, is_letter, in_table, leads, all_of, some_of}
+use Rattle.bit_compile.specs.Domains.{level_count}
+use Rattle.bit_compile.specs.Laid.{IsCountable}
+use Rattle.bit_compile.specs.Compiled.{Case, is_code, is_not, some_pair, gives, is_letter, in_table, leads}
+pub use Rattle.bit_compile.specs.Compiled.{folded}
 
 -- the value of a root, and where it is had
 abbrev pub case_at : Contents → CaseRoot → Case
@@ -104,7 +106,3 @@ true_cases fs = map (λ f. record { value = value.Bool true; holds = f }) fs
 abbrev pub is_all : Fold → Bool
 is_all All = true
 is_all Some = false
-
-abbrev pub folded : Fold → List Function → Function
-folded All fs = all_of fs
-folded Some fs = some_of fs

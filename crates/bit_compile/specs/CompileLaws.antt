@@ -9,7 +9,7 @@ use Rattle.spec_model.specs.Steps.{is_state}
 use Rattle.spec_model.specs.WellMade.{awaits_output}
 use Rattle.game_values.specs.declared.seen.At.{At}
 use Rattle.game_values.specs.declared.seen.At.TheVariants.{Now, Next}
-use Rattle.bdd_ops.specs.Functions.{Ignores}
+use Rattle.bdd_ops.specs.Reading.{Ignores}
 use Rattle.bit_compile.specs.Domains.{state_domains}
 use Rattle.bit_compile.specs.Codes.{HasValues, code_at, level_at, width_at}
 use Rattle.bit_compile.specs.Compiled.{is_code}

@@ -19,7 +19,10 @@ use Rattle.game_values.specs.declared.seen.At.TheVariants.{Now, Next}
 use Rattle.bit_compile.specs.declared.operation.Operation.{Operation}
 use Rattle.bit_compile.specs.declared.operation.Operation.TheVariants.{Add, Sub, Mul, Mod}
 use Rattle.bit_compile.specs.Domains.{state_domains, table_domain}
-use Rattle.bit_compile.specs.Codes.{has_number, level_at, width_at}
+use Rattle.bit_compile.specs.Codes.{has_number, level_at, width_at, domain_in}
+use Rattle.bit_compile.specs.declared.folds.Fold.{Fold}
+use Rattle.bit_compile.specs.declared.folds.Fold.TheVariants as fold
+use Rattle.spec_model.specs.Steps.{below}
 
 -- the place of a variable among the values of a state, which come after the hidden tables: inputs, then outputs
 abbrev pub place_of : GameData → ℕ → ℕ
@@ -236,3 +239,19 @@ updates_after g entries (h ∷ hs) = table_update (state_domains g) (length entr
 -- where the next value of each hidden table is the one that follows
 abbrev pub updates_of : GameData → List Function
 updates_of g = updates_after g [] g.hidden
+
+-- ---- functions joined in a row
+
+abbrev pub folded : Fold → List Function → Function
+folded fold.All fs = all_of fs
+folded fold.Some fs = some_of fs
+
+-- ---- which bits are of a state
+
+-- the slot numbered k has the code of one of its values
+abbrev pub has_some_value : List DomainData → At → ℕ → Function
+has_some_value ds at k = some_of (map (λ c. c.holds) (coded ds at k (domain_in ds k)))
+
+-- each slot has
+abbrev pub proper : List DomainData → At → Function
+proper ds at = all_of (map (has_some_value ds at) (below (length ds)))

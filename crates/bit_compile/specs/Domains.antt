@@ -1,10 +1,9 @@
 -- The domains of a state in its order, and how many bits the values of each have.
-use Rattle.std.specs.Prelude.{◌≡◌, ◌==◌, true, ℕ, ◌+◌, ◌*◌, ◌^◌, pos, ◌-ℤ◌, ◌≤ℤ◌, not, List, [], ◌∷◌, ◌++◌, map}
-use Rattle.spec_model.specs.Values.{DomainData, TruthValues, WholeNumbers, Enumeration}
+use Rattle.std.specs.Prelude.{ℕ, ◌+◌, ◌*◌, pos, ◌-ℤ◌, not, List, [], ◌∷◌, ◌++◌, map}
+use Rattle.spec_model.specs.Values.{DomainData, WholeNumbers}
 use Rattle.spec_model.specs.Moves.{is_env, domains_of}
 use Rattle.spec_model.specs.Games.{HiddenData, GameData}
 use Rattle.spec_model.specs.Sizes.{domain_size}
-use Rattle.spec_model.specs.WellMade.{all_differ}
 use Rattle.spec_model.specs.Needs.{bits_for}
 
 -- a hidden table's values: the numbers below their number
@@ -23,9 +22,3 @@ width_of d = bits_for (domain_size d)
 abbrev pub level_count : List DomainData → ℕ
 level_count [] = 0
 level_count (d ∷ ds) = 2 * width_of d + level_count ds
-
--- its whole numbers rise, and none is past 10^12 either way; its names differ
-abbrev pub IsCountable : DomainData → Type 0
-IsCountable TruthValues = Unit {0}
-IsCountable (WholeNumbers lo hi) = (lo ≤ℤ hi) × ((pos 0 -ℤ pos (10 ^ 12)) ≤ℤ lo) × (hi ≤ℤ pos (10 ^ 12))
-IsCountable (Enumeration names) = all_differ (λ m n. m == n) names ≡ true

@@ -3,7 +3,7 @@
 use Rattle.std.specs.Prelude.{◌≡◌, ◌↔◌, ◌⊎◌, ℕ, Bool, List, [], ◌∷◌, ◌++◌, length}
 use Rattle.std.specs.List.{AllByRecursion, Contains}
 use Rattle.spec_model.specs.Diagrams.{Diagram, constant, Function, value, IsPartOf, IsReduced, IsWithin}
-use Rattle.bit_compile.specs.Crowding.{Running, arguments_of, IsUnfinishedOf}
+use Rattle.bit_compile.specs.Running.{Running, arguments_of, IsUnfinishedOf}
 
 -- no two of these are the same
 abbrev pub AreDifferent : List Diagram → Type 0

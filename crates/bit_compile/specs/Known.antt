@@ -10,7 +10,7 @@ use Rattle.game_values.specs.Whole.{IsWhole}
 use Rattle.game_values.specs.declared.seen.At.{At}
 use Rattle.bit_compile.specs.declared.operation.Operation.{Operation}
 use Rattle.bit_compile.specs.declared.operation.Operation.TheVariants.{Add, Sub, Mul, Mod}
-use Rattle.bit_compile.specs.Domains.{IsCountable}
+use Rattle.bit_compile.specs.Laid.{IsCountable}
 use Rattle.bit_compile.specs.Compiled.{Case, Entries, span_of, values_in, cases_in, results}
 use Rattle.std.specs.Prelude.{List}
 

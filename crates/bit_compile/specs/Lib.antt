@@ -1,7 +1,9 @@
 pub mod Domains
+pub mod Laid
 pub mod Codes
 pub mod CodeLaws
 pub mod Making
+pub mod Running
 pub mod Crowding
 pub mod Filling
 pub mod NamedCodes
@@ -12,3 +14,4 @@ pub mod Scenes
 pub mod CompileLaws
 pub mod Proper
 pub mod Named
+pub mod NamedScenes

@@ -8,6 +8,7 @@ use Rattle.bdd_ops.specs.Contents.{Contents, function_at}
 use Rattle.bdd_ops.specs.Calls.{KeepsRoots, HasRoots}
 use Rattle.regions.specs.declared.types.Halt.{Halt}
 use Rattle.regions.specs.declared.types.Halt.TheVariants as halt
+pub use Rattle.bit_compile.specs.Codes.{digit}
 
 -- a store's refusal as a halt
 abbrev pub halted : Result ℕ StoreFault → Result ℕ Halt
@@ -43,8 +44,3 @@ pub record MakesOnce (old new : Contents) (result : Result ℕ Halt) (f : Functi
 abbrev pub with_digit : ℕ → Bool → Function → Function
 with_digit level true f s = s level && f s
 with_digit level false f s = not (s level) && f s
-
--- the level's bit is this one
-abbrev pub digit : ℕ → Bool → Function
-digit level true s = s level
-digit level false s = not (s level)

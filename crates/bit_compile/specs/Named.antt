@@ -9,28 +9,19 @@ use Rattle.spec_model.specs.declared.value.Value.TheVariants as value
 use Rattle.spec_model.specs.declared.expr.Compare.TheVariants.{Eq}
 use Rattle.spec_model.specs.Values.{DomainData, number_of, rank_of, same_value, values_of}
 use Rattle.spec_model.specs.Meaning.{compare_values}
-use Rattle.spec_model.specs.Views.{domain_data}
 use Rattle.spec_model.specs.Syntax.{Formula, Constant, Variable, NextOf, Negation, Conjunction, Disjunction, Implication, Equivalence, Comparison, Sum, Difference, Product, Remainder, PastOf, Entry, Formulas, formulas}
 use Rattle.spec_model.specs.Games.{HiddenData, GameData}
 use Rattle.spec_model.specs.Diagrams.{Function}
 use Rattle.game_values.specs.declared.seen.At.{At}
 use Rattle.game_values.specs.declared.seen.At.TheVariants.{Now, Next}
-use Rattle.bdd_ops.specs.Contents.{Contents, function_at}
 use Rattle.bit_compile.specs.declared.operation.Operation.{Operation}
 use Rattle.bit_compile.specs.declared.operation.Operation.TheVariants.{Add, Sub, Mul, Mod}
-use Rattle.bit_compile.specs.declared.cases.Source.{Source}
-use Rattle.bit_compile.specs.declared.cases.Source.TheVariants as source
 use Rattle.bit_compile.specs.declared.folds.Fold.{Fold}
 use Rattle.bit_compile.specs.declared.folds.Fold.TheVariants.{All, Some}
-use Rattle.spec_model.specs.GameViews.{hidden_data}
-use Rattle.bit_compile.specs.declared.scenes.Scene.{Scene}
-use Rattle.bit_compile.specs.Scenes.{game_seen, entries_seen}
 use Rattle.bit_compile.specs.Domains.{state_domains, table_domain}
 use Rattle.bit_compile.specs.Codes.{domain_in, level_at, width_at}
 use Rattle.bit_compile.specs.NamedCodes.{IsOfNumber}
-use Rattle.bit_compile.specs.Compiled.{span_of, Case, Entries, is_code, coded, only, both_truths, some_pair, gives, never, is_not, place_of, variable_domain, values_in, numbers_below, truth_in, truths_in, cases_in, entries_of, is_letter, lettered, in_table, leads, following, all_of}
-use Rattle.bit_compile.specs.Proper.{has_some_value}
-use Rattle.bit_compile.specs.CaseRoots.{cases_at, folded}
+use Rattle.bit_compile.specs.Compiled.{Case, Entries, is_code, coded, only, both_truths, some_pair, gives, never, is_not, place_of, variable_domain, values_in, numbers_below, truth_in, truths_in, cases_in, entries_of, is_letter, lettered, in_table, leads, following, all_of, folded, has_some_value}
 use Rattle.spec_model.specs.Steps.{below}
 
 -- where a truth value is true, or false
@@ -77,15 +68,6 @@ IsOfLetter atoms n f = ((k : ℕ) × (f ≡ begins_letter k atoms n)) ⊎ ((k : 
 -- where one of these values is had, or on the way to it
 abbrev pub IsOfEach : List Value → (had : Value → Function) → (IsOn : Value → Function → Type 0) → Function → Type 0
 IsOfEach vs had IsOn f = (v : Value) × Contains vs v × ((f ≡ had v) ⊎ IsOn v f)
-
--- on the way to where a value is had
-abbrev pub IsOfSource : Contents → Source → Value → Function → Type 0
-IsOfSource c source.Everywhere v f = ⊥
-IsOfSource c (source.Truth root) v f = ⊥
-IsOfSource c (source.Coded codes at k domain) v f = IsOfNumber (level_at codes.now at k) (width_at codes.now k) (rank_of (domain_data domain.now) v) f
-IsOfSource c (source.Pairs op a b) v f = IsOfPairs (gives op v) (cases_at c a.now) (cases_at c b.now) f
-IsOfSource c (source.Leads next letters a b) v f = IsOfPairs (leads next.now letters v) (cases_at c a.now) (cases_at c b.now) f
-IsOfSource c (source.Letters atoms) v f = IsOfLetter (map (λ a. function_at c a.root) atoms.now) (nat_abs (number_of v)) f
 
 -- the code of a value of the domain
 abbrev pub IsOfCoded : List DomainData → At → ℕ → DomainData → Function → Type 0
@@ -219,21 +201,3 @@ IsNamedUpdate g k f =
 -- its parts, and the entries of hidden tables
 abbrev pub IsNamedOf : GameData → Formula → Function → Type 0
 IsNamedOf g e f = IsOfFormula g (entries_of g g.hidden) Now e f ⊎ IsOfTables g g.hidden f
-
--- the entries of the hidden tables that may be read
-abbrev pub IsOfTablesIn : Scene → Function → Type 0
-IsOfTablesIn s = IsOfTables (game_seen s) (map hidden_data s.hidden.now)
-
--- the formula's parts with them
-abbrev pub IsNamedIn : Scene → At → Formula → Function → Type 0
-IsNamedIn s at e f = IsOfFormula (game_seen s) (entries_seen s) at e f ⊎ IsOfTablesIn s f
-
-abbrev pub IsNamedOr : Scene → At → Formula → (Function → Type 0) → Function → Type 0
-IsNamedOr s at e Other f = IsNamedIn s at e f ⊎ Other f
-
-abbrev pub AreNamedIn : Scene → At → Formulas → Function → Type 0
-AreNamedIn s at es f = AreOfFormulas (game_seen s) (entries_seen s) at es f ⊎ IsOfTablesIn s f
-
--- two operands, and what the operation gives
-abbrev pub IsOfOperated : Scene → At → Operation → Formula → Formula → Function → Type 0
-IsOfOperated s at op a b f = IsNamedIn s at a f ⊎ IsNamedOr s at b (IsOfResults op (cases_in (game_seen s) (entries_seen s) at a) (cases_in (game_seen s) (entries_seen s) at b) (values_of (span_of op (values_in (game_seen s) a) (values_in (game_seen s) b)))) f

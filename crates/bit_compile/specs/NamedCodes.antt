@@ -1,8 +1,7 @@
 -- Named sets of codes: what the diagram of a number in bits is made of.
 use Rattle.std.specs.Prelude.{◌≡◌, ◌⊎◌, ◌^◌, ◌-◌, ℕ, zero, suc, nat_le, true, false, if◌then◌else◌}
 use Rattle.spec_model.specs.Diagrams.{Function}
-use Rattle.bit_compile.specs.Codes.{has_number}
-use Rattle.bit_compile.specs.Making.{digit}
+use Rattle.bit_compile.specs.Codes.{has_number, digit}
 
 -- none at all
 abbrev pub NoFunction : Function → Type 0

@@ -1,21 +1,12 @@
 -- Which bits are those of states, and where the next bits stand for the present ones.
-use Rattle.std.specs.Prelude.{◌≡◌, ℕ, zero, suc, ◌+◌, ◌*◌, true, List, [], ◌∷◌, ◌++◌, length, map}
+use Rattle.std.specs.Prelude.{◌≡◌, ℕ, zero, suc, ◌+◌, ◌*◌, true, List, [], ◌∷◌, ◌++◌}
 use Rattle.spec_model.specs.declared.value.Value.{Value}
 use Rattle.spec_model.specs.Values.{DomainData, is_assignment}
-use Rattle.spec_model.specs.Steps.{below}
-use Rattle.spec_model.specs.Diagrams.{Function, Bits}
+use Rattle.spec_model.specs.Diagrams.{Bits}
 use Rattle.game_values.specs.declared.seen.At.{At}
 use Rattle.bit_compile.specs.Domains.{width_of}
-use Rattle.bit_compile.specs.Codes.{domain_in, HasValues}
-use Rattle.bit_compile.specs.Compiled.{coded, some_of, all_of}
-
--- the slot numbered k has the code of one of its values
-abbrev pub has_some_value : List DomainData → At → ℕ → Function
-has_some_value ds at k = some_of (map (λ c. c.holds) (coded ds at k (domain_in ds k)))
-
--- each slot has
-abbrev pub proper : List DomainData → At → Function
-proper ds at = all_of (map (has_some_value ds at) (below (length ds)))
+use Rattle.bit_compile.specs.Codes.{HasValues}
+pub use Rattle.bit_compile.specs.Compiled.{has_some_value, proper}
 
 -- these bits are the codes of a value of each domain
 pub record AreOfValues (ds : List DomainData) (at : At) (s : Bits) : Type 0 where

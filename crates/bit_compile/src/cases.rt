@@ -9,7 +9,8 @@ ghost use Rattle.bit_compile.specs.Compiled.{both_truths};
 ghost use Rattle.bit_compile.specs.CaseRoots.{HasTogether, MakesCases, IsReady, had_by, truth_had, cases_by, roots_in};
 ghost use Rattle.bit_compile.specs.Crowding.{HasCause};
 ghost use Rattle.bit_compile.specs.NamedCodes.{NoFunction};
-ghost use Rattle.bit_compile.specs.Named.{IsOfSource, IsOfEach, IsTruth};
+ghost use Rattle.bit_compile.specs.Named.{IsOfEach, IsTruth};
+ghost use Rattle.bit_compile.specs.NamedScenes.{IsOfSource};
 
 use crate::blocks::pair_root;
 use crate::codes::Codes;
@@ -26,7 +27,6 @@ use spec_model::value::{Domain, Value};
 use std::alloc::Global;
 
 /// A value, and a root that is true where it is had. It has to be given back.
-#[derive(Debug)]
 pub struct CaseRoot {
     pub value: Value,
     pub root: Root,

@@ -5,12 +5,13 @@ ghost use Rattle.spec_model.specs.Views.{domain_data, variable_data};
 ghost use Rattle.spec_model.specs.GameViews.{game_data, hidden_data};
 ghost use Rattle.spec_model.specs.Values.{DomainData, is_assignment, same_value, values_of, rank_of};
 ghost use Rattle.spec_model.specs.WellMade.{WellMade, is_domain};
-ghost use Rattle.spec_model.specs.Diagrams.{bits_of};
+ghost use Rattle.spec_model.specs.DiagramReads.{bits_of};
 ghost use Rattle.spec_model.specs.Moves.{is_of, domains_of};
 ghost use Rattle.game_values.specs.declared.seen.At.{At};
-ghost use Rattle.bit_compile.specs.Domains.{state_domains, table_domain, level_count, IsCountable};
+ghost use Rattle.bit_compile.specs.Domains.{state_domains, table_domain, level_count};
+ghost use Rattle.bit_compile.specs.Laid.{IsCountable, AreLaidOut, IsOutside};
 ghost use Rattle.bit_compile.specs.Making.{Makes};
-ghost use Rattle.bit_compile.specs.Codes.{AreLaidOut, HasValues, IsOutside, has_number, domain_in, width_at, level_at};
+ghost use Rattle.bit_compile.specs.Codes.{HasValues, has_number, domain_in, width_at, level_at};
 ghost use Rattle.bit_compile.specs.Crowding.{HasCause};
 ghost use Rattle.bit_compile.specs.NamedCodes.{IsOfNumber};
 

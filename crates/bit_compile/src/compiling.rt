@@ -7,13 +7,15 @@ ghost use Rattle.spec_model.specs.Values.{values_of};
 ghost use Rattle.game_values.specs.Safety.{formulas_in};
 ghost use Rattle.bdd_store.specs.State.{IsRoot};
 ghost use Rattle.bdd_ops.specs.Contents.{function_at};
-ghost use Rattle.bit_compile.specs.Domains.{level_count, IsCountable};
+ghost use Rattle.bit_compile.specs.Domains.{level_count};
+ghost use Rattle.bit_compile.specs.Laid.{IsCountable};
 ghost use Rattle.bit_compile.specs.Compiled.{truths_in, entry_of, is_not, implied, same_truth, both_truths, some_pair, results, values_in, span_of};
 ghost use Rattle.bit_compile.specs.CaseRoots.{AreKept, MakesCases, cases_at, folded as folded_lem, passes, true_cases};
 ghost use Rattle.bit_compile.specs.Scenes.{IsScene, cases_seen, codes_seen, entries_seen, game_seen, truth_seen};
 ghost use Rattle.bit_compile.specs.Known.{IsKnown, AreKnown, operated_cases};
 ghost use Rattle.bit_compile.specs.Crowding.{MakesNamed};
-ghost use Rattle.bit_compile.specs.Named.{IsNamedIn, IsNamedOr, AreNamedIn, IsOfTablesIn, IsOfSame, IsFirstOf, IsOfPairs, IsOfResults, IsOfOperated};
+ghost use Rattle.bit_compile.specs.Named.{IsOfSame, IsFirstOf, IsOfPairs, IsOfResults};
+ghost use Rattle.bit_compile.specs.NamedScenes.{IsNamedIn, IsNamedOr, AreNamedIn, IsOfTablesIn, IsOfOperated};
 
 use crate::blocks::pair_root;
 use crate::cases::{CaseRoot, Source, cases_from, cases_of_truth, release_all};

@@ -7,7 +7,8 @@ ghost use Rattle.spec_model.specs.GameViews.{hidden_data};
 ghost use Rattle.spec_model.specs.Values.{same_value, values_of, rank_of, rising_from};
 ghost use Rattle.spec_model.specs.Sizes.{domain_size};
 ghost use Rattle.spec_model.specs.WellMade.{all_differ};
-ghost use Rattle.bit_compile.specs.Domains.{IsCountable, table_domain};
+ghost use Rattle.bit_compile.specs.Domains.{table_domain};
+ghost use Rattle.bit_compile.specs.Laid.{IsCountable};
 
 use crate::OutOfMemory;
 use spec_model::game::Hidden;

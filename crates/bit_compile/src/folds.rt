@@ -17,7 +17,7 @@ use bdd_ops::{Diagrams, Root};
 use regions::Halt;
 
 /// How functions are joined.
-#[derive(Clone, Copy, Debug, PartialEq, Eq)]
+#[derive(Clone, Copy, PartialEq, Eq)]
 pub enum Fold {
     /// Where all are true.
     All,

@@ -1,7 +1,7 @@
 //! Numbers as bits, the most significant first.
 
 ghost use Rattle.std.specs.Prelude.{◌≡◌, ℕ, ◌+◌, ◌<◌, ◌≤◌, ◌^◌, ◌⊎◌, length, true, false, slice_index_or};
-ghost use Rattle.spec_model.specs.Diagrams.{bits_of};
+ghost use Rattle.spec_model.specs.DiagramReads.{bits_of};
 ghost use Rattle.spec_model.specs.Needs.{bits_for};
 ghost use Rattle.bit_compile.specs.Codes.{has_number};
 

@@ -8,7 +8,7 @@ use game_values::values::number;
 use spec_model::value::Value;
 
 /// An operation on two whole numbers.
-#[derive(Clone, Copy, Debug, PartialEq, Eq)]
+#[derive(Clone, Copy, PartialEq, Eq)]
 pub enum Operation {
     Add,
     Sub,

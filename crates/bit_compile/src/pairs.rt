@@ -23,7 +23,7 @@ use spec_model::expr::Compare;
 use spec_model::value::Value;
 
 /// Which pairs of values pass.
-#[derive(Clone, Copy, Debug)]
+#[derive(Clone, Copy)]
 pub enum Test<'a> {
     /// The comparison holds.
     Compared(Compare),

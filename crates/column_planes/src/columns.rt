@@ -9,7 +9,7 @@ use spec_model::value::Var;
 
 /// The codes of the variables, 4,096 positions for each, the cells of the hidden tables likewise, and how many moves are looked
 /// at. Where no cells are given, no entry is read.
-#[derive(Clone, Copy, Debug)]
+#[derive(Clone, Copy)]
 pub struct Columns<'a> {
     pub vars: &'a [Var],
     pub hidden: &'a [Hidden],

@@ -41,7 +41,7 @@ fn constant_of(e: &Expr) -> Option<Value>
 }
 
 /// A variable, and at which of both moments it is read.
-#[derive(Clone, Copy, Debug)]
+#[derive(Clone, Copy)]
 struct Read {
     k: u32,
     at: At,

@@ -17,7 +17,7 @@ use spec_model::expr::Expr;
 use spec_model::value::{Domain, Value};
 
 /// An operation on two whole numbers.
-#[derive(Clone, Copy, Debug)]
+#[derive(Clone, Copy)]
 pub enum Operation {
     Sum,
     Difference,

@@ -9,7 +9,7 @@ use Rattle.gr1_law.specs.Layers.{LayerSets, IsLeastNumber}
 use Rattle.gr1_law.specs.Choice.{Memory}
 use Rattle.gr1_sys.specs.declared.layers.SysLayer.{SysLayer}
 use Rattle.gr1_sys.specs.Held.{HaveParts, AllHaveParts}
-use Rattle.controller.specs.declared.place.Place.{Place}
+use Rattle.controller.specs.declared.remembered.Remembered.{Remembered}
 use Rattle.strategy_parts.specs.Owned.{RegionsAre}
 use Rattle.controller.specs.Aims.{LayersAre, AllLayersAre}
 use Rattle.controller.specs.Settled.{Settles}
@@ -35,7 +35,7 @@ module _ {G R M : Type 0} where
   have_at n (v ∷ vs) have zero below d = have.0
   have_at n (v ∷ vs) have (suc j) below d = have_at n vs have.1 j (omega arith) d
 
-  module _ (k : Kept R M) (goals : List (Vec (SysLayer G R M) Global)) (p : Place) (goal rank : ℕ) (waited : Bool) (l : LayerSets) (b : Before) (m : Memory) (x y : Assignment) (next : Memory)
+  module _ (k : Kept R M) (goals : List (Vec (SysLayer G R M) Global)) (p : Remembered) (goal rank : ℕ) (waited : Bool) (l : LayerSets) (b : Before) (m : Memory) (x y : Assignment) (next : Memory)
       (settles : Settles k goals p goal rank waited l b m x y next) where
     pub index_kept : waited ≡ true → p.index ≡ next.index
     index_kept on = ap (λ (n : Memory). n.index) settles.here.memory ∙ sym (settles.turn.chosen.kept (sym settles.waiting ∙ on))

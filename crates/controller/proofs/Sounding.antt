@@ -14,7 +14,7 @@ use Rattle.gr1_law.specs.Choice.{Memory, waits}
 use Rattle.gr1_sys.specs.declared.layers.SysLayer.{SysLayer}
 use Rattle.gr1_sys.specs.Held.{AllHaveParts, ranks_of}
 use Rattle.controller.specs.declared.aims.Aim.{Aim}
-use Rattle.controller.specs.declared.place.Place.{Place}
+use Rattle.controller.specs.declared.remembered.Remembered.{Remembered}
 use Rattle.strategy_parts.specs.Owned.{RegionsAre}
 use Rattle.controller.specs.Aims.{AimsLead, GoalsLead, LayersAre, AllLayersAre}
 use Rattle.controller.specs.Places.{IsAt}
@@ -100,7 +100,7 @@ module _ {G R M : Type 0} where
 
 -- ---- what is remembered
 
-pub remembered : (g : GameData) (p : Place) (b : Before) (m : Memory) (goal rank index : ℕ) (next : Memory) → IsAt g p b m → goal ≡ next.goal → rank ≡ next.rank → index ≡ next.index →
+pub remembered : (g : GameData) (p : Remembered) (b : Before) (m : Memory) (goal rank index : ℕ) (next : Memory) → IsAt g p b m → goal ≡ next.goal → rank ≡ next.rank → index ≡ next.index →
     IsAt g (record p { goal = goal; rank = rank; index = index }) b next
 remembered g p b m goal rank index next here goal_is rank_is index_is =
     record {
@@ -115,7 +115,7 @@ remembered g p b m goal rank index next here goal_is rank_is index_is =
 
 module _ {G R M : Type 0} (k k1 : Kept R M) (stays : Stays k k1) (same : IsSameGame k k1) (layers : List (Vec (SysLayer G R M) Global)) (first : List (Aim G R M)) (goals : List (Vec (Aim G R M) Global)) (holds : List R)
     (z : StateSet) (l : LayerSets) (sound : AreSound k layers first goals holds z l) (b : Before) (m : Memory) (x y : Assignment) (next : Memory) (turn : IsTurn k.game l b m x y next) (high : next.rank ≤ slice_index (ranks_of layers) next.goal) where
-  pub settles : (p : Place) (goal rank : ℕ) (waited : Bool) → IsAt k.game p (Some (reached k.game b x y)) m → goal ≡ next.goal → suc rank ≡ next.rank → waited ≡ waits k.game b m next.rank → Settles k1 layers p goal rank waited l b m x y next
+  pub settles : (p : Remembered) (goal rank : ℕ) (waited : Bool) → IsAt k.game p (Some (reached k.game b x y)) m → goal ≡ next.goal → suc rank ≡ next.rank → waited ≡ waits k.game b m next.rank → Settles k1 layers p goal rank waited l b m x y next
   settles p goal rank waited here goal_is rank_is waited_is =
       record {
         turn = subst (λ (g : GameData). IsTurn g l b m x y next) (sym same.game) turn;

@@ -17,7 +17,7 @@ ghost use Rattle.controller.specs.Objects.{IsFresh, IsStarted, game_of, Stands, 
 use crate::aims::Aim;
 use crate::choosing::least_rank;
 use crate::equipping::equip;
-use crate::place::Place;
+use crate::remembered::Remembered;
 use crate::settling::new_index;
 use crate::spending::spend_made;
 use crate::turning::{aimed, lead};
@@ -40,16 +40,16 @@ pub struct Controller<G: Regions> {
     goals: Vec<Vec<Aim<G>>>,
     /// The states at which each goal holds.
     holds: Vec<G::R>,
-    place: Place,
+    place: Remembered,
     judge: InputJudge,
 }
 
 /// Before the first position, and a judge of the inputs. `AllocError`: no memory was given.
-fn prepared(alloc: Global, game: &Game) -> Result<(Place, InputJudge), AllocError>
+fn prepared(alloc: Global, game: &Game) -> Result<(Remembered, InputJudge), AllocError>
     requires { WellMade (game_data game.now) }
     ensures { IfOk result (λ p. IsAt (game_data game.now) p.0 None first_memory × IsJudgeOf (game_data game.now) p.1) }
 {
-    let place = Place::make(alloc, game)?;
+    let place = Remembered::make(alloc, game)?;
     let judge = InputJudge::make(alloc, game)?;
     Ok((place, judge))
 }

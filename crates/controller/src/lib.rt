@@ -16,7 +16,7 @@ mod choosing;
 mod controller;
 mod equipping;
 mod making;
-mod place;
+mod remembered;
 mod settling;
 mod spending;
 mod turning;

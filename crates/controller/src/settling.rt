@@ -13,7 +13,7 @@ ghost use Rattle.controller.specs.Aims.{LayersAre};
 ghost use Rattle.gr1_sys.specs.Held.{HaveParts};
 
 use crate::choosing::least_index;
-use crate::place::Place;
+use crate::remembered::Remembered;
 use gr1_sys::SysLayer;
 use regions::Regions;
 use spec_model::value::Value;
@@ -34,7 +34,7 @@ fn first_part<G: Regions>(g: &mut G, layers: &[SysLayer<G>], rank: usize, state:
 pub fn new_index<G: Regions>(
     g: &mut G,
     goals: &[Vec<SysLayer<G>>],
-    place: &Place,
+    place: &Remembered,
     goal: usize,
     rank: usize,
     waits: bool,

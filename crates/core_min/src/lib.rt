@@ -14,6 +14,3 @@ mod trying;
 pub use fault::CoreFault;
 pub use judge::Judge;
 pub use trying::core;
-
-#[cfg(test)]
-mod tests;

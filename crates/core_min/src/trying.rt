@@ -36,7 +36,7 @@ pub fn core<J: Judge>(
     Ok(set)
 }
 
-pub(crate) fn all_below(alloc: Global, n: usize) -> Result<Vec<usize>, AllocError>
+fn all_below(alloc: Global, n: usize) -> Result<Vec<usize>, AllocError>
     ensures { IfOk result (λ set. set.items ≡ below n) }
 {
     let mut set = Vec::with_capacity(alloc, n)?;

@@ -15,7 +15,7 @@ use Rattle.strategy_parts.specs.Owned.{RegionsAre}
 use Rattle.strategy_parts.specs.Positions.{values_at}
 use Rattle.strategy_parts.proofs.Holdings.{regions_stay}
 use Rattle.counterstrategy.specs.declared.kit.Kit.{Kit}
-use Rattle.counterstrategy.specs.declared.place.Place.{Place}
+use Rattle.counterstrategy.specs.declared.remembered.Remembered.{Remembered}
 use Rattle.counterstrategy.specs.Settled.{tops, holds_in}
 use Rattle.counterstrategy.specs.Turns.{ServesReply}
 
@@ -28,7 +28,7 @@ remembered n denying layer goal before index a b c d e =
     memory : Bool → ℕ → ℕ → ℕ → ℕ → CounterMemory
     memory denying layer goal before index = record { denying = denying; layer = layer; goal = goal; before = before; index = index }
 
-module _ {G R M : Type 0} (k : Kept R M) (ls : List (EnvLayer G R M)) (kit : Kit G R M) (p : Place) (e : EnvLayerSets) (m : CounterMemory) (s : State) (next : CounterMemory) (serves : ServesReply k ls kit p e m s next) where
+module _ {G R M : Type 0} (k : Kept R M) (ls : List (EnvLayer G R M)) (kit : Kit G R M) (p : Remembered) (e : EnvLayerSets) (m : CounterMemory) (s : State) (next : CounterMemory) (serves : ServesReply k ls kit p e m s next) where
   pub kept_on : p.denying ≡ true → (p.layer ≡ next.layer) × (p.goal ≡ next.goal) × (p.index ≡ next.before)
   kept_on on =
       let same = serves.reply.noted.stays (ap (λ (q : CounterMemory). q.denying) (sym serves.here.memory) ∙ on) in (
@@ -68,7 +68,7 @@ module _ {G R M : Type 0} (k : Kept R M) (ls : List (EnvLayer G R M)) (kit : Kit
 pub layer_found : {G R M : Type 0} (ls : List (EnvLayer G R M)) (found low : ℕ) → found ≡ low → low < length ls → (d : EnvLayer G R M) → slice_get ls low ≡ Some (get_or ls found d)
 layer_found ls found low is below d = slice_get-get_or ls low d below ∙ ap (λ n. Some (get_or ls n d)) (sym is)
 
-module _ {G R M : Type 0} (k k1 : Kept R M) (stays : Stays k k1) (same : IsSameGame k k1) (ls : List (EnvLayer G R M)) (kit : Kit G R M) (p : Place) (e : EnvLayerSets) (m : CounterMemory) (s : State) (next : CounterMemory) (serves : ServesReply k ls kit p e m s next) where
+module _ {G R M : Type 0} (k k1 : Kept R M) (stays : Stays k k1) (same : IsSameGame k k1) (ls : List (EnvLayer G R M)) (kit : Kit G R M) (p : Remembered) (e : EnvLayerSets) (m : CounterMemory) (s : State) (next : CounterMemory) (serves : ServesReply k ls kit p e m s next) where
   -- and a search among its holds finds the goal
   pub goal_is : p.denying ≡ false → (values : List Value) → values ≡ values_at p.position → (l : EnvLayer G R M) → slice_get ls serves.reply.low ≡ Some l → (goals : List (EnvGoal G R M)) → goals ≡ l.goals.items → (found : ℕ) →
       ((sets : ℕ → StateSet) (s : State) (j : ℕ) → RegionsAre k1 (holds_in goals) sets → is_state k1.game s ≡ true → listed s ≡ values → IsLeastNumber (λ n. IsTrue (sets n s)) j → j < length goals → found ≡ j) → found ≡ next.goal

@@ -16,7 +16,7 @@ use Rattle.gr1_env.specs.Solved.{counts_of}
 use Rattle.strategy_parts.specs.Owned.{RegionsAre}
 use Rattle.strategy_parts.proofs.Holdings.{regions_stay}
 use Rattle.counterstrategy.specs.declared.kit.Kit.{Kit}
-use Rattle.counterstrategy.specs.declared.place.Place.{Place}
+use Rattle.counterstrategy.specs.declared.remembered.Remembered.{Remembered}
 use Rattle.counterstrategy.specs.Forced.{ChainsLead}
 use Rattle.counterstrategy.specs.Settled.{tops, holds_in, LayersAre, GoalsAre}
 use Rattle.counterstrategy.specs.Places.{IsAt}
@@ -64,7 +64,7 @@ module _ {G R M : Type 0} (k k1 : Kept R M) (stays : Stays k k1) (same : IsSameG
       }
 
 module _ {G R M : Type 0} (k : Kept R M) (ls : List (EnvLayer G R M)) (kit : Kit G R M) (e : EnvLayerSets) (sound : AreSound k ls kit e) where
-  pub serves_turn : (p : Place) (b : Before) (m : CounterMemory) (r : ℕ) (x : Assignment) → IsTurn k.game e (length ls) (counts_of ls) b m r x → IsAt k.game p b m → ServesTurn k kit p e (length ls) (counts_of ls) b m r x
+  pub serves_turn : (p : Remembered) (b : Before) (m : CounterMemory) (r : ℕ) (x : Assignment) → IsTurn k.game e (length ls) (counts_of ls) b m r x → IsAt k.game p b m → ServesTurn k kit p e (length ls) (counts_of ls) b m r x
   serves_turn p b m r x turn here =
       record {
         turn = turn;
@@ -78,5 +78,5 @@ module _ {G R M : Type 0} (k : Kept R M) (ls : List (EnvLayer G R M)) (kit : Kit
         asms = sound.goals.asms_counted;
       }
 
-  pub serves_reply : (p : Place) (m : CounterMemory) (s : State) (next : CounterMemory) → IsReply k.game e (length ls) m s next → IsAt k.game p (Some s) m → ServesReply k ls kit p e m s next
+  pub serves_reply : (p : Remembered) (m : CounterMemory) (s : State) (next : CounterMemory) → IsReply k.game e (length ls) m s next → IsAt k.game p (Some s) m → ServesReply k ls kit p e m s next
   serves_reply p m s next reply here = record { reply = reply; here = here; layers = sound.layers; goals = sound.goals }

@@ -17,7 +17,7 @@ use Rattle.gr1_law.specs.EnvLayers.{EnvLayerSets}
 use Rattle.gr1_law.specs.Counter.{CounterMemory}
 use Rattle.strategy_parts.specs.Positions.{IsWholeBefore, values_at}
 use Rattle.counterstrategy.specs.declared.kit.Kit.{Kit}
-use Rattle.counterstrategy.specs.declared.place.Place.{Place}
+use Rattle.counterstrategy.specs.declared.remembered.Remembered.{Remembered}
 use Rattle.counterstrategy.specs.Forced.{IsFirstForced, MovesLead}
 use Rattle.counterstrategy.specs.Turns.{ServesTurn}
 use Rattle.counterstrategy.proofs.Moving.{moves_stay, move_at}
@@ -43,7 +43,7 @@ module _ {R M : Type 0} (k k1 : Kept R M) (stays : Stays k k1) (same : IsSameGam
 
 -- ---- the moves after a denial
 
-pub record ServesHold {G R M : Type 0} (k : Kept R M) (kit : Kit G R M) (p : Place) (e : EnvLayerSets) (m : CounterMemory) (r : ℕ) : Type 0 where
+pub record ServesHold {G R M : Type 0} (k : Kept R M) (kit : Kit G R M) (p : Remembered) (e : EnvLayerSets) (m : CounterMemory) (r : ℕ) : Type 0 where
   pub low : ℕ
   pub layer : p.layer ≡ suc low
   pub chain : Vec M Global
@@ -52,7 +52,7 @@ pub record ServesHold {G R M : Type 0} (k : Kept R M) (kit : Kit G R M) (p : Pla
   pub few : r ≤ length chain.items
   pub some_asm : 0 < length kit.asms.items
 
-module _ {G R M : Type 0} (k : Kept R M) (kit : Kit G R M) (p : Place) (e : EnvLayerSets) (n : ℕ) (counts : ℕ → ℕ → List ℕ) (b : Before) (m : CounterMemory) (r : ℕ) (x : Assignment) (serves : ServesTurn k kit p e n counts b m r x) where
+module _ {G R M : Type 0} (k : Kept R M) (kit : Kit G R M) (p : Remembered) (e : EnvLayerSets) (n : ℕ) (counts : ℕ → ℕ → List ℕ) (b : Before) (m : CounterMemory) (r : ℕ) (x : Assignment) (serves : ServesTurn k kit p e n counts b m r x) where
   pub denies : p.denying ≡ true → m.denying ≡ true
   denies on = ap (λ (q : CounterMemory). q.denying) (sym serves.here.memory) ∙ on
 
@@ -105,6 +105,6 @@ module _ {G R M : Type 0} (k : Kept R M) (kit : Kit G R M) (p : Place) (e : EnvL
       subst (λ t. IsHeldAs k (Move q) (Inputs Later t)) (sym (serves.turn.none (denies on)))
       (move_at k Later kit.later.items e.z serves.later 0 (let many = serves.later_counted in omega (arith, many)) q is)
 
-module _ {G R M : Type 0} (k : Kept R M) (kit : Kit G R M) (p : Place) (e : EnvLayerSets) (m : CounterMemory) (r : ℕ) (hold : ServesHold k kit p e m r) where
+module _ {G R M : Type 0} (k : Kept R M) (kit : Kit G R M) (p : Remembered) (e : EnvLayerSets) (m : CounterMemory) (r : ℕ) (hold : ServesHold k kit p e m r) where
   pub chain_found : (number : ℕ) → number ≡ (hold.low * length kit.goals.items + p.goal) * length kit.asms.items + p.index → (c : Vec M Global) → c ≡ get_or kit.delays.items number c → c ≡ hold.chain
   chain_found number is c c_is = c_is ∙ get_or_from_slice_get kit.delays.items number hold.chain c (ap (λ n. slice_get kit.delays.items n) is ∙ hold.there)

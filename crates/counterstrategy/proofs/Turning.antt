@@ -74,17 +74,14 @@ module _ (g : GameData) (e : EnvLayerSets) (n : ℕ) (counts : ℕ → ℕ → L
   given_fits b k r x given = given_input g e lost.layers n b k r x given
 
   module _ (h : Run) (notes : List NoteData) (b : Before) (k : CounterMemory) (play : AnsweredPlay g e h notes b k) where
-    abbrev used : ℕ
-    used = count_by is_shift notes
-
-    ready : CounterReady g e n used b k
+    ready : CounterReady g e n b k
     ready = (answered g e lost.layers n h notes b k lost.forced play).ready
 
     module _ (whole : IsWholeBefore g b) where
       pub turn_with : (r : ℕ) (x : Assignment) → IsGiven g e b k r x → IsTurn g e n counts b k r x
       turn_with r x given = by_ready ready
         where
-          by_ready : CounterReady g e n used b k → IsTurn g e n counts b k r x
+          by_ready : CounterReady g e n b k → IsTurn g e n counts b k r x
           by_ready (CounterReady.into_layer denying a forced few) =
               let low : a < r → ⊥ = λ less. given.number.none_before a less (subst (λ d. environment_forces g ((if d then e.x k.layer k.goal k.index else e.z) a) b ≡ true) (sym denying) forced) in
               record {
@@ -113,7 +110,7 @@ module _ (g : GameData) (e : EnvLayerSets) (n : ℕ) (counts : ℕ → ℕ → L
               }
 
       pub turn_exists : (r : ℕ) × (x : Assignment) × IsTurn g e n counts b k r x
-      turn_exists = let given = input_exists g e lost.layers n used b k ready in (given.0, given.1, turn_with given.0 given.1 given.2)
+      turn_exists = let given = input_exists g e lost.layers n b k ready in (given.0, given.1, turn_with given.0 given.1 given.2)
 
       module _ (closed : IsClosed g) (r : ℕ) (x : Assignment) (given : IsGiven g e b k r x) (y : Assignment) (output : is_output g y ≡ true) (legal : legal_output g b x y ≡ true) where
         pub moves_closed : IsClosedAt g b x y
@@ -122,7 +119,7 @@ module _ (g : GameData) (e : EnvLayerSets) (n : ℕ) (counts : ℕ → ℕ → L
 
         pub reply_with : (next : CounterMemory) → IsNoted g e k (reached g b x y) next → IsReply g e n k (reached g b x y) next
         reply_with next noted =
-            let stands = stands_next g e lost.layers n b k r x given (reached g b x y) (given_leads g e lost.layers n b k r x given y output legal) used ready next noted in
+            let stands = stands_next g e lost.layers n b k r x given (reached g b x y) (given_leads g e lost.layers n b k r x given y output legal) ready next noted in
             record {
               noted = noted;
               state = moves_closed.state;

@@ -11,7 +11,7 @@ use Rattle.gr1_law.specs.Counter.{CounterMemory, IsGiven, IsNoted}
 use Rattle.gr1_env.specs.declared.layers.EnvLayer.{EnvLayer}
 use Rattle.strategy_parts.specs.Positions.{IsWholeBefore}
 use Rattle.counterstrategy.specs.declared.kit.Kit.{Kit}
-use Rattle.counterstrategy.specs.declared.place.Place.{Place}
+use Rattle.counterstrategy.specs.declared.remembered.Remembered.{Remembered}
 use Rattle.counterstrategy.specs.Places.{IsAt}
 use Rattle.counterstrategy.specs.Forced.{MovesLead, ChainsLead}
 use Rattle.counterstrategy.specs.Settled.{LayersAre, GoalsAre}
@@ -47,7 +47,7 @@ pub record IsReply (g : GameData) (e : EnvLayerSets) (n : ℕ) (k : CounterMemor
 
 module _ {G R M : Type 0} where
   -- the place is before the turn, and the moves lead where it is to lead
-  pub record ServesTurn (k : Kept R M) (kit : Kit G R M) (p : Place) (e : EnvLayerSets) (n : ℕ) (counts : ℕ → ℕ → List ℕ) (b : Before) (m : CounterMemory) (r : ℕ) (x : Assignment) : Type 0 where
+  pub record ServesTurn (k : Kept R M) (kit : Kit G R M) (p : Remembered) (e : EnvLayerSets) (n : ℕ) (counts : ℕ → ℕ → List ℕ) (b : Before) (m : CounterMemory) (r : ℕ) (x : Assignment) : Type 0 where
     pub turn : IsTurn k.game e n counts b m r x
     pub here : IsAt k.game p b m
     pub first : MovesLead k First kit.first.items e.z
@@ -59,7 +59,7 @@ module _ {G R M : Type 0} where
     pub asms : length kit.asms.items ≡ length (assumption_sets k.game)
 
   -- the place is after the state that the reply reached, and still remembers what was remembered before
-  pub record ServesReply (k : Kept R M) (ls : List (EnvLayer G R M)) (kit : Kit G R M) (p : Place) (e : EnvLayerSets) (m : CounterMemory) (s : State) (next : CounterMemory) : Type 0 where
+  pub record ServesReply (k : Kept R M) (ls : List (EnvLayer G R M)) (kit : Kit G R M) (p : Remembered) (e : EnvLayerSets) (m : CounterMemory) (s : State) (next : CounterMemory) : Type 0 where
     pub reply : IsReply k.game e (length ls) m s next
     pub here : IsAt k.game p (Some s) m
     pub layers : LayersAre k ls e

@@ -18,7 +18,7 @@ use crate::equipping::equip;
 use crate::giving::give;
 use crate::kit::{Kit, spend_kit};
 use crate::noting::{label_of, note_position};
-use crate::place::Place;
+use crate::remembered::Remembered;
 use game_play::OutputJudge;
 use gr1_env::{EnvLayer, EnvLayers};
 use regions::{Halt, MakeRefusal, Regions};
@@ -28,7 +28,7 @@ use spec_model::variables::count_inputs;
 use std::alloc::{AllocError, Global};
 
 /// What is noted of a position: that the play shifts, or that it denies the goal with this label.
-#[derive(Clone, Copy, Debug, PartialEq, Eq)]
+#[derive(Clone, Copy, PartialEq, Eq)]
 pub enum Note {
     Shift,
     Deny(Label),
@@ -39,7 +39,7 @@ pub struct Counterstrategy<G: Regions> {
     g: G,
     layers: Vec<EnvLayer<G>>,
     kit: Kit<G>,
-    place: Place,
+    place: Remembered,
     /// Whether an input was given, and the one that was given last.
     has_given: bool,
     given: Vec<Value>,
@@ -47,13 +47,13 @@ pub struct Counterstrategy<G: Regions> {
 }
 
 /// Before the first position, room for an input, and a judge of the outputs. `AllocError`: no memory was given.
-fn prepared(alloc: Global, game: &Game) -> Result<(Place, Vec<Value>, OutputJudge), AllocError>
+fn prepared(alloc: Global, game: &Game) -> Result<(Remembered, Vec<Value>, OutputJudge), AllocError>
     requires { WellMade (game_data game.now) }
     ensures place { IfOk result (λ p. IsAt (game_data game.now) p.0 None first_counter) }
     ensures room { IfOk result (λ p. length p.1.items ≡ input_count (game_data game.now)) }
     ensures judge { IfOk result (λ p. IsOutputJudgeOf (game_data game.now) p.2) }
 {
-    let place = Place::make(alloc, game)?;
+    let place = Remembered::make(alloc, game)?;
     let given = vec![in alloc; Value::Bool(false); count_inputs(&game.vars)]?;
     let judge = OutputJudge::make(alloc, game)?;
     Ok((place, given, judge))

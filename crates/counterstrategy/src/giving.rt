@@ -13,7 +13,7 @@ ghost use Rattle.counterstrategy.specs.Forced.{MovesLead, LeadSomewhere, IsFirst
 ghost use Rattle.counterstrategy.specs.Turns.{ServesTurn};
 
 use crate::kit::Kit;
-use crate::place::Place;
+use crate::remembered::Remembered;
 use regions::Regions;
 use spec_model::value::Value;
 
@@ -57,7 +57,7 @@ fn give_in_hold<G: Regions>(
 }
 
 /// The number of the list of moves into a hold's iterates: by the layer's number from 1, the goal and the assumption aimed at.
-fn chain_number<G: Regions>(kit: &Kit<G>, place: &Place) -> usize
+fn chain_number<G: Regions>(kit: &Kit<G>, place: &Remembered) -> usize
     requires layer { (low : ℕ) × (place.now.layer ≡ suc low) × ((low * length kit.now.goals.items + place.now.goal) * length kit.now.asms.items + place.now.index < length kit.now.delays.items) }
     requires some { 0 < length kit.now.asms.items }
     ensures { (low : ℕ) → place.now.layer ≡ suc low → result ≡ (low * length kit.now.goals.items + place.now.goal) * length kit.now.asms.items + place.now.index }
@@ -66,7 +66,7 @@ fn chain_number<G: Regions>(kit: &Kit<G>, place: &Place) -> usize
 }
 
 /// Writes the input that is given at the place.
-pub fn give<G: Regions>(g: &mut G, kit: &Kit<G>, place: &Place, input: &mut [Value])
+pub fn give<G: Regions>(g: &mut G, kit: &Kit<G>, place: &Remembered, input: &mut [Value])
     requires turn { (e : EnvLayerSets) × (n : ℕ) × (counts : ℕ → ℕ → List ℕ) × (b : Before) × (m : CounterMemory) × (r : ℕ) × (x : Assignment) × ServesTurn (G.kept g.old) kit.now place.now e n counts b m r x }
     requires room { length input.old ≡ input_count (G.kept g.old).game }
     ensures given { let k = G.kept g.old in (e : EnvLayerSets) (n : ℕ) (counts : ℕ → ℕ → List ℕ) (b : Before) (m : CounterMemory) (r : ℕ) (x : Assignment) →

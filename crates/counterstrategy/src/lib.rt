@@ -17,6 +17,6 @@ mod giving;
 mod kit;
 mod making;
 mod noting;
-mod place;
+mod remembered;
 
 pub use counterstrategy::{Counterstrategy, Note};

@@ -15,7 +15,7 @@ ghost use Rattle.counterstrategy.specs.Settled.{tops, holds_in};
 ghost use Rattle.counterstrategy.specs.Turns.{ServesReply};
 
 use crate::kit::Kit;
-use crate::place::Place;
+use crate::remembered::Remembered;
 use gr1_env::{EnvGoal, EnvLayer};
 use regions::Regions;
 use spec_model::game::{Goal, Label};
@@ -54,7 +54,7 @@ fn least_goal<G: Regions>(g: &mut G, goals: &[EnvGoal<G>], state: &[Value]) -> u
 }
 
 /// The layer, by its number from 1, the goal and the assumption aimed at of a new position: after a denial the same.
-fn aim<G: Regions>(g: &mut G, layers: &[EnvLayer<G>], place: &Place) -> (usize, usize, usize)
+fn aim<G: Regions>(g: &mut G, layers: &[EnvLayer<G>], place: &Remembered) -> (usize, usize, usize)
     requires { (kit : Kit _ _ _) × (e : EnvLayerSets) × (m : CounterMemory) × (s : State) × (next : CounterMemory) × ServesReply (G.kept g.old) layers.now kit place.now e m s next }
     ensures aim { let k = G.kept g.old in (kit : Kit _ _ _) (e : EnvLayerSets) (m : CounterMemory) (s : State) (next : CounterMemory) → ServesReply k layers.now kit place.now e m s next →
         (result.0 ≡ next.layer) × (result.1 ≡ next.goal) × (result.2 ≡ next.before) }
@@ -90,7 +90,12 @@ fn next_index<G: Regions>(g: &mut G, asms: &[G::R], before: usize, state: &[Valu
 }
 
 /// Remembers the position that the place is after.
-pub fn note_position<G: Regions>(g: &mut G, layers: &[EnvLayer<G>], kit: &Kit<G>, place: &mut Place)
+pub fn note_position<G: Regions>(
+    g: &mut G,
+    layers: &[EnvLayer<G>],
+    kit: &Kit<G>,
+    place: &mut Remembered,
+)
     requires { (e : EnvLayerSets) × (m : CounterMemory) × (s : State) × (next : CounterMemory) × ServesReply (G.kept g.old) layers.now kit.now place.old e m s next }
     ensures noted { let k = G.kept g.old in (e : EnvLayerSets) (m : CounterMemory) (s : State) (next : CounterMemory) → ServesReply k layers.now kit.now place.old e m s next → memory_at place.new ≡ next }
     ensures position { place.new.position ≡ place.old.position }

@@ -17,7 +17,7 @@ use spec_model::value::Value;
 use std::alloc::{AllocError, Global};
 
 /// Judges the outputs of a game.
-#[derive(Debug, Drop)]
+#[derive(Drop)]
 pub struct OutputJudge {
     /// Which guarantees and monitors' lines read a next value.
     pub nexts: Vec<bool>,

@@ -25,14 +25,14 @@ use spec_model::value::{Domain, Owner, Value, Var};
 use std::alloc::{AllocError, Global};
 
 /// What is seen of a move: the position that it makes, as far as inputs tell, and the state before with the next input.
-#[derive(Clone, Copy, Debug)]
+#[derive(Clone, Copy)]
 pub struct Move<'a> {
     pub made: Made<'a>,
     pub before: Option<Sight<'a>>,
 }
 
 /// Judges the inputs of a game.
-#[derive(Debug, Drop)]
+#[derive(Drop)]
 pub struct InputJudge {
     /// Which safety assumptions wait for the output.
     pub waits: Vec<bool>,

@@ -17,7 +17,7 @@ use spec_model::value::{Value, Var};
 
 /// A position and its hidden values. No table is read before it is asked for: an entry is found by the letter of the atoms
 /// of its table, which read only the tables before it.
-#[derive(Clone, Copy, Debug)]
+#[derive(Clone, Copy)]
 pub struct Made<'a> {
     pub vars: &'a [Var],
     pub hidden: &'a [Hidden],

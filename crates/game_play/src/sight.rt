@@ -12,7 +12,7 @@ use spec_model::game::Hidden;
 use spec_model::value::{Value, Var};
 
 /// What is seen of a state and the next one: the moves of both, and the cells of the tables that are read so far.
-#[derive(Clone, Copy, Debug)]
+#[derive(Clone, Copy)]
 pub struct Sight<'a> {
     pub vars: &'a [Var],
     pub hidden: &'a [Hidden],

@@ -1,7 +1,9 @@
 //! A game with its states numbered, and which moves lead where.
 
 ghost use Rattle.std.specs.Prelude.{◌≡◌, ◌<◌, ◌≤◌, ◌+◌, true, Some, None, map, length, option_map, slice_get, IfOk};
+ghost use Rattle.std.proofs.Props.{props};
 ghost use Rattle.spec_model.specs.GameViews.{game_data};
+ghost use Rattle.spec_model.specs.OneSpelling.{IsName-prop};
 ghost use Rattle.spec_model.specs.Games.{inputs_of, outputs_of, step_reading};
 ghost use Rattle.spec_model.specs.Moves.{has_next};
 ghost use Rattle.spec_model.specs.Steps.{states_of, waits_for_output, assumptions_hold, guarantees_hold};
@@ -21,7 +23,7 @@ use spec_model::value::Value;
 use std::alloc::{AllocError, Global};
 
 /// A game with its states numbered.
-#[derive(Debug, Drop)]
+#[derive(Drop)]
 pub struct Numbered {
     pub game: Game,
     /// All values of the hidden tables, all inputs and all outputs, in order.
@@ -33,7 +35,7 @@ pub struct Numbered {
     /// Which safety assumptions wait for the output, and which safety guarantees read a next value.
     pub waits: Vec<bool>,
     pub nexts: Vec<bool>,
-    pub ghost made: { WellMade (game_data game) },
+    pub ghost made: { WellMade (game_data game) } by { Prim.hlevel (props, IsName-prop) },
     pub ghost hidden_listed: { map (λ c. c.items) hidden.items ≡ hidden_choices (game_data game) },
     pub ghost inputs_listed: { map (λ c. c.items) inputs.items ≡ inputs_of (game_data game) },
     pub ghost outputs_listed: { map (λ c. c.items) outputs.items ≡ outputs_of (game_data game) },

@@ -8,14 +8,14 @@ use crate::values::value_or;
 use spec_model::value::Value;
 
 /// What a state gives to expressions: the value of each variable, and the entries of each hidden table.
-#[derive(Debug, Drop)]
+#[derive(Drop)]
 pub struct Moment {
     pub values: Vec<Value>,
     pub entries: Vec<Vec<bool>>,
 }
 
 /// A moment and the next one.
-#[derive(Clone, Copy, Debug)]
+#[derive(Clone, Copy)]
 pub struct Moments<'a> {
     pub here: &'a Moment,
     pub next: &'a Moment,

@@ -64,7 +64,7 @@ fn entries_at(alloc: Global, tables: &[Vec<bool>], cell: usize) -> Result<Vec<bo
 }
 
 /// What a state gives to expressions, and the hidden values that follow it.
-#[derive(Debug, Drop)]
+#[derive(Drop)]
 pub struct Readout {
     pub moment: Moment,
     pub next: Vec<u16>,

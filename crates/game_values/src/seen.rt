@@ -9,14 +9,14 @@ use spec_model::game::Hidden;
 use spec_model::value::Value;
 
 /// Which of two moments is read.
-#[derive(Clone, Copy, Debug, PartialEq, Eq)]
+#[derive(Clone, Copy, PartialEq, Eq)]
 pub enum At {
     Now,
     Next,
 }
 
 /// An entry of a hidden table, or where it is found.
-#[derive(Clone, Copy, Debug)]
+#[derive(Clone, Copy)]
 pub enum Found<'a, S> {
     /// It is this one.
     Known(bool),

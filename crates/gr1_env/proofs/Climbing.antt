@@ -2,7 +2,8 @@
 use Rattle.std.proofs.Common.{◌≡◌, ℕ, suc, ◌+◌, ◌-◌, ◌<◌, ◌⊎◌, inl, inr, Bool, true, false, List, [], ◌∷◌, ◌++◌, length, None, ap, sym, ◌∙◌, refl, subst, arith}
 use Rattle.spec_model.specs.Games.{GameData}
 use Rattle.spec_model.specs.Steps.{states_of}
-use Rattle.spec_model.specs.Sets.{StateSet, no_states, all_states, count_in, IsPartOf}
+use Rattle.spec_model.specs.Sets.{StateSet, no_states, all_states, IsPartOf}
+use Rattle.spec_model.specs.Counts.{count_in}
 use Rattle.regions.specs.Kept.{Kept, IsExact}
 use Rattle.regions.proofs.Holding.{set_is}
 use Rattle.gr1_sys.specs.Held.{MakesRegions}

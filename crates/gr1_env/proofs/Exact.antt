@@ -9,9 +9,9 @@ use Rattle.gr1_law.specs.EnvLayers.{delay, HasDelays, IsHold, AreEnvLayers}
 use Rattle.gr1_law.proofs.Holds.{delayed_inside}
 use Rattle.gr1_sys.proofs.Lists.{length_map}
 use Rattle.gr1_sys.proofs.Winning.{meet-each, meet-from}
-use Rattle.gr1_env.specs.declared.givens.Wanted.TheVariants.{Misses, Assumptions}
+use Rattle.gr1_env.specs.declared.givens.EnvSets.TheVariants.{Misses, Assumptions}
 use Rattle.gr1_env.specs.Givens.{wanted}
-use Rattle.gr1_env.specs.Moment.{base_for, layer_number, hold_number, layers_for}
+use Rattle.gr1_env.specs.Told.{base_for, layer_number, hold_number, layers_for}
 use Rattle.gr1_env.specs.Solution.{at, rising, delay_on, last_delay_on, cover_of, hold_value_on, hold_on, hold_over}
 use Rattle.gr1_env.proofs.Rising.{delay_on-in_last}
 use Rattle.gr1_env.proofs.Holding.{cover_of-inside, hold_on-greatest}

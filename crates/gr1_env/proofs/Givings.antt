@@ -10,7 +10,7 @@ use Rattle.gr1_sys.specs.Held.{MakesRegions}
 use Rattle.gr1_sys.proofs.Lists.{length_map, as_held, held_each, each_append, region_stays, set_kept, each_stays}
 use Rattle.gr1_sys.proofs.Turned.{split_same}
 use Rattle.gr1_env.specs.declared.givens.Given.{Given}
-use Rattle.gr1_env.specs.declared.givens.Wanted.TheVariants.{Misses, Assumptions}
+use Rattle.gr1_env.specs.declared.givens.EnvSets.TheVariants.{Misses, Assumptions}
 use Rattle.gr1_env.specs.Givens.{wanted, given_regions, given_sets}
 use Rattle.gr1_env.specs.Held.{IsGiven}
 

@@ -3,7 +3,8 @@ use Rattle.std.proofs.Common.{◌≡◌, ℕ, zero, suc, ◌+◌, ◌-◌, ◌<�
 use Rattle.std.proofs.lemmas.List.{map-append}
 use Rattle.spec_model.specs.Games.{GameData}
 use Rattle.spec_model.specs.Steps.{states_of}
-use Rattle.spec_model.specs.Sets.{StateSet, no_states, all_states, pre_env, count_in, IsPartOf}
+use Rattle.spec_model.specs.Sets.{StateSet, no_states, all_states, pre_env, IsPartOf}
+use Rattle.spec_model.specs.Counts.{count_in}
 use Rattle.spec_model.proofs.SetLaws.{pre_env_grows}
 use Rattle.spec_model.proofs.Fixpoints.{rising-more}
 use Rattle.regions.specs.Kept.{Kept, HasRegion, IsExact}

@@ -17,7 +17,7 @@ use Rattle.gr1_sys.proofs.Lists.{as_held, length_map, length_below, weight_as-mo
 use Rattle.gr1_sys.proofs.Turned.{meet-same}
 use Rattle.gr1_sys.proofs.Winning.{both_grows, meet_grows, meet_inside}
 use Rattle.gr1_env.specs.declared.layers.EnvGoal.{EnvGoal}
-use Rattle.gr1_env.specs.declared.holds.Step.{Step}
+use Rattle.gr1_env.specs.declared.holds.Iteration.{Iteration}
 use Rattle.gr1_env.specs.Solution.{at, delay_on, last_delay_on, cover_of, hold_value_on, hold_on, delay_sets}
 use Rattle.gr1_env.specs.Held.{last_of, list_regions, list_sets, AreLeast, HasDelays, HaveDelays, TurnsTo, last_set, HasHold, Steps}
 use Rattle.gr1_env.proofs.Gathered.{gather-at, all_of-push, all_of-at, makes_next, last_of-map, last_of-below}
@@ -135,6 +135,6 @@ module _ {G R M : Type 0} where
       }
 
   -- a call told of the sets as they stand then
-  pub steps_at : (g : GameData) (k new : Kept R M) (base b : StateSet) (asms bs : List StateSet) (y : R) (set : StateSet) (s : Step G R M) → k.game ≡ g → base ≡ b → asms ≡ bs → Steps k.game k new base asms y set s → Steps g k new b bs y set s
+  pub steps_at : (g : GameData) (k new : Kept R M) (base b : StateSet) (asms bs : List StateSet) (y : R) (set : StateSet) (s : Iteration G R M) → k.game ≡ g → base ≡ b → asms ≡ bs → Steps k.game k new base asms y set s → Steps g k new b bs y set s
   steps_at g k new base b asms bs y set s game base_is asms_are steps =
       subst (λ ts. Steps g k new b ts y set s) asms_are (subst (λ t. Steps g k new t asms y set s) base_is (subst (λ h. Steps h k new base asms y set s) game steps))

@@ -15,12 +15,13 @@ use Rattle.gr1_sys.specs.Moment.{IsGoal}
 use Rattle.gr1_sys.proofs.Turned.{meet-same}
 use Rattle.gr1_env.specs.declared.layers.EnvGoal.{EnvGoal}
 use Rattle.gr1_env.specs.declared.layers.EnvLayer.{EnvLayer}
-use Rattle.gr1_env.specs.declared.givens.Wanted.{Wanted}
-use Rattle.gr1_env.specs.declared.givens.Wanted.TheVariants.{Misses, Assumptions}
+use Rattle.gr1_env.specs.declared.givens.EnvSets.{EnvSets}
+use Rattle.gr1_env.specs.declared.givens.EnvSets.TheVariants.{Misses, Assumptions}
 use Rattle.gr1_env.specs.Givens.{wanted, given_sets}
 use Rattle.gr1_env.specs.Solution.{at, delay_on, last_delay_on, cover_of, hold_value_on, hold_on, layer_on, delay_sets}
 use Rattle.gr1_env.specs.Held.{gather, AllOf, list_sets, hold_sets, holds_sets, all_sets, layer_sets, IsWholeHold, AreWholeHolds, AreWholeLayers}
-use Rattle.gr1_env.specs.Moment.{Moment, IsMoment, IsNamed, iterated, nothing, miss, assumption, common, joined, layer, value, delayed, IsValueOfY, following, base_at, cover_at, delay_at, base_for, layer_number, hold_number, layers_for, moment_at, AreOfDelay, AreOfHold, AreGiven, TellsHalt, TellsLayers, TellsOneMoment}
+use Rattle.gr1_env.specs.Moment.{Moment, IsMoment, IsNamed, iterated, nothing, miss, assumption, common, joined, layer, value, delayed, IsValueOfY, following, base_at, cover_at, delay_at}
+use Rattle.gr1_env.specs.Told.{base_for, layer_number, hold_number, layers_for, moment_at, AreOfDelay, AreOfHold, AreGiven, TellsHalt, TellsLayers, TellsOneMoment}
 use Rattle.gr1_env.proofs.Exact.{misses_counted, delay_is, base_is, layers_for-layers}
 use Rattle.gr1_env.proofs.Joining.{union-same}
 use Rattle.gr1_env.proofs.Told.{AreNamed, named-append, named_below}
@@ -36,7 +37,7 @@ module _ (g : GameData) (m : Moment) where
   list_named [] each = tt
   list_named (s ∷ ss) each = (each 0 (omega arith), list_named ss (λ i before. each (suc i) (omega (arith, before))))
 
-  pub wanted_named : (kind : Wanted) → AreNamed g m (wanted g kind)
+  pub wanted_named : (kind : EnvSets) → AreNamed g m (wanted g kind)
   wanted_named Misses = mapped_named (rest g) (goal_sets g) (λ j before. miss j before refl)
   wanted_named Assumptions = list_named (assumption_sets g) (λ i before. assumption i before refl)
 
@@ -48,7 +49,7 @@ module _ (g : GameData) (m : Moment) where
   one_named (s ∷ ss) named zero = named.0
   one_named (s ∷ ss) named (suc i) = one_named ss named.1 i
 
-  pub some_wanted : (kind : Wanted) (n : ℕ) → AreNamed g m (map (λ i. get_or (wanted g kind) i no_states) (below n))
+  pub some_wanted : (kind : EnvSets) (n : ℕ) → AreNamed g m (map (λ i. get_or (wanted g kind) i no_states) (below n))
   some_wanted kind n = named_below g m (λ i. get_or (wanted g kind) i no_states) n (λ i before. one_named (wanted g kind) (wanted_named kind) i)
 
   -- ---- the iterates of the inner equations

@@ -3,7 +3,8 @@ use Rattle.std.proofs.Common.{◌≡◌, ℕ, zero, suc, ◌-◌, ◌<◌, lengt
 use Rattle.std.proofs.lemmas.Bool.{and_parts}
 use Rattle.spec_model.specs.Games.{GameData}
 use Rattle.spec_model.specs.Steps.{states_of}
-use Rattle.spec_model.specs.Sets.{StateSet, all_states, either, pre_env, IsPartOf, count_in}
+use Rattle.spec_model.specs.Sets.{StateSet, all_states, either, pre_env, IsPartOf}
+use Rattle.spec_model.specs.Counts.{count_in}
 use Rattle.spec_model.proofs.SetLaws.{pre_env_grows}
 use Rattle.spec_model.proofs.Fixpoints.{IsRising, rising-more}
 use Rattle.gr1_sys.proofs.Greatest.{count_at_most, up-rises, up-last, up-in_last}

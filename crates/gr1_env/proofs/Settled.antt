@@ -15,7 +15,8 @@ use Rattle.gr1_env.specs.declared.layers.EnvGoal.{EnvGoal}
 use Rattle.gr1_env.specs.declared.layers.EnvLayer.{EnvLayer}
 use Rattle.gr1_env.specs.Held.{gather, hold_regions, layer_regions}
 use Rattle.gr1_env.specs.Solved.{WonByEnvironment}
-use Rattle.gr1_env.specs.Moment.{Moment, IsMoment, IsIterate, IsIterateOfMoment, IsValueOfY, AreOfOneMoment, layer, value, delayed, settled, layers_for, layer_number}
+use Rattle.gr1_env.specs.Moment.{Moment, IsMoment, IsIterate, IsValueOfY, layer, value, delayed}
+use Rattle.gr1_env.specs.Told.{IsIterateOfMoment, AreOfOneMoment, settled, layers_for, layer_number}
 use Rattle.gr1_env.proofs.Exact.{layers_for-layers}
 use Rattle.gr1_env.proofs.Naming.{hold_is_value}
 use Rattle.gr1_env.proofs.Shown.{counts_are}

@@ -16,11 +16,11 @@ use Rattle.gr1_sys.proofs.Won.{found}
 use Rattle.gr1_sys.proofs.Givings.{all_above}
 use Rattle.gr1_env.specs.declared.layers.EnvGoal.{EnvGoal}
 use Rattle.gr1_env.specs.declared.layers.EnvLayer.{EnvLayer}
-use Rattle.gr1_env.specs.declared.givens.Wanted.TheVariants.{Misses, Assumptions}
+use Rattle.gr1_env.specs.declared.givens.EnvSets.TheVariants.{Misses, Assumptions}
 use Rattle.gr1_env.specs.Givens.{wanted}
 use Rattle.gr1_env.specs.Solution.{at, delay_on, cover_of, hold_on, layer_on, delay_sets}
 use Rattle.gr1_env.specs.Held.{list_regions, list_sets, hold_regions, hold_sets, goal_regions, holds_sets, layer_regions, layer_sets, all_regions, all_sets, IsWholeHold, AreWholeHolds, AreWholeLayers, HaveLayers}
-use Rattle.gr1_env.specs.Moment.{base_for, layer_number, hold_number, layers_for}
+use Rattle.gr1_env.specs.Told.{base_for, layer_number, hold_number, layers_for}
 use Rattle.gr1_env.specs.Solved.{goal_counts, counts_of, hold_count, layer_count, denials_of, ShowsLayers, WonByEnvironment, IsLost, HasWon, HasLost}
 use Rattle.gr1_env.proofs.Gathered.{gather-at, all_of-at}
 use Rattle.gr1_env.proofs.Joining.{gather-counted, hold_counted, sets_counted}

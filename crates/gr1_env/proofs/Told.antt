@@ -11,7 +11,8 @@ use Rattle.regions.proofs.Holding.{weigh_meanings, set_is}
 use Rattle.gr1_sys.specs.Held.{weight_as, MakesRegions}
 use Rattle.gr1_sys.specs.Moment.{IsGoal}
 use Rattle.gr1_sys.proofs.Lists.{set_kept}
-use Rattle.gr1_env.specs.Moment.{Moment, IsNamed, IsOfMoment, AsksOfIterates, TellsHalt, TellsHold, TellsLayer, TellsLayers, IsValueOfY, layer_number, moment_at}
+use Rattle.gr1_env.specs.Moment.{Moment, IsNamed, IsValueOfY}
+use Rattle.gr1_env.specs.Told.{IsOfMoment, AsksOfIterates, TellsHalt, TellsHold, TellsLayer, TellsLayers, layer_number, moment_at}
 
 -- what the exit of a `?` hands on
 pub handed_on : {T : Type 0} (r : Result T Halt) (halt : Halt) (P : Halt → Type 0) → IsErrAnd r (λ y. y ≡ halt) → P halt → IfErr r P

@@ -4,11 +4,11 @@ use Rattle.spec_model.specs.Games.{GameData}
 use Rattle.spec_model.specs.Sets.{StateSet, no_states, rest}
 use Rattle.gr1_law.specs.Layers.{goal_sets, assumption_sets}
 use Rattle.gr1_env.specs.declared.givens.Given.{Given}
-use Rattle.gr1_env.specs.declared.givens.Wanted.{Wanted}
-use Rattle.gr1_env.specs.declared.givens.Wanted.TheVariants.{Misses, Assumptions}
+use Rattle.gr1_env.specs.declared.givens.EnvSets.{EnvSets}
+use Rattle.gr1_env.specs.declared.givens.EnvSets.TheVariants.{Misses, Assumptions}
 
 -- the states at which each goal is false, or those of each assumption
-abbrev pub wanted : GameData → Wanted → List StateSet
+abbrev pub wanted : GameData → EnvSets → List StateSet
 wanted g Misses = map (rest g) (goal_sets g)
 wanted g Assumptions = assumption_sets g
 

@@ -10,8 +10,8 @@ use Rattle.gr1_sys.specs.Held.{HasEach, MakesRegions}
 use Rattle.gr1_env.specs.declared.layers.EnvGoal.{EnvGoal}
 use Rattle.gr1_env.specs.declared.layers.EnvLayer.{EnvLayer}
 use Rattle.gr1_env.specs.declared.givens.Given.{Given}
-use Rattle.gr1_env.specs.declared.holds.Step.{Step}
-use Rattle.gr1_env.specs.declared.holds.Step.TheVariants.{Settled, Next}
+use Rattle.gr1_env.specs.declared.holds.Iteration.{Iteration}
+use Rattle.gr1_env.specs.declared.holds.Iteration.TheVariants.{Settled, Next}
 use Rattle.gr1_env.specs.Solution.{at, delay_on, cover_of, hold_value_on, hold_on, layer_over, layer_on, delay_sets}
 
 -- ---- lists
@@ -104,7 +104,7 @@ module _ {G R M : Type 0} where
     pub whole : IsWholeHold g base asms e
 
   -- One value of a hold was looked at: it equals the one that follows, and its iterates were made; or the next is in its place.
-  abbrev pub Steps : GameData → Kept R M → Kept R M → (base : StateSet) → List StateSet → R → StateSet → Step G R M → Type 0
+  abbrev pub Steps : GameData → Kept R M → Kept R M → (base : StateSet) → List StateSet → R → StateSet → Iteration G R M → Type 0
   Steps g old new base asms y set (Settled e) = (e.y ≡ y) × ((set ≡ hold_value_on g base asms set) × HaveDelays g old new (cover_of g base set) asms e.x.items)
   Steps g old new base asms y set (Next next) = Replaces old new (Region y) (States set) (Region next) (States (hold_value_on g base asms set)) × (set ≡ hold_value_on g base asms set → ⊥)
 

@@ -3,3 +3,4 @@ pub mod Held
 pub mod Givens
 pub mod Solved
 pub mod Moment
+pub mod Told

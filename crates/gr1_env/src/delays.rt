@@ -7,7 +7,8 @@ ghost use Rattle.regions.specs.Kept.{HasRegion, HoldsBesides, MakesRegion, IsSam
 ghost use Rattle.gr1_sys.specs.Held.{HasTogether, HoldsWithoutAll};
 ghost use Rattle.gr1_env.specs.Solution.{rising};
 ghost use Rattle.gr1_env.specs.Held.{last_of, Grows, HasDelays};
-ghost use Rattle.gr1_env.specs.Moment.{Moment, delay_at, AreOfDelay, TellsHalt};
+ghost use Rattle.gr1_env.specs.Moment.{Moment, delay_at};
+ghost use Rattle.gr1_env.specs.Told.{AreOfDelay, TellsHalt};
 
 use gr1_sys::{and_in, or_in, spend_all};
 use regions::{Halt, Regions};

@@ -6,15 +6,16 @@ ghost use Rattle.spec_model.specs.Sets.{no_states};
 ghost use Rattle.regions.specs.Kept.{HoldsBesides, MakesRegion, IsSameGame};
 ghost use Rattle.gr1_sys.specs.Held.{HasTogether, MakesRegions, SpendsAll};
 ghost use Rattle.gr1_env.specs.Givens.{wanted, given_regions, given_sets};
-ghost use Rattle.gr1_env.specs.Moment.{Moment, TellsHalt};
+ghost use Rattle.gr1_env.specs.Moment.{Moment};
+ghost use Rattle.gr1_env.specs.Told.{TellsHalt};
 
 use gr1_sys::spend_all;
 use regions::{Halt, Recur, Regions};
 use std::alloc::Global;
 
-/// Which sets of the game.
-#[derive(Clone, Copy, Debug, PartialEq, Eq)]
-pub enum Wanted {
+/// Which of the sets that a solver for the environment makes first.
+#[derive(Clone, Copy, PartialEq, Eq)]
+pub enum EnvSets {
     /// The states at which each goal is false.
     Misses,
     /// The states of each assumption.
@@ -29,12 +30,12 @@ pub struct Given<G: Regions> {
 }
 
 /// How many sets there are: where the game has no goal, or no assumption, the single one is true.
-fn count<G: Regions>(g: &G, kind: Wanted) -> usize
+fn count<G: Regions>(g: &G, kind: EnvSets) -> usize
     ensures { result ≡ length (wanted (G.kept g.now).game kind) }
 {
     let n = match kind {
-        Wanted::Misses => g.game().goals.len(),
-        Wanted::Assumptions => g.game().assume.len(),
+        EnvSets::Misses => g.game().goals.len(),
+        EnvSets::Assumptions => g.game().assume.len(),
     };
     if n == 0 { 1 } else { n }
 }
@@ -42,8 +43,8 @@ fn count<G: Regions>(g: &G, kind: Wanted) -> usize
 /// The states at which a goal is false, by its number: none where there is no goal.
 fn miss_region<G: Regions>(g: &mut G, j: usize) -> Result<G::R, Halt>
     requires free { (G.kept g.old).jam ≡ None }
-    requires there { j < length (wanted (G.kept g.old).game Wanted.Misses) }
-    ensures made { let k = G.kept g.old in IfOk result (λ r. MakesRegion k (G.kept g.new) r (get_or (wanted k.game Wanted.Misses) j no_states)) }
+    requires there { j < length (wanted (G.kept g.old).game EnvSets.Misses) }
+    ensures made { let k = G.kept g.old in IfOk result (λ r. MakesRegion k (G.kept g.new) r (get_or (wanted k.game EnvSets.Misses) j no_states)) }
     ensures halted { OnErr result (HoldsBesides (G.kept g.old) (G.kept g.new) []) }
     ensures told { let k = G.kept g.old in (game : GameData) (m : Moment) → k.game ≡ game → IfErr result (TellsHalt game k (G.kept g.new) m) }
     ensures keeps { IsSameGame (G.kept g.old) (G.kept g.new) }
@@ -67,8 +68,8 @@ fn miss_region<G: Regions>(g: &mut G, j: usize) -> Result<G::R, Halt>
 /// The states of an assumption, by its number.
 fn assumption_region<G: Regions>(g: &mut G, i: usize) -> Result<G::R, Halt>
     requires free { (G.kept g.old).jam ≡ None }
-    requires there { i < length (wanted (G.kept g.old).game Wanted.Assumptions) }
-    ensures made { let k = G.kept g.old in IfOk result (λ r. MakesRegion k (G.kept g.new) r (get_or (wanted k.game Wanted.Assumptions) i no_states)) }
+    requires there { i < length (wanted (G.kept g.old).game EnvSets.Assumptions) }
+    ensures made { let k = G.kept g.old in IfOk result (λ r. MakesRegion k (G.kept g.new) r (get_or (wanted k.game EnvSets.Assumptions) i no_states)) }
     ensures halted { OnErr result (HoldsBesides (G.kept g.old) (G.kept g.new) []) }
     ensures told { let k = G.kept g.old in (game : GameData) (m : Moment) → k.game ≡ game → IfErr result (TellsHalt game k (G.kept g.new) m) }
     ensures keeps { IsSameGame (G.kept g.old) (G.kept g.new) }
@@ -81,7 +82,7 @@ fn assumption_region<G: Regions>(g: &mut G, i: usize) -> Result<G::R, Halt>
 }
 
 /// One of the sets, by its number.
-fn region_of<G: Regions>(g: &mut G, kind: Wanted, i: usize) -> Result<G::R, Halt>
+fn region_of<G: Regions>(g: &mut G, kind: EnvSets, i: usize) -> Result<G::R, Halt>
     requires free { (G.kept g.old).jam ≡ None }
     requires there { i < length (wanted (G.kept g.old).game kind) }
     ensures made { let k = G.kept g.old in IfOk result (λ r. MakesRegion k (G.kept g.new) r (get_or (wanted k.game kind) i no_states)) }
@@ -90,13 +91,13 @@ fn region_of<G: Regions>(g: &mut G, kind: Wanted, i: usize) -> Result<G::R, Halt
     ensures keeps { IsSameGame (G.kept g.old) (G.kept g.new) }
 {
     match kind {
-        Wanted::Misses => miss_region(g, i),
-        Wanted::Assumptions => assumption_region(g, i),
+        EnvSets::Misses => miss_region(g, i),
+        EnvSets::Assumptions => assumption_region(g, i),
     }
 }
 
 /// All of the sets.
-fn regions_of<G: Regions>(alloc: Global, g: &mut G, kind: Wanted) -> Result<Vec<G::R>, Halt>
+fn regions_of<G: Regions>(alloc: Global, g: &mut G, kind: EnvSets) -> Result<Vec<G::R>, Halt>
     requires free { (G.kept g.old).jam ≡ None }
     ensures made { let k = G.kept g.old in IfOk result (λ rs. MakesRegions k (G.kept g.new) rs.items (wanted k.game kind)) }
     ensures halted { OnErr result (HoldsBesides (G.kept g.old) (G.kept g.new) []) }
@@ -123,12 +124,12 @@ fn regions_of<G: Regions>(alloc: Global, g: &mut G, kind: Wanted) -> Result<Vec<
 pub fn give<G: Regions>(alloc: Global, g: &mut G) -> Result<Given<G>, Halt>
     requires free { (G.kept g.old).jam ≡ None }
     ensures made { let k = G.kept g.old in IfOk result (λ given. MakesRegions k (G.kept g.new) (given_regions given) (given_sets k.game)) }
-    ensures counted { let k = G.kept g.old in IfOk result (λ given. length given.misses.items ≡ length (wanted k.game Wanted.Misses)) }
+    ensures counted { let k = G.kept g.old in IfOk result (λ given. length given.misses.items ≡ length (wanted k.game EnvSets.Misses)) }
     ensures halted { OnErr result (HoldsBesides (G.kept g.old) (G.kept g.new) []) }
     ensures told { let k = G.kept g.old in (game : GameData) (m : Moment) → k.game ≡ game → IfErr result (TellsHalt game k (G.kept g.new) m) }
     ensures keeps { IsSameGame (G.kept g.old) (G.kept g.new) }
 {
-    let misses = regions_of(alloc, g, Wanted::Misses)?;
+    let misses = regions_of(alloc, g, EnvSets::Misses)?;
     match with_misses(alloc, g) {
         Ok((none, asms)) => Ok(Given { none, misses, asms }),
         Err(halt) => {
@@ -141,12 +142,12 @@ pub fn give<G: Regions>(alloc: Global, g: &mut G) -> Result<Given<G>, Halt>
 /// The regions that stand beside those of the goals.
 fn with_misses<G: Regions>(alloc: Global, g: &mut G) -> Result<(G::R, Vec<G::R>), Halt>
     requires free { (G.kept g.old).jam ≡ None }
-    ensures made { let k = G.kept g.old in IfOk result (λ r. MakesRegions k (G.kept g.new) (r.0 ∷ r.1.items) (no_states ∷ wanted k.game Wanted.Assumptions)) }
+    ensures made { let k = G.kept g.old in IfOk result (λ r. MakesRegions k (G.kept g.new) (r.0 ∷ r.1.items) (no_states ∷ wanted k.game EnvSets.Assumptions)) }
     ensures halted { OnErr result (HoldsBesides (G.kept g.old) (G.kept g.new) []) }
     ensures told { let k = G.kept g.old in (game : GameData) (m : Moment) → k.game ≡ game → IfErr result (TellsHalt game k (G.kept g.new) m) }
     ensures keeps { IsSameGame (G.kept g.old) (G.kept g.new) }
 {
-    let asms = regions_of(alloc, g, Wanted::Assumptions)?;
+    let asms = regions_of(alloc, g, EnvSets::Assumptions)?;
     match g.none() {
         Ok(none) => Ok((none, asms)),
         Err(halt) => {

@@ -11,7 +11,8 @@ ghost use Rattle.gr1_sys.specs.Moment.{IsGoal};
 ghost use Rattle.gr1_sys.specs.Held.{HasEach};
 ghost use Rattle.gr1_env.specs.Solution.{cover_of};
 ghost use Rattle.gr1_env.specs.Held.{list_regions, last_set, HaveDelays, TurnsTo, Steps, HasHold};
-ghost use Rattle.gr1_env.specs.Moment.{Moment, cover_at, delay_at, base_for, layer_number, AreOfHold, TellsHalt, TellsHold};
+ghost use Rattle.gr1_env.specs.Moment.{Moment, cover_at, delay_at};
+ghost use Rattle.gr1_env.specs.Told.{base_for, layer_number, AreOfHold, TellsHalt, TellsHold};
 
 use crate::delays::{delays, last_or};
 use crate::layers::EnvGoal;
@@ -136,7 +137,7 @@ fn turn<G: Regions>(
 }
 
 /// What one value of a hold leads to.
-pub enum Step<G: Regions> {
+pub enum Iteration<G: Regions> {
     /// It is the hold, and these are its iterates.
     Settled(EnvGoal<G>),
     /// This value follows.
@@ -152,7 +153,7 @@ fn one_value<G: Regions>(
     y: G::R,
     asms: &[G::R],
     none: &G::R,
-) -> Result<Step<G>, Halt>
+) -> Result<Iteration<G>, Halt>
     requires free { (G.kept g.old).jam ≡ None }
     requires base { HasRegion (G.kept g.old) base.now }
     requires y { HasRegion (G.kept g.old) y }
@@ -168,11 +169,11 @@ fn one_value<G: Regions>(
         Ok((xs, next)) => {
             if g.same(&y, &next) {
                 g.spend(next);
-                Ok(Step::Settled(EnvGoal { y, x: xs }))
+                Ok(Iteration::Settled(EnvGoal { y, x: xs }))
             } else {
                 spend_lists(g, xs);
                 g.spend(y);
-                Ok(Step::Next(next))
+                Ok(Iteration::Next(next))
             }
         }
         Err(halt) => {
@@ -204,8 +205,8 @@ pub fn hold<G: Regions>(
     let mut y = g.all()?;
     loop {
         match one_value(alloc, g, base, y, asms, none)? {
-            Step::Settled(e) => return Ok(e),
-            Step::Next(next) => y = next,
+            Iteration::Settled(e) => return Ok(e),
+            Iteration::Next(next) => y = next,
         }
     }
 }

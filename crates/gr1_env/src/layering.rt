@@ -9,7 +9,8 @@ ghost use Rattle.gr1_sys.specs.Held.{HasEach, HasTogether, HoldsWithoutAll};
 ghost use Rattle.gr1_sys.specs.Moment.{IsGoal};
 ghost use Rattle.gr1_env.specs.Solution.{layer_on};
 ghost use Rattle.gr1_env.specs.Held.{goal_regions, all_regions, last_z, hold_set, IsGiven, HasHold, HaveHolds, HasLayer, GrowsLayers, HaveLayers};
-ghost use Rattle.gr1_env.specs.Moment.{Moment, layer_number, AreGiven, TellsHalt, TellsHold, TellsLayer, TellsLayers};
+ghost use Rattle.gr1_env.specs.Moment.{Moment};
+ghost use Rattle.gr1_env.specs.Told.{layer_number, AreGiven, TellsHalt, TellsHold, TellsLayer, TellsLayers};
 
 use crate::givens::Given;
 use crate::holds::hold;

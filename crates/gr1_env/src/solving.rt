@@ -7,7 +7,8 @@ ghost use Rattle.gr1_law.specs.EnvLayers.{IsLayerCount};
 ghost use Rattle.gr1_sys.specs.Held.{HasTogether, HoldsWithoutAll};
 ghost use Rattle.gr1_env.specs.Held.{IsGiven, all_regions, last_z};
 ghost use Rattle.gr1_env.specs.Solved.{IsForced, IsDropped, IsLost, HasWon, HasLost, WonByEnvironment};
-ghost use Rattle.gr1_env.specs.Moment.{Moment, AreGiven, AreOfOneMoment, TellsHalt, TellsLayers, TellsOneMoment};
+ghost use Rattle.gr1_env.specs.Moment.{Moment};
+ghost use Rattle.gr1_env.specs.Told.{AreGiven, AreOfOneMoment, TellsHalt, TellsLayers, TellsOneMoment};
 
 use crate::givens::{Given, give, spend_given};
 use crate::layering::{all_layers, last_layer};

@@ -3,7 +3,8 @@ use Rattle.std.proofs.Common.{sym, ap, ◌∙◌, nat_le, ◌≡◌, Bool, true,
 use Rattle.std.proofs.lemmas.Bool.{false≢true}
 use Rattle.spec_model.specs.Games.{GameData, State}
 use Rattle.spec_model.specs.Steps.{states_of}
-use Rattle.spec_model.specs.Sets.{StateSet, all_states, IsPartOf, count_in}
+use Rattle.spec_model.specs.Sets.{StateSet, all_states, IsPartOf}
+use Rattle.spec_model.specs.Counts.{count_in}
 use Rattle.spec_model.proofs.SetLaws.{same_set}
 use Rattle.gr1_law.specs.Layers.{IsLeastNumber}
 use borrow.Author.Tests.{leb-true, le-leb}

@@ -9,16 +9,10 @@ use Rattle.spec_model.specs.Sets.{StateSet, IsPartOf, rest, system_forces, outpu
 use Rattle.spec_model.proofs.Listed.{outputs_fit}
 use Rattle.gr1_law.specs.Layers.{LayerSets, IsWinning, AreGreatestRanks, IsLeastNumber, goal_sets, goal_set, assumption_sets, assumption_set}
 use Rattle.gr1_law.specs.Choice.{Memory, Standing, next_goal, goal_aimed, can_lead, waits, target, IsChosen}
+use Rattle.gr1_law.specs.Trails.{Lowers}
 use Rattle.gr1_law.proofs.Searching.{least_of, some-found, find-passes, find-every, found-some}
 use Rattle.gr1_law.proofs.Winning.{in_a_part, z_in_last}
 use Rattle.gr1_law.proofs.Standing.{Ready, Progress, progress, forces_z, part_in_rank, aimed_in, rank_some, can_lead-forced, can_lead_grows}
-
--- From a state where the goal aimed at holds, the next goal is aimed at. Else the rank falls, or it stays with the index,
--- and the index's assumption is false.
-pub data Lowers (g : GameData) (s : State) (m m' : Memory) : Type 0 where
-  met : goal_set g m.goal s ≡ true → m'.goal ≡ next_goal g m.goal → Lowers g s m m'
-  lower : goal_set g m.goal s ≡ false → m'.goal ≡ m.goal → m'.rank < m.rank → Lowers g s m m'
-  waiting : goal_set g m.goal s ≡ false → m'.goal ≡ m.goal → m'.rank ≡ m.rank → m'.index ≡ m.index → rest g (assumption_set g m.index) s ≡ true → Lowers g s m m'
 
 module _ (g : GameData) (z : StateSet) (l : LayerSets) (w : IsWinning g z l) (ranks : List ℕ) (greatest : AreGreatestRanks g l ranks) where
   pub forces_z_next : (b : Before) (m : Memory) → Ready g z l b m → system_forces g z b ≡ true

@@ -5,7 +5,8 @@ use Rattle.spec_model.specs.declared.game.Label.{Label}
 use Rattle.spec_model.specs.Values.{Assignment}
 use Rattle.spec_model.specs.Rules.{Run, RecurringGoal, after}
 use Rattle.spec_model.specs.Unrealizable.{NoteData, Deny, is_shift, goal_of, Beaten, Beats, IsUnrealizable}
-use Rattle.spec_model.specs.Games.{GameData, State, state_at, goals_in}
+use Rattle.spec_model.specs.Games.{GameData, State}
+use Rattle.spec_model.specs.GameRuns.{state_at, goals_in}
 use Rattle.spec_model.specs.GameRules.{last_state, rules_of_game}
 use Rattle.spec_model.specs.Steps.{Before, is_output, legal_input, legal_output, reached}
 use Rattle.spec_model.specs.WellMade.{WellMade}
@@ -14,53 +15,15 @@ use Rattle.gr1_law.specs.EnvLayers.{EnvLayerSets, denial_count}
 use Rattle.gr1_law.specs.Counter.{CounterMemory, first_counter, next_assumption, IsGiven, IsNoted, note_of, label_at, AnsweredPlay}
 use Rattle.gr1_law.specs.CounterLaws.{LabelsDiffer, IsLostWith, AnsweredPlayBeats, AnswerIsOne, DenialsLower}
 use Rattle.gr1_law.proofs.Solutions.{least-one}
-use Rattle.gr1_law.proofs.Denied.{goal_there, labelled, labelled-found, labelled-holds}
-use Rattle.gr1_law.proofs.CounterSteps.{CounterReady, input_exists, given_input, given_legal, given_leads, note_exists}
-use Rattle.gr1_law.proofs.CounterTrails.{Answered, CounterTrail, answered}
-use Rattle.gr1_law.proofs.CounterRounds.{stands_state, rank_at, ranked_at, denied_at, fair, denials_fall}
+use Rattle.gr1_law.proofs.CounterSteps.{input_exists, given_input, given_legal, given_leads, note_exists}
+use Rattle.gr1_law.proofs.CounterTrails.{Answered, answered}
+use Rattle.gr1_law.proofs.CounterRounds as rounds
+use Rattle.gr1_law.proofs.Following.{rank_at, ranked_at, followed, denials_fall}
 
 module _ (g : GameData) (made : WellMade g) (differ : LabelsDiffer g) (e : EnvLayerSets) (n : ℕ) (counts : ℕ → ℕ → List ℕ) (lost : IsLostWith g e n counts) where
-  -- the shifts used never pass N
-  shifts_few : (used : ℕ) (b : Before) (k : CounterMemory) → CounterReady g e n used b k → used ≤ n
-  shifts_few used b k (CounterReady.into_layer denying a forced few) = omega arith
-  shifts_few used b k (CounterReady.into_hold denying low layer few goal_in index_in r forced) = omega arith
-
   module _ (h : Run) (notes : List NoteData) (b : Before) (k : CounterMemory) (end : Answered g e n h notes b k) where
-    abbrev trail : CounterTrail g e n h notes k
-    trail = end.trail
-
-    not_false : (c : Bool) → true ≡ not c → c ≡ false
-    not_false true is = absurd (false≢true (sym is))
-    not_false false is = refl
-
-    denied : (t : ℕ) (l : Label) → slice_get notes t ≡ Some (Deny l) → (goal : RecurringGoal) × (goal_of (goals_in g g.goals) l ≡ Some goal) × (goal.holds h t ≡ false)
-    denied t l is =
-        let parts = denied_at g e lost.layers n counts lost.delays h notes k end.trail end.counted t l is in
-        let stands = end.trail.stands t parts.0 in
-        let here = stands_state g e lost.layers n (state_at g h t) (end.trail.memory t) stands in
-        let fails = not_false (goal_set g (end.trail.memory t).goal (state_at g h t)) (sym parts.1 ∙ stands.denying) in
-        let below = goal_there g (end.trail.memory t).goal (state_at g h t) stands.goal_in here fails in (
-          labelled g made differ (end.trail.memory t).goal below,
-          subst (λ (l : Label). goal_of (goals_in g g.goals) l ≡ Some (labelled g made differ (end.trail.memory t).goal below)) parts.2 (labelled-found g made differ (end.trail.memory t).goal below),
-          labelled-holds g made differ (end.trail.memory t).goal below h t here ∙ fails,
-        )
-
-    same : (t : ℕ) (l l' : Label) → slice_get notes t ≡ Some (Deny l) → slice_get notes (suc t) ≡ Some (Deny l') → l ≡ l'
-    same t l l' is is' =
-        let parts = denied_at g e lost.layers n counts lost.delays h notes k end.trail end.counted t l is in
-        let parts' = denied_at g e lost.layers n counts lost.delays h notes k end.trail end.counted (suc t) l' is' in
-        let followed = end.trail.follows t parts'.0 parts.1 in
-        sym parts.2 ∙ (ap (label_at g) (sym followed.goal) ∙ parts'.2)
-
     beaten : Beaten (rules_of_game g) n (denial_count g n counts) h notes
-    beaten =
-        record {
-          noted = end.counted;
-          shifts = shifts_few (count_by is_shift notes) b k end.ready;
-          denied = denied;
-          same = same;
-          fair = fair g e lost.layers n counts lost.delays h notes k end.trail end.counted made;
-        }
+    beaten = rounds.beaten g n (denial_count g n counts) counts h notes end.trail.memory (rank_at g e lost.layers n h notes k end.trail) (followed g e lost.layers n counts lost.delays h notes k end.trail end.counted) made differ (omega arith)
 
     pub beats_on : AnsweredPlayBeats g e n (denial_count g n counts) h notes b k
     beats_on =
@@ -68,7 +31,7 @@ module _ (g : GameData) (made : WellMade g) (differ : LabelsDiffer g) (e : EnvLa
           legal = end.legal;
           state = end.state;
           beaten = beaten;
-          goes_on = input_exists g e lost.layers n (count_by is_shift notes) b k end.ready;
+          goes_on = input_exists g e lost.layers n b k end.ready;
           input = λ r x given. (given_input g e lost.layers n b k r x given, given_legal g e lost.layers n b k r x given);
           answered = λ r x y given output legal. note_exists g e lost.layers n b k r x given (reached g b x y) (given_leads g e lost.layers n b k r x given y output legal);
         }
@@ -110,7 +73,7 @@ remembered g e n counts lost h notes b k play =
       rank = rank_at g e lost.layers n h notes k end.trail;
       answered = end.trail.played;
       ranked = ranked_at g e lost.layers n h notes k end.trail;
-      falls = denials_fall g e lost.layers n counts lost.delays h notes k end.trail;
+      falls = denials_fall g e lost.layers n counts lost.delays h notes k end.trail end.counted;
     }
 
 -- ---- the choice is determined

@@ -1,227 +1,224 @@
--- Each denial at which an assumption fails lowers its potential, and so any M denials in a row meet each assumption.
-use Rattle.std.proofs.Common.{◌≡◌, ℕ, zero, suc, ◌+◌, ◌-◌, ◌<◌, ◌≤◌, ◌==◌, ◌⊎◌, inl, inr, Bool, true, false, if◌then◌else◌, List, length, slice_index, slice_get, sum, Some, refl, sym, ◌∙◌, ap, subst, arith, IsTrue}
-use Rattle.std.proofs.lemmas.Bool.{and_parts, false≢true}
+-- Each denial at which an assumption fails lowers its potential, so any m denials in a row meet each assumption; and each shift
+-- lowers the layer, so there are few.
+use Rattle.std.proofs.Common.{◌≡◌, ℕ, zero, suc, ◌+◌, ◌-◌, ◌<◌, ◌≤◌, ◌==◌, ◌⊎◌, inl, inr, Bool, true, false, not, if◌then◌else◌, cond, List, [], ◌∷◌, length, take, slice_index, slice_get, sum, count_by, Some, refl, sym, ◌∙◌, ap, subst, arith}
+use Rattle.std.proofs.lemmas.Bool.{false≢true}
+use Rattle.std.proofs.lemmas.List.{take_all}
+use Rattle.std.proofs.lemmas.List.Sums.{sum_by-cons}
 use Rattle.std.proofs.lemmas.Option.{slice_get_past}
 use Rattle.spec_model.specs.declared.game.Label.{Label}
 use Rattle.spec_model.specs.Rules.{Run, RecurringGoal, HoldsWithin, EachWithin}
-use Rattle.spec_model.specs.Unrealizable.{NoteData, Shift, Deny, IsDenied}
-use Rattle.spec_model.specs.Games.{GameData, State, state_at, goals_in}
-use Rattle.spec_model.specs.Steps.{is_state}
+use Rattle.spec_model.specs.Unrealizable.{NoteData, Shift, Deny, is_shift, goal_of, IsDenied, Beaten}
+use Rattle.spec_model.specs.Games.{GameData, State}
+use Rattle.spec_model.specs.GameRuns.{state_at, goals_in}
+use Rattle.spec_model.specs.GameRules.{rules_of_game}
 use Rattle.spec_model.specs.WellMade.{WellMade}
-use Rattle.gr1_law.specs.Layers.{IsLeastNumber, goal_sets, assumption_sets, assumption_set}
-use Rattle.gr1_law.specs.EnvLayers.{delay, EnvLayerSets, AreEnvLayers, AreDelayCounts, most, denial_count}
-use Rattle.gr1_law.specs.Counter.{CounterMemory, next_assumption, label_at}
+use Rattle.gr1_law.specs.Layers.{goal_set, assumption_sets, assumption_set}
+use Rattle.gr1_law.specs.Counter.{CounterMemory, next_assumption, note_of, label_at}
+use Rattle.gr1_law.specs.CounterLaws.{LabelsDiffer}
 use Rattle.gr1_law.specs.Potential.{ranks_ahead, denial_potential}
-use Rattle.gr1_law.specs.CounterLaws.{DenialsFall}
-use Rattle.gr1_law.proofs.Chains.{in_settled}
-use Rattle.gr1_law.proofs.Delays.{delay_in_next, delay-inside, delay_stays}
-use Rattle.gr1_law.proofs.EnvCounts.{at_most-most}
-use Rattle.gr1_law.proofs.Potential.{ahead_at_most, ahead_next}
+use Rattle.gr1_law.specs.Trails.{FollowedTrail}
+use Rattle.gr1_law.proofs.Denied.{goal_there, labelled, labelled-found, labelled-holds}
+use Rattle.gr1_law.proofs.Potential.{ahead_at_most, turn_lowers}
 use Rattle.gr1_law.proofs.Present.{Numbered, numbered}
 use Rattle.gr1_law.proofs.Rounds.{meets_or_not}
-use Rattle.gr1_law.proofs.CounterSteps.{CounterStands, delays_at, iterate_some}
-use Rattle.gr1_law.proofs.CounterTrails.{IsFollowed, CounterTrail}
 
-module _ (g : GameData) (e : EnvLayerSets) (of : AreEnvLayers g e) (n : ℕ) where
-  -- what is remembered tells of a state
-  pub stands_state : (s : State) (k : CounterMemory) → CounterStands g e n 0 s k → is_state g s ≡ true
-  stands_state s k stands = (and_parts _ _ (iterate_some g e of k.layer stands.low stands.layer k.goal k.before stands.rank s stands.ranked.here).2.stays).0
+-- ---- shifts
 
-  abbrev pub RankedBy : State → CounterMemory → ℕ → Type 0
-  RankedBy s k rank = IsLeastNumber (λ r. IsTrue (e.x k.layer k.goal k.before r s)) rank
+abbrev shifts_in : NoteData → ℕ
+shifts_in note = cond (is_shift note) 1 0
 
-  -- ---- the rank at each position of a run
+shifts-suc : (notes : List NoteData) (t : ℕ) (note : NoteData) → slice_get notes t ≡ Some note → count_by is_shift (take (suc t) notes) ≡ count_by is_shift (take t notes) + shifts_in note
+shifts-suc [] t note is = absurd (cc)
+shifts-suc (first ∷ notes) zero note is =
+    let same : first ≡ note = cc in
+    sum_by-cons shifts_in first [] ∙ ap (λ (note : NoteData). shifts_in note + zero) same ∙ omega arith
+shifts-suc (first ∷ notes) (suc t) note is =
+    let one = sum_by-cons shifts_in first (take (suc t) notes) in
+    let other = sum_by-cons shifts_in first (take t notes) in
+    let more = shifts-suc notes t note is in
+    omega (arith, one, other, more)
 
-  module _ (h : Run) (notes : List NoteData) (k : CounterMemory) (trail : CounterTrail g e n h notes k) where
-    in_or_past : (t : ℕ) → (t < length h) ⊎ (length h ≤ t)
-    in_or_past t = grind arith
+module _ (g : GameData) (n m : ℕ) (counts : ℕ → ℕ → List ℕ) (h : Run) (notes : List NoteData) (memory : ℕ → CounterMemory) (rank : ℕ → ℕ) (trail : FollowedTrail g n m counts h notes memory rank) where
+  abbrev shifts_before : ℕ → ℕ
+  shifts_before t = count_by is_shift (take t notes)
 
-    rank_where : (t : ℕ) → (t < length h) ⊎ (length h ≤ t) → ℕ
-    rank_where t (inl inner) = (trail.stands t inner).rank
-    rank_where t (inr past) = 0
+  abbrev shifts_of : Bool → ℕ
+  shifts_of denying = if denying then 0 else 1
 
-    pub rank_at : ℕ → ℕ
-    rank_at t = rank_where t (in_or_past t)
+  shifts_in-note : (k : CounterMemory) → shifts_in (note_of g k) ≡ shifts_of k.denying
+  shifts_in-note k = at k.denying
+    where
+      at : (d : Bool) → shifts_in (if d then Deny (label_at g k.goal) else Shift) ≡ shifts_of d
+      at true = refl
+      at false = refl
 
-    pub ranked_at : (t : ℕ) → t < length h → RankedBy (state_at g h t) (trail.memory t) (rank_at t)
-    unfolding rank_at rank_where
-    ranked_at t inner = by_cases (in_or_past t)
+  one_more : (t : ℕ) → t < length h → shifts_before (suc t) ≡ shifts_before t + shifts_of (memory t).denying
+  one_more t inner = shifts-suc notes t (note_of g (memory t)) (trail.noted t inner) ∙ ap (λ (k : ℕ). shifts_before t + k) (shifts_in-note (memory t))
+
+  -- the shifts before a position and its layer are together at most n
+  shifts_and_layer : (t : ℕ) → t < length h → shifts_before t + (memory t).layer ≤ n
+  shifts_and_layer zero inner = omega (arith, trail.start (omega arith))
+  shifts_and_layer (suc t) inner = by_denying (memory t).denying refl (shifts_and_layer t (omega arith))
+    where
+      counted : (d : Bool) → (memory t).denying ≡ d → shifts_before (suc t) ≡ shifts_before t + shifts_of d
+      counted d is = one_more t (omega arith) ∙ ap (λ (d : Bool). shifts_before t + shifts_of d) is
+
+      by_denying : (d : Bool) → (memory t).denying ≡ d → shifts_before t + (memory t).layer ≤ n → shifts_before (suc t) + (memory (suc t)).layer ≤ n
+      by_denying true denying before = omega (arith, before, counted true denying, trail.same_layer t inner denying)
+      by_denying false shifting before = omega (arith, before, counted false shifting, trail.shifts t inner shifting)
+
+  at_most_one : (d : Bool) → shifts_of d ≤ 1
+  at_most_one true = omega arith
+  at_most_one false = omega arith
+
+  pub shifts_few : count_by is_shift notes ≤ n
+  shifts_few = by_length (length h) refl
+    where
+      all : (len : ℕ) → length h ≡ len → shifts_before len ≡ count_by is_shift notes
+      all len is = ap (count_by is_shift) (take_all len notes (omega (arith, is, trail.noted_all)))
+
+      by_length : (len : ℕ) → length h ≡ len → count_by is_shift notes ≤ n
+      by_length zero is = omega (arith, all zero is)
+      by_length (suc t) is =
+          let inner : t < length h = omega (arith, is) in
+          omega (arith, shifts_and_layer t inner, one_more t inner, at_most_one (memory t).denying, all (suc t) is, trail.layer_some t inner)
+
+  -- ---- the potential
+
+  abbrev counts_at : ℕ → List ℕ
+  counts_at t = counts (memory t).layer (memory t).goal
+
+  module _ (q : ℕ) (q_in : q < length (assumption_sets g)) where
+    abbrev at : ℕ → ℕ
+    at t = denial_potential (counts_at t) q (rank t) (memory t)
+
+    potential_some : (t : ℕ) → t < length h → (memory t).denying ≡ true → 1 ≤ at t
+    potential_some t inner denying = omega (arith, trail.rank_some t inner denying)
+
+    potential_at_most : (t : ℕ) → t < length h → (memory t).denying ≡ true → at t ≤ sum (counts_at t)
+    potential_at_most t inner denying =
+        let all = ahead_at_most (counts_at t) q (memory t).before (omega (arith, q_in, trail.counted t inner denying)) (omega (arith, trail.before_in t inner, trail.counted t inner denying)) in
+        omega (arith, all, trail.rank_most t inner denying)
+
+    module _ (t : ℕ) (inner : suc t < length h) (denying : (memory t).denying ≡ true) (most : rank (suc t) ≤ slice_index (counts_at (suc t)) (memory (suc t)).before) (less : assumption_set g (memory t).before (state_at g h t) ≡ false → rank (suc t) < rank t) (fails : assumption_set g q (state_at g h t) ≡ false) where
+      here : t < length h
+      here = omega (arith, inner)
+
+      same_counts : counts_at (suc t) ≡ counts_at t
+      same_counts = ap (λ (a : ℕ). counts a (memory (suc t)).goal) (trail.same_layer t inner denying) ∙ ap (counts (memory t).layer) (trail.same_goal t inner denying)
+
+      ahead_same : ranks_ahead (counts_at (suc t)) q (memory (suc t)).before ≡ ranks_ahead (counts_at t) q (memory (suc t)).before
+      ahead_same = ap (λ (ranks : List ℕ). ranks_ahead ranks q (memory (suc t)).before) same_counts
+
+      by_met : (d : Bool) → assumption_set g (memory t).before (state_at g h t) ≡ d → (memory (suc t)).before ≡ (if d then next_assumption g (memory t).before else (memory t).before) → at (suc t) < at t
+      by_met true holds aims =
+          let differ : (memory t).before ≡ q → ⊥ = λ same. false≢true (sym fails ∙ subst (λ (i : ℕ). assumption_set g i (state_at g h t) ≡ true) same holds) in
+          let next = subst (λ (len : ℕ). (memory (suc t)).before ≡ (if suc (memory t).before == len then 0 else suc (memory t).before)) (sym (trail.counted t here denying)) aims in
+          let bound = subst (λ (ranks : List ℕ). rank (suc t) ≤ slice_index ranks (memory (suc t)).before) same_counts most in
+          let lowers = turn_lowers (counts_at t) q (memory t).before (memory (suc t)).before (rank t) (rank (suc t)) (omega (arith, q_in, trail.counted t here denying)) (omega (arith, trail.before_in t here, trail.counted t here denying)) bound differ (trail.rank_some t here denying) next in
+          omega (arith, lowers, ahead_same)
+      by_met false missed aims =
+          let ahead : ranks_ahead (counts_at t) q (memory (suc t)).before ≡ ranks_ahead (counts_at t) q (memory t).before = ap (ranks_ahead (counts_at t) q) aims in
+          omega (arith, less missed, ahead_same, ahead)
+
+      -- a denial at which the assumption fails lowers it
+      pub potential_falls : denial_potential (counts_at (suc t)) q (rank (suc t)) (memory (suc t)) < denial_potential (counts_at t) q (rank t) (memory t)
+      potential_falls = by_met (assumption_set g (memory t).before (state_at g h t)) refl (trail.aims t inner denying)
+
+    -- over a stretch of denials at which the assumption fails it falls as often as there are positions
+    falls_over : (len from : ℕ) → from + len < length h → ((t : ℕ) → from ≤ t → t ≤ from + len → (memory t).denying ≡ true) → ((t : ℕ) → from ≤ t → t < from + len → assumption_set g q (state_at g h t) ≡ false) →
+        at (from + len) + len ≤ at from
+    falls_over zero from inner denying fails =
+        let e : from ≡ from + zero = omega arith in
+        subst (λ (t : ℕ). at t + zero ≤ at from) e (omega arith)
+    falls_over (suc len) from inner denying fails =
+        let e : suc (from + len) ≡ from + suc len = omega arith in
+        let last : (memory (suc (from + len))).denying ≡ true = denying (suc (from + len)) (omega arith) (omega arith) in
+        let before = falls_over len from (omega arith) (λ t from_on before. denying t from_on (omega arith)) (λ t from_on before. fails t from_on (omega arith)) in
+        let here = denying (from + len) (omega arith) (omega arith) in
+        let once = potential_falls (from + len) (omega arith) here (trail.rank_most (suc (from + len)) (omega arith) last) (λ missed. trail.lower (from + len) (omega arith) here last missed) (fails (from + len) (omega arith) (omega arith)) in
+        subst (λ (t : ℕ). at t + suc len ≤ at from) e (omega (arith, before, once))
+
+    -- so more denials in a row than all counts together meet it
+    meets : (from : ℕ) → from + sum (counts_at from) < length h → ((t : ℕ) → from ≤ t → t ≤ from + sum (counts_at from) → (memory t).denying ≡ true) →
+        (t : ℕ) × (from ≤ t) × (t < from + sum (counts_at from)) × (assumption_set g q (state_at g h t) ≡ true)
+    meets from inner denying =
+        let len = sum (counts_at from) in
+        elim (meets_or_not (λ t. assumption_set g q (state_at g h t)) len from) [
+          | inl found ↦ found
+          | inr fails ↦
+              let over = falls_over len from inner denying fails in
+              let few = potential_at_most from (omega arith) (denying from (omega arith) (omega arith)) in
+              let some = potential_some (from + len) inner (denying (from + len) (omega arith) (omega arith)) in
+              absurd (omega (arith, over, few, some))
+        ]
+
+  -- ---- what is denied
+
+  -- a denied position is one of the run, and what is remembered of it denies the goal with the label
+  denied_at : (t : ℕ) (l : Label) → slice_get notes t ≡ Some (Deny l) → (t < length h) × ((memory t).denying ≡ true) × (label_at g (memory t).goal ≡ l)
+  denied_at t l is = by_place in_or_not
+    where
+      in_or_not : (t < length h) ⊎ (length h ≤ t)
+      in_or_not = grind arith
+
+      by_denying : (d : Bool) → (memory t).denying ≡ d → Some (if d then Deny (label_at g (memory t).goal) else Shift) ≡ Some (Deny l) → ((memory t).denying ≡ true) × (label_at g (memory t).goal ≡ l)
+      by_denying true denying same = (denying, cc)
+      by_denying false denying same = absurd (cc)
+
+      by_place : (t < length h) ⊎ (length h ≤ t) → (t < length h) × ((memory t).denying ≡ true) × (label_at g (memory t).goal ≡ l)
+      by_place (inl inner) = let parts = by_denying (memory t).denying refl (sym (trail.noted t inner) ∙ is) in (inner, parts.0, parts.1)
+      by_place (inr past) = let none = slice_get_past notes t (omega (arith, past, trail.noted_all)) in absurd (cc)
+
+  module _ (made : WellMade g) where
+    -- more denials in a row than all counts together, those of a layer and a goal, meet an assumption
+    met_within : (goal : RecurringGoal) (q : ℕ) → Numbered g g.assume goal q → (from : ℕ) → ((i : ℕ) → i < m → (from + i < length h) × ((memory (from + i)).denying ≡ true)) → from < length h → sum (counts_at from) < m → HoldsWithin goal h from (from + m)
+    met_within goal q has from denied first few =
+        let inner : from + sum (counts_at from) < length h = (denied (sum (counts_at from)) few).0 in
+        let met = meets q has.there from inner (λ t from_on before. denying_at t from_on before) in
+        record { place = met.0; from_on = met.1; before = omega (arith, met.2, few); holds = has.holds h met.0 (trail.states met.0 (omega (arith, met.2, inner))) ∙ met.3 }
       where
-        by_cases : (place : (t < length h) ⊎ (length h ≤ t)) → RankedBy (state_at g h t) (trail.memory t) (rank_where t place)
-        by_cases (inl inner) = (trail.stands t inner).ranked
-        by_cases (inr past) = absurd (omega arith)
+        denying_at : (t : ℕ) → from ≤ t → t ≤ from + sum (counts_at from) → (memory t).denying ≡ true
+        denying_at t from_on before =
+            let e : from + (t - from) ≡ t = omega (arith, from_on) in
+            subst (λ (t : ℕ). (memory t).denying ≡ true) e (denied (t - from) (omega (arith, before, from_on, few))).1
 
-  module _ (counts : ℕ → ℕ → List ℕ) (are : AreDelayCounts g e n counts) where
-    abbrev pub counts_of : CounterMemory → List ℕ
-    counts_of k = counts k.layer k.goal
+    fair : 1 ≤ m → (from : ℕ) → ((i : ℕ) → i < m → IsDenied notes (from + i)) → EachWithin (goals_in g g.assume) h from (from + m)
+    fair some from denials goal among = met_within goal has.0 has.1 from denied first.0 (trail.sum_few from first.0 first.1)
+      where
+        has : (q : ℕ) × Numbered g g.assume goal q
+        has = numbered g g.assume made.assume goal among
 
-    -- ---- at a position
+        denied : (i : ℕ) → i < m → (from + i < length h) × ((memory (from + i)).denying ≡ true)
+        denied i below = let parts = denied_at (from + i) (denials i below).0 (denials i below).1 in (parts.0, parts.1)
 
-    module _ (s : State) (k : CounterMemory) (stands : CounterStands g e n 0 s k) where
-      low_in : stands.low < n
-      low_in = omega (arith, stands.few, stands.layer)
+        first : (from < length h) × ((memory from).denying ≡ true)
+        first =
+            let e : from + 0 ≡ from = omega arith in
+            let parts = denied 0 (omega arith) in
+            subst (λ (t : ℕ). (t < length h) × ((memory t).denying ≡ true)) e parts
 
-      pub counted : length (counts_of k) ≡ length (assumption_sets g)
-      counted = subst (λ (a : ℕ). length (counts a k.goal) ≡ length (assumption_sets g)) (sym stands.layer) (are.counted stands.low k.goal low_in stands.goal_in)
+    module _ (differ : LabelsDiffer g) where
+      not_false : (c : Bool) → true ≡ not c → c ≡ false
+      not_false true is = absurd (false≢true (sym is))
+      not_false false is = refl
 
-      settled : e.x k.layer k.goal k.before (slice_index (counts_of k) k.before) ≡ e.x k.layer k.goal k.before (suc (slice_index (counts_of k) k.before))
-      settled =
-          subst (λ (a : ℕ). e.x a k.goal k.before (slice_index (counts a k.goal) k.before) ≡ e.x a k.goal k.before (suc (slice_index (counts a k.goal) k.before))) (sym stands.layer)
-          (are.each stands.low k.goal k.before low_in stands.goal_in stands.before_in).here
+      denied : (t : ℕ) (l : Label) → slice_get notes t ≡ Some (Deny l) → (goal : RecurringGoal) × (goal_of (goals_in g g.goals) l ≡ Some goal) × (goal.holds h t ≡ false)
+      denied t l is =
+          let parts = denied_at t l is in
+          let here = trail.states t parts.0 in
+          let fails = not_false (goal_set g (memory t).goal (state_at g h t)) (sym parts.1 ∙ trail.denying t parts.0) in
+          let below = goal_there g (memory t).goal (state_at g h t) (trail.goal_in t parts.0) here fails in (
+            labelled g made differ (memory t).goal below,
+            subst (λ (l : Label). goal_of (goals_in g g.goals) l ≡ Some (labelled g made differ (memory t).goal below)) parts.2 (labelled-found g made differ (memory t).goal below),
+            labelled-holds g made differ (memory t).goal below h t here ∙ fails,
+          )
 
-      -- all ranks together are fewer than M
-      pub sum_few : sum (counts_of k) < denial_count g n counts
-      sum_few =
-          let goals = at_most-most (λ j. sum (counts (suc stands.low) j)) (length (goal_sets g)) k.goal stands.goal_in in
-          let layers = at_most-most (λ a. most (λ j. sum (counts (suc a) j)) (length (goal_sets g))) n stands.low low_in in
-          let same : sum (counts_of k) ≡ sum (counts (suc stands.low) k.goal) = ap (λ (a : ℕ). sum (counts a k.goal)) stands.layer in
-          omega (arith, goals, layers, same)
+      same : (t : ℕ) (l l' : Label) → slice_get notes t ≡ Some (Deny l) → slice_get notes (suc t) ≡ Some (Deny l') → l ≡ l'
+      same t l l' is is' =
+          let parts = denied_at t l is in
+          let parts' = denied_at (suc t) l' is' in
+          sym parts.2 ∙ (ap (label_at g) (sym (trail.same_goal t parts'.0 parts.1)) ∙ parts'.2)
 
-      module _ (rank : ℕ) (ranked : RankedBy s k rank) where
-        pub rank_some : 0 < rank
-        rank_some = let some = iterate_some g e of k.layer stands.low stands.layer k.goal k.before rank s ranked.here in omega (arith, some.1)
-
-        pub rank_at_most : rank ≤ slice_index (counts_of k) k.before
-        rank_at_most =
-            let told = delays_at g e of k.layer stands.low stands.layer k.goal k.before in
-            let last = slice_index (counts_of k) k.before in
-            let in_last =
-            in_settled g (delay g (e.z stands.low) (e.y k.layer k.goal) k.goal k.before) (delay_in_next g (e.z stands.low) (e.y k.layer k.goal) k.goal k.before) (delay-inside g (e.z stands.low) (e.y k.layer k.goal) k.goal k.before) (delay_stays g (e.z stands.low) (e.y k.layer k.goal) k.goal k.before) last rank
-            (sym (told last) ∙ (settled ∙ told (suc last))) s
-            in
-            let no_less : last < rank → ⊥ = λ less. ranked.none_before last less (subst (λ t. IsTrue (t s)) (sym (told last)) (in_last (subst (λ t. IsTrue (t s)) (told rank) ranked.here))) in
-            grind (arith, no_less)
-
-    -- ---- the potential
-
-    module _ (q : ℕ) (q_in : q < length (assumption_sets g)) where
-      abbrev pub potential_of : CounterMemory → ℕ → ℕ
-      potential_of k rank = denial_potential (counts_of k) q rank k
-
-      module _ (s : State) (k : CounterMemory) (stands : CounterStands g e n 0 s k) (rank : ℕ) (ranked : RankedBy s k rank) where
-        pub potential_some : 0 < potential_of k rank
-        potential_some = omega (arith, rank_some s k stands rank ranked)
-
-        pub potential_at_most : potential_of k rank ≤ sum (counts_of k)
-        potential_at_most =
-            let all = ahead_at_most (counts_of k) q k.before (omega (arith, q_in, counted s k stands)) (omega (arith, stands.before_in, counted s k stands)) in
-            omega (arith, all, rank_at_most s k stands rank ranked)
-
-        module _ (s' : State) (k' : CounterMemory) (stands' : CounterStands g e n 0 s' k') (rank' : ℕ) (ranked' : RankedBy s' k' rank') (fails : assumption_set g q s ≡ false) (followed : IsFollowed g e s s' k k') where
-          same_counts : counts_of k' ≡ counts_of k
-          same_counts = ap (λ (a : ℕ). counts a k'.goal) followed.layer ∙ ap (counts k.layer) followed.goal
-
-          bound : rank' ≤ slice_index (counts_of k) k'.before
-          bound = subst (λ (ranks : List ℕ). rank' ≤ slice_index ranks k'.before) same_counts (rank_at_most s' k' stands' rank' ranked')
-
-          ahead_same : ranks_ahead (counts_of k') q k'.before ≡ ranks_ahead (counts_of k) q k'.before
-          ahead_same = ap (λ (ranks : List ℕ). ranks_ahead ranks q k'.before) same_counts
-
-          by_met : (d : Bool) → assumption_set g k.before s ≡ d → k'.before ≡ (if d then next_assumption g k.before else k.before) → potential_of k' rank' < potential_of k rank
-          by_met true holds aims =
-              let differ : k.before ≡ q → ⊥ = λ same. false≢true (sym fails ∙ subst (λ (i : ℕ). assumption_set g i s ≡ true) same holds) in
-              let next = subst (λ (m : ℕ). k'.before ≡ (if suc k.before == m then 0 else suc k.before)) (sym (counted s k stands)) aims in
-              let ahead = ahead_next (counts_of k) q k.before (omega (arith, q_in, counted s k stands)) (omega (arith, stands.before_in, counted s k stands)) differ k'.before next in
-              omega (arith, ahead, bound, ahead_same, rank_some s k stands rank ranked)
-          by_met false missed aims =
-              let less = followed.lower missed rank rank' ranked ranked' in
-              let ahead : ranks_ahead (counts_of k) q k'.before ≡ ranks_ahead (counts_of k) q k.before = ap (ranks_ahead (counts_of k) q) aims in
-              omega (arith, less, ahead_same, ahead)
-
-          -- a denial at which the assumption fails lowers it
-          pub potential_falls : potential_of k' rank' < potential_of k rank
-          potential_falls = by_met (assumption_set g k.before s) refl (followed.before ∙ stands.index)
-
-      -- ---- along a run
-
-      module _ (h : Run) (notes : List NoteData) (k : CounterMemory) (trail : CounterTrail g e n h notes k) where
-        abbrev pub at : ℕ → ℕ
-        at t = potential_of (trail.memory t) (rank_at h notes k trail t)
-
-        falls_once : (t : ℕ) → suc t < length h → (trail.memory t).denying ≡ true → assumption_set g q (state_at g h t) ≡ false → at (suc t) < at t
-        falls_once t inner denying fails =
-            potential_falls (state_at g h t) (trail.memory t) (trail.stands t (omega arith)) (rank_at h notes k trail t) (ranked_at h notes k trail t (omega arith)) (state_at g h (suc t)) (trail.memory (suc t)) (trail.stands (suc t) inner) (rank_at h notes k trail (suc t)) (ranked_at h notes k trail (suc t) inner) fails
-            (trail.follows t inner denying)
-
-        -- over a stretch of denials at which the assumption fails it falls as often as there are positions
-        falls_over : (len from : ℕ) → from + len < length h → ((t : ℕ) → from ≤ t → t < from + len → (trail.memory t).denying ≡ true) → ((t : ℕ) → from ≤ t → t < from + len → assumption_set g q (state_at g h t) ≡ false) →
-            at (from + len) + len ≤ at from
-        falls_over zero from inner denying fails =
-            let e : from ≡ from + zero = omega arith in
-            subst (λ (t : ℕ). at t + zero ≤ at from) e (omega arith)
-        falls_over (suc len) from inner denying fails =
-            let e : suc (from + len) ≡ from + suc len = omega arith in
-            let before = falls_over len from (omega arith) (λ t from_on before. denying t from_on (omega arith)) (λ t from_on before. fails t from_on (omega arith)) in
-            let once = falls_once (from + len) (omega arith) (denying (from + len) (omega arith) (omega arith)) (fails (from + len) (omega arith) (omega arith)) in
-            subst (λ (t : ℕ). at t + suc len ≤ at from) e (omega (arith, before, once))
-
-        -- so more denials in a row than all ranks together meet it
-        pub meets : (from : ℕ) → from + sum (counts_of (trail.memory from)) < length h → ((t : ℕ) → from ≤ t → t < from + sum (counts_of (trail.memory from)) → (trail.memory t).denying ≡ true) →
-            (t : ℕ) × (from ≤ t) × (t < from + sum (counts_of (trail.memory from))) × (assumption_set g q (state_at g h t) ≡ true)
-        meets from inner denying =
-            let len = sum (counts_of (trail.memory from)) in
-            elim (meets_or_not (λ t. assumption_set g q (state_at g h t)) len from) [
-              | inl found ↦ found
-              | inr fails ↦
-                  let over = falls_over len from inner denying fails in
-                  let few = potential_at_most (state_at g h from) (trail.memory from) (trail.stands from (omega arith)) (rank_at h notes k trail from) (ranked_at h notes k trail from (omega arith)) in
-                  let some = potential_some (state_at g h (from + len)) (trail.memory (from + len)) (trail.stands (from + len) inner) (rank_at h notes k trail (from + len)) (ranked_at h notes k trail (from + len) inner) in
-                  absurd (omega (arith, over, few, some))
-            ]
-
-    pub denials_fall : (h : Run) (notes : List NoteData) (k : CounterMemory) (trail : CounterTrail g e n h notes k) (q : ℕ) → q < length (assumption_sets g) → DenialsFall g counts h trail.memory (rank_at h notes k trail) q
-    denials_fall h notes k trail q q_in =
-        record {
-          at_least = λ t inner. potential_some q q_in (state_at g h t) (trail.memory t) (trail.stands t inner) (rank_at h notes k trail t) (ranked_at h notes k trail t inner);
-          at_most = λ t inner. potential_at_most q q_in (state_at g h t) (trail.memory t) (trail.stands t inner) (rank_at h notes k trail t) (ranked_at h notes k trail t inner);
-          lower = λ t inner denying fails.
-              let followed = trail.follows t inner denying in
-              (followed.layer, followed.goal, falls_once q q_in h notes k trail t inner denying fails);
-        }
-
-    -- ---- any M denials in a row
-
-    module _ (h : Run) (notes : List NoteData) (k : CounterMemory) (trail : CounterTrail g e n h notes k) (noted : length notes ≡ length h) where
-      -- a denied position is one of the run, and what is remembered of it denies the goal with the label
-      pub denied_at : (t : ℕ) (l : Label) → slice_get notes t ≡ Some (Deny l) → (t < length h) × ((trail.memory t).denying ≡ true) × (label_at g (trail.memory t).goal ≡ l)
-      denied_at t l is = by_place in_or_not
-        where
-          in_or_not : (t < length h) ⊎ (length h ≤ t)
-          in_or_not = grind arith
-
-          by_denying : (d : Bool) → (trail.memory t).denying ≡ d → Some (if d then Deny (label_at g (trail.memory t).goal) else Shift) ≡ Some (Deny l) → ((trail.memory t).denying ≡ true) × (label_at g (trail.memory t).goal ≡ l)
-          by_denying true denying same = (denying, cc)
-          by_denying false denying same = absurd (cc)
-
-          by_place : (t < length h) ⊎ (length h ≤ t) → (t < length h) × ((trail.memory t).denying ≡ true) × (label_at g (trail.memory t).goal ≡ l)
-          by_place (inl inner) = let parts = by_denying (trail.memory t).denying refl (sym (trail.noted t inner) ∙ is) in (inner, parts.0, parts.1)
-          by_place (inr past) = let none = slice_get_past notes t (omega (arith, past, noted)) in absurd (cc)
-
-      module _ (made : WellMade g) where
-        holds_there : (goal : RecurringGoal) (q : ℕ) → Numbered g g.assume goal q → (t : ℕ) → t < length h → assumption_set g q (state_at g h t) ≡ true → goal.holds h t ≡ true
-        holds_there goal q has t inner met = has.holds h t (stands_state (state_at g h t) (trail.memory t) (trail.stands t inner)) ∙ met
-
-        -- more denials in a row than all ranks together, those of a goal's hold, meet an assumption
-        met_within : (goal : RecurringGoal) (q : ℕ) → Numbered g g.assume goal q → (from m : ℕ) → from < length h → sum (counts_of (trail.memory from)) < m →
-            ((i : ℕ) → i < m → (from + i < length h) × ((trail.memory (from + i)).denying ≡ true)) → HoldsWithin goal h from (from + m)
-        met_within goal q has from m first few denied =
-            let inner : from + sum (counts_of (trail.memory from)) < length h = (denied (sum (counts_of (trail.memory from))) few).0 in
-            let met = meets q has.there h notes k trail from inner (λ t from_on before. denying_at t from_on before) in
-            record { place = met.0; from_on = met.1; before = omega (arith, met.2, few); holds = holds_there goal q has met.0 (omega (arith, met.2, inner)) met.3 }
-          where
-            denying_at : (t : ℕ) → from ≤ t → t < from + sum (counts_of (trail.memory from)) → (trail.memory t).denying ≡ true
-            denying_at t from_on before =
-                let e : from + (t - from) ≡ t = omega (arith, from_on) in
-                subst (λ (t : ℕ). (trail.memory t).denying ≡ true) e (denied (t - from) (omega (arith, before, from_on, few))).1
-
-        pub fair : (from : ℕ) → ((i : ℕ) → i < denial_count g n counts → IsDenied notes (from + i)) → EachWithin (goals_in g g.assume) h from (from + denial_count g n counts)
-        fair from denials goal among = met_within goal has.0 has.1 from (denial_count g n counts) first (sum_few (state_at g h from) (trail.memory from) (trail.stands from first)) denied
-          where
-            has : (q : ℕ) × Numbered g g.assume goal q
-            has = numbered g g.assume made.assume goal among
-
-            denied : (i : ℕ) → i < denial_count g n counts → (from + i < length h) × ((trail.memory (from + i)).denying ≡ true)
-            denied i below = let parts = denied_at (from + i) (denials i below).0 (denials i below).1 in (parts.0, parts.1)
-
-            first : from < length h
-            first = let parts = denied 0 (omega arith) in omega (arith, parts.0)
+      pub beaten : 1 ≤ m → Beaten (rules_of_game g) n m h notes
+      beaten some = record { noted = trail.noted_all; shifts = shifts_few; denied = denied; same = same; fair = fair some }

@@ -29,17 +29,17 @@ next_assumption_in g i below = at (suc i == length (assumption_sets g)) refl
 
 -- ---- before a move, and at a position
 
--- Where the next state can be forced, with so many shifts used: into a layer, or after a denial into an iterate of its hold.
-pub data CounterReady (g : GameData) (e : EnvLayerSets) (n used : ℕ) (b : Before) (k : CounterMemory) : Type 0 where
-  into_layer : k.denying ≡ false → (a : ℕ) → environment_forces g (e.z a) b ≡ true → a + used ≤ n → CounterReady g e n used b k
-  into_hold : k.denying ≡ true → (low : ℕ) → k.layer ≡ suc low → k.layer + used ≤ n → k.goal < length (goal_sets g) → k.index < length (assumption_sets g) →
-      (r : ℕ) → environment_forces g (e.x k.layer k.goal k.index r) b ≡ true → CounterReady g e n used b k
+-- Where the next state can be forced: into a layer, or after a denial into an iterate of its hold.
+pub data CounterReady (g : GameData) (e : EnvLayerSets) (n : ℕ) (b : Before) (k : CounterMemory) : Type 0 where
+  into_layer : k.denying ≡ false → (a : ℕ) → environment_forces g (e.z a) b ≡ true → a ≤ n → CounterReady g e n b k
+  into_hold : k.denying ≡ true → (low : ℕ) → k.layer ≡ suc low → k.layer ≤ n → k.goal < length (goal_sets g) → k.index < length (assumption_sets g) →
+      (r : ℕ) → environment_forces g (e.x k.layer k.goal k.index r) b ≡ true → CounterReady g e n b k
 
 -- what is remembered tells of the state: it has a rank in the goal's hold for the assumption aimed at when it came
-pub record CounterStands (g : GameData) (e : EnvLayerSets) (n used : ℕ) (s : State) (k : CounterMemory) : Type 0 where
+pub record CounterStands (g : GameData) (e : EnvLayerSets) (n : ℕ) (s : State) (k : CounterMemory) : Type 0 where
   pub low : ℕ
   pub layer : k.layer ≡ suc low
-  pub few : k.layer + used ≤ n
+  pub few : k.layer ≤ n
   pub goal_in : k.goal < length (goal_sets g)
   pub before_in : k.before < length (assumption_sets g)
   pub rank : ℕ
@@ -83,7 +83,7 @@ module _ (g : GameData) (e : EnvLayerSets) (of : AreEnvLayers g e) where
   module _ (n : ℕ) where
     -- ---- from a position
 
-    module _ (used : ℕ) (s : State) (k : CounterMemory) (stands : CounterStands g e n used s k) where
+    module _ (s : State) (k : CounterMemory) (stands : CounterStands g e n s k) where
       why : (r0 : ℕ) × (suc r0 ≡ stands.rank) × InDelay g (e.z stands.low) (e.y k.layer k.goal) k.goal k.before (delay g (e.z stands.low) (e.y k.layer k.goal) k.goal k.before r0) s
       why = iterate_some k.layer stands.low stands.layer k.goal k.before stands.rank s stands.ranked.here
 
@@ -116,27 +116,22 @@ module _ (g : GameData) (e : EnvLayerSets) (of : AreEnvLayers g e) where
               ])
           by_goal false fails = by_met (assumption_set g k.before s) (stands.denying ∙ ap not fails) refl stands.index
 
-      -- with the note of the position
-      pub ready_after : CounterReady g e n (used + (if k.denying then 0 else 1)) (Some s) k
+      pub ready_after : CounterReady g e n (Some s) k
       ready_after = by_step counter_step
         where
-          few_of : (d : Bool) (a : ℕ) → k.denying ≡ d → a + (used + (if d then 0 else 1)) ≤ n → a + (used + (if k.denying then 0 else 1)) ≤ n
-          few_of d a is few = subst (λ (d : Bool). a + (used + (if d then 0 else 1)) ≤ n) (sym is) few
-
-          by_step : CounterStep g e s k stands.low stands.rank → CounterReady g e n (used + (if k.denying then 0 else 1)) (Some s) k
-          by_step (CounterStep.shift denying down) = CounterReady.into_layer denying stands.low down (few_of false stands.low denying (omega (arith, stands.few, stands.layer)))
-          by_step (CounterStep.missed denying aims r same on) =
-              CounterReady.into_hold denying stands.low stands.layer (few_of true k.layer denying (omega (arith, stands.few))) stands.goal_in (subst (λ (i : ℕ). i < length (assumption_sets g)) (sym aims) stands.before_in) r on
+          by_step : CounterStep g e s k stands.low stands.rank → CounterReady g e n (Some s) k
+          by_step (CounterStep.shift denying down) = CounterReady.into_layer denying stands.low down (omega (arith, stands.few, stands.layer))
+          by_step (CounterStep.missed denying aims r same on) = CounterReady.into_hold denying stands.low stands.layer stands.few stands.goal_in (subst (λ (i : ℕ). i < length (assumption_sets g)) (sym aims) stands.before_in) r on
           by_step (CounterStep.met denying holds aims r on) =
-              CounterReady.into_hold denying stands.low stands.layer (few_of true k.layer denying (omega (arith, stands.few))) stands.goal_in (subst (λ (i : ℕ). i < length (assumption_sets g)) (sym aims) (next_assumption_in g k.before stands.before_in)) r on
+              CounterReady.into_hold denying stands.low stands.layer stands.few stands.goal_in (subst (λ (i : ℕ). i < length (assumption_sets g)) (sym aims) (next_assumption_in g k.before stands.before_in)) r on
 
     -- ---- the next input
 
-    module _ (used : ℕ) (b : Before) (k : CounterMemory) (ready : CounterReady g e n used b k) where
+    module _ (b : Before) (k : CounterMemory) (ready : CounterReady g e n b k) where
       pub some_target : (a : ℕ) × (environment_forces g (targets e k a) b ≡ true)
       some_target = by_ready ready
         where
-          by_ready : CounterReady g e n used b k → (a : ℕ) × (environment_forces g (targets e k a) b ≡ true)
+          by_ready : CounterReady g e n b k → (a : ℕ) × (environment_forces g (targets e k a) b ≡ true)
           by_ready (CounterReady.into_layer denying a forced few) =
               (a, subst (λ (d : Bool). environment_forces g ((if d then e.x k.layer k.goal k.index else e.z) a) b ≡ true) (sym denying) forced)
           by_ready (CounterReady.into_hold denying low layer few goal_in index_in r forced) =
@@ -214,11 +209,11 @@ module _ (g : GameData) (e : EnvLayerSets) (of : AreEnvLayers g e) where
               let goal = first_goal layer.0 layer.1.here in
               (noted_with layer.0 goal.0 0, noted_anew denying layer.0 goal.0 layer.1 goal.1)
 
-      module _ (used : ℕ) (ready : CounterReady g e n used b k) (k' : CounterMemory) (noted : IsNoted g e k s k') where
-        pub stands_next : CounterStands g e n used s k'
+      module _ (ready : CounterReady g e n b k) (k' : CounterMemory) (noted : IsNoted g e k s k') where
+        pub stands_next : CounterStands g e n s k'
         stands_next = by_ready ready
           where
-            by_ready : CounterReady g e n used b k → CounterStands g e n used s k'
+            by_ready : CounterReady g e n b k → CounterStands g e n s k'
             by_ready (CounterReady.into_layer denying a forced few) =
                 let anew = noted.anew denying in
                 let low = layer_some k'.layer s anew.0.here in

@@ -7,7 +7,8 @@ use Rattle.spec_model.specs.Values.{Assignment}
 use Rattle.spec_model.specs.Plays.{IsPlay}
 use Rattle.spec_model.specs.Rules.{Run, Position, after}
 use Rattle.spec_model.specs.Unrealizable.{NoteData, Shift, Deny, is_shift}
-use Rattle.spec_model.specs.Games.{GameData, State, state_at}
+use Rattle.spec_model.specs.Games.{GameData, State}
+use Rattle.spec_model.specs.GameRuns.{state_at}
 use Rattle.spec_model.specs.GameRules.{last_state, before_at, rules_of_game}
 use Rattle.spec_model.specs.Steps.{Before, is_output, legal_input, legal_output, reached}
 use Rattle.spec_model.specs.Sets.{environment_forces}
@@ -19,64 +20,36 @@ use Rattle.gr1_law.proofs.Lengthening.{with_last, with_last-here, with_last-befo
 use Rattle.gr1_law.proofs.Solutions.{least-one}
 use Rattle.gr1_law.proofs.CounterSteps.{CounterReady, CounterStands, CounterStep, counter_step, ready_after, given_input, given_legal, given_leads, in_iterate, stands_next}
 
--- after a denial the layer and the goal stay, and where the assumption aimed at fails the rank falls
+-- After a shift the layer falls. After a denial the layer and the goal stay, and where the assumption aimed at fails the rank falls.
 pub record IsFollowed (g : GameData) (e : EnvLayerSets) (s s' : State) (k k' : CounterMemory) : Type 0 where
-  pub layer : k'.layer ≡ k.layer
-  pub goal : k'.goal ≡ k.goal
-  pub before : k'.before ≡ k.index
-  pub lower : assumption_set g k.before s ≡ false → (rank rank' : ℕ) → IsLeastNumber (λ r. IsTrue (e.x k.layer k.goal k.before r s)) rank →
+  pub shifts : k.denying ≡ false → k'.layer < k.layer
+  pub layer : k.denying ≡ true → k'.layer ≡ k.layer
+  pub goal : k.denying ≡ true → k'.goal ≡ k.goal
+  pub before : k.denying ≡ true → k'.before ≡ k.index
+  pub lower : k.denying ≡ true → assumption_set g k.before s ≡ false → (rank rank' : ℕ) → IsLeastNumber (λ r. IsTrue (e.x k.layer k.goal k.before r s)) rank →
       IsLeastNumber (λ r. IsTrue (e.x k'.layer k'.goal k'.before r s')) rank' → rank' < rank
 
 -- what is remembered at each position, the last being the one at the end
 pub record CounterTrail (g : GameData) (e : EnvLayerSets) (n : ℕ) (h : Run) (notes : List NoteData) (k : CounterMemory) : Type 0 where
   pub memory : ℕ → CounterMemory
-  pub stands : (t : ℕ) → t < length h → CounterStands g e n 0 (state_at g h t) (memory t)
+  pub stands : (t : ℕ) → t < length h → CounterStands g e n (state_at g h t) (memory t)
   pub noted : (t : ℕ) → t < length h → slice_get notes t ≡ Some (note_of g (memory t))
-  pub follows : (t : ℕ) → suc t < length h → (memory t).denying ≡ true → IsFollowed g e (state_at g h t) (state_at g h (suc t)) (memory t) (memory (suc t))
+  pub follows : (t : ℕ) → suc t < length h → IsFollowed g e (state_at g h t) (state_at g h (suc t)) (memory t) (memory (suc t))
   pub last : (t : ℕ) → suc t ≡ length h → memory t ≡ k
   pub played : (t : ℕ) → t < length h → AnsweredPlay g e (take (suc t) h) (take (suc t) notes) (Some (state_at g h t)) (memory t)
 
 -- an answered play is a play, and its end is known
 pub record Answered (g : GameData) (e : EnvLayerSets) (n : ℕ) (h : Run) (notes : List NoteData) (b : Before) (k : CounterMemory) : Type 0 where
   pub state : b ≡ last_state g h
-  pub ready : CounterReady g e n (count_by is_shift notes) b k
+  pub ready : CounterReady g e n b k
   pub trail : CounterTrail g e n h notes k
   pub legal : IsPlay (rules_of_game g) h
   pub counted : length notes ≡ length h
 
--- each shift counts
-abbrev shifts_in : NoteData → ℕ
-shifts_in note = cond (is_shift note) 1 0
-
-abbrev shifts_of : Bool → ℕ
-shifts_of denying = if denying then 0 else 1
-
-count_by-note : (g : GameData) (notes : List NoteData) (k : CounterMemory) → count_by is_shift (notes ++ note_of g k ∷ []) ≡ count_by is_shift notes + shifts_of k.denying
-count_by-note g notes k = sum_by_push shifts_in notes (note_of g k) ∙ ap (λ (m : ℕ). count_by is_shift notes + m) (at k.denying)
-  where
-    at : (d : Bool) → shifts_in (if d then Deny (label_at g k.goal) else Shift) ≡ shifts_of d
-    at true = refl
-    at false = refl
-
 module _ (g : GameData) (e : EnvLayerSets) (of : AreEnvLayers g e) (n : ℕ) where
-  -- what is remembered of a position doesn't depend on the shifts before it
-  unused : (used : ℕ) (s : State) (k : CounterMemory) → CounterStands g e n used s k → CounterStands g e n 0 s k
-  unused used s k stands =
-      record {
-        low = stands.low;
-        layer = stands.layer;
-        few = omega (arith, stands.few);
-        goal_in = stands.goal_in;
-        before_in = stands.before_in;
-        rank = stands.rank;
-        ranked = stands.ranked;
-        denying = stands.denying;
-        index = stands.index;
-      }
-
-  module _ (s : State) (k : CounterMemory) (stands : CounterStands g e n 0 s k) (r : ℕ) (x : Assignment) (given : IsGiven g e (Some s) k r x) (s' : State) (led : IsTrue (targets e k r s')) (k' : CounterMemory) (noted : IsNoted g e k s' k') where
+  module _ (s : State) (k : CounterMemory) (stands : CounterStands g e n s k) (r : ℕ) (x : Assignment) (given : IsGiven g e (Some s) k r x) (s' : State) (led : IsTrue (targets e k r s')) (k' : CounterMemory) (noted : IsNoted g e k s' k') where
     lowers : k.denying ≡ true → assumption_set g k.before s ≡ false → (rank' : ℕ) → IsLeastNumber (λ r. IsTrue (e.x k'.layer k'.goal k'.before r s')) rank' → rank' < stands.rank
-    lowers denying fails rank' least' = by_step (counter_step g e of n 0 s k stands)
+    lowers denying fails rank' least' = by_step (counter_step g e of n s k stands)
       where
         same : (k'.layer ≡ k.layer) × (k'.goal ≡ k.goal) × (k'.before ≡ k.index)
         same = noted.stays denying
@@ -95,14 +68,31 @@ module _ (g : GameData) (e : EnvLayerSets) (of : AreEnvLayers g e) (n : ℕ) whe
             let rank_low : r < rank' → ⊥ = λ less. least'.none_before r less here in
             grind (arith, number_low, rank_low, is)
 
-    followed : k.denying ≡ true → IsFollowed g e s s' k k'
-    followed denying =
-        let same = noted.stays denying in
+    -- where the goal holds, the layer below can be forced, and the input leads into the first that can be
+    layer_falls : k.denying ≡ false → k'.layer < k.layer
+    layer_falls shifting = by_step (counter_step g e of n s k stands)
+      where
+        here : IsTrue (e.z r s')
+        here = subst (λ (d : Bool). IsTrue ((if d then e.x k.layer k.goal k.index else e.z) r s')) shifting led
+
+        at_most : r < k'.layer → ⊥
+        at_most less = (noted.anew shifting).0.none_before r less here
+
+        by_step : CounterStep g e s k stands.low stands.rank → k'.layer < k.layer
+        by_step (CounterStep.shift shifts down) =
+            let number_low : stands.low < r → ⊥ = λ less. given.number.none_before stands.low less (subst (λ (d : Bool). environment_forces g ((if d then e.x k.layer k.goal k.index else e.z) stands.low) (Some s) ≡ true) (sym shifting) down) in
+            grind (arith, number_low, at_most, stands.layer)
+        by_step (CounterStep.met denying holds aims q on) = absurd (false≢true (sym shifting ∙ denying))
+        by_step (CounterStep.missed denying aims q is on) = absurd (false≢true (sym shifting ∙ denying))
+
+    followed : IsFollowed g e s s' k k'
+    followed =
         record {
-          layer = same.0;
-          goal = same.1;
-          before = same.2;
-          lower = λ fails rank rank' least least'.
+          shifts = layer_falls;
+          layer = λ denying. (noted.stays denying).0;
+          goal = λ denying. (noted.stays denying).1;
+          before = λ denying. (noted.stays denying).2;
+          lower = λ denying fails rank rank' least least'.
               let is : rank ≡ stands.rank = least-one (λ r. IsTrue (e.x k.layer k.goal k.before r s)) rank stands.rank least stands.ranked in
               omega (arith, is, lowers denying fails rank' least');
         }
@@ -110,9 +100,6 @@ module _ (g : GameData) (e : EnvLayerSets) (of : AreEnvLayers g e) (n : ℕ) whe
   module _ (h : Run) (notes : List NoteData) (b : Before) (k : CounterMemory) (r : ℕ) (x y : Assignment) (k' : CounterMemory) (play : AnsweredPlay g e h notes b k) (answered : Answered g e n h notes b k) (given : IsGiven g e b k r x) (output : is_output g y ≡ true) (legal : legal_output g b x y ≡ true) (noted : IsNoted g e k (reached g b x y) k') where
     abbrev p : Position
     p = record { input = x; output = y }
-
-    abbrev used : ℕ
-    used = count_by is_shift notes
 
     memory : ℕ → CounterMemory
     memory = with_last answered.trail.memory (length h) k'
@@ -131,8 +118,8 @@ module _ (g : GameData) (e : EnvLayerSets) (of : AreEnvLayers g e) (n : ℕ) whe
     led : IsTrue (targets e k r (reached g b x y))
     led = given_leads g e of n b k r x given y output legal
 
-    new_stands : CounterStands g e n used (reached g b x y) k'
-    new_stands = stands_next g e of n b k r x given (reached g b x y) led used answered.ready k' noted
+    new_stands : CounterStands g e n (reached g b x y) k'
+    new_stands = stands_next g e of n b k r x given (reached g b x y) led answered.ready k' noted
 
     earlier_or_last : (t : ℕ) → t < suc (length h) → (t < length h) ⊎ (t ≡ length h)
     earlier_or_last t below = grind arith
@@ -140,14 +127,14 @@ module _ (g : GameData) (e : EnvLayerSets) (of : AreEnvLayers g e) (n : ℕ) whe
     place : (t : ℕ) → t < length (after h x y) → (t < length h) ⊎ (t ≡ length h)
     place t below = earlier_or_last t (subst (λ (n : ℕ). t < n) (length-after h p) below)
 
-    stands_at : (t : ℕ) → (t < length h) ⊎ (t ≡ length h) → CounterStands g e n 0 (state_at g (after h x y) t) (memory t)
+    stands_at : (t : ℕ) → (t < length h) ⊎ (t ≡ length h) → CounterStands g e n (state_at g (after h x y) t) (memory t)
     stands_at t (inl less) =
-        subst (λ (s : State). CounterStands g e n 0 s (memory t)) (sym (state_at-earlier g h p t less))
-        (subst (CounterStands g e n 0 (state_at g h t)) (sym (memory-before t less)) (answered.trail.stands t less))
+        subst (λ (s : State). CounterStands g e n s (memory t)) (sym (state_at-earlier g h p t less))
+        (subst (CounterStands g e n (state_at g h t)) (sym (memory-before t less)) (answered.trail.stands t less))
     stands_at t (inr same) =
-        subst (λ (t : ℕ). CounterStands g e n 0 (state_at g (after h x y) t) (memory t)) (sym same)
-        (subst (λ (s : State). CounterStands g e n 0 s (memory (length h))) (sym new_state)
-        (subst (CounterStands g e n 0 (reached g b x y)) (sym memory-here) (unused used (reached g b x y) k' new_stands)))
+        subst (λ (t : ℕ). CounterStands g e n (state_at g (after h x y) t) (memory t)) (sym same)
+        (subst (λ (s : State). CounterStands g e n s (memory (length h))) (sym new_state)
+        (subst (CounterStands g e n (reached g b x y)) (sym memory-here) new_stands))
 
     noted_at : (t : ℕ) → (t < length h) ⊎ (t ≡ length h) → slice_get (notes ++ note_of g k' ∷ []) t ≡ Some (note_of g (memory t))
     noted_at t (inl less) =
@@ -160,30 +147,29 @@ module _ (g : GameData) (e : EnvLayerSets) (of : AreEnvLayers g e) (n : ℕ) whe
         ∙ ap (λ (k : CounterMemory). Some (note_of g k)) (sym memory-here ∙ ap memory (sym same)))
 
     -- the move from the run's last position
-    last_move : (t : ℕ) → suc t ≡ length h → (answered.trail.memory t).denying ≡ true → IsFollowed g e (state_at g h t) (reached g b x y) (answered.trail.memory t) k'
-    last_move t same denying =
+    last_move : (t : ℕ) → suc t ≡ length h → IsFollowed g e (state_at g h t) (reached g b x y) (answered.trail.memory t) k'
+    last_move t same =
         let is : b ≡ Some (state_at g h t) = answered.state ∙ ap (before_at g h) (sym same) in
         let last = answered.trail.last t same in
         subst (λ (k : CounterMemory). IsFollowed g e (state_at g h t) (reached g b x y) k k') (sym last)
-        (followed (state_at g h t) k (subst (CounterStands g e n 0 (state_at g h t)) last (answered.trail.stands t (omega (arith, same)))) r x (subst (λ (b : Before). IsGiven g e b k r x) is given) (reached g b x y) led k' noted
-        (subst (λ (k : CounterMemory). k.denying ≡ true) last denying))
+        (followed (state_at g h t) k (subst (CounterStands g e n (state_at g h t)) last (answered.trail.stands t (omega (arith, same)))) r x (subst (λ (b : Before). IsGiven g e b k r x) is given) (reached g b x y) led k' noted)
 
-    follows_at : (t : ℕ) → (suc t < length h) ⊎ (suc t ≡ length h) → (memory t).denying ≡ true → IsFollowed g e (state_at g (after h x y) t) (state_at g (after h x y) (suc t)) (memory t) (memory (suc t))
-    follows_at t (inl less) denying =
+    follows_at : (t : ℕ) → (suc t < length h) ⊎ (suc t ≡ length h) → IsFollowed g e (state_at g (after h x y) t) (state_at g (after h x y) (suc t)) (memory t) (memory (suc t))
+    follows_at t (inl less) =
         let less' : t < length h = omega (arith, less) in
         subst (λ (s : State). IsFollowed g e s (state_at g (after h x y) (suc t)) (memory t) (memory (suc t))) (sym (state_at-earlier g h p t less'))
         (subst (λ (s : State). IsFollowed g e (state_at g h t) s (memory t) (memory (suc t))) (sym (state_at-earlier g h p (suc t) less))
         (subst (λ (k : CounterMemory). IsFollowed g e (state_at g h t) (state_at g h (suc t)) k (memory (suc t))) (sym (memory-before t less'))
         (subst (λ (k : CounterMemory). IsFollowed g e (state_at g h t) (state_at g h (suc t)) (answered.trail.memory t) k) (sym (memory-before (suc t) less))
-        (answered.trail.follows t less (subst (λ (k : CounterMemory). k.denying ≡ true) (memory-before t less') denying)))))
-    follows_at t (inr same) denying =
+        (answered.trail.follows t less))))
+    follows_at t (inr same) =
         let less' : t < length h = omega (arith, same) in
         subst (λ (s : State). IsFollowed g e s (state_at g (after h x y) (suc t)) (memory t) (memory (suc t))) (sym (state_at-earlier g h p t less'))
         (subst (λ (q : ℕ). IsFollowed g e (state_at g h t) (state_at g (after h x y) q) (memory t) (memory q)) (sym same)
         (subst (λ (s : State). IsFollowed g e (state_at g h t) s (memory t) (memory (length h))) (sym new_state)
         (subst (λ (k : CounterMemory). IsFollowed g e (state_at g h t) (reached g b x y) k (memory (length h))) (sym (memory-before t less'))
         (subst (λ (k : CounterMemory). IsFollowed g e (state_at g h t) (reached g b x y) (answered.trail.memory t) k) (sym memory-here)
-        (last_move t same (subst (λ (k : CounterMemory). k.denying ≡ true) (memory-before t less') denying))))))
+        (last_move t same)))))
 
     played_at : (t : ℕ) → (t < length h) ⊎ (t ≡ length h) → AnsweredPlay g e (take (suc t) (after h x y)) (take (suc t) (notes ++ note_of g k' ∷ [])) (Some (state_at g (after h x y) t)) (memory t)
     played_at t (inl less) =
@@ -203,7 +189,7 @@ module _ (g : GameData) (e : EnvLayerSets) (of : AreEnvLayers g e) (n : ℕ) whe
     longer =
         record {
           state = ap (λ (b : Before). Some (reached g b x y)) answered.state ∙ sym (last_state-after g h x y);
-          ready = subst (λ (m : ℕ). CounterReady g e n m (Some (reached g b x y)) k') (sym (count_by-note g notes k')) (ready_after g e of n used (reached g b x y) k' new_stands);
+          ready = ready_after g e of n (reached g b x y) k' new_stands;
           trail = record {
             memory = memory;
             stands = λ t below. stands_at t (place t below);

@@ -2,7 +2,8 @@
 use Rattle.std.proofs.Common.{◌≡◌, ℕ, zero, suc, true, ◌&&◌, ◌||◌, inl, inr, ap, IsTrue}
 use Rattle.std.proofs.lemmas.Bool.{and_parts, and_from, or_cases, or_left, or_right, false≢true}
 use Rattle.spec_model.specs.Games.{GameData, State}
-use Rattle.spec_model.specs.Sets.{StateSet, all_states, rest, pre_env, IsPartOf, IsLeast}
+use Rattle.spec_model.specs.Sets.{StateSet, all_states, rest, pre_env, IsPartOf}
+use Rattle.spec_model.specs.Counts.{IsLeast}
 use Rattle.spec_model.proofs.SetLaws.{pre_env_grows}
 use Rattle.spec_model.proofs.Duality.{parts_agree}
 use Rattle.gr1_law.specs.Layers.{goal_set, assumption_set}

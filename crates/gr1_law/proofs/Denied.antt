@@ -6,7 +6,8 @@ use borrow.Author.Tests.{eq-eqb}
 use Rattle.spec_model.specs.declared.game.Label.{Label}
 use Rattle.spec_model.specs.Rules.{Run, RecurringGoal}
 use Rattle.spec_model.specs.Unrealizable.{same_label, goal_of}
-use Rattle.spec_model.specs.Games.{GameData, GoalData, State, state_at, game_reading, goals_in}
+use Rattle.spec_model.specs.Games.{GameData, GoalData, State}
+use Rattle.spec_model.specs.GameRuns.{state_at, game_reading, goals_in}
 use Rattle.spec_model.specs.Meaning.{holds_at}
 use Rattle.spec_model.specs.Steps.{is_state}
 use Rattle.spec_model.specs.Sets.{StateSet, all_states, holding}

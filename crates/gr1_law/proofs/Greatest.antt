@@ -2,7 +2,8 @@
 use Rattle.std.proofs.Common.{◌≡◌, ℕ, zero, suc, ◌<◌, ◌≤◌, ◌⊎◌, inl, inr, refl, sym, ◌∙◌, ap, subst, arith, IsTrue}
 use Rattle.spec_model.specs.Games.{GameData}
 use Rattle.spec_model.specs.Steps.{states_of}
-use Rattle.spec_model.specs.Sets.{StateSet, all_states, IsPartOf, IsGreatest, count_in}
+use Rattle.spec_model.specs.Sets.{StateSet, all_states, IsPartOf, IsGreatest}
+use Rattle.spec_model.specs.Counts.{count_in}
 use Rattle.spec_model.proofs.SetLaws.{same_set}
 use Rattle.spec_model.proofs.Fixpoints.{IsFalling, falling-first, falling-next, falling-last}
 

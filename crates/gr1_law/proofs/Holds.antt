@@ -1,7 +1,8 @@
 -- The hold of a goal above a layer: there is one, and it grows with the layer.
 use Rattle.std.proofs.Common.{◌≡◌, ◌↔◌, ℕ, ◌<◌, length, sym, subst, IsTrue}
 use Rattle.spec_model.specs.Games.{GameData, State}
-use Rattle.spec_model.specs.Sets.{StateSet, all_states, IsPartOf, IsGreatest, IsLeast}
+use Rattle.spec_model.specs.Sets.{StateSet, all_states, IsPartOf, IsGreatest}
+use Rattle.spec_model.specs.Counts.{IsLeast}
 use Rattle.spec_model.proofs.Duality.{parts_agree}
 use Rattle.gr1_law.specs.Layers.{assumption_sets}
 use Rattle.gr1_law.specs.EnvLayers.{delay_value, delay, HasDelays, IsHold}

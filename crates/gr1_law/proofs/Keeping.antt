@@ -14,7 +14,7 @@ use Rattle.gr1_law.specs.Laws.{StandsIn, ChosenPlayKeeps, IsRemembered}
 use Rattle.gr1_law.proofs.Winning.{layer_in_z}
 use Rattle.gr1_law.proofs.Standing.{Ready}
 use Rattle.gr1_law.proofs.Choosing.{choice_exists, chosen_output, chosen_legal}
-use Rattle.gr1_law.proofs.Trails.{played}
+use Rattle.gr1_law.proofs.Trails.{played, ranked}
 use Rattle.gr1_law.proofs.Rounds as rounds
 
 module _ (g : GameData) (made : WellMade g) (z : StateSet) (l : LayerSets) (ranks : List ℕ) (w : IsWinning g z l) (greatest : AreGreatestRanks g l ranks) (start : system_forces g z None ≡ true) where
@@ -29,20 +29,21 @@ module _ (g : GameData) (made : WellMade g) (z : StateSet) (l : LayerSets) (rank
         legal = end.legal;
         state = end.state;
         stands = stands b m end.ready;
-        kept = rounds.kept g z l w ranks greatest h m end.trail made;
+        kept = rounds.kept g ranks h end.trail.memory (ranked g z l w ranks greatest h m end.trail) made;
         goes_on = λ x input legal. choice_exists g z l w ranks greatest b m x end.ready input legal;
       }
 
   pub remembered : (h : Run) (b : Before) (m : Memory) → ChosenPlay g l h b m → IsRemembered g l ranks h
   remembered h b m play =
       let end = played g z l w ranks greatest h b m start play in
+      let falls = ranked g z l w ranks greatest h m end.trail in
       record {
         memory = end.trail.memory;
         chosen = end.trail.chosen;
         falls = λ q in_goals. record {
-          at_least = λ t inner. rounds.potential_some g z l w ranks greatest q in_goals _ _ (end.trail.standing t inner);
-          at_most = λ t inner. rounds.potential_at_most g z l w ranks greatest q in_goals _ _ (end.trail.standing t inner);
-          lower = rounds.round_lowers g z l w ranks greatest q in_goals h m end.trail made;
+          at_least = rounds.potential_some g ranks h end.trail.memory falls q in_goals;
+          at_most = rounds.potential_at_most g ranks h end.trail.memory falls q in_goals;
+          lower = rounds.round_lowers g ranks h end.trail.memory falls q in_goals made;
         };
       }
 

@@ -8,7 +8,8 @@ use Rattle.spec_model.specs.Syntax.{Statement, Specification}
 use Rattle.spec_model.specs.Rules.{Run, Rules, RecurringGoal}
 use Rattle.spec_model.specs.Moves.{is_guarantee, recurrences, numbered_from, labelled}
 use Rattle.spec_model.specs.Unrealizable.{same_label}
-use Rattle.spec_model.specs.Games.{GameData, GoalData, goals_in}
+use Rattle.spec_model.specs.Games.{GameData, GoalData}
+use Rattle.spec_model.specs.GameRuns.{goals_in}
 use Rattle.spec_model.specs.Agreement.{Agrees}
 use Rattle.spec_model.specs.Laws.{NumbersRise}
 use Rattle.spec_model.proofs.AllStates.{Every}

@@ -28,8 +28,9 @@ pub mod LostGames
 pub mod CounterSteps
 pub mod Lengthening
 pub mod CounterTrails
-pub mod CounterRounds
 pub mod Denied
+pub mod CounterRounds
+pub mod Following
 pub mod CounterBeats
 pub mod Labels
 pub mod OneSide

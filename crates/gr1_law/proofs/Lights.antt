@@ -1,17 +1,21 @@
 -- The layers of three small games, state by state.
-use Rattle.std.proofs.Common.{◌⊎◌, inl, inr, ◌≡◌, ℕ, zero, suc, ◌<◌, Bool, true, false, not, ◌||◌, List, [], ◌∷◌, length, get_or, None, Some, refl, sym, ◌∙◌, subst, arith, IsTrue}
+use Rattle.std.proofs.Common.{◌⊎◌, inl, inr, ◌≡◌, ℕ, zero, suc, ◌<◌, Bool, true, false, not, ◌||◌, List, [], ◌∷◌, length, get_or, None, Some, refl, sym, ◌∙◌, subst, arith, IsTrue, All, codes}
 use Rattle.std.proofs.lemmas.Bool.{and_parts, and_from, or_cases, false≢true}
+use Rattle.std.proofs.lemmas.List.Elements.{All-nil, All-cons}
 use Rattle.spec_model.specs.declared.value.Value.TheVariants as value
 use Rattle.spec_model.specs.Rules.{after}
-use Rattle.spec_model.specs.Syntax.{Variable}
+use Rattle.spec_model.specs.Syntax.{Variable, VariableData}
+use Rattle.spec_model.specs.Names.{IsName}
 use Rattle.spec_model.specs.Meaning.{holds_at}
 use Rattle.spec_model.specs.Realizable.{IsRealizable}
-use Rattle.spec_model.specs.Games.{GameData, State, game_reading}
+use Rattle.spec_model.specs.Games.{GameData, State}
+use Rattle.spec_model.specs.GameRuns.{game_reading}
 use Rattle.spec_model.specs.Sets.{StateSet, no_states, all_states, either, rest, IsPartOf, pre_sys, system_forces}
 use Rattle.spec_model.proofs.Duality.{parts_agree}
+use Rattle.spec_model.proofs.SpelledNames.{a_is_name, g_is_name}
 use Rattle.gr1_law.specs.Layers.{LayerSets, AreLayers, IsWinning, AreGreatestRanks, HasRanks, IsLeastNumber, goal_set, assumption_set, assumption_sets, round_count}
 use Rattle.spec_model.specs.GameRules.{rules_of_game}
-use Rattle.gr1_law.specs.Worked.{light, permitted, dead_end, HasRounds}
+use Rattle.gr1_law.specs.Worked.{a_and_g, light, permitted, dead_end, HasRounds}
 use Rattle.gr1_law.proofs.Parts.{InPart, in_part, to_part}
 use Rattle.gr1_law.proofs.Layering.{layers_of, layers_of-layers, y_in_next}
 use Rattle.gr1_law.proofs.Winning.{in_a_part, part_in_layer, part_solves, layer_inside}
@@ -19,12 +23,19 @@ use Rattle.gr1_law.proofs.Solutions.{least-one, some_winning}
 use Rattle.gr1_law.proofs.Settling.{some_ranks, one_rank}
 use Rattle.gr1_law.proofs.Keeping.{realizable}
 use Rattle.spec_model.specs.WellMade.{WellMade}
-use Rattle.spec_model.specs.Values.{Assignment, truth_of}
+use Rattle.spec_model.specs.declared.value.Owner.TheVariants.{Env, Sys}
+use Rattle.spec_model.specs.Values.{Assignment, TruthValues, truth_of}
 use Rattle.spec_model.proofs.SetLaws.{system_forces_grows}
 
 -- the states, by whether a and g hold
 abbrev pub state : Bool → Bool → State
 state a g = record { hidden = []; position = record { input = value.Bool a ∷ []; output = value.Bool g ∷ [] } }
+
+-- both variables have names
+pub spelled_both : All (λ (v : VariableData). IsName v.name) a_and_g
+spelled_both =
+    All-cons (λ (v : VariableData). IsName v.name) (record { name = codes "a"; owner = Env; domain = TruthValues }) (record { name = codes "g"; owner = Sys; domain = TruthValues } ∷ []) a_is_name
+    (All-cons (λ (v : VariableData). IsName v.name) (record { name = codes "g"; owner = Sys; domain = TruthValues }) [] g_is_name (All-nil (λ (v : VariableData). IsName v.name)))
 
 -- ---- of any game
 
@@ -117,6 +128,7 @@ light_made =
     record {
       few_variables = omega arith;
       names = refl;
+      spelled = spelled_both;
       domains = refl;
       hidden = refl;
       initial_asm = refl;
@@ -165,6 +177,7 @@ permitted_made =
     record {
       few_variables = omega arith;
       names = refl;
+      spelled = spelled_both;
       domains = refl;
       hidden = refl;
       initial_asm = refl;
@@ -205,6 +218,7 @@ dead_end_made =
     record {
       few_variables = omega arith;
       names = refl;
+      spelled = spelled_both;
       domains = refl;
       hidden = refl;
       initial_asm = refl;

@@ -3,7 +3,8 @@ use Rattle.std.proofs.Common.{◌≡◌, ℕ, zero, suc, ◌+◌, ◌<◌, inl, 
 use Rattle.std.proofs.lemmas.Bool.{and_parts, or_cases, or_left, or_right, false≢true}
 use Rattle.spec_model.specs.Games.{GameData, State}
 use Rattle.spec_model.specs.Agreement.{HasNoGoals}
-use Rattle.spec_model.specs.Sets.{StateSet, rest, pre_env, IsPartOf, IsLeast}
+use Rattle.spec_model.specs.Sets.{StateSet, rest, pre_env, IsPartOf}
+use Rattle.spec_model.specs.Counts.{IsLeast}
 use Rattle.spec_model.proofs.SetLaws.{pre_env_grows}
 use Rattle.spec_model.proofs.Duality.{parts_agree}
 use Rattle.gr1_law.specs.SafeGames.{lost_within, IsShiftCount, IsDenialCount}

@@ -89,3 +89,11 @@ module _ (ranks : List ℕ) (other aim : ℕ) (other_in : other < length ranks) 
       at : (b : Bool) → (suc aim == length ranks) ≡ b → next ≡ (if b then 0 else suc aim) → ranks_ahead ranks other aim ≡ slice_index ranks next + ranks_ahead ranks other next
       at true e is = subst (λ (n : ℕ). ranks_ahead ranks other aim ≡ slice_index ranks n + ranks_ahead ranks other n) (sym is) (from_first (eqb-true (suc aim) (length ranks) e))
       at false e is = subst (λ (n : ℕ). ranks_ahead ranks other aim ≡ slice_index ranks n + ranks_ahead ranks other n) (sym is) (on (eqb-false (suc aim) (length ranks) e))
+
+-- Where something else than the other is aimed at, and the next is aimed at from there on with a rank that is at most its greatest
+-- one, the rank and the ranks ahead of it are fewer together.
+pub turn_lowers : (ranks : List ℕ) (other aim aim' rank rank' : ℕ) → other < length ranks → aim < length ranks → rank' ≤ slice_index ranks aim' → (aim ≡ other → ⊥) → 1 ≤ rank →
+    aim' ≡ (if suc aim == length ranks then 0 else suc aim) → rank' + ranks_ahead ranks other aim' < rank + ranks_ahead ranks other aim
+turn_lowers ranks other aim aim' rank rank' other_in aim_in most differ some next =
+    let ahead = ahead_next ranks other aim other_in aim_in differ aim' next in
+    omega (arith, ahead, most, some)

@@ -10,7 +10,8 @@ use Rattle.spec_model.specs.Syntax.{Formula, Constant, Variable, NextOf, Negatio
 use Rattle.spec_model.specs.Meaning.{Reading, value_at, truths_at, holds_at}
 use Rattle.spec_model.specs.Moves.{has_next, some_has_next}
 use Rattle.spec_model.specs.Rules.{Run, RecurringGoal}
-use Rattle.spec_model.specs.Games.{GameData, GoalData, state_at, game_reading, step_reading, goals_in}
+use Rattle.spec_model.specs.Games.{GameData, GoalData, step_reading}
+use Rattle.spec_model.specs.GameRuns.{state_at, game_reading, goals_in}
 use Rattle.spec_model.specs.Steps.{is_state}
 use Rattle.spec_model.specs.Sets.{StateSet, no_states, holding}
 use Rattle.spec_model.specs.WellMade.{is_stepwise, are_stepwise, is_state_formula, is_step_formula, scope_of}

@@ -3,7 +3,8 @@ use Rattle.std.proofs.Common.{sym, ap, ◌∙◌, ◌≡◌, Bool, true, false, 
 use Rattle.std.proofs.lemmas.List.Sums.{sum_by-cons}
 use Rattle.spec_model.specs.Games.{GameData, State}
 use Rattle.spec_model.specs.Steps.{states_of}
-use Rattle.spec_model.specs.Sets.{StateSet, all_states, IsPartOf, count_in}
+use Rattle.spec_model.specs.Sets.{StateSet, all_states, IsPartOf}
+use Rattle.spec_model.specs.Counts.{count_in}
 use Rattle.gr1_law.specs.Layers.{LayerSets, AreLayers, AreGreatestRanks, IsLeastNumber, goal_sets, round_count}
 use Rattle.gr1_law.proofs.Chains as chains
 use Rattle.gr1_law.proofs.Chains.{state_count}

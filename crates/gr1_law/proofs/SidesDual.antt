@@ -3,7 +3,8 @@ use Rattle.std.proofs.Common.{◌≡◌, ℕ, zero, suc, ◌<◌, ◌≤◌, Boo
 use Rattle.std.proofs.lemmas.Bool.{and_parts, and_from, false≢true}
 use Rattle.spec_model.specs.Games.{GameData, State}
 use Rattle.spec_model.specs.Steps.{IsClosed, is_state}
-use Rattle.spec_model.specs.Sets.{StateSet, all_states, both, either, rest, pre_sys, pre_env, environment_forces, IsPartOf, IsGreatest, IsLeast}
+use Rattle.spec_model.specs.Sets.{StateSet, all_states, both, either, rest, pre_sys, pre_env, environment_forces, IsPartOf, IsGreatest}
+use Rattle.spec_model.specs.Counts.{IsLeast}
 use Rattle.spec_model.specs.WellMade.{WellMade}
 use Rattle.spec_model.proofs.Closed.{closed}
 use Rattle.spec_model.proofs.Duality.{parts_agree, rest-rest, rest-pre_sys, start_dual}

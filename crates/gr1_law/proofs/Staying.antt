@@ -1,7 +1,8 @@
 -- Where nothing recurs the system wins a specification by staying in the greatest set in which it can.
 use Rattle.std.proofs.Common.{◌≡◌, ℕ, inl, inr, List, [], ◌∷◌, None, map, sym, ap, ◌∙◌, subst, IsTrue}
 use Rattle.spec_model.specs.Syntax.{Specification}
-use Rattle.spec_model.specs.Games.{GameData, goals_in}
+use Rattle.spec_model.specs.Games.{GameData}
+use Rattle.spec_model.specs.GameRuns.{goals_in}
 use Rattle.spec_model.specs.Rules.{Rules}
 use Rattle.spec_model.specs.Agreement.{Agrees, HasNoGoals, NothingRecurs}
 use Rattle.spec_model.specs.Sets.{StateSet, pre_sys, system_forces}

@@ -10,7 +10,7 @@ use Rattle.gr1_law.specs.Layers.{IsLeastNumber, goal_set, assumption_set}
 use Rattle.gr1_law.specs.EnvLayers.{delay, EnvLayerSets, AreEnvLayers, IsLayerCount, AreDelayCounts, denial_count}
 use Rattle.gr1_law.specs.CounterLaws.{LabelsDiffer}
 use Rattle.gr1_law.specs.Worked.{stuck, HasDenials}
-use Rattle.gr1_law.proofs.Lights.{state}
+use Rattle.gr1_law.proofs.Lights.{state, spelled_both}
 use Rattle.gr1_law.proofs.Delays.{to_delay, delay-inside}
 use Rattle.gr1_law.proofs.EnvLayering.{env_layers_of, env_layers_of-layers, env_layer_inside, hold_in_layer}
 use Rattle.gr1_law.proofs.EnvCounts.{told_least, some_delay_counts}
@@ -72,6 +72,7 @@ stuck_made =
     record {
       few_variables = omega arith;
       names = refl;
+      spelled = spelled_both;
       domains = refl;
       hidden = refl;
       initial_asm = refl;

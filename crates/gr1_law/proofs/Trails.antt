@@ -1,19 +1,22 @@
 -- What is remembered at each position of a chosen play.
-use Rattle.std.proofs.Common.{[], ◌∷◌, take, ◌≡◌, ℕ, suc, ◌<◌, ◌⊎◌, inl, inr, true, length, List, Some, None, refl, sym, ◌∙◌, ap, subst, arith}
+use Rattle.std.proofs.Common.{[], ◌∷◌, take, ◌≡◌, ℕ, suc, ◌<◌, ◌≤◌, ◌⊎◌, inl, inr, true, length, slice_index, List, Some, None, refl, sym, ◌∙◌, ap, subst, arith}
 use Rattle.std.proofs.lemmas.Bool.{and_from}
 use Rattle.std.proofs.lemmas.List.{take-append-le, take_all}
 use Rattle.spec_model.specs.Values.{Assignment}
 use Rattle.spec_model.specs.Plays.{IsPlay}
 use Rattle.spec_model.specs.Rules.{Run, Position, after}
-use Rattle.spec_model.specs.Games.{GameData, State, state_at}
+use Rattle.spec_model.specs.Games.{GameData, State}
+use Rattle.spec_model.specs.GameRuns.{state_at}
 use Rattle.spec_model.specs.Steps.{Before, is_input, legal_input, legal_output, reached}
 use Rattle.spec_model.specs.Sets.{StateSet, system_forces}
 use Rattle.gr1_law.specs.Layers.{LayerSets, IsWinning, AreGreatestRanks}
 use Rattle.gr1_law.specs.Choice.{Memory, Standing, first_memory, IsChosen, ChosenPlay}
 use Rattle.spec_model.specs.GameRules.{last_state, before_at, rules_of_game}
 use Rattle.gr1_law.proofs.Lengthening.{with_last, with_last-here, with_last-before}
-use Rattle.gr1_law.proofs.Standing.{Ready}
-use Rattle.gr1_law.proofs.Choosing.{Lowers, lowers, standing_next, chosen_output, chosen_legal}
+use Rattle.gr1_law.proofs.Standing.{Ready, rank_some}
+use Rattle.gr1_law.specs.Trails.{Lowers, RankedTrail}
+use Rattle.gr1_law.proofs.Winning.{in_last, layer_inside}
+use Rattle.gr1_law.proofs.Choosing.{lowers, standing_next, chosen_output, chosen_legal}
 use Rattle.spec_model.proofs.Running.{length-after, state_at-earlier, state_at-last, last_state-after}
 
 -- what is remembered at each position, the last being the one at the end
@@ -134,3 +137,21 @@ module _ (g : GameData) (z : StateSet) (l : LayerSets) (w : IsWinning g z l) (ra
         legal = IsPlay.nothing;
       }
   played _ _ _ start (ChosenPlay.more h b m x y m' play input legal c) = longer h b m x y m' play (played h b m start play) input legal c
+
+  -- what is remembered at the positions of a chosen play makes its ranks fall
+  pub ranked : (h : Run) (m : Memory) (trail : Trail g l h m) → RankedTrail g ranks h trail.memory
+  ranked h m trail =
+      record {
+        counted = greatest.counted;
+        states = λ t inner. let standing = trail.standing t inner in layer_inside g z l w.layers (trail.memory t).goal (trail.memory t).rank (state_at g h t) standing.rank.here;
+        goal_in = λ t inner. let standing = trail.standing t inner in standing.goal_in;
+        index_in = λ t inner. let standing = trail.standing t inner in standing.index_in;
+        rank_some = λ t inner. let standing = trail.standing t inner in let some = rank_some g z l w (trail.memory t).goal (trail.memory t).rank (state_at g h t) standing.rank.here in omega (arith, some.1);
+        rank_most = λ t inner. rank_at_most (state_at g h t) (trail.memory t) (trail.standing t inner);
+        moves = trail.moves;
+      }
+    where
+      rank_at_most : (s : State) (m : Memory) → Standing g l s m → m.rank ≤ slice_index ranks m.goal
+      rank_at_most s m standing =
+          let no_less : slice_index ranks m.goal < m.rank → ⊥ = λ less. standing.rank.none_before (slice_index ranks m.goal) less (in_last g z l w ranks greatest m.goal m.rank standing.goal_in s standing.rank.here) in
+          grind (arith, no_less)

@@ -4,7 +4,8 @@ use Rattle.spec_model.specs.Values.{Assignment}
 use Rattle.spec_model.specs.Plays.{IsPlay}
 use Rattle.spec_model.specs.Rules.{Run}
 use Rattle.spec_model.specs.Unrealizable.{NoteData, Beaten, IsUnrealizable, same_label}
-use Rattle.spec_model.specs.Games.{GameData, State, state_at}
+use Rattle.spec_model.specs.Games.{GameData, State}
+use Rattle.spec_model.specs.GameRuns.{state_at}
 use Rattle.spec_model.specs.GameRules.{last_state, rules_of_game}
 use Rattle.spec_model.specs.Steps.{Before, is_input, is_output, legal_input, legal_output, reached}
 use Rattle.spec_model.specs.Sets.{environment_forces}

@@ -2,7 +2,8 @@
 use Rattle.std.specs.Prelude.{◌≡◌, ◌↔◌, ℕ, suc, ◌+◌, ◌*◌, ◌<◌, ◌≤◌, not, List, None, length, IsTrue}
 use Rattle.spec_model.specs.Games.{GameData, State}
 use Rattle.spec_model.specs.Steps.{states_of}
-use Rattle.spec_model.specs.Sets.{StateSet, rest, pre_env, system_forces, environment_forces, IsPartOf, IsLeast}
+use Rattle.spec_model.specs.Sets.{StateSet, rest, pre_env, system_forces, environment_forces, IsPartOf}
+use Rattle.spec_model.specs.Counts.{IsLeast}
 use Rattle.gr1_law.specs.SafeGames.{IsShiftCount, IsDenialCount}
 use Rattle.gr1_law.specs.Layers.{LayerSets, IsWinning, goal_sets, assumption_sets}
 use Rattle.gr1_law.specs.EnvLayers.{delay_value, IsHold, EnvLayerSets, AreEnvLayers, IsLayerCount, AreDelayCounts, denial_count}

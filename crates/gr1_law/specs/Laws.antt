@@ -4,12 +4,14 @@ use Rattle.spec_model.specs.Values.{Assignment}
 use Rattle.spec_model.specs.Plays.{IsPlay}
 use Rattle.spec_model.specs.Rules.{Run, EachWithin}
 use Rattle.spec_model.specs.Realizable.{Kept, IsRealizable}
-use Rattle.spec_model.specs.Games.{GameData, state_at, goals_in}
+use Rattle.spec_model.specs.Games.{GameData}
+use Rattle.spec_model.specs.GameRuns.{state_at, goals_in}
 use Rattle.spec_model.specs.Steps.{Before, is_input, legal_input, states_of}
 use Rattle.spec_model.specs.Sets.{StateSet, IsPartOf, system_forces}
 use Rattle.gr1_law.specs.Layers.{LayerSets, AreLayers, IsWinning, AreGreatestRanks, goal_sets, goal_set, round_count}
 use Rattle.gr1_law.specs.Choice.{Memory, Standing, IsChosen, ChosenPlay}
 use Rattle.gr1_law.specs.Potential.{potential}
+use Rattle.gr1_law.specs.Trails.{RankedTrail}
 use Rattle.spec_model.specs.GameRules.{last_state, rules_of_game}
 
 -- the state is in the set, and what is remembered tells of it; before the first move there is none
@@ -56,6 +58,13 @@ abbrev pub RoundsLower : GameData → Type 0
 RoundsLower g =
     (z : StateSet) (l : LayerSets) (ranks : List ℕ) → IsWinning g z l → AreGreatestRanks g l ranks → IsTrue (system_forces g z None) →
     (h : Run) (b : Before) (m : Memory) → ChosenPlay g l h b m → IsRemembered g l ranks h
+
+-- What is remembered at the positions of a run of chosen outputs, at its last one with it: the ranks fall, and none is above its
+-- goal's greatest one.
+abbrev pub ChosenPlaysAreRanked : GameData → Type 0
+ChosenPlaysAreRanked g =
+    (z : StateSet) (l : LayerSets) (ranks : List ℕ) → IsWinning g z l → AreGreatestRanks g l ranks → IsTrue (system_forces g z None) →
+    (h : Run) (b : Before) (m : Memory) → ChosenPlay g l h b m → (memory : ℕ → Memory) × RankedTrail g ranks h memory × ((t : ℕ) → suc t ≡ length h → memory t ≡ m)
 
 -- ---- the sets are told by their equations
 

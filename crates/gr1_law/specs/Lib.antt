@@ -8,5 +8,6 @@ pub mod Specifications
 pub mod EnvLayers
 pub mod EnvLaws
 pub mod Counter
+pub mod Trails
 pub mod CounterLaws
 pub mod CoreLaws

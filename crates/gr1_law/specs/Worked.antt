@@ -2,7 +2,7 @@
 use Rattle.std.specs.Prelude.{◌≡◌, ℕ, List, [], ◌∷◌, codes}
 use Rattle.spec_model.specs.declared.value.Owner.TheVariants.{Env, Sys}
 use Rattle.spec_model.specs.Values.{TruthValues}
-use Rattle.spec_model.specs.Syntax.{Formula, Variable, NextOf, Negation, Conjunction, Implication, formulas}
+use Rattle.spec_model.specs.Syntax.{Formula, Variable, NextOf, Negation, Conjunction, Implication, formulas, VariableData}
 use Rattle.spec_model.specs.Realizable.{IsRealizable}
 use Rattle.spec_model.specs.Unrealizable.{IsUnrealizable}
 use Rattle.spec_model.specs.Games.{GameData, GoalData}
@@ -11,14 +11,15 @@ use Rattle.gr1_law.specs.Layers.{LayerSets, IsWinning, AreGreatestRanks, round_c
 use Rattle.gr1_law.specs.EnvLayers.{EnvLayerSets, AreEnvLayers, IsLayerCount, AreDelayCounts, denial_count}
 use Rattle.spec_model.specs.GameRules.{rules_of_game}
 
+-- `env boolean a; sys boolean g;`
+abbrev pub a_and_g : List VariableData
+a_and_g = record { name = codes "a"; owner = Env; domain = TruthValues } ∷ record { name = codes "g"; owner = Sys; domain = TruthValues } ∷ []
+
 -- `env boolean a; sys boolean g; gar alwEv g;` with assumptions that recur, and lines that are judged at each position
 abbrev pub lighting : (assume : List GoalData) → (safe_asm safe_gar : List (ℕ × Formula)) → GameData
 lighting assume safe_asm safe_gar =
     record {
-      variables =
-          record { name = codes "a"; owner = Env; domain = TruthValues }
-          ∷ record { name = codes "g"; owner = Sys; domain = TruthValues }
-          ∷ [];
+      variables = a_and_g;
       hidden = [];
       initial_asm = [];
       initial_gar = [];

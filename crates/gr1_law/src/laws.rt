@@ -3,7 +3,7 @@
 ghost use Rattle.spec_model.specs.Games.{GameData};
 ghost use Rattle.spec_model.specs.WellMade.{WellMade};
 ghost use Rattle.spec_model.specs.Sets.{StateSet};
-ghost use Rattle.gr1_law.specs.Laws.{LayersAreTold, WinningIsTold, RanksAreFew, ChoiceIsOne, ChosenPlaysKeep, WinningIsRealizable, RoundsLower};
+ghost use Rattle.gr1_law.specs.Laws.{LayersAreTold, WinningIsTold, RanksAreFew, ChoiceIsOne, ChosenPlaysKeep, WinningIsRealizable, RoundsLower, ChosenPlaysAreRanked};
 
 /// Each set of states has layers, and no others: the equations tell them.
 pub fn layers_are_told()
@@ -40,4 +40,9 @@ pub fn winning_is_realizable()
 /// the greatest ranks of the goals from there on up to the goal itself.
 pub fn rounds_lower()
     ensures { (g : GameData) → WellMade g → RoundsLower g }
+{}
+
+/// What is remembered along such a run has ranks that fall towards the goal aimed at, and that are at most the greatest.
+pub fn chosen_plays_are_ranked()
+    ensures { (g : GameData) → ChosenPlaysAreRanked g }
 {}

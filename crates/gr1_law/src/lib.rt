@@ -9,7 +9,8 @@
 //! rounds; `laws::winning_is_told`, there is one Z and one K; `specification_laws`, the same of a specification that the
 //! game agrees with, with K within its bound; `env_laws::denials_are_told`, there is one N and one M;
 //! `env_laws::sides_are_dual`, the environment's last layer has the states outside Z; `counter_laws::answered_plays_beat`, a
-//! run of given inputs is a play that beats the system within N shifts and M denials in a row; `specification_laws::one_wins`.
+//! run of given inputs is a play that beats the system within N shifts and M denials in a row; `specification_laws::one_wins`;
+//! `trail_laws`, what follows of a run from what is remembered at its positions, whoever made it.
 //! Path: regions → **layers** → strategy → verdict.
 #![tactic(auto)]
 
@@ -17,4 +18,5 @@ pub mod counter_laws;
 pub mod env_laws;
 pub mod laws;
 pub mod specification_laws;
+pub mod trail_laws;
 pub mod worked;

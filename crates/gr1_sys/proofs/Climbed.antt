@@ -3,7 +3,8 @@ use Rattle.std.proofs.Common.{◌≡◌, ℕ, zero, suc, ◌+◌, ◌-◌, ◌<�
 use Rattle.std.proofs.lemmas.List.{append-nil, append_assoc}
 use Rattle.spec_model.specs.Games.{GameData}
 use Rattle.spec_model.specs.Steps.{states_of}
-use Rattle.spec_model.specs.Sets.{StateSet, no_states, both, pre_sys, count_in}
+use Rattle.spec_model.specs.Sets.{StateSet, no_states, both, pre_sys}
+use Rattle.spec_model.specs.Counts.{count_in}
 use Rattle.regions.specs.Kept.{Kept, HasRegion, HoldsBesides, IsExact}
 use Rattle.gr1_law.specs.Layers.{goal_set, assumption_sets}
 use Rattle.gr1_sys.specs.declared.layers.SysLayer.{SysLayer}

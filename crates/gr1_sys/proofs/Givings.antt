@@ -12,7 +12,7 @@ use Rattle.regions.specs.Rules.{states_holding}
 use Rattle.regions.specs.Kept.{Kept, Region, MakesRegion, Spends, IsExact, IsSameGame}
 use Rattle.gr1_law.specs.Layers.{or_all_states, goal_sets, assumption_sets}
 use Rattle.gr1_sys.specs.declared.givens.Given.{Given}
-use Rattle.gr1_sys.specs.declared.givens.Wanted.TheVariants.{Goals, Lapses}
+use Rattle.gr1_sys.specs.declared.givens.SysSets.TheVariants.{Goals, Lapses}
 use Rattle.gr1_sys.specs.Givens.{wanted, given_regions, given_sets}
 use Rattle.gr1_sys.specs.Held.{MakesRegions, HasTogether, SpendsAll, IsGiven}
 use Rattle.gr1_sys.proofs.Lists.{length_map, length_below, as_held, held_each, each_append, weight_as-more, weight_as_map-append, together_as, spent_as}

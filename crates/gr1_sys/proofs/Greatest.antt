@@ -2,7 +2,8 @@
 use Rattle.std.proofs.Common.{◌≡◌, ℕ, zero, suc, ◌+◌, ◌<◌, ◌≤◌, ◌-◌, Bool, true, false, List, [], ◌∷◌, length, if◌then◌else◌, sym, ◌∙◌, ap, subst, arith, ◌⊎◌, inl, inr, IsTrue}
 use Rattle.spec_model.specs.Games.{GameData, State}
 use Rattle.spec_model.specs.Steps.{states_of}
-use Rattle.spec_model.specs.Sets.{StateSet, no_states, all_states, IsPartOf, IsGreatest, count_in}
+use Rattle.spec_model.specs.Sets.{StateSet, no_states, all_states, IsPartOf, IsGreatest}
+use Rattle.spec_model.specs.Counts.{count_in}
 use Rattle.spec_model.proofs.SetLaws.{same_set}
 use Rattle.spec_model.proofs.Fixpoints.{IsFalling, IsRising, falling-first, falling-next, falling-last, rising-first, rising-next}
 use Rattle.gr1_sys.specs.Solution.{iterate, greatest_of}

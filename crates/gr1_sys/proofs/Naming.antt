@@ -7,12 +7,13 @@ use Rattle.spec_model.specs.Steps.{below, states_of}
 use Rattle.spec_model.specs.Sets.{StateSet, no_states, rest}
 use Rattle.regions.specs.Kept.{Kept, Item, Meaning, weight, HasRegion, IsExact}
 use Rattle.gr1_law.specs.Layers.{assumption_set, goal_sets, assumption_sets, union}
-use Rattle.gr1_sys.specs.declared.givens.Wanted.{Wanted}
-use Rattle.gr1_sys.specs.declared.givens.Wanted.TheVariants.{Goals, Lapses}
+use Rattle.gr1_sys.specs.declared.givens.SysSets.{SysSets}
+use Rattle.gr1_sys.specs.declared.givens.SysSets.TheVariants.{Goals, Lapses}
 use Rattle.gr1_sys.specs.Solution.{iterate, greatest_of, part_of, layer_of, meet}
 use Rattle.gr1_sys.specs.Held.{waiting, part_at, set_at, rank_sets, flatten, sets_of}
 use Rattle.gr1_sys.specs.Givens.{wanted, given_sets}
-use Rattle.gr1_sys.specs.Moment.{IsGoal, IsAssumption, IsNamed, iterated, nothing, goal, lapse, joined, part, common, part_iterate, base_of, AreOfPart, AreLapses}
+use Rattle.gr1_sys.specs.Moment.{IsGoal, IsAssumption, IsNamed, iterated, nothing, goal, lapse, joined, part, common, part_iterate, base_of}
+use Rattle.gr1_sys.specs.Told.{AreOfPart, AreLapses}
 use Rattle.gr1_sys.proofs.Lists.{set_kept, length_map, length_below}
 use Rattle.gr1_sys.proofs.Parted.{union_same, get_or-map_below}
 use Rattle.gr1_sys.proofs.Waits.{waiting_is}
@@ -53,7 +54,7 @@ module _ (g : GameData) (z : StateSet) where
   list_named [] each = tt
   list_named (s ∷ ss) each = (each 0 (omega arith), list_named ss (λ i before. each (suc i) (omega (arith, before))))
 
-  pub wanted_named : (kind : Wanted) → AreNamed g z (wanted g kind)
+  pub wanted_named : (kind : SysSets) → AreNamed g z (wanted g kind)
   wanted_named Goals = list_named (goal_sets g) (λ j before. goal j before refl)
   wanted_named Lapses = mapped_named (rest g) (assumption_sets g) (λ i before. lapse i before refl)
 
@@ -65,7 +66,7 @@ module _ (g : GameData) (z : StateSet) where
   one_named (s ∷ ss) named zero = named.0
   one_named (s ∷ ss) named (suc i) = one_named ss named.1 i
 
-  pub some_wanted : (kind : Wanted) (n : ℕ) → AreNamed g z (map (λ i. get_or (wanted g kind) i no_states) (below n))
+  pub some_wanted : (kind : SysSets) (n : ℕ) → AreNamed g z (map (λ i. get_or (wanted g kind) i no_states) (below n))
   some_wanted kind n = named_below g z (λ i. get_or (wanted g kind) i no_states) n (λ i before. one_named (wanted g kind) (wanted_named kind) i)
 
   -- ---- the parts of a layer

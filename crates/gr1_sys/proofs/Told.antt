@@ -9,7 +9,8 @@ use Rattle.regions.specs.declared.types.Halt.TheVariants.{Budget, Memory}
 use Rattle.regions.specs.Kept.{Kept, Meaning, States, weigh, weight, HasRegion, MakesRegion, IsExact, Each, Call, All, NoStates, Halts, JamAdds, meanings, jam_after}
 use Rattle.regions.proofs.Holding.{weigh_meanings, set_is}
 use Rattle.gr1_sys.specs.Held.{weight_as, MakesRegions}
-use Rattle.gr1_sys.specs.Moment.{IsValueOfZ, IsNamed, IsOfMoment, AsksOfIterates, TellsHalt, TellsOneMoment}
+use Rattle.gr1_sys.specs.Moment.{IsValueOfZ, IsNamed}
+use Rattle.gr1_sys.specs.Told.{IsOfMoment, AsksOfIterates, TellsHalt, TellsOneMoment}
 use Rattle.gr1_sys.proofs.Lists.{set_kept}
 
 -- what the exit of a `?` hands on

@@ -3,7 +3,8 @@ use Rattle.std.proofs.Common.{◌≡◌, ℕ, ◌<◌, ◌&&◌, ◌||◌, Bool,
 use Rattle.std.proofs.lemmas.Bool.{and_parts}
 use Rattle.spec_model.specs.Games.{GameData}
 use Rattle.spec_model.specs.Steps.{states_of}
-use Rattle.spec_model.specs.Sets.{StateSet, all_states, both, either, rest, pre_sys, IsPartOf, count_in}
+use Rattle.spec_model.specs.Sets.{StateSet, all_states, both, either, rest, pre_sys, IsPartOf}
+use Rattle.spec_model.specs.Counts.{count_in}
 use Rattle.spec_model.proofs.SetLaws.{pre_sys_grows, pre_sys-inside}
 use Rattle.spec_model.proofs.Fixpoints.{IsFalling, falling-first, falling-next, falling-last, falling-fewer, greatest-one}
 use Rattle.regions.specs.Kept.{Kept, Region, States, HasRegion, MakesRegion, Replaces, IsExact, IsSameGame}

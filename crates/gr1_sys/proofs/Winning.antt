@@ -3,11 +3,13 @@ use Rattle.std.proofs.Common.{◌≡◌, ℕ, zero, suc, ◌<◌, ◌-◌, List,
 use Rattle.std.proofs.lemmas.Bool.{and_parts, and_from, or_cases, false≢true}
 use Rattle.spec_model.specs.Games.{GameData, State}
 use Rattle.spec_model.specs.Steps.{states_of}
-use Rattle.spec_model.specs.Sets.{StateSet, all_states, both, either, rest, holding, pre_sys, IsPartOf, IsGreatest, count_in}
+use Rattle.spec_model.specs.Sets.{StateSet, all_states, both, either, rest, holding, pre_sys, IsPartOf, IsGreatest}
+use Rattle.spec_model.specs.Counts.{count_in}
 use Rattle.spec_model.proofs.SetLaws.{pre_sys_grows, pre_sys-inside}
 use Rattle.spec_model.proofs.Fixpoints.{greatest-one, rising-more}
 use Rattle.gr1_law.specs.Layers.{LayerSets, goal_sets, assumption_sets, or_all_states, goal_set, assumption_set, union, part_value, AreLayers, HasRanks, IsWinning}
-use Rattle.gr1_sys.specs.Solution.{part_of, layer_of, layers_for, meet, following}
+use Rattle.gr1_sys.specs.Solution.{part_of, layer_of, meet, following}
+use Rattle.gr1_sys.specs.Layered.{layers_for}
 use Rattle.gr1_sys.proofs.Greatest.{greatest_of-greatest, count_at_most, up-rises, up-in_last, up-last}
 
 -- ---- growth

@@ -10,7 +10,8 @@ use Rattle.spec_model.proofs.Duality.{parts_agree}
 use Rattle.regions.specs.Kept.{Kept, Item, Meaning, weight, MakesRegion, IsExact}
 use Rattle.gr1_law.specs.Layers.{LayerSets, goal_sets, assumption_sets, IsLeastNumber, IsWinning}
 use Rattle.gr1_sys.specs.declared.layers.SysLayer.{SysLayer}
-use Rattle.gr1_sys.specs.Solution.{part_of, layer_of, layers_for, following}
+use Rattle.gr1_sys.specs.Solution.{part_of, layer_of, following}
+use Rattle.gr1_sys.specs.Layered.{layers_for}
 use Rattle.gr1_sys.specs.Held.{weight_as, MakesRegions, SpendsAll, rank_sets, flatten, sets_of, ranks_of, layer_regions, goal_regions, all_regions, HaveParts, AllHaveParts}
 use Rattle.gr1_sys.specs.Solved.{HoldsLayers, HasWon, IsLost, IsForced, IsDropped, WonBySystem}
 use Rattle.gr1_sys.proofs.Lists.{length_map, length_below, weight_as-more, as_held, set_kept, made_and_spent_all, makes_still}

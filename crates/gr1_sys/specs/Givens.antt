@@ -4,11 +4,11 @@ use Rattle.spec_model.specs.Games.{GameData}
 use Rattle.spec_model.specs.Sets.{StateSet, no_states, rest}
 use Rattle.gr1_law.specs.Layers.{goal_sets, assumption_sets}
 use Rattle.gr1_sys.specs.declared.givens.Given.{Given}
-use Rattle.gr1_sys.specs.declared.givens.Wanted.{Wanted}
-use Rattle.gr1_sys.specs.declared.givens.Wanted.TheVariants.{Goals, Lapses}
+use Rattle.gr1_sys.specs.declared.givens.SysSets.{SysSets}
+use Rattle.gr1_sys.specs.declared.givens.SysSets.TheVariants.{Goals, Lapses}
 
 -- the states of each goal, or those at which each assumption is false
-abbrev pub wanted : GameData → Wanted → List StateSet
+abbrev pub wanted : GameData → SysSets → List StateSet
 wanted g Goals = goal_sets g
 wanted g Lapses = map (rest g) (assumption_sets g)
 

@@ -3,7 +3,7 @@ use Rattle.std.specs.Prelude.{ℕ, zero, suc, length}
 use Rattle.spec_model.specs.Games.{GameData}
 use Rattle.spec_model.specs.Steps.{states_of}
 use Rattle.spec_model.specs.Sets.{StateSet, no_states, all_states, both}
-use Rattle.gr1_law.specs.Layers.{LayerSets, goal_sets, assumption_sets, union, part_value}
+use Rattle.gr1_law.specs.Layers.{goal_sets, assumption_sets, union, part_value}
 
 -- the iterates of an equation from all states down
 abbrev pub iterate : GameData → (StateSet → StateSet) → ℕ → StateSet
@@ -23,13 +23,6 @@ module _ (g : GameData) (z : StateSet) where
   abbrev pub layer_of : ℕ → ℕ → StateSet
   layer_of j zero = no_states
   layer_of j (suc r) = union (part_of (layer_of j r) j) (length (assumption_sets g))
-
-  abbrev parts_of : ℕ → ℕ → ℕ → StateSet
-  parts_of j zero i = no_states
-  parts_of j (suc r) i = part_of (layer_of j r) j i
-
-  abbrev pub layers_for : LayerSets
-  layers_for = record { y = layer_of; x = parts_of }
 
 -- the states of all of the sets numbered below n
 abbrev pub meet : GameData → (ℕ → StateSet) → ℕ → StateSet

@@ -7,8 +7,8 @@ use Rattle.spec_model.specs.Sets.{StateSet, system_forces, IsGreatest}
 use Rattle.regions.specs.Kept.{Kept, Item, Region, Meaning, States, Replaces, Stays, weight}
 use Rattle.gr1_law.specs.Layers.{LayerSets, goal_sets, assumption_sets, IsLeastNumber, AreGreatestRanks, IsWinning}
 use Rattle.gr1_sys.specs.declared.layers.SysLayer.{SysLayer}
-use Rattle.gr1_sys.specs.declared.solving.Step.{Step}
-use Rattle.gr1_sys.specs.declared.solving.Step.TheVariants.{Settled, Next}
+use Rattle.gr1_sys.specs.declared.solving.Iteration.{Iteration}
+use Rattle.gr1_sys.specs.declared.solving.Iteration.TheVariants.{Settled, Next}
 use Rattle.gr1_sys.specs.Solution.{layer_of, following}
 use Rattle.gr1_sys.specs.Held.{weight_as, MakesRegions, SpendsAll, rank_sets, sets_of, ranks_of, all_regions, AllHaveParts}
 
@@ -21,7 +21,7 @@ module _ {G R M : Type 0} where
     pub greatest : (j : ℕ) → j < length goals → IsLeastNumber (λ r. layer_of g set j r ≡ layer_of g set j (suc r)) (slice_index (ranks_of goals) j)
 
   -- One value of Z was looked at: it equals the one that follows, and its layers were made; or the next is in its place.
-  abbrev pub Steps : Kept R M → Kept R M → R → StateSet → Step G R M → Type 0
+  abbrev pub Steps : Kept R M → Kept R M → R → StateSet → Iteration G R M → Type 0
   Steps old new z set (Settled y goals) =
       (y ≡ z) × ((set ≡ following old.game set) × (MakesRegions old new (all_regions goals.items) (sets_of (rank_sets old.game set) goals.items) × (AllHaveParts (length (assumption_sets old.game)) goals.items ×
       ((length goals.items ≡ length (goal_sets old.game)) × ((j : ℕ) → j < length goals.items → IsLeastNumber (λ r. layer_of old.game set j r ≡ layer_of old.game set j (suc r)) (slice_index (ranks_of goals.items) j))))))

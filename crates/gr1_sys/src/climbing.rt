@@ -5,7 +5,8 @@ ghost use Rattle.spec_model.specs.Sets.{StateSet, both, pre_sys};
 ghost use Rattle.regions.specs.Kept.{HasRegion, HoldsBesides, IsSameGame};
 ghost use Rattle.gr1_law.specs.Layers.{goal_set};
 ghost use Rattle.gr1_sys.specs.Solution.{layer_of};
-ghost use Rattle.gr1_sys.specs.Moment.{IsGoal, TellsHalt};
+ghost use Rattle.gr1_sys.specs.Moment.{IsGoal};
+ghost use Rattle.gr1_sys.specs.Told.{TellsHalt};
 ghost use Rattle.gr1_sys.specs.Held.{HasTogether, HoldsWithoutAll, IsGiven, goal_regions, last_region, Reaches, Grows, HasClimbed};
 
 use crate::givens::Given;

@@ -3,7 +3,7 @@
 ghost use Rattle.std.specs.Prelude.{◌≡◌, ◌<◌, ◌∷◌, [], None, IfOk, IfErr, OnErr, length, get_or};
 ghost use Rattle.spec_model.specs.Sets.{StateSet, no_states};
 ghost use Rattle.regions.specs.Kept.{HoldsBesides, MakesRegion, IsSameGame};
-ghost use Rattle.gr1_sys.specs.Moment.{TellsHalt};
+ghost use Rattle.gr1_sys.specs.Told.{TellsHalt};
 ghost use Rattle.gr1_sys.specs.Held.{HasTogether, MakesRegions, SpendsAll};
 ghost use Rattle.gr1_sys.specs.Givens.{wanted, given_regions, given_sets};
 
@@ -11,9 +11,9 @@ use crate::spending::spend_all;
 use regions::{Halt, Recur, Regions};
 use std::alloc::Global;
 
-/// Which sets of the game.
-#[derive(Clone, Copy, Debug, PartialEq, Eq)]
-pub enum Wanted {
+/// Which of the sets that a solver for the system makes first.
+#[derive(Clone, Copy, PartialEq, Eq)]
+pub enum SysSets {
     /// The states of each goal.
     Goals,
     /// The states at which each assumption is false.
@@ -28,12 +28,12 @@ pub struct Given<G: Regions> {
 }
 
 /// How many sets there are: where the game has no goal, or no assumption, the single one is true.
-fn count<G: Regions>(g: &G, kind: Wanted) -> usize
+fn count<G: Regions>(g: &G, kind: SysSets) -> usize
     ensures { result ≡ length (wanted (G.kept g.now).game kind) }
 {
     let n = match kind {
-        Wanted::Goals => g.game().goals.len(),
-        Wanted::Lapses => g.game().assume.len(),
+        SysSets::Goals => g.game().goals.len(),
+        SysSets::Lapses => g.game().assume.len(),
     };
     if n == 0 { 1 } else { n }
 }
@@ -41,8 +41,8 @@ fn count<G: Regions>(g: &G, kind: Wanted) -> usize
 /// The states of a goal, by its number.
 fn goal_region<G: Regions>(g: &mut G, j: usize) -> Result<G::R, Halt>
     requires free { (G.kept g.old).jam ≡ None }
-    requires there { j < length (wanted (G.kept g.old).game Wanted.Goals) }
-    ensures made { let k = G.kept g.old in IfOk result (λ r. MakesRegion k (G.kept g.new) r (get_or (wanted k.game Wanted.Goals) j no_states)) }
+    requires there { j < length (wanted (G.kept g.old).game SysSets.Goals) }
+    ensures made { let k = G.kept g.old in IfOk result (λ r. MakesRegion k (G.kept g.new) r (get_or (wanted k.game SysSets.Goals) j no_states)) }
     ensures halted { OnErr result (HoldsBesides (G.kept g.old) (G.kept g.new) []) }
     ensures told { (z : StateSet) → IfErr result (TellsHalt (G.kept g.old) (G.kept g.new) z) }
     ensures keeps { IsSameGame (G.kept g.old) (G.kept g.new) }
@@ -57,8 +57,8 @@ fn goal_region<G: Regions>(g: &mut G, j: usize) -> Result<G::R, Halt>
 /// The states at which an assumption is false, by its number: none where there is no assumption.
 fn lapse_region<G: Regions>(g: &mut G, i: usize) -> Result<G::R, Halt>
     requires free { (G.kept g.old).jam ≡ None }
-    requires there { i < length (wanted (G.kept g.old).game Wanted.Lapses) }
-    ensures made { let k = G.kept g.old in IfOk result (λ r. MakesRegion k (G.kept g.new) r (get_or (wanted k.game Wanted.Lapses) i no_states)) }
+    requires there { i < length (wanted (G.kept g.old).game SysSets.Lapses) }
+    ensures made { let k = G.kept g.old in IfOk result (λ r. MakesRegion k (G.kept g.new) r (get_or (wanted k.game SysSets.Lapses) i no_states)) }
     ensures halted { OnErr result (HoldsBesides (G.kept g.old) (G.kept g.new) []) }
     ensures told { (z : StateSet) → IfErr result (TellsHalt (G.kept g.old) (G.kept g.new) z) }
     ensures keeps { IsSameGame (G.kept g.old) (G.kept g.new) }
@@ -80,7 +80,7 @@ fn lapse_region<G: Regions>(g: &mut G, i: usize) -> Result<G::R, Halt>
 }
 
 /// One of the sets, by its number.
-fn region_of<G: Regions>(g: &mut G, kind: Wanted, i: usize) -> Result<G::R, Halt>
+fn region_of<G: Regions>(g: &mut G, kind: SysSets, i: usize) -> Result<G::R, Halt>
     requires free { (G.kept g.old).jam ≡ None }
     requires there { i < length (wanted (G.kept g.old).game kind) }
     ensures made { let k = G.kept g.old in IfOk result (λ r. MakesRegion k (G.kept g.new) r (get_or (wanted k.game kind) i no_states)) }
@@ -89,13 +89,13 @@ fn region_of<G: Regions>(g: &mut G, kind: Wanted, i: usize) -> Result<G::R, Halt
     ensures keeps { IsSameGame (G.kept g.old) (G.kept g.new) }
 {
     match kind {
-        Wanted::Goals => goal_region(g, i),
-        Wanted::Lapses => lapse_region(g, i),
+        SysSets::Goals => goal_region(g, i),
+        SysSets::Lapses => lapse_region(g, i),
     }
 }
 
 /// All of the sets.
-fn regions_of<G: Regions>(alloc: Global, g: &mut G, kind: Wanted) -> Result<Vec<G::R>, Halt>
+fn regions_of<G: Regions>(alloc: Global, g: &mut G, kind: SysSets) -> Result<Vec<G::R>, Halt>
     requires free { (G.kept g.old).jam ≡ None }
     ensures made { let k = G.kept g.old in IfOk result (λ rs. MakesRegions k (G.kept g.new) rs.items (wanted k.game kind)) }
     ensures halted { OnErr result (HoldsBesides (G.kept g.old) (G.kept g.new) []) }
@@ -122,12 +122,12 @@ fn regions_of<G: Regions>(alloc: Global, g: &mut G, kind: Wanted) -> Result<Vec<
 pub fn give<G: Regions>(alloc: Global, g: &mut G) -> Result<Given<G>, Halt>
     requires free { (G.kept g.old).jam ≡ None }
     ensures made { let k = G.kept g.old in IfOk result (λ given. MakesRegions k (G.kept g.new) (given_regions given) (given_sets k.game)) }
-    ensures counted { let k = G.kept g.old in IfOk result (λ given. length given.goals.items ≡ length (wanted k.game Wanted.Goals)) }
+    ensures counted { let k = G.kept g.old in IfOk result (λ given. length given.goals.items ≡ length (wanted k.game SysSets.Goals)) }
     ensures halted { OnErr result (HoldsBesides (G.kept g.old) (G.kept g.new) []) }
     ensures told { (z : StateSet) → IfErr result (TellsHalt (G.kept g.old) (G.kept g.new) z) }
     ensures keeps { IsSameGame (G.kept g.old) (G.kept g.new) }
 {
-    let goals = regions_of(alloc, g, Wanted::Goals)?;
+    let goals = regions_of(alloc, g, SysSets::Goals)?;
     match with_goals(alloc, g) {
         Ok((none, lapses)) => Ok(Given {
             none,
@@ -144,12 +144,12 @@ pub fn give<G: Regions>(alloc: Global, g: &mut G) -> Result<Given<G>, Halt>
 /// The regions that stand beside those of the goals.
 fn with_goals<G: Regions>(alloc: Global, g: &mut G) -> Result<(G::R, Vec<G::R>), Halt>
     requires free { (G.kept g.old).jam ≡ None }
-    ensures made { let k = G.kept g.old in IfOk result (λ r. MakesRegions k (G.kept g.new) (r.0 ∷ r.1.items) (no_states ∷ wanted k.game Wanted.Lapses)) }
+    ensures made { let k = G.kept g.old in IfOk result (λ r. MakesRegions k (G.kept g.new) (r.0 ∷ r.1.items) (no_states ∷ wanted k.game SysSets.Lapses)) }
     ensures halted { OnErr result (HoldsBesides (G.kept g.old) (G.kept g.new) []) }
     ensures told { (z : StateSet) → IfErr result (TellsHalt (G.kept g.old) (G.kept g.new) z) }
     ensures keeps { IsSameGame (G.kept g.old) (G.kept g.new) }
 {
-    let lapses = regions_of(alloc, g, Wanted::Lapses)?;
+    let lapses = regions_of(alloc, g, SysSets::Lapses)?;
     match g.none() {
         Ok(none) => Ok((none, lapses)),
         Err(halt) => {

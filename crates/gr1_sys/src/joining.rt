@@ -3,7 +3,7 @@
 ghost use Rattle.std.specs.Prelude.{◌≡◌, [], ◌∷◌, None, IfOk, IfErr, OnErr};
 ghost use Rattle.spec_model.specs.Sets.{StateSet, all_states as all_states_lem, either, both};
 ghost use Rattle.regions.specs.Kept.{And, Or, Region, States, HasRegion, HoldsBesides, HoldsWithout, IsSameGame, MakesRegion, Replaces, jam_after};
-ghost use Rattle.gr1_sys.specs.Moment.{TellsHalt};
+ghost use Rattle.gr1_sys.specs.Told.{TellsHalt};
 
 use regions::{Halt, Regions};
 

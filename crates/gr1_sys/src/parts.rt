@@ -4,7 +4,8 @@ ghost use Rattle.std.specs.Prelude.{◌≡◌, ◌↔◌, ℕ, [], None, IfOk, I
 ghost use Rattle.spec_model.specs.Sets.{StateSet};
 ghost use Rattle.regions.specs.Kept.{Region, States, HasRegion, HoldsBesides, HoldsWithout, MakesRegion, IsSameGame, Replaces};
 ghost use Rattle.gr1_sys.specs.Solution.{greatest_of};
-ghost use Rattle.gr1_sys.specs.Moment.{part_iterate, AreOfPart, TellsHalt};
+ghost use Rattle.gr1_sys.specs.Moment.{part_iterate};
+ghost use Rattle.gr1_sys.specs.Told.{AreOfPart, TellsHalt};
 ghost use Rattle.gr1_sys.specs.Held.{waiting};
 
 use crate::joining::{all_states, and_in, or_in};

@@ -7,7 +7,8 @@ ghost use Rattle.spec_model.specs.Sets.{StateSet, either, both, pre_sys};
 ghost use Rattle.regions.specs.Kept.{HasRegion, HoldsBesides, MakesRegion, IsSameGame};
 ghost use Rattle.gr1_law.specs.Layers.{goal_set, assumption_sets, union};
 ghost use Rattle.gr1_sys.specs.Solution.{layer_of, part_of};
-ghost use Rattle.gr1_sys.specs.Moment.{IsGoal, base_of, AreLapses, TellsHalt};
+ghost use Rattle.gr1_sys.specs.Moment.{IsGoal, base_of};
+ghost use Rattle.gr1_sys.specs.Told.{AreLapses, TellsHalt};
 ghost use Rattle.gr1_sys.specs.Held.{part_at, set_at, layer_sets, rank_sets, HasEach, MakesRegions, IsGiven, layer_regions, last_region};
 
 use crate::givens::Given;

@@ -2,7 +2,8 @@
 
 ghost use Rattle.std.specs.Prelude.{◌≡◌, ◌↔◌, ◌+◌, ◌≤◌, [], ◌∷◌, None, Some, IfOk, IfErr, OnErr, IsTrue, MatchOption, sum};
 ghost use Rattle.regions.specs.Kept.{Region, States, HasRegion, HoldsBesides, HoldsWithout, IsSameGame, Stays};
-ghost use Rattle.gr1_sys.specs.Moment.{IsValueOfZ, TellsHalt, TellsOneMoment};
+ghost use Rattle.gr1_sys.specs.Moment.{IsValueOfZ};
+ghost use Rattle.gr1_sys.specs.Told.{TellsHalt, TellsOneMoment};
 ghost use Rattle.gr1_sys.specs.Held.{HasTogether, HoldsWithoutAll, IsGiven, ranks_of, all_regions};
 ghost use Rattle.gr1_sys.specs.Solved.{Steps, HasWon, IsForced, IsDropped, IsLost, WonBySystem};
 
@@ -15,7 +16,7 @@ use regions::{Halt, Regions};
 use std::alloc::Global;
 
 /// What one value of Z leads to.
-pub enum Step<G: Regions> {
+pub enum Iteration<G: Regions> {
     /// It is the winning set, and these are its layers.
     Settled {
         z: G::R,
@@ -31,7 +32,7 @@ fn one_round<G: Regions>(
     g: &mut G,
     z: G::R,
     given: &Given<G>,
-) -> Result<Step<G>, Halt>
+) -> Result<Iteration<G>, Halt>
     requires free { (G.kept g.old).jam ≡ None }
     requires z { HasRegion (G.kept g.old) z }
     requires given { IsGiven (G.kept g.old) given.now }
@@ -44,11 +45,11 @@ fn one_round<G: Regions>(
         Ok((goals, next)) => {
             if g.same(&z, &next) {
                 g.spend(next);
-                Ok(Step::Settled { z, goals })
+                Ok(Iteration::Settled { z, goals })
             } else {
                 spend_goals(g, goals);
                 g.spend(z);
-                Ok(Step::Next(next))
+                Ok(Iteration::Next(next))
             }
         }
         Err(halt) => {
@@ -75,8 +76,8 @@ fn winning<G: Regions>(
     let mut z = all_states(g)?;
     loop {
         match one_round(alloc, g, z, given)? {
-            Step::Settled { z, goals } => return Ok((z, goals)),
-            Step::Next(next) => z = next,
+            Iteration::Settled { z, goals } => return Ok((z, goals)),
+            Iteration::Next(next) => z = next,
         }
     }
 }

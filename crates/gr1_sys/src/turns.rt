@@ -6,7 +6,8 @@ ghost use Rattle.spec_model.specs.Sets.{StateSet, pre_sys};
 ghost use Rattle.regions.specs.Kept.{HasRegion, HoldsBesides, MakesRegion, IsSameGame};
 ghost use Rattle.gr1_law.specs.Layers.{goal_set, goal_sets};
 ghost use Rattle.gr1_sys.specs.Solution.{layer_of, meet};
-ghost use Rattle.gr1_sys.specs.Moment.{IsGoal, TellsHalt};
+ghost use Rattle.gr1_sys.specs.Moment.{IsGoal};
+ghost use Rattle.gr1_sys.specs.Told.{TellsHalt};
 ghost use Rattle.gr1_sys.specs.Held.{HasEach, IsGiven, HasClimbed, HaveClimbed, all_regions, last_set, TurnsTo};
 
 use crate::climbing::goal_layers;

@@ -7,7 +7,8 @@ use Rattle.spec_model.specs.Syntax.{Formula, Initial, Safety, Statement, Specifi
 use Rattle.spec_model.specs.Meaning.{holds_at}
 use Rattle.spec_model.specs.Rules.{Run, Position, after, after_input}
 use Rattle.spec_model.specs.Moves.{is_env, nothing, value_among, reading_of, has_next, reads_present_output, at_first, one_before, fails_at, broken_by_input, broken_by_output, input_breaks, output_breaks, broken_assumption, broken_guarantee}
-use Rattle.spec_model.specs.Games.{GameData, State, entry_at, hidden_at, state_at, game_reading, step_reading, outputs_of, nothing_read}
+use Rattle.spec_model.specs.Games.{GameData, State, entry_at, step_reading, outputs_of, nothing_read}
+use Rattle.spec_model.specs.GameRuns.{hidden_at, state_at, game_reading}
 use Rattle.spec_model.specs.Steps.{Before, are_hidden_values, waits_for_output, line_holds, reached, assumptions_hold, guarantees_hold, legal_input as legal_input_from}
 use Rattle.spec_model.specs.GameRules.{before_at, last_state}
 use Rattle.spec_model.specs.WellMade.{WellMade, is_step_formula, is_state_formula, is_initial_assumption, is_safety_assumption, awaits_output, scope_of}

@@ -13,7 +13,8 @@ use Rattle.spec_model.specs.Moves.{reading_of, recurrences, numbered_from, label
 use Rattle.spec_model.specs.Patterns.{pattern_holds}
 use Rattle.spec_model.specs.Sizes.{past_operators}
 use Rattle.spec_model.specs.Steps.{below}
-use Rattle.spec_model.specs.Games.{HiddenData, letter_of, entry_at, state_at, game_reading, goals_in}
+use Rattle.spec_model.specs.Games.{HiddenData, letter_of, entry_at}
+use Rattle.spec_model.specs.GameRuns.{state_at, game_reading, goals_in}
 use Rattle.spec_model.specs.WellTyped.{WellTyped, has_arguments, is_typed_line, is_typed_content, is_typed_state, is_typed_pattern, is_typed_trigger, scope_of_specification}
 use Rattle.game_values.proofs.Lists.{length-below}
 use Rattle.past_bits.proofs.Ordered.{AreOrdered}
@@ -22,7 +23,8 @@ use Rattle.pattern_rows.specs.Laws.{cell_in, value_at_time}
 use Rattle.pattern_rows.proofs.Cells.{holds_at_place}
 use Rattle.pattern_rows.proofs.Filled.{typed_has_table}
 use Rattle.pattern_rows.proofs.Runs.{is_table}
-use Rattle.trigger_dfa.specs.Standings.{table_of, value_along, entry_along}
+use Rattle.trigger_dfa.specs.Standings.{table_of}
+use Rattle.trigger_dfa.specs.Along.{value_along, entry_along}
 use Rattle.trigger_dfa.proofs.FilledTables.{typed_goal}
 use Rattle.hidden_game.specs.declared.player.Player.{Player}
 use Rattle.hidden_game.specs.declared.player.Player.TheVariants.{Environment, System}

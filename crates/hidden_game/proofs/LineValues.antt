@@ -10,14 +10,15 @@ use Rattle.spec_model.specs.Meaning.{Reading, past_of, holds_at, truths_at}
 use Rattle.spec_model.specs.Rules.{Position, Run}
 use Rattle.spec_model.specs.Moves.{nothing, value_among, reading_of}
 use Rattle.spec_model.specs.Sizes.{past_operators}
-use Rattle.spec_model.specs.Games.{HiddenData, Readout, letter_of, present_reading, cell_of, entries_in, read_table, read_tables, nothing_read, readout_of, entry_at, hidden_at, state_at}
+use Rattle.spec_model.specs.Games.{HiddenData, Readout, letter_of, present_reading, cell_of, entries_in, read_table, read_tables, nothing_read, readout_of, entry_at}
+use Rattle.spec_model.specs.GameRuns.{hidden_at, state_at}
 use Rattle.past_bits.specs.Entries.{place_of}
 use Rattle.past_bits.specs.Bits.{tables_of}
 use Rattle.past_bits.proofs.Ordered.{AreOrdered}
 use Rattle.past_bits.proofs.Agreeing.{agrees}
 use Rattle.past_bits.proofs.Walk.{value_of, entries_of, at_place, walk}
 use Rattle.past_bits.proofs.Runs.{first_values}
-use Rattle.trigger_dfa.specs.Standings.{cell_along, value_along, entry_along}
+use Rattle.trigger_dfa.specs.Along.{cell_along, value_along, entry_along}
 use Rattle.hidden_game.specs.GameOf.{entered, line_table, entered_table, table_for, game_of}
 use Rattle.hidden_game.proofs.Known.{is_known_state, is_known_table, is_known_or_none, is_known_content, state_known, state_plain, known_covered}
 

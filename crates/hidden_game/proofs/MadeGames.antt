@@ -319,6 +319,7 @@ typed_games_made s typed =
     record {
       few_variables = typed.few_variables;
       names = typed.different_variables;
+      spelled = typed.spelled_variables;
       domains = domains_made (length s.names) s.variables typed.domains;
       hidden = hidden_made s typed;
       initial_asm = all_first s typed Environment s.lines known typed.lines;

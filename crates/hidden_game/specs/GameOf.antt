@@ -7,7 +7,7 @@ use Rattle.spec_model.specs.Moves.{is_assumption, is_guarantee}
 use Rattle.spec_model.specs.Sizes.{past_operators}
 use Rattle.spec_model.specs.Games.{GameData, GoalData, HiddenData}
 use Rattle.past_bits.specs.Entries.{with_entries}
-use Rattle.past_bits.specs.Bits.{tables_of}
+use Rattle.past_bits.specs.Tables.{tables_of}
 use Rattle.pattern_rows.specs.Rows.{rows_of}
 use Rattle.trigger_dfa.specs.Standings.{table_of}
 use Rattle.hidden_game.specs.declared.player.Player.{Player}

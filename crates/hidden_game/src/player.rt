@@ -1,7 +1,7 @@
 //! Whom a line binds, and when it is judged.
 
 /// Whom a line binds.
-#[derive(Clone, Copy, Debug, PartialEq, Eq)]
+#[derive(Clone, Copy, PartialEq, Eq)]
 pub enum Player {
     /// The environment, by assumptions.
     Environment,
@@ -10,7 +10,7 @@ pub enum Player {
 }
 
 /// When a line is judged.
-#[derive(Clone, Copy, Debug, PartialEq, Eq)]
+#[derive(Clone, Copy, PartialEq, Eq)]
 pub enum Time {
     /// At the first position.
     First,

@@ -9,7 +9,8 @@ use Rattle.spec_model.specs.Meaning.{Reading, past_of, value_at, holds_at, truth
 use Rattle.spec_model.specs.Rules.{Position, Run}
 use Rattle.spec_model.specs.Moves.{nothing, value_among, reading_of}
 use Rattle.spec_model.specs.Sizes.{same_formula, past_trees, formulas_of, past_operators}
-use Rattle.spec_model.specs.Games.{GameData, HiddenData, Readout, cell_of, read_table, read_tables, entries_in, nothing_read, readout_of, entry_at, hidden_at, state_at, game_reading}
+use Rattle.spec_model.specs.Games.{GameData, HiddenData, Readout, cell_of, read_table, read_tables, entries_in, nothing_read, readout_of, entry_at}
+use Rattle.spec_model.specs.GameRuns.{hidden_at, state_at, game_reading}
 use Rattle.past_bits.specs.Entries.{place_of, with_entries}
 use Rattle.past_bits.specs.Bits.{table_of, tables_of}
 use Rattle.past_bits.specs.Laws.{BeginsWithBits, EntriesAreOperators}

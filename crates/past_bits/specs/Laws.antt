@@ -5,11 +5,12 @@ use Rattle.spec_model.specs.Meaning.{value_at, holds_at}
 use Rattle.spec_model.specs.Rules.{Run}
 use Rattle.spec_model.specs.Moves.{reading_of}
 use Rattle.spec_model.specs.Sizes.{past_operators, formulas_of}
-use Rattle.spec_model.specs.Games.{GameData, HiddenData, state_at, entry_at, game_reading}
+use Rattle.spec_model.specs.Games.{GameData, HiddenData, entry_at}
+use Rattle.spec_model.specs.GameRuns.{state_at, game_reading}
 use Rattle.spec_model.specs.WellMade.{are_tables}
 use Rattle.spec_model.specs.WellTyped.{scope_of_specification}
 use Rattle.past_bits.specs.Entries.{with_entries}
-use Rattle.past_bits.specs.Bits.{tables_of}
+use Rattle.past_bits.specs.Tables.{tables_of}
 
 -- the game has the variables of the specification, and its first hidden tables are those of the past operators
 pub record BeginsWithBits (s : Specification) (g : GameData) : Type 0 where

@@ -3,6 +3,9 @@ use Rattle.std.specs.Prelude.{ℕ, zero, suc, Bool, true, false, ◌&&◌, ◌||
 use Rattle.spec_model.specs.declared.expr.Past.{Past}
 use Rattle.spec_model.specs.declared.expr.Past.TheVariants.{Prev, Once, Historically, Since, Triggered}
 use Rattle.spec_model.specs.Meaning.{operand}
+use Rattle.spec_model.specs.Syntax.{Formula, PastOf, listed}
+use Rattle.spec_model.specs.Games.{HiddenData}
+use Rattle.past_bits.specs.Entries.{each_with_entries}
 
 -- the table's value at the first position
 abbrev pub first_bit : Past → Bool
@@ -54,3 +57,16 @@ next_cells op = cells_of op (λ a b value. number_of_bit (next_bit op a b value)
 
 abbrev pub entry_cells : Past → List Bool
 entry_cells op = cells_of op (entry_of op)
+
+abbrev pub table_with : Past → List Formula → HiddenData
+table_with op atoms =
+    record { values = 2; first = number_of_bit (first_bit op); atoms = atoms; next = next_cells op; tables = entry_cells op ∷ [] }
+
+-- The table of an operator among those of several: its atoms are the operands, with entries for the operators in them.
+-- What is no past operator has none.
+abbrev pub table_of : List Formula → Formula → HiddenData
+table_of ops (PastOf op es) = table_with op (listed (each_with_entries ops es))
+table_of ops _ = record { values = 0; first = 0; atoms = []; next = []; tables = [] }
+
+abbrev pub tables_of : List Formula → List HiddenData
+tables_of ops = map (table_of ops) ops

@@ -11,7 +11,8 @@ use Rattle.spec_model.specs.Syntax.{PatternData}
 use Rattle.spec_model.specs.Games.{letter_of}
 use Rattle.game_values.proofs.Typed.{count-cons}
 use Rattle.game_states.proofs.ChoicePlaces.{get-grid}
-use Rattle.pattern_rows.specs.Rows.{letters, by_cell, is_told}
+use Rattle.pattern_rows.specs.Rows.{letters, by_cell}
+use Rattle.pattern_rows.specs.ToldRows.{is_told}
 use Rattle.pattern_rows.proofs.Letters.{length-letters, letter_at}
 
 pub at_cell : {X : Type 0} (p : PatternData) (f : Assignment → Assignment → X) (k : ℕ) (bits : List Bool) (own : Assignment) (d : X) → length bits ≡ p.params → slice_get (assignments_of p.domains) k ≡ Some own →

@@ -16,7 +16,8 @@ use Rattle.game_values.proofs.Lists.{length-below}
 use Rattle.game_values.proofs.Typed.{all_weaker}
 use Rattle.game_states.proofs.ChoicePlaces.{length-grid}
 use Rattle.pattern_rows.specs.Patterns.{is_goal_line}
-use Rattle.pattern_rows.specs.Rows.{letters, may_begin, may_follow, goal_holds, by_cell, rows_of, is_told, are_told_after}
+use Rattle.pattern_rows.specs.Rows.{letters, may_begin, may_follow, goal_holds, by_cell, rows_of}
+use Rattle.pattern_rows.specs.ToldRows.{is_told, are_told_after}
 use Rattle.pattern_rows.specs.Laws.{HasTable, is_filled}
 use Rattle.pattern_rows.proofs.Letters.{length-letters}
 use Rattle.pattern_rows.proofs.Sizes.{determined_is}

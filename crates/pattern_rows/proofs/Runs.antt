@@ -14,7 +14,8 @@ use Rattle.spec_model.specs.Games.{letter_of}
 use Rattle.spec_model.specs.WellTyped.{is_determined}
 use Rattle.game_values.proofs.Lists.{length-below}
 use Rattle.pattern_rows.specs.Patterns.{IsPattern}
-use Rattle.pattern_rows.specs.Rows.{letters, may_begin, may_follow, goal_holds, by_cell, rows_of, is_told, are_told_after}
+use Rattle.pattern_rows.specs.Rows.{letters, may_begin, may_follow, goal_holds, by_cell, rows_of}
+use Rattle.pattern_rows.specs.ToldRows.{is_told, are_told_after}
 use Rattle.pattern_rows.specs.Laws.{cell_in, value_at_time, arguments_of, IsTableOf}
 use Rattle.pattern_rows.proofs.Lines.{begins_with_any}
 use Rattle.pattern_rows.proofs.Letters.{letter_at}

@@ -8,7 +8,7 @@ use Rattle.std.proofs.lemmas.List.{drop_all}
 use Rattle.spec_model.specs.Values.{Assignment}
 use Rattle.game_values.proofs.Lists.{map_drop}
 use Rattle.game_values.proofs.Typed.{count-cons}
-use Rattle.pattern_rows.specs.Rows.{is_told, only, scan}
+use Rattle.pattern_rows.specs.ToldRows.{is_told, only, scan}
 
 suc_is_none : (n : ℕ) → (suc n == 0) ≡ false
 suc_is_none n = eqb-suc-zero n

@@ -17,7 +17,8 @@ use Rattle.spec_model.proofs.AllStates.{Every}
 use Rattle.spec_model.proofs.Listed.{assignments_fit}
 use Rattle.game_states.proofs.Counts.{length-assignments, domain_filled}
 use Rattle.pattern_rows.specs.Patterns.{IsPattern, is_wide}
-use Rattle.pattern_rows.specs.Rows.{letters, may_begin, may_follow, goal_holds, rows_of, is_told, are_told_after, next_after}
+use Rattle.pattern_rows.specs.Rows.{letters, may_begin, may_follow, goal_holds, rows_of}
+use Rattle.pattern_rows.specs.ToldRows.{is_told, are_told_after, next_after}
 use Rattle.pattern_rows.proofs.Letters.{all_letters}
 
 -- ---- domains

@@ -4,12 +4,11 @@ use Rattle.std.specs.List.{list_all}
 use Rattle.spec_model.specs.declared.value.Value.TheVariants as value
 use Rattle.spec_model.specs.Values.{Assignment, assignments_of}
 use Rattle.spec_model.specs.Syntax.{Formula, PatternData}
-use Rattle.spec_model.specs.Patterns.{own_at, pattern_holds}
+use Rattle.spec_model.specs.Patterns.{own_at, pattern_holds, is_determined}
 use Rattle.spec_model.specs.Games.{HiddenData, letter_of}
 use Rattle.spec_model.specs.WellMade.{cell_count}
-use Rattle.spec_model.specs.WellTyped.{is_determined}
-use Rattle.pattern_rows.specs.Patterns.{IsPattern, is_wide}
-use Rattle.pattern_rows.specs.Rows.{rows_of}
+use Rattle.pattern_rows.specs.Patterns.{IsPattern}
+use Rattle.pattern_rows.specs.Rows.{rows_of, is_wide}
 
 -- the cell of a table at a value and a letter
 abbrev pub cell_in : HiddenData → ℕ → List Bool → ℕ

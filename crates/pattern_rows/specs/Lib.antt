@@ -1,4 +1,5 @@
 pub mod Patterns
 pub mod Rows
+pub mod ToldRows
 pub mod Sights
 pub mod Laws

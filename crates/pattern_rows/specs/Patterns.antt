@@ -1,10 +1,10 @@
--- Patterns that are well formed, and which of them are too wide.
-use Rattle.std.specs.Prelude.{ℕ, Bool, not, ◌&&◌, nat_le, map, IsTrue}
+-- Patterns that are well formed.
+use Rattle.std.specs.Prelude.{ℕ, Bool, not, ◌&&◌, IsTrue}
 use Rattle.std.specs.List.{list_all}
 use Rattle.spec_model.specs.Syntax.{Formula, PatternData}
 use Rattle.spec_model.specs.Moves.{has_next}
-use Rattle.spec_model.specs.Sizes.{domain_size, product}
 use Rattle.spec_model.specs.WellTyped.{is_domain_of, is_pattern_line, is_first_line, is_step_line}
+pub use Rattle.pattern_rows.specs.Rows.{is_wide}
 
 -- a goal reads a position alone
 abbrev pub is_goal_line : PatternData → (names : ℕ) → Formula → Bool
@@ -23,7 +23,3 @@ pub record IsPattern (p : PatternData) : Type 0 where
 pub record IsGoal (p : PatternData) (e : Formula) : Type 0 where
   pub names : ℕ
   pub line : IsTrue (is_goal_line p names e)
-
--- more than 8 parameters, or more than 64 values of the own variables
-abbrev pub is_wide : PatternData → Bool
-is_wide p = not (nat_le p.params 8 && nat_le (product (map domain_size p.domains)) 64)

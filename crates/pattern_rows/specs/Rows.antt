@@ -1,12 +1,13 @@
 -- The hidden table of a pattern: its values are the assignments of the own variables, and its letters those of the parameters.
-use Rattle.std.specs.Prelude.{ℕ, zero, suc, Bool, true, false, ◌==◌, if◌then◌else◌, List, [], ◌∷◌, ◌++◌, length, map, flat_map, replicate, count_by, Option, Some, None}
-use Rattle.std.specs.List.{position_or_len, list_all}
+use Rattle.std.specs.Prelude.{ℕ, zero, suc, Bool, true, false, List, [], ◌∷◌, ◌++◌, length, map, flat_map, replicate, not, ◌&&◌, nat_le}
+use Rattle.std.specs.List.{position_or_len}
 use Rattle.spec_model.specs.declared.value.Value.TheVariants as value
 use Rattle.spec_model.specs.Values.{Assignment, assignments_of}
 use Rattle.spec_model.specs.Syntax.{Formula, Variable, PatternData}
 use Rattle.spec_model.specs.Patterns.{all_hold}
 use Rattle.spec_model.specs.Steps.{below}
 use Rattle.spec_model.specs.Games.{HiddenData}
+use Rattle.spec_model.specs.Sizes.{domain_size, product}
 
 -- the values of so many parameters at each letter, in the order of the letters: the first parameter is bit 0
 abbrev pub letters : ℕ → List Assignment
@@ -39,26 +40,6 @@ rows_of p =
       tables = map (λ goal. by_cell p (goal_holds goal)) p.goals;
     }
 
--- ---- which one passes a test
-
--- one passes alone
-abbrev pub is_told : (Assignment → Bool) → List Assignment → Bool
-is_told test xs = count_by test xs == 1
-
--- the place of the one that passes, if it is one alone
-abbrev pub only : (Assignment → Bool) → List Assignment → Option ℕ
-only test xs = if is_told test xs then Some (position_or_len test xs) else None
-
--- the same, one after another from a place on, with the one that was found so far
-abbrev pub scan : (Assignment → Bool) → (found : Option ℕ) → (k : ℕ) → List Assignment → Option ℕ
-scan test found k [] = found
-scan test None k (x ∷ xs) = if test x then scan test (Some k) (suc k) xs else scan test None (suc k) xs
-scan test (Some j) k (x ∷ xs) = if test x then None else scan test (Some j) (suc k) xs
-
--- ---- whether each next assignment is told
-
-abbrev pub are_told_after : PatternData → (owns letters : List Assignment) → (own : Assignment) → Bool
-are_told_after p owns ls own = list_all (λ letter. is_told (may_follow p letter own) owns) ls
-
-abbrev pub next_after : PatternData → (owns letters : List Assignment) → (own : Assignment) → List ℕ
-next_after p owns ls own = map (λ letter. position_or_len (may_follow p letter own) owns) ls
+-- more than 8 parameters, or more than 64 values of the own variables
+abbrev pub is_wide : PatternData → Bool
+is_wide p = not (nat_le p.params 8 && nat_le (product (map domain_size p.domains)) 64)

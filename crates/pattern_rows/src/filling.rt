@@ -9,7 +9,8 @@ ghost use Rattle.spec_model.specs.GameViews.{hidden_data};
 ghost use Rattle.spec_model.specs.Steps.{below};
 ghost use Rattle.spec_model.specs.WellTyped.{is_determined};
 ghost use Rattle.pattern_rows.specs.Patterns.{IsPattern, IsGoal, is_wide as is_wide_lem};
-ghost use Rattle.pattern_rows.specs.Rows.{letters as letters_lem, goal_holds as goal_holds_lem, next_after, are_told_after, rows_of};
+ghost use Rattle.pattern_rows.specs.Rows.{letters as letters_lem, goal_holds as goal_holds_lem, rows_of};
+ghost use Rattle.pattern_rows.specs.ToldRows.{next_after, are_told_after};
 
 use crate::choices::{PAST, all_letters, assignments, count_assignments};
 use crate::fault::RowFault;

@@ -5,7 +5,8 @@ ghost use Rattle.std.specs.List.{list_all, position_or_len};
 ghost use Rattle.spec_model.specs.Values.{is_assignment};
 ghost use Rattle.spec_model.specs.Views.{formula, pattern_data};
 ghost use Rattle.pattern_rows.specs.Patterns.{IsPattern, IsGoal};
-ghost use Rattle.pattern_rows.specs.Rows.{may_begin, may_follow, goal_holds as goal_holds_lem, is_told};
+ghost use Rattle.pattern_rows.specs.Rows.{may_begin, may_follow, goal_holds as goal_holds_lem};
+ghost use Rattle.pattern_rows.specs.ToldRows.{is_told};
 ghost use Rattle.pattern_rows.specs.Sights.{IsCell};
 
 use crate::sight::{Sight, each_holds};

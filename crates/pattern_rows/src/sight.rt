@@ -14,7 +14,7 @@ use spec_model::expr::Expr;
 use spec_model::value::Value;
 
 /// The values of the parameters, and those of the own variables at a position and at the next one.
-#[derive(Clone, Copy, Debug)]
+#[derive(Clone, Copy)]
 pub struct Sight<'a> {
     pub letter: &'a [Value],
     pub own: &'a [Value],

@@ -14,8 +14,8 @@ use Rattle.spec_model.proofs.Listed.{outputs_fit}
 use Rattle.game_play.proofs.Choices.{some_choice}
 use Rattle.game_play.proofs.OutputReads.{not_false}
 use Rattle.game_play.proofs.AnyOutput.{same_here, same_late}
-use Rattle.state_diagrams.specs.Forcing.{AssumeNothingOfReplies, HasMoves}
-use Rattle.state_diagrams.proofs.ForceLemmas.{output_suffices}
+use Rattle.bdd_sets.specs.Forcing.{AssumeNothingOfReplies, HasMoves}
+use Rattle.bdd_sets.proofs.ForceLemmas.{output_suffices}
 
 lines_same : {X : Type 0} (ok p q : X → Bool) → ((x : X) → ok x ≡ true → p x ≡ q x) → (xs : List X) → list_all ok xs ≡ true → list_all p xs ≡ list_all q xs
 lines_same ok p q same [] all = refl

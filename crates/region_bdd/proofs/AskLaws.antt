@@ -13,9 +13,9 @@ use Rattle.region_bdd.proofs.FewNodes.{few_nodes}
 use Rattle.bdd_ops.specs.Contents.{Contents}
 use Rattle.bit_compile.specs.Making.{Makes}
 use Rattle.bit_compile.proofs.MakingLemmas.{is_root}
-use Rattle.state_diagrams.specs.declared.moves.NextLevels.{NextLevels}
-use Rattle.state_diagrams.specs.MoveBits.{TellsBefore}
-use Rattle.state_diagrams.proofs.ForceLemmas.{same_truth}
+use Rattle.bdd_sets.specs.declared.moves.NextLevels.{NextLevels}
+use Rattle.bdd_sets.specs.ToldMoves.{TellsBefore}
+use Rattle.bdd_sets.proofs.ForceLemmas.{same_truth}
 use Rattle.region_bdd.specs.declared.slots.Slot.{Slot}
 use Rattle.region_bdd.specs.declared.own.Own.{Own}
 use Rattle.region_bdd.specs.declared.own.Refused.{Refused}
@@ -23,7 +23,7 @@ use Rattle.region_bdd.specs.Slots.{shown_of}
 use Rattle.region_bdd.specs.Asking.{Answers, SettlesAnswer}
 use Rattle.region_bdd.specs.Crowding.{IsOfCall, FillsBudget}
 use Rattle.bit_compile.specs.Crowding.{HasCause}
-use Rattle.state_diagrams.specs.NamedGame.{IsOfGame}
+use Rattle.bdd_sets.specs.NamedGame.{IsOfGame}
 use Rattle.region_bdd.proofs.Refusals.{jam_of, still_named, refusal_fills, is_jammed}
 use Rattle.region_bdd.specs.Object.{IsObject, OwnIsNamed, call_of, argument_in, kept_of}
 use Rattle.region_bdd.proofs.ObjectLaws.{none_refused, sound_same, stays_same, halts_memory, halts_budget, early_fits}

@@ -10,11 +10,11 @@ use Rattle.bdd_ops.specs.Contents.{Contents, function_at}
 use Rattle.bdd_ops.specs.Calls.{KeepsRoots, negated}
 use Rattle.bit_compile.specs.Crowding.{HasCause}
 use Rattle.bit_compile.proofs.Causes.{cause_ok, cause_handed}
-use Rattle.state_diagrams.specs.declared.moves.NextLevels.{NextLevels}
-use Rattle.state_diagrams.specs.Members.{move_functions, reply_of}
-use Rattle.state_diagrams.specs.NamedMoves.{MoveLists, joined_lists, lists_at}
-use Rattle.state_diagrams.specs.NamedGame.{IsOfStep, IsOfRest, IsOfSet, lines_of}
-use Rattle.state_diagrams.proofs.ShiftLemmas.{tells_next}
+use Rattle.bdd_sets.specs.declared.moves.NextLevels.{NextLevels}
+use Rattle.bdd_sets.specs.Members.{move_functions, reply_of, lists_at}
+use Rattle.bdd_sets.specs.NamedMoves.{MoveLists, joined_lists}
+use Rattle.bdd_sets.specs.NamedGame.{IsOfStep, IsOfRest, IsOfSet, lines_of}
+use Rattle.bdd_sets.proofs.ShiftLemmas.{tells_next}
 use Rattle.region_bdd.specs.declared.slots.Content.TheVariants.{Region}
 use Rattle.region_bdd.specs.declared.slots.Slot.{Slot}
 use Rattle.region_bdd.specs.declared.slots.BddRegion.{BddRegion}

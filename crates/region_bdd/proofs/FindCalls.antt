@@ -22,13 +22,13 @@ use Rattle.bdd_ops.specs.Contents.{Contents, function_at}
 use Rattle.bdd_ops.specs.Together.{all_of}
 use Rattle.bit_compile.specs.Domains.{table_domain, state_domains, level_count}
 use Rattle.bit_compile.proofs.LawLemmas.{state_listed}
-use Rattle.state_diagrams.specs.declared.moves.Members.{Members}
-use Rattle.state_diagrams.specs.declared.moves.NextLevels.{NextLevels}
-use Rattle.state_diagrams.specs.StateBits.{TellsStates, set_at}
-use Rattle.state_diagrams.specs.MoveBits.{HasBefore, TellsMoves, some_leads}
-use Rattle.state_diagrams.specs.Members.{AreRoots, AreMembers, all_true, functions_at, move_functions}
-use Rattle.state_search.specs.Parts.{AreOf, ArePart, HaveValues, AreFixed}
-use Rattle.state_search.proofs.PartLemmas.{whole_of, whole_have, have_whole, agrees_have, part_assignment, assignment_part}
+use Rattle.bdd_sets.specs.declared.moves.Members.{Members}
+use Rattle.bdd_sets.specs.declared.moves.NextLevels.{NextLevels}
+use Rattle.bdd_sets.specs.StateBits.{TellsStates, set_at}
+use Rattle.bdd_sets.specs.ToldMoves.{HasBefore, TellsMoves, some_leads}
+use Rattle.bdd_sets.specs.Members.{AreRoots, AreMembers, all_true, functions_at, move_functions}
+use Rattle.bdd_search.specs.Parts.{AreOf, ArePart, HaveValues, AreFixed}
+use Rattle.bdd_search.proofs.PartLemmas.{whole_of, whole_have, have_whole, agrees_have, part_assignment, assignment_part}
 use Rattle.region_bdd.specs.declared.slots.Content.{Content}
 use Rattle.region_bdd.specs.declared.slots.Content.TheVariants.{Region, Outputs, Inputs}
 use Rattle.region_bdd.specs.declared.slots.Slot.{Slot}

@@ -18,17 +18,18 @@ use Rattle.bdd_ops.specs.Paths.{Agrees, IsFirst, HasNone, NotAfter}
 use Rattle.bit_compile.specs.Domains.{table_domain, state_domains, level_count}
 use Rattle.bit_compile.proofs.SlotLemmas.{length-assignment}
 use Rattle.bit_compile.proofs.LawLemmas.{state_listed}
-use Rattle.state_diagrams.specs.StateBits.{bits_for, HasState, TellsStates, set_at}
-use Rattle.state_diagrams.specs.MoveBits.{HasBefore, TellsMoves, follows, AreNextOf, is_any_slot, some_leads}
-use Rattle.state_diagrams.specs.Members.{MoveFunctions}
-use Rattle.state_diagrams.specs.Forcing.{FitMoves, HasMoves}
-use Rattle.state_diagrams.proofs.BitLemmas.{has_bits}
-use Rattle.state_diagrams.proofs.MoveLemmas.{before_kept, mixed, mixed_off, mixed_state, reached_is, follows-reached, hidden_is}
-use Rattle.state_diagrams.proofs.ForceLemmas.{input_fits, output_fits, state_reached, not_any}
-use Rattle.state_search.specs.Parts.{AreOf, HaveValues, SamePresent}
-use Rattle.state_search.proofs.PartLemmas.{part_have, part_of, last_have, last_of, one_part, part_assignment, assignment_part}
-use Rattle.state_search.proofs.OrderLemmas.{first_values, before-prefix, before_suffix}
-use Rattle.state_search.proofs.FirstLemmas.{find-first, find-nothing}
+use Rattle.bdd_sets.specs.StateBits.{bits_for, HasState, TellsStates, set_at}
+use Rattle.bdd_sets.specs.MoveBits.{AreNextOf, is_any_slot}
+use Rattle.bdd_sets.specs.ToldMoves.{HasBefore, TellsMoves, follows, some_leads}
+use Rattle.bdd_sets.specs.Members.{MoveFunctions}
+use Rattle.bdd_sets.specs.Forcing.{FitMoves, HasMoves}
+use Rattle.bdd_sets.proofs.BitLemmas.{has_bits}
+use Rattle.bdd_sets.proofs.MoveLemmas.{before_kept, mixed, mixed_off, mixed_state, reached_is, follows-reached, hidden_is}
+use Rattle.bdd_sets.proofs.ForceLemmas.{input_fits, output_fits, state_reached, not_any}
+use Rattle.bdd_search.specs.Parts.{AreOf, HaveValues, SamePresent}
+use Rattle.bdd_search.proofs.PartLemmas.{part_have, part_of, last_have, last_of, one_part, part_assignment, assignment_part}
+use Rattle.bdd_search.proofs.OrderLemmas.{first_values, before-prefix, before_suffix}
+use Rattle.bdd_search.proofs.FirstLemmas.{find-first, find-nothing}
 
 module _ (g : GameData) where
   abbrev tables : List DomainData

@@ -14,12 +14,12 @@ use Rattle.regions.specs.Rules.{goals_like, number_of, states_holding}
 use Rattle.bdd_store.specs.State.{IsRoot}
 use Rattle.bdd_ops.specs.Contents.{Contents, function_at}
 use Rattle.bdd_ops.specs.Functions.{joined, join_of}
-use Rattle.state_diagrams.specs.declared.moves.NextLevels.{NextLevels}
-use Rattle.state_diagrams.specs.StateBits.{Tells}
-use Rattle.state_diagrams.specs.Members.{functions_at}
-use Rattle.state_diagrams.specs.Goals.{TellsFormula, TellGoals}
-use Rattle.state_diagrams.proofs.SetLemmas.{told_at, tells_by}
-use Rattle.state_diagrams.proofs.ListLemmas.{times_here}
+use Rattle.bdd_sets.specs.declared.moves.NextLevels.{NextLevels}
+use Rattle.bdd_sets.specs.StateBits.{Tells}
+use Rattle.bdd_sets.specs.Members.{functions_at}
+use Rattle.bdd_sets.specs.Goals.{TellsFormula, TellGoals}
+use Rattle.bdd_sets.proofs.SetLemmas.{told_at, tells_by}
+use Rattle.bdd_sets.proofs.ListLemmas.{times_here}
 use Rattle.region_bdd.specs.declared.slots.Slot.{Slot}
 use Rattle.region_bdd.specs.declared.own.Own.{Own}
 use Rattle.region_bdd.specs.declared.own.Refused.{Refused}

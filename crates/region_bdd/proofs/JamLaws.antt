@@ -24,20 +24,20 @@ use Rattle.bit_compile.specs.Filling.{FillTogether}
 use Rattle.bit_compile.specs.Compiled.{compiled}
 use Rattle.bit_compile.proofs.Causes.{crowded_wider}
 use Rattle.bit_compile.proofs.Filled.{contains_first, contains_later, all_at, fills_with}
-use Rattle.state_diagrams.specs.StateBits.{TellsStates, Tells, set_at}
-use Rattle.state_diagrams.specs.MoveBits.{LeadsToNext}
-use Rattle.state_diagrams.specs.Members.{functions_at}
-use Rattle.state_diagrams.specs.Forcing.{AreLevelsOf}
-use Rattle.state_diagrams.specs.declared.moves.Members.{Members}
-use Rattle.state_diagrams.specs.declared.moves.NextLevels.{NextLevels}
-use Rattle.state_diagrams.specs.NamedMoves.{MoveLists, lists_at}
-use Rattle.state_diagrams.proofs.ListLemmas.{one_itself}
-use Rattle.state_diagrams.proofs.CauseLemmas.{root_there}
-use Rattle.early_products.specs.declared.early.Early.{Early}
-use Rattle.early_products.specs.Products.{AreOfMembers}
-use Rattle.early_products.specs.Early.{AreLinesOf, roots_of_early}
-use Rattle.state_diagrams.specs.Lists.{one_at, times_in}
-use Rattle.state_diagrams.specs.NamedGame.{IsOfGame, values, part, update, inputs, outputs, complement, IsOfConjunction, formulas_of, lines_of}
+use Rattle.bdd_sets.specs.StateBits.{TellsStates, Tells, set_at}
+use Rattle.bdd_sets.specs.MoveBits.{LeadsToNext}
+use Rattle.bdd_sets.specs.Members.{functions_at, lists_at}
+use Rattle.bdd_sets.specs.Forcing.{AreLevelsOf}
+use Rattle.bdd_sets.specs.declared.moves.Members.{Members}
+use Rattle.bdd_sets.specs.declared.moves.NextLevels.{NextLevels}
+use Rattle.bdd_sets.specs.NamedMoves.{MoveLists}
+use Rattle.bdd_sets.proofs.ListLemmas.{one_itself}
+use Rattle.bdd_sets.proofs.CauseLemmas.{root_there}
+use Rattle.bdd_products.specs.declared.early.Early.{Early}
+use Rattle.bdd_products.specs.Products.{AreOfMembers}
+use Rattle.bdd_products.specs.Early.{AreLinesOf, roots_of_early}
+use Rattle.bdd_sets.specs.Lists.{one_at, times_in}
+use Rattle.bdd_sets.specs.NamedGame.{IsOfGame, values, part, update, inputs, outputs, complement, IsOfConjunction, formulas_of, lines_of}
 use Rattle.region_bdd.specs.declared.slots.Content.{Content}
 use Rattle.region_bdd.specs.declared.slots.Content.TheVariants.{Region, Outputs as OutputsKept, Inputs as InputsKept}
 use Rattle.region_bdd.specs.declared.slots.Slot.{Slot}

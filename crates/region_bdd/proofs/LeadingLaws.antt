@@ -13,15 +13,15 @@ use Rattle.bdd_ops.specs.Contents.{Contents, function_at}
 use Rattle.bdd_ops.specs.Calls.{negated}
 use Rattle.bit_compile.specs.Making.{Makes}
 use Rattle.bit_compile.proofs.MakingLemmas.{is_root, root_added}
-use Rattle.state_diagrams.specs.declared.moves.NextLevels.{NextLevels}
-use Rattle.state_diagrams.specs.StateBits.{Tells}
-use Rattle.state_diagrams.specs.MoveBits.{TellsMoves, some_leads}
-use Rattle.state_diagrams.specs.Members.{AreMembers, move_functions, reply_of}
-use Rattle.state_diagrams.specs.Forcing.{FitMoves}
-use Rattle.state_diagrams.proofs.SpentLemmas.{function_kept}
-use Rattle.state_diagrams.proofs.SetLemmas.{told_at}
-use Rattle.state_diagrams.proofs.ShiftLemmas.{tells_next}
-use Rattle.state_diagrams.proofs.ForceLemmas.{tells_leads, tells_negated}
+use Rattle.bdd_sets.specs.declared.moves.NextLevels.{NextLevels}
+use Rattle.bdd_sets.specs.StateBits.{Tells}
+use Rattle.bdd_sets.specs.ToldMoves.{TellsMoves, some_leads}
+use Rattle.bdd_sets.specs.Members.{AreMembers, move_functions, reply_of}
+use Rattle.bdd_sets.specs.Forcing.{FitMoves}
+use Rattle.bdd_sets.proofs.SpentLemmas.{function_kept}
+use Rattle.bdd_sets.proofs.SetLemmas.{told_at}
+use Rattle.bdd_sets.proofs.ShiftLemmas.{tells_next}
+use Rattle.bdd_sets.proofs.ForceLemmas.{tells_leads, tells_negated}
 use Rattle.region_bdd.specs.declared.slots.Content.TheVariants.{Region}
 use Rattle.region_bdd.specs.declared.slots.Slot.{Slot}
 use Rattle.region_bdd.specs.declared.slots.BddRegion.{BddRegion}

@@ -26,28 +26,28 @@ use Rattle.bit_compile.specs.Crowding.{HasCause, IsHeldSince}
 use Rattle.bit_compile.specs.Filling.{IsFilledBy}
 use Rattle.bit_compile.proofs.Causes.{cause_ok, cause_wider, crowded_wider}
 use Rattle.bit_compile.proofs.Filled.{filled_by}
-use Rattle.state_diagrams.specs.NamedMoves.{MoveLists, lists_at}
-use Rattle.state_diagrams.specs.NamedGame.{IsOfGame, values, part as of_formula}
-use Rattle.state_diagrams.proofs.CauseLemmas.{count_cause, cause_by, root_there}
+use Rattle.bdd_sets.specs.NamedMoves.{MoveLists}
+use Rattle.bdd_sets.specs.NamedGame.{IsOfGame, values, part as of_formula}
+use Rattle.bdd_sets.proofs.CauseLemmas.{count_cause, cause_by, root_there}
 use Rattle.region_bdd.proofs.NeedLaws.{same_halt, filled_below_need}
 use Rattle.region_bdd.specs.Needs.{need_of_game}
 use Rattle.region_bdd.specs.Crowding.{IsTooSmall}
 use Rattle.region_bdd.proofs.JamLaws.{lists_same, root_is, goal_part, goal_inside, nothing_named}
-use Rattle.state_diagrams.specs.declared.moves.Members.{Members}
-use Rattle.state_diagrams.specs.Members.{MoveFunctions, AreMembers, functions_at, move_functions}
-use Rattle.state_diagrams.specs.Lists.{MakesList, one_at}
-use Rattle.state_diagrams.specs.Lines.{roots_of_members}
-use Rattle.state_diagrams.specs.MadeMembers.{MakesMembers}
-use Rattle.state_diagrams.specs.Goals.{TellGoals, IsOfGoals}
-use Rattle.state_diagrams.specs.Forcing.{FitMoves, AreLevelsOf}
-use Rattle.state_diagrams.specs.StateBits.{Tells}
-use Rattle.state_diagrams.specs.declared.moves.NextLevels.{NextLevels}
+use Rattle.bdd_sets.specs.declared.moves.Members.{Members}
+use Rattle.bdd_sets.specs.Members.{MoveFunctions, AreMembers, functions_at, move_functions, lists_at}
+use Rattle.bdd_sets.specs.Lists.{MakesList, one_at}
+use Rattle.bdd_sets.specs.LineScenes.{roots_of_members}
+use Rattle.bdd_sets.specs.MadeMembers.{MakesMembers}
+use Rattle.bdd_sets.specs.Goals.{TellGoals, IsOfGoals}
+use Rattle.bdd_sets.specs.Forcing.{FitMoves, AreLevelsOf}
+use Rattle.bdd_sets.specs.StateBits.{Tells}
+use Rattle.bdd_sets.specs.declared.moves.NextLevels.{NextLevels}
 use Rattle.regions.specs.declared.types.When.TheVariants.{First, Later}
-use Rattle.early_products.specs.declared.early.Early.{Early}
-use Rattle.early_products.specs.Early.{FitsEarly, AreLinesOf, roots_of_early}
-use Rattle.early_products.proofs.EarlyLemmas.{members_kept}
-use Rattle.state_diagrams.proofs.ProperLemmas.{proper_tells}
-use Rattle.state_diagrams.proofs.ListLemmas.{one_itself, times_here}
+use Rattle.bdd_products.specs.declared.early.Early.{Early}
+use Rattle.bdd_products.specs.Early.{FitsEarly, AreLinesOf, roots_of_early}
+use Rattle.bdd_products.proofs.EarlyLemmas.{members_kept}
+use Rattle.bdd_sets.proofs.ProperLemmas.{proper_tells}
+use Rattle.bdd_sets.proofs.ListLemmas.{one_itself, times_here}
 use Rattle.region_bdd.specs.declared.own.Own.{Own}
 use Rattle.region_bdd.specs.declared.slots.Slot.{Slot}
 use Rattle.region_bdd.specs.Object.{roots_of_own, FitsOwnEarly, IsObject}

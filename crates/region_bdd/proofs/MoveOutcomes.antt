@@ -14,9 +14,9 @@ use Rattle.region_bdd.proofs.FewNodes.{few_nodes}
 use Rattle.bdd_ops.specs.Contents.{Contents, function_at}
 use Rattle.bdd_ops.specs.Calls.{KeepsRoots}
 use Rattle.bit_compile.specs.Making.{Makes}
-use Rattle.state_diagrams.specs.declared.moves.NextLevels.{NextLevels}
-use Rattle.state_diagrams.specs.StateBits.{Tells, TellsStates, set_at}
-use Rattle.state_diagrams.specs.MoveBits.{TellsMoves, some_leads}
+use Rattle.bdd_sets.specs.declared.moves.NextLevels.{NextLevels}
+use Rattle.bdd_sets.specs.StateBits.{Tells, TellsStates, set_at}
+use Rattle.bdd_sets.specs.ToldMoves.{TellsMoves, some_leads}
 use Rattle.region_bdd.specs.declared.slots.Content.{Content}
 use Rattle.region_bdd.specs.declared.slots.Content.TheVariants.{Outputs, Inputs}
 use Rattle.region_bdd.specs.declared.slots.Slot.{Slot}
@@ -32,7 +32,7 @@ use Rattle.region_bdd.specs.Needs.{IsTight}
 use Rattle.region_bdd.specs.Object.{ShownFits, IsObject, IsOpen, OwnIsNamed, call_of, argument_in, jam_in, kept_of}
 use Rattle.region_bdd.specs.Crowding.{LeadsInto, IsOfCall, FillsBudget, IsJammed}
 use Rattle.bit_compile.specs.Crowding.{HasCause}
-use Rattle.state_diagrams.specs.NamedGame.{IsOfGame}
+use Rattle.bdd_sets.specs.NamedGame.{IsOfGame}
 use Rattle.region_bdd.proofs.Refusals.{jam_of, still_named, refusal_fills, is_jammed}
 use Rattle.region_bdd.proofs.OutcomeLaws.{is_memory}
 use Rattle.region_bdd.proofs.SlotLaws.{open_taken}

@@ -10,9 +10,9 @@ use Rattle.node_table.specs.Table.{Table, diagram_at}
 use Rattle.bdd_store.specs.State.{IsRoot, roots_at, AddsRoot, SameRoots}
 use Rattle.bdd_ops.specs.Contents.{Contents, function_at}
 use Rattle.bdd_ops.specs.Calls.{KeepsRoots}
-use Rattle.state_diagrams.specs.declared.moves.Members.{Members}
-use Rattle.state_diagrams.specs.StateBits.{set_at}
-use Rattle.state_diagrams.specs.Members.{MoveFunctions, functions_at, move_functions, all_true}
+use Rattle.bdd_sets.specs.declared.moves.Members.{Members}
+use Rattle.bdd_sets.specs.StateBits.{set_at}
+use Rattle.bdd_sets.specs.Members.{MoveFunctions, functions_at, move_functions, all_true}
 use Rattle.region_bdd.specs.declared.slots.Content.{Content}
 use Rattle.region_bdd.specs.declared.slots.Content.TheVariants.{Region, Outputs, Inputs}
 use Rattle.region_bdd.specs.declared.slots.Slot.{Slot}
@@ -21,12 +21,12 @@ use Rattle.region_bdd.specs.declared.slots.BddRegion.{BddRegion}
 use Rattle.region_bdd.specs.declared.slots.BddMove.{BddMove}
 use Rattle.region_bdd.specs.declared.own.Own.{Own}
 use Rattle.region_bdd.specs.declared.own.Refused.{Refused}
-use Rattle.state_diagrams.specs.Lists.{one_at, times_in}
-use Rattle.state_diagrams.proofs.ListLemmas.{one_itself, times_here}
-use Rattle.state_diagrams.specs.declared.moves.NextLevels.{NextLevels}
-use Rattle.early_products.specs.declared.early.Early.{Early}
-use Rattle.early_products.specs.Early.{FitsEarly, AreRootsOfEarly, roots_of_early}
-use Rattle.early_products.proofs.EarlyLemmas.{early_stays}
+use Rattle.bdd_sets.specs.Lists.{one_at, times_in}
+use Rattle.bdd_sets.proofs.ListLemmas.{one_itself, times_here}
+use Rattle.bdd_sets.specs.declared.moves.NextLevels.{NextLevels}
+use Rattle.bdd_products.specs.declared.early.Early.{Early}
+use Rattle.bdd_products.specs.Early.{FitsEarly, AreRootsOfEarly, roots_of_early}
+use Rattle.bdd_products.proofs.EarlyLemmas.{early_stays}
 use Rattle.region_bdd.specs.Slots.{Shown, Nothing, Set, OutputsInto, InputsInto, shown_in, shown_of, shown_once, shown_meaning, set_of, shown_at, items_from, meanings_in, kept_in, HasContent, HasRegionRoot, TakesSlot, FreesSlot, MarksSpent, roots_within, roots_of_slots}
 use Rattle.region_bdd.specs.Held.{Weights, weight_is, takes, clears, slot_weighs, region_content}
 use Rattle.region_bdd.specs.Object.{own_functions, OwnFits, FitsOwnEarly, roots_of_own, roots_of_members, ShownFits, AllFit, NoneSpent, IsSound, call_of, argument_in, jam_in, kept_of}

@@ -14,9 +14,9 @@ use Rattle.bdd_ops.specs.Contents.{Contents, function_at}
 use Rattle.bdd_store.specs.State.{SameRoots}
 use Rattle.bit_compile.specs.Making.{Makes, halted}
 use Rattle.bit_compile.specs.Crowding.{HasCause}
-use Rattle.state_diagrams.specs.NamedGame.{IsOfGame}
-use Rattle.state_diagrams.specs.declared.moves.NextLevels.{NextLevels}
-use Rattle.state_diagrams.specs.StateBits.{Tells, TellsStates, set_at}
+use Rattle.bdd_sets.specs.NamedGame.{IsOfGame}
+use Rattle.bdd_sets.specs.declared.moves.NextLevels.{NextLevels}
+use Rattle.bdd_sets.specs.StateBits.{Tells, TellsStates, set_at}
 use Rattle.region_bdd.specs.declared.slots.Content.TheVariants.{Region}
 use Rattle.region_bdd.specs.declared.slots.Slot.{Slot}
 use Rattle.region_bdd.specs.declared.slots.BddRegion.{BddRegion}

@@ -14,12 +14,13 @@ use Rattle.bdd_store.specs.State.{IsRoot, SameRoots}
 use Rattle.bdd_ops.specs.Contents.{Contents, function_at}
 use Rattle.bdd_ops.specs.Calls.{KeepsRoots, negated}
 use Rattle.bit_compile.specs.Crowding.{HasCause}
-use Rattle.state_diagrams.specs.declared.moves.NextLevels.{NextLevels}
-use Rattle.state_diagrams.specs.StateBits.{Tells}
-use Rattle.state_diagrams.specs.Forcing.{AreLevelsOf}
-use Rattle.state_diagrams.specs.NamedMoves.{MoveLists, lists_at}
-use Rattle.state_diagrams.specs.NamedGame.{IsOfGame, IsOfStep, IsOfRest, IsOfSet, first, into, out_of, lines_of}
-use Rattle.state_diagrams.proofs.ShiftLemmas.{tells_next}
+use Rattle.bdd_sets.specs.declared.moves.NextLevels.{NextLevels}
+use Rattle.bdd_sets.specs.StateBits.{Tells}
+use Rattle.bdd_sets.specs.Forcing.{AreLevelsOf}
+use Rattle.bdd_sets.specs.NamedMoves.{MoveLists}
+use Rattle.bdd_sets.specs.Members.{lists_at}
+use Rattle.bdd_sets.specs.NamedGame.{IsOfGame, IsOfStep, IsOfRest, IsOfSet, first, into, out_of, lines_of}
+use Rattle.bdd_sets.proofs.ShiftLemmas.{tells_next}
 use Rattle.region_bdd.specs.declared.slots.Slot.{Slot}
 use Rattle.region_bdd.specs.declared.own.Own.{Own}
 use Rattle.region_bdd.specs.declared.own.Refused.{Refused}

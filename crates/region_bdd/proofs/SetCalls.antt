@@ -9,12 +9,12 @@ use Rattle.bdd_store.specs.State.{IsRoot}
 use Rattle.bdd_ops.specs.Contents.{Contents, function_at}
 use Rattle.bdd_ops.specs.Functions.{joined, join_of}
 use Rattle.bdd_ops.specs.Calls.{negated}
-use Rattle.state_diagrams.specs.Members.{AreMembers, move_functions, avoiding}
-use Rattle.state_diagrams.proofs.StateLemmas.{system_told, environment_told}
-use Rattle.state_diagrams.specs.declared.moves.NextLevels.{NextLevels}
-use Rattle.state_diagrams.specs.StateBits.{Tells, TellsStates}
-use Rattle.state_diagrams.proofs.SetLemmas.{tells_none, tells_rest}
-use Rattle.state_diagrams.proofs.ListLemmas.{one_itself, times_here}
+use Rattle.bdd_sets.specs.Members.{AreMembers, move_functions, avoiding}
+use Rattle.bdd_sets.proofs.StateLemmas.{system_told, environment_told}
+use Rattle.bdd_sets.specs.declared.moves.NextLevels.{NextLevels}
+use Rattle.bdd_sets.specs.StateBits.{Tells, TellsStates}
+use Rattle.bdd_sets.proofs.SetLemmas.{tells_none, tells_rest}
+use Rattle.bdd_sets.proofs.ListLemmas.{one_itself, times_here}
 use Rattle.region_bdd.specs.declared.slots.Content.TheVariants.{Region}
 use Rattle.region_bdd.specs.declared.slots.Slot.{Slot}
 use Rattle.region_bdd.specs.declared.slots.BddRegion.{BddRegion}

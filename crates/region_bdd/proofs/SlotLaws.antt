@@ -7,7 +7,7 @@ use Rattle.region_bdd.specs.declared.slots.Content.{Content}
 use Rattle.region_bdd.specs.declared.slots.Content.TheVariants.{Region, Outputs, Inputs}
 use Rattle.region_bdd.specs.declared.slots.Slot.{Slot}
 use Rattle.region_bdd.specs.declared.slots.Slot.TheVariants.{Free, Taken, Spent}
-use Rattle.state_diagrams.proofs.ListLemmas.{one_itself}
+use Rattle.bdd_sets.proofs.ListLemmas.{one_itself}
 use Rattle.region_bdd.specs.Slots.{Nothing, Set, OutputsInto, InputsInto, shown_in, shown_of, shown_once, HasContent, TakesSlot, FreesSlot, MarksSpent, TakesPlace, ClearsPlace, roots_within, roots_of_slot, roots_of_slots}
 use Rattle.region_bdd.specs.Object.{ShownFits, AllFit, NoneSpent}
 

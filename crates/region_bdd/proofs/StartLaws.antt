@@ -7,13 +7,13 @@ use Rattle.regions.specs.declared.types.When.TheVariants.{First}
 use Rattle.game_values.specs.declared.seen.At.TheVariants.{Next}
 use Rattle.bdd_ops.specs.Contents.{Contents, function_at}
 use Rattle.bdd_ops.specs.Calls.{negated}
-use Rattle.state_diagrams.specs.Members.{AreMembers, move_functions, avoiding}
-use Rattle.state_diagrams.specs.MoveBits.{TellsBefore, some_keeps_out}
-use Rattle.state_diagrams.specs.StateBits.{Tells}
-use Rattle.state_diagrams.proofs.SetLemmas.{told_at}
-use Rattle.state_diagrams.proofs.ShiftLemmas.{tells_next}
-use Rattle.state_diagrams.proofs.ForceLemmas.{tells_avoiding, forced-not, kept_out-rest}
-use Rattle.state_diagrams.specs.declared.moves.NextLevels.{NextLevels}
+use Rattle.bdd_sets.specs.Members.{AreMembers, move_functions, avoiding}
+use Rattle.bdd_sets.specs.ToldMoves.{TellsBefore, some_keeps_out}
+use Rattle.bdd_sets.specs.StateBits.{Tells}
+use Rattle.bdd_sets.proofs.SetLemmas.{told_at}
+use Rattle.bdd_sets.proofs.ShiftLemmas.{tells_next}
+use Rattle.bdd_sets.proofs.ForceLemmas.{tells_avoiding, forced-not, kept_out-rest}
+use Rattle.bdd_sets.specs.declared.moves.NextLevels.{NextLevels}
 use Rattle.region_bdd.specs.declared.slots.Content.TheVariants.{Region}
 use Rattle.region_bdd.specs.declared.slots.Slot.{Slot}
 use Rattle.region_bdd.specs.declared.slots.BddRegion.{BddRegion}
@@ -23,7 +23,7 @@ use Rattle.region_bdd.specs.Slots.{HasContent}
 use Rattle.region_bdd.specs.Object.{IsObject, kept_of}
 use Rattle.region_bdd.proofs.AlikeLaws.{has_moves}
 use Rattle.region_bdd.proofs.ObjectLaws.{own_root}
-use Rattle.state_diagrams.proofs.ListLemmas.{times_here}
+use Rattle.bdd_sets.proofs.ListLemmas.{times_here}
 use Rattle.region_bdd.proofs.SetCalls.{region_tells}
 use Rattle.region_bdd.proofs.AskLaws.{first_empty, first_not_empty}
 

@@ -7,15 +7,15 @@ use Rattle.spec_model.specs.Sets.{StateSet}
 use Rattle.game_values.specs.declared.seen.At.TheVariants.{Now, Next}
 use Rattle.regions.specs.declared.types.When.{When}
 use Rattle.regions.specs.Kept.{Meaning, States, Outputs, Inputs, Call, PreSys, PreEnv, OutMoves, InMoves, StartSys, StartEnv, Jam}
-use Rattle.bdd_ops.specs.Calls.{negated}
+use Rattle.bdd_ops.specs.Unfinished.{negated}
 use Rattle.bit_compile.specs.Domains.{state_domains, level_count}
 use Rattle.bit_compile.specs.Filling.{FillTogether, IsFilledBy}
-use Rattle.state_diagrams.specs.declared.moves.NextLevels.{NextLevels}
-use Rattle.state_diagrams.specs.StateBits.{Tells}
-use Rattle.state_diagrams.specs.Members.{reply_of}
-use Rattle.state_diagrams.specs.Forcing.{AreLevelsOf}
-use Rattle.state_diagrams.specs.NamedMoves.{joined_lists}
-use Rattle.state_diagrams.specs.NamedGame.{IsOfGame, IsOfSet, lines_of}
+use Rattle.bdd_sets.specs.declared.moves.NextLevels.{NextLevels}
+use Rattle.bdd_sets.specs.StateBits.{Tells}
+use Rattle.bdd_sets.specs.MoveFunctions.{reply_of}
+use Rattle.bdd_sets.specs.MoveBits.{AreLevelsOf}
+use Rattle.bdd_sets.specs.NamedMoves.{joined_lists}
+use Rattle.bdd_sets.specs.NamedGame.{IsOfGame, IsOfSet, lines_of}
 
 -- ---- what a jam lists
 

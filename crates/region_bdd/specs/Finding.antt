@@ -8,8 +8,8 @@ use Rattle.regions.specs.declared.types.When.TheVariants.{First, Later}
 use Rattle.game_values.specs.declared.seen.At.TheVariants.{Now, Next}
 use Rattle.bdd_ops.specs.Paths.{Agrees}
 use Rattle.bdd_ops.specs.Together.{Together}
-use Rattle.state_diagrams.specs.declared.moves.Members.{Members}
-use Rattle.state_search.specs.Parts.{ArePart, HaveValues, AreFixed}
+use Rattle.bdd_sets.specs.declared.moves.Members.{Members}
+use Rattle.bdd_search.specs.Parts.{ArePart, HaveValues, AreFixed}
 
 -- the diagrams that are true together at legal moves into the target
 abbrev pub outputs_asked : Members → ℕ → List ℕ

@@ -7,7 +7,7 @@ use Rattle.spec_model.specs.Sets.{StateSet, no_states}
 use Rattle.game_values.specs.declared.seen.At.TheVariants.{Now}
 use Rattle.regions.specs.Kept.{Item, Region as RegionItem, Move, Meaning, States, Outputs as OutputMoves, Inputs as InputMoves, weigh, weight, meaning_of, IsHeld, IsExact, Jam}
 use Rattle.regions.specs.declared.types.When.TheVariants.{First, Later}
-use Rattle.state_diagrams.specs.StateBits.{set_at}
+use Rattle.bdd_sets.specs.StateBits.{set_at}
 use Rattle.region_bdd.specs.declared.slots.BddRegion.{BddRegion}
 use Rattle.region_bdd.specs.declared.slots.BddMove.{BddMove}
 use Rattle.region_bdd.specs.Slots.{Shown, Nothing, Set, OutputsInto, InputsInto, shown_meaning, set_of, shown_at, items_from, kept_in, TakesPlace, ClearsPlace}

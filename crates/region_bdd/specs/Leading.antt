@@ -7,17 +7,18 @@ use Rattle.regions.specs.declared.types.When.{When}
 use Rattle.regions.specs.declared.types.When.TheVariants.{First, Later}
 use Rattle.bdd_store.specs.State.{roots_at, SameRoots, IsFull}
 use Rattle.bdd_ops.specs.Contents.{Contents, function_at}
-use Rattle.bdd_ops.specs.Calls.{KeepsRoots, negated}
-use Rattle.state_diagrams.specs.declared.moves.Members.{Members}
-use Rattle.state_diagrams.specs.declared.moves.NextLevels.{NextLevels}
-use Rattle.state_diagrams.specs.Members.{MoveFunctions, reply_of}
+use Rattle.bdd_ops.specs.Calls.{KeepsRoots}
+use Rattle.bdd_ops.specs.Unfinished.{negated}
+use Rattle.bdd_sets.specs.declared.moves.Members.{Members}
+use Rattle.bdd_sets.specs.declared.moves.NextLevels.{NextLevels}
+use Rattle.bdd_sets.specs.MoveFunctions.{MoveFunctions, reply_of}
 use Rattle.region_bdd.specs.declared.slots.Content.TheVariants.{Inputs}
 use Rattle.region_bdd.specs.declared.slots.Slot.{Slot}
 use Rattle.region_bdd.specs.declared.slots.Slot.TheVariants.{Taken}
 use Rattle.region_bdd.specs.declared.slots.BddMove.{BddMove}
 use Rattle.region_bdd.specs.declared.own.Own.{Own}
 use Rattle.region_bdd.specs.declared.own.Refused.{Refused}
-use Rattle.state_diagrams.specs.Lists.{one_at}
+use Rattle.bdd_sets.specs.Lists.{one_at}
 use Rattle.region_bdd.specs.Slots.{TakesSlot}
 
 -- the lines of the first moves, or of later ones

@@ -12,16 +12,14 @@ use Rattle.bdd_store.specs.State.{roots_at, SameRoots}
 use Rattle.bdd_ops.specs.Contents.{Contents, function_at}
 use Rattle.bdd_ops.specs.Calls.{KeepsRoots}
 use Rattle.bit_compile.specs.Crowding.{HasCause}
-use Rattle.bit_compile.specs.Compiled.{compiled}
-use Rattle.bit_compile.specs.Proper.{proper}
-use Rattle.state_diagrams.specs.declared.moves.Members.{Members}
-use Rattle.state_diagrams.specs.Members.{functions_at, move_functions}
-use Rattle.state_diagrams.specs.Lists.{one_at, times_in}
-use Rattle.state_diagrams.specs.Lines.{roots_of_members}
-use Rattle.state_diagrams.specs.NamedMoves.{lists_at}
-use Rattle.state_diagrams.specs.NamedGame.{lines_of}
-use Rattle.state_diagrams.specs.Goals.{TellGoals}
-use Rattle.state_diagrams.specs.Forcing.{FitMoves}
+use Rattle.bit_compile.specs.Compiled.{compiled, proper}
+use Rattle.bdd_sets.specs.declared.moves.Members.{Members}
+use Rattle.bdd_sets.specs.Members.{functions_at, move_functions, lists_at}
+use Rattle.bdd_sets.specs.Lists.{one_at, times_in}
+use Rattle.bdd_sets.specs.LineScenes.{roots_of_members}
+use Rattle.bdd_sets.specs.NamedGame.{lines_of}
+use Rattle.bdd_sets.specs.Goals.{TellGoals}
+use Rattle.bdd_sets.specs.Forcing.{FitMoves}
 use Rattle.region_bdd.specs.declared.own.Own.{Own}
 use Rattle.region_bdd.specs.Object.{OwnFits, OwnIsNamed, own_functions}
 

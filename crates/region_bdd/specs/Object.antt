@@ -11,19 +11,19 @@ use Rattle.regions.specs.declared.types.When.TheVariants.{First, Later}
 use Rattle.bdd_store.specs.State.{roots_at}
 use Rattle.bdd_ops.specs.Contents.{Contents, function_at}
 use Rattle.bit_compile.specs.Domains.{state_domains, level_count}
-use Rattle.bit_compile.specs.Compiled.{compiled}
-use Rattle.bit_compile.specs.Proper.{proper}
-use Rattle.state_diagrams.specs.declared.moves.Members.{Members}
-use Rattle.state_diagrams.specs.StateBits.{TellsStates, Tells, set_at}
-use Rattle.state_diagrams.specs.MoveBits.{TellsMoves, some_leads}
-use Rattle.state_diagrams.specs.Forcing.{FitMoves, AreLevelsOf}
-use Rattle.state_diagrams.specs.declared.moves.NextLevels.{NextLevels}
-use Rattle.state_diagrams.specs.Members.{MoveFunctions, move_functions, functions_at}
-use Rattle.state_diagrams.specs.Lists.{one_at, times_in}
-use Rattle.state_diagrams.specs.Goals.{TellGoals}
-use Rattle.state_diagrams.specs.NamedMoves.{lists_at}
-use Rattle.state_diagrams.specs.NamedGame.{lines_of}
-use Rattle.early_products.specs.Early.{FitsEarly, AreLinesOf, roots_of_early}
+use Rattle.bit_compile.specs.Compiled.{compiled, proper}
+use Rattle.bdd_sets.specs.declared.moves.Members.{Members}
+use Rattle.bdd_sets.specs.StateBits.{TellsStates, Tells, set_at}
+use Rattle.bdd_sets.specs.ToldMoves.{TellsMoves, some_leads}
+use Rattle.bdd_sets.specs.Forcing.{FitMoves}
+use Rattle.bdd_sets.specs.MoveBits.{AreLevelsOf}
+use Rattle.bdd_sets.specs.declared.moves.NextLevels.{NextLevels}
+use Rattle.bdd_sets.specs.Members.{move_functions, functions_at, lists_at}
+use Rattle.bdd_sets.specs.MoveFunctions.{MoveFunctions}
+use Rattle.bdd_sets.specs.Lists.{one_at, times_in}
+use Rattle.bdd_sets.specs.Goals.{TellGoals}
+use Rattle.bdd_sets.specs.NamedGame.{lines_of}
+use Rattle.bdd_products.specs.Early.{FitsEarly, AreLinesOf, roots_of_early}
 use Rattle.region_bdd.specs.declared.slots.Slot.{Slot}
 use Rattle.region_bdd.specs.declared.slots.Slot.TheVariants.{Free, Taken, Spent}
 use Rattle.region_bdd.specs.declared.slots.BddRegion.{BddRegion}

@@ -13,6 +13,7 @@ use Rattle.spec_model.specs.Diagrams.{Bits, Function}
 use Rattle.spec_model.specs.Moves.{is_env, domains_of}
 use Rattle.spec_model.specs.Games.{GameData, GoalData, HiddenData, State, listed}
 use Rattle.spec_model.specs.Steps.{Before, is_state, is_input, are_hidden_values}
+use Rattle.spec_model.specs.OneSpelling.{IsName-prop}
 use Rattle.spec_model.specs.Sets.{StateSet}
 use Rattle.spec_model.specs.WellMade.{WellMade}
 use Rattle.regions.specs.declared.types.When.{When}
@@ -22,14 +23,16 @@ use Rattle.bdd_ops.specs.Contents.{Contents}
 use Rattle.bit_compile.specs.Domains.{state_domains}
 use Rattle.bit_compile.proofs.SlotLemmas.{length-assignment}
 use Rattle.bit_compile.proofs.LawLemmas.{one_state, state_listed}
-use Rattle.state_diagrams.specs.declared.moves.NextLevels.{NextLevels}
-use Rattle.state_diagrams.specs.StateBits.{bits_for, set_at, HasState, TellsStates, Tells}
-use Rattle.state_diagrams.specs.MoveBits.{TellsMoves, IsOfNext, AreNextOf, LeadsToNext}
-use Rattle.state_diagrams.specs.Members.{MoveFunctions, move_functions}
-use Rattle.early_products.specs.declared.early.Early.{Early}
-use Rattle.early_products.specs.Products.{NoneReads, AreInOrder, IsProductOf}
-use Rattle.early_products.specs.Early.{FitsEarly}
-use Rattle.state_diagrams.specs.Forcing.{FitMoves, AreLevelsOf}
+use Rattle.bdd_sets.specs.declared.moves.NextLevels.{NextLevels}
+use Rattle.bdd_sets.specs.StateBits.{bits_for, set_at, HasState, TellsStates, Tells}
+use Rattle.bdd_sets.specs.MoveBits.{AreNextOf, LeadsToNext, AreLevelsOf}
+use Rattle.bdd_sets.specs.ToldMoves.{TellsMoves, IsOfNext}
+use Rattle.bdd_sets.specs.Members.{move_functions}
+use Rattle.bdd_sets.specs.MoveFunctions.{MoveFunctions}
+use Rattle.bdd_products.specs.declared.early.Early.{Early}
+use Rattle.bdd_products.specs.Products.{NoneReads, AreInOrder, IsProductOf}
+use Rattle.bdd_products.specs.Early.{FitsEarly}
+use Rattle.bdd_sets.specs.Forcing.{FitMoves}
 use Rattle.region_bdd.specs.declared.slots.Slot.{Slot}
 use Rattle.region_bdd.specs.declared.slots.Slot.TheVariants.{Free, Taken, Spent}
 use Rattle.region_bdd.specs.declared.own.Own.{Own}
@@ -40,7 +43,7 @@ use Rattle.region_bdd.specs.Room.{IsRoom}
 use Rattle.region_bdd.specs.Needs.{IsTight}
 use Rattle.region_bdd.specs.Slots.{Shown, Nothing, Set, OutputsInto, InputsInto, shown_of, shown_once}
 use Rattle.region_bdd.specs.Crowding.{IsJammed}
-use Rattle.state_diagrams.specs.Goals.{TellGoals}
+use Rattle.bdd_sets.specs.Goals.{TellGoals}
 use Rattle.region_bdd.specs.Object.{OwnFunctions, OwnFits, ShownFits, AllFit, NoneSpent, IsSound, IsOpen, jam_in, IsObject}
 
 -- ---- a state is known by its values
@@ -188,7 +191,7 @@ early_one m lists c None = λ x y. refl
 early_one m lists c (Some e) = λ x y i. record { replies = product_one _ _ _ _ x.replies y.replies i; inputs = product_one _ _ _ _ x.inputs y.inputs i }
 
 well_made_one : (g : GameData) → IsProp (WellMade g)
-well_made_one g = λ x y i. record { few_variables = le_prop x.few_variables y.few_variables i; names = Bool-set _ true x.names y.names i; domains = Bool-set _ true x.domains y.domains i; hidden = Bool-set _ true x.hidden y.hidden i; initial_asm = Bool-set _ true x.initial_asm y.initial_asm i; initial_gar = Bool-set _ true x.initial_gar y.initial_gar i; safe_asm = Bool-set _ true x.safe_asm y.safe_asm i; safe_gar = Bool-set _ true x.safe_gar y.safe_gar i; assume = Bool-set _ true x.assume y.assume i; goals = Bool-set _ true x.goals y.goals i }
+well_made_one g = λ x y i. record { few_variables = le_prop x.few_variables y.few_variables i; names = Bool-set _ true x.names y.names i; spelled = λ k d lt. IsName-prop _ (x.spelled k d lt) (y.spelled k d lt) i; domains = Bool-set _ true x.domains y.domains i; hidden = Bool-set _ true x.hidden y.hidden i; initial_asm = Bool-set _ true x.initial_asm y.initial_asm i; initial_gar = Bool-set _ true x.initial_gar y.initial_gar i; safe_asm = Bool-set _ true x.safe_asm y.safe_asm i; safe_gar = Bool-set _ true x.safe_gar y.safe_gar i; assume = Bool-set _ true x.assume y.assume i; goals = Bool-set _ true x.goals y.goals i }
 
 pub object_is_one : (g : GameData) (c : Contents) (own : Own) (lists : NextLevels) (slots : List Slot) (refused : Option Refused) → IsProp (IsObject g c own lists slots refused)
 object_is_one g c own lists slots refused = λ x y i. record { made = well_made_one g x.made y.made i; levels = ℕ_set _ _ x.levels y.levels i; lists_are = lists_one g lists x.lists_are y.lists_are i; early = early_one (move_functions c own.step.later) lists c own.early x.early y.early i; named = ∥∥₁_prop x.named y.named i; sound = sound_one g c own slots x.sound y.sound i; unspent = open_one refused slots x.unspent y.unspent i; tight = tight_one refused c.state.table x.tight y.tight i; jammed = jammed_one g c.state.table.budget (jam_in g (map (shown_once c) slots) refused) x.jammed y.jammed i }

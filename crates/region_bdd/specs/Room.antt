@@ -1,6 +1,6 @@
 -- What the object's room for searches has place for.
 use Rattle.std.specs.Prelude.{◌≡◌, ◌+◌, ◌<◌, ℕ, length}
-use Rattle.state_diagrams.specs.declared.moves.Members.{Members}
+use Rattle.bdd_sets.specs.declared.moves.Members.{Members}
 use Rattle.region_bdd.specs.declared.own.Own.{Own}
 use Rattle.region_bdd.specs.declared.search.Search.{Search}
 

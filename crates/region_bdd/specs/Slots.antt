@@ -7,8 +7,8 @@ use Rattle.game_values.specs.declared.seen.At.TheVariants.{Now, Next}
 use Rattle.regions.specs.Kept.{Kept, Item, Region as RegionItem, Move, Meaning, States, Outputs as OutputMoves, Inputs as InputMoves, Jam}
 use Rattle.regions.specs.declared.types.When.{When}
 use Rattle.bdd_ops.specs.Contents.{Contents, function_at}
-use Rattle.state_diagrams.specs.StateBits.{set_at}
-use Rattle.state_diagrams.specs.Lists.{one_at}
+use Rattle.bdd_sets.specs.StateBits.{set_at}
+use Rattle.bdd_sets.specs.Lists.{one_at}
 use Rattle.region_bdd.specs.declared.slots.Content.{Content}
 use Rattle.region_bdd.specs.declared.slots.Content.TheVariants.{Region, Outputs, Inputs}
 use Rattle.region_bdd.specs.declared.slots.Slot.{Slot}

@@ -7,17 +7,16 @@ ghost use Rattle.bdd_ops.specs.Contents.{Contents, function_at};
 ghost use Rattle.bdd_ops.specs.Calls.{negated, RisesOver};
 ghost use Rattle.bit_compile.specs.Making.{Makes};
 ghost use Rattle.bit_compile.specs.Crowding.{HasCause};
-ghost use Rattle.state_diagrams.specs.NamedMoves.{lists_at};
-ghost use Rattle.state_diagrams.specs.NamedGame.{IsOfStep, IsOfRest};
-ghost use Rattle.state_diagrams.specs.Members.{AreMembers, move_functions, avoiding};
+ghost use Rattle.bdd_sets.specs.NamedGame.{IsOfStep, IsOfRest};
+ghost use Rattle.bdd_sets.specs.Members.{AreMembers, move_functions, avoiding, lists_at};
 ghost use Rattle.region_bdd.specs.Asking.{Answers};
 
 use crate::own::Own;
 use bdd_ops::{Diagrams, Root};
+use bdd_sets::moves::{NextLevels, avoided};
+use bdd_sets::spent::not_spent;
+use bdd_sets::steps::shift;
 use regions::Halt;
-use state_diagrams::moves::{NextLevels, avoided};
-use state_diagrams::spent::not_spent;
-use state_diagrams::steps::shift;
 
 /// Where some legal first input has no legal first output into a set.
 pub fn avoiding_set(

@@ -2,7 +2,7 @@
 
 ghost use Rattle.std.specs.Prelude.{◌≡◌, ◌≤◌, ◌+◌, ℕ};
 ghost use Rattle.bdd_store.specs.State.{roots_at};
-ghost use Rattle.state_diagrams.specs.Lines.{roots_of_members};
+ghost use Rattle.bdd_sets.specs.LineScenes.{roots_of_members};
 ghost use Rattle.region_bdd.specs.Slots.{roots_of_slot, roots_of_slots};
 ghost use Rattle.region_bdd.specs.Object.{roots_of_own};
 
@@ -10,10 +10,10 @@ use crate::giving_back::give_back;
 use crate::own::Own;
 use crate::slots::{Slot, Slots};
 use bdd_ops::Diagrams;
-use early_products::early::release_early;
-use state_diagrams::forcing::StepRoots;
-use state_diagrams::lists::release_list;
-use state_diagrams::moves::Members;
+use bdd_products::early::release_early;
+use bdd_sets::forcing::StepRoots;
+use bdd_sets::lists::release_list;
+use bdd_sets::moves::Members;
 
 /// Gives back each root of members.
 pub fn release_members(diagrams: &mut Diagrams, members: Members)

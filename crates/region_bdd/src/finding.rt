@@ -5,18 +5,18 @@ ghost use Rattle.spec_model.specs.declared.value.Value.{Value};
 ghost use Rattle.game_values.specs.declared.seen.At.{At};
 ghost use Rattle.bdd_store.specs.State.{IsRoot};
 ghost use Rattle.bit_compile.specs.Domains.{level_count};
-ghost use Rattle.state_diagrams.specs.Members.{AreMembers};
-ghost use Rattle.state_search.specs.Parts.{ArePart, AreFixed, AllowsValues, KeepsOtherBits};
+ghost use Rattle.bdd_sets.specs.Members.{AreMembers};
+ghost use Rattle.bdd_search.specs.Parts.{ArePart, AreFixed, AllowsValues, KeepsOtherBits};
 ghost use Rattle.region_bdd.specs.Room.{member_count};
 ghost use Rattle.region_bdd.specs.Finding.{outputs_asked, inputs_asked, AsksFor, AreStateAt, AreStateFixed, AllowsState, IsMoveFixed};
 
 use bdd_ops::{Conjunction, Diagrams, Root};
+use bdd_search::{fit, fix, loosen};
+use bdd_sets::moves::Members;
 use bit_compile::Codes;
 use game_values::seen::At;
 use regions::When;
 use spec_model::value::Value;
-use state_diagrams::moves::Members;
-use state_search::{fit, fix, loosen};
 
 /// Asks for legal outputs that lead into the target.
 pub fn ask_outputs(all: &mut Conjunction, diagrams: &Diagrams, members: &Members, target: &Root)

@@ -12,9 +12,9 @@ ghost use Rattle.region_bdd.specs.Seen.{seen};
 use crate::finding::{ask_inputs, ask_outputs, fix_before, fix_move};
 use crate::object::RegionBdd;
 use crate::slots::{BddMove, BddRegion, Content};
+use bdd_search::{fit, read};
 use game_values::seen::At;
 use spec_model::value::Value;
-use state_search::{fit, read};
 
 impl RegionBdd {
     /// Whether the region has the state.

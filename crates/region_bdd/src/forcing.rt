@@ -9,7 +9,7 @@ use crate::keeping::settle;
 use crate::object::RegionBdd;
 use crate::own::Asked;
 use crate::slots::BddRegion;
-use early_products::early::{environment_states, system_states};
+use bdd_products::early::{environment_states, system_states};
 use regions::Halt;
 
 impl RegionBdd {

@@ -7,17 +7,16 @@ ghost use Rattle.bdd_ops.specs.Contents.{Contents, function_at};
 ghost use Rattle.bdd_ops.specs.Calls.{RisesOver};
 ghost use Rattle.bit_compile.specs.Making.{Makes};
 ghost use Rattle.bit_compile.specs.Crowding.{HasCause};
-ghost use Rattle.state_diagrams.specs.NamedMoves.{lists_at};
-ghost use Rattle.state_diagrams.specs.NamedGame.{IsOfRest};
-ghost use Rattle.state_diagrams.specs.Members.{AreMembers, move_functions};
+ghost use Rattle.bdd_sets.specs.NamedGame.{IsOfRest};
+ghost use Rattle.bdd_sets.specs.Members.{AreMembers, move_functions, lists_at};
 ghost use Rattle.region_bdd.specs.Leading.{leading_in, MakesTwo};
 
 use bdd_ops::{Diagrams, Root};
+use bdd_sets::moves::{Members, NextLevels, kept_out};
+use bdd_sets::spent::not_spent;
+use bdd_sets::steps::shift;
 use bit_compile::steps::keep;
 use regions::Halt;
-use state_diagrams::moves::{Members, NextLevels, kept_out};
-use state_diagrams::spent::not_spent;
-use state_diagrams::steps::shift;
 
 /// Where every legal output leads into a set.
 fn leading(

@@ -10,8 +10,8 @@ use crate::leading::with_leading;
 use crate::object::RegionBdd;
 use crate::own::Asked;
 use crate::slots::{BddMove, BddRegion};
+use bdd_sets::steps::shift;
 use regions::{Halt, When};
-use state_diagrams::steps::shift;
 
 impl RegionBdd {
     /// The legal outputs that lead into `t`, after each state and legal input.

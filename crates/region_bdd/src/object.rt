@@ -13,9 +13,9 @@ use crate::own::{Own, Refused};
 use crate::search::Search;
 use crate::slots::Slots;
 use bdd_ops::Diagrams;
+use bdd_sets::moves::NextLevels;
 use bit_compile::Codes;
 use spec_model::game::Game;
-use state_diagrams::moves::NextLevels;
 
 /// Regions over a game of any size.
 pub struct RegionBdd {

@@ -6,13 +6,12 @@ ghost use Rattle.region_bdd.specs.Goals.{goal_roots};
 ghost use Rattle.region_bdd.specs.Leading.{members_at};
 
 use bdd_ops::Root;
-use early_products::early::Early;
+use bdd_products::early::Early;
+use bdd_sets::forcing::StepRoots;
+use bdd_sets::moves::Members;
 use regions::{Recur, When};
-use state_diagrams::forcing::StepRoots;
-use state_diagrams::moves::Members;
 
 /// What the object keeps from its making on: sets of the game's own formulas.
-#[derive(Debug)]
 pub struct Own {
     /// No state and all states, at the present bits, and the lines of later moves.
     pub step: StepRoots,
@@ -27,7 +26,7 @@ pub struct Own {
 }
 
 /// A call that may be refused for want of budget.
-#[derive(Clone, Copy, Debug, PartialEq, Eq)]
+#[derive(Clone, Copy, PartialEq, Eq)]
 pub enum Asked {
     All,
     NoStates,
@@ -45,7 +44,7 @@ pub enum Asked {
 }
 
 /// The call that was refused, and the slots of its arguments.
-#[derive(Clone, Copy, Debug, PartialEq, Eq)]
+#[derive(Clone, Copy, PartialEq, Eq)]
 pub struct Refused {
     pub asked: Asked,
     pub first: Option<usize>,

@@ -10,9 +10,9 @@ use crate::keeping::settle;
 use crate::object::RegionBdd;
 use crate::own::Asked;
 use crate::slots::BddRegion;
+use bdd_sets::steps::ite;
 use bit_compile::steps::{and, or, told};
 use regions::{Halt, Recur};
-use state_diagrams::steps::ite;
 
 impl RegionBdd {
     /// Every assignment of the domains, legal or not.

@@ -9,19 +9,16 @@ use std::alloc::AllocError;
 use std::mem;
 
 /// A region, by the slot of its diagram. It must be spent.
-#[derive(Debug)]
 pub struct BddRegion {
     pub slot: usize,
 }
 
 /// Moves, by the slot of their diagrams. They must be spent.
-#[derive(Debug)]
 pub struct BddMove {
     pub slot: usize,
 }
 
 /// The diagrams of a region or of moves.
-#[derive(Debug)]
 pub enum Content {
     /// The region's, at the present bits.
     Region(Root),
@@ -34,14 +31,12 @@ pub enum Content {
 
 /// A free slot names the one that was free before it. A slot is spent, and keeps its diagrams, where it is given back
 /// after the budget ran out.
-#[derive(Debug)]
 pub enum Slot {
     Free(usize),
     Taken(Content),
     Spent(Content),
 }
 
-#[derive(Debug)]
 pub struct Slots {
     pub slots: Vec<Slot>,
     /// The slot that was freed last, or one past the slots.

@@ -7,7 +7,7 @@ ghost use Rattle.region_rows.specs.Rows.{word_of, ones_of, bit_of, set_in, Shows
 use std::alloc::{AllocError, Global};
 
 /// Bit `k % 64` of word `k / 64` says whether number `k` is in the set; past the words no number is.
-#[derive(Debug, Drop)]
+#[derive(Drop)]
 pub struct Row {
     words: Vec<u64>,
 }

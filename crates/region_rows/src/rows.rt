@@ -34,7 +34,7 @@ pub enum RowsRefusal {
 }
 
 /// Regions over a game of at most 1,024 states.
-#[derive(Debug, Drop)]
+#[derive(Drop)]
 pub struct RegionRows {
     pub alloc: Global,
     pub numbered: Numbered,

@@ -8,19 +8,17 @@ use regions::When;
 use std::alloc::AllocError;
 
 /// A region, by the slot of its row. It must be spent.
-#[derive(Debug)]
 pub struct RowRegion {
     pub slot: usize,
 }
 
 /// Moves, by the slot of their row. They must be spent.
-#[derive(Debug)]
 pub struct RowMove {
     pub slot: usize,
 }
 
 /// A free slot names the one that was free before it.
-#[derive(Debug, Drop)]
+#[derive(Drop)]
 pub enum Slot {
     Free(usize),
     Region(Row),
@@ -28,7 +26,7 @@ pub enum Slot {
     Inputs(When, Row),
 }
 
-#[derive(Debug, Drop)]
+#[derive(Drop)]
 pub struct Slots {
     pub slots: Vec<Slot>,
     /// The slot that was freed last, or one past the slots.

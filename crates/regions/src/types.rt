@@ -10,21 +10,20 @@ pub enum Halt {
 }
 
 /// A refusal that hands back the object it was given.
-#[derive(Debug)]
 pub struct MakeRefusal<G> {
     pub halt: Halt,
     pub g: G,
 }
 
 /// A recurring goal of the game, by its number from 0 among the assumptions or the guarantees.
-#[derive(Clone, Copy, Debug, PartialEq, Eq)]
+#[derive(Clone, Copy, PartialEq, Eq)]
 pub enum Recur {
     Assumption(usize),
     Guarantee(usize),
 }
 
 /// At the first move, or at a later one.
-#[derive(Clone, Copy, Debug, PartialEq, Eq)]
+#[derive(Clone, Copy, PartialEq, Eq)]
 pub enum When {
     First,
     Later,

@@ -13,7 +13,8 @@ use Rattle.session_lines.specs.Shown.{inputs_of, outputs_of}
 use Rattle.session_lines.specs.Room.{domains}
 use Rattle.session.specs.declared.talking.End.{End}
 use Rattle.session.specs.Exchanges.{Ends, Wrote, Exchanges, opened, answered, Talk}
-use Rattle.session.specs.CounterTalks.{ReadsOutput, shown_input, AreOutputs, note_line, shown_inputs, first_broken_reply, CounterTalk, CounterState, counter_terms}
+use Rattle.session.specs.CounterTalks.{ReadsOutput, shown_input, AreOutputs, note_line, shown_inputs, first_broken_reply, CounterTalk}
+use Rattle.session.specs.CounterTerms.{CounterState, counter_terms}
 use Rattle.session.proofs.Fitting.{read_fits}
 use Rattle.session.proofs.RunTalks.{input_domains_are, output_domains_are, is_none-labelled, length_more}
 use Rattle.session.proofs.Turns.{ends_weaker}

@@ -31,7 +31,8 @@ use Rattle.session_lines.specs.Room.{domains}
 use Rattle.session_lines.specs.Shown.{inputs_of, outputs_of, show}
 use Rattle.session_lines.specs.Views.{AreOver, names_of, shown_variables, shown_of}
 use Rattle.session.specs.Exchanges.{Answer}
-use Rattle.session.specs.CounterTalks.{first_broken_reply, shown_input, note_line, CounterState, counter_terms}
+use Rattle.session.specs.CounterTalks.{first_broken_reply, shown_input, note_line}
+use Rattle.session.specs.CounterTerms.{CounterState, counter_terms}
 use Rattle.session.specs.Counters.{shifts_of, denials_of, IsCounterOf, HasPlayedNothing, StandsIn, WaitsIn, GivesIn}
 use Rattle.session.proofs.RunTalks.{input_domains_are, output_domains_are}
 

@@ -26,7 +26,8 @@ use Rattle.session_lines.proofs.HandingLemmas.{first_with, none_handed, handed_f
 use Rattle.trace_planes.specs.declared.audit.Audit.{Audit}
 use Rattle.trace_planes.specs.declared.finding.Finding.{Finding}
 use Rattle.trace_planes.specs.Audits.{IsPosition, Stands, OfEachRun, room_of}
-use Rattle.trace_planes.specs.Findings.{or_else, broken_in_game, broken_in, found_after, first_from, first_finding, first_finding_in}
+use Rattle.trace_planes.specs.Findings.{or_else, broken_in, found_after, first_from, first_finding_in}
+use Rattle.trace_planes.specs.GameFindings.{broken_in_game, first_finding}
 use Rattle.session.specs.declared.auditing.AuditEnd.{AuditEnd}
 use Rattle.session.specs.declared.auditing.AuditEnd.TheVariants as ends
 use Rattle.session.specs.AuditTalks.{ReadsAll, ReadsPosition, ArePositions, Stops, AuditEnds, AuditTalk}

@@ -13,7 +13,8 @@ use Rattle.session_lines.specs.Shown.{inputs_of, outputs_of}
 use Rattle.session_lines.specs.Room.{domains}
 use Rattle.session.specs.declared.talking.End.{End}
 use Rattle.session.specs.Exchanges.{Ends, Wrote, Exchanges, opened, answered, Talk}
-use Rattle.session.specs.Talks.{ReadsInput, shown_output, AreInputs, shown_outputs, first_broken_after, RunTalk, RunState, run_terms}
+use Rattle.session.specs.Talks.{ReadsInput, shown_output, AreInputs, shown_outputs, first_broken_after, RunTalk}
+use Rattle.session.specs.RunTerms.{RunState, run_terms}
 use Rattle.session.proofs.Fitting.{read_fits}
 use Rattle.session.proofs.Turns.{ends_weaker}
 

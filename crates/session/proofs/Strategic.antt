@@ -27,7 +27,8 @@ use Rattle.session_lines.specs.Room.{domains}
 use Rattle.session_lines.specs.Shown.{inputs_of, outputs_of, show}
 use Rattle.session_lines.specs.Views.{AreFor, names_of, shown_variables, shown_of}
 use Rattle.session.specs.Exchanges.{Answer}
-use Rattle.session.specs.Talks.{first_broken_after, shown_output, RunState, run_terms}
+use Rattle.session.specs.Talks.{first_broken_after, shown_output}
+use Rattle.session.specs.RunTerms.{RunState, run_terms}
 use Rattle.session.specs.Strategies.{rounds_of, IsOf, PlaysFor}
 use Rattle.session.proofs.RunTalks.{input_domains_are, output_domains_are, legal_from}
 

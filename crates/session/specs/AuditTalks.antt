@@ -13,7 +13,7 @@ use Rattle.session_lines.specs.Reading.{Reads}
 use Rattle.trace_planes.specs.Findings.{first_finding_in}
 use Rattle.session.specs.declared.auditing.AuditEnd.{AuditEnd}
 use Rattle.session.specs.declared.auditing.AuditEnd.TheVariants as ends
-use Rattle.session.specs.Exchanges.{IsRefused}
+use Rattle.session.specs.Ends.{IsRefused}
 
 -- the line reads as an assignment of all variables: first come the values of the inputs, then those of the outputs
 abbrev pub ReadsAll : Specification → List ℕ → Assignment → Type 0

@@ -8,7 +8,7 @@ use Rattle.spec_model.specs.Moves.{input_domains, output_domains, rules_of}
 use Rattle.spec_model.specs.Games.{GameData}
 use Rattle.spec_model.specs.Agreement.{Agrees}
 use Rattle.session_lines.specs.declared.lines.Lines.{Lines}
-use Rattle.session_lines.specs.Handing.{Hands}
+use Rattle.session_lines.specs.Handed.{Hands}
 use Rattle.session_lines.specs.Views.{AreForLogs}
 use Rattle.trace_planes.specs.declared.audit.Audit.{Audit}
 use Rattle.trace_planes.specs.declared.finding.Finding.{Finding}
@@ -16,7 +16,7 @@ use Rattle.trace_planes.specs.Audits.{Stands, room_of}
 use Rattle.trace_planes.specs.Findings.{first_finding_in}
 use Rattle.session.specs.declared.auditing.AuditEnd.{AuditEnd}
 use Rattle.session.specs.declared.auditing.AuditEnd.TheVariants as ends
-use Rattle.session.specs.Exchanges.{IsRefused}
+use Rattle.session.specs.Ends.{IsRefused}
 use Rattle.session.specs.AuditTalks.{ReadsAll, ReadsPosition, ArePositions, AuditTalk}
 
 -- the positions of this run were pushed, and its game agrees with the specification

@@ -1,9 +1,11 @@
+pub mod Ends
 pub mod Exchanges
 pub mod Protocols
 pub mod Talks
+pub mod RunTerms
 pub mod CounterTalks
+pub mod CounterTerms
 pub mod AuditTalks
 pub mod Strategies
 pub mod Counters
 pub mod Audits
-pub mod Parrots

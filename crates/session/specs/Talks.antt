@@ -1,18 +1,17 @@
 -- What a session wrote for the lines that it read, and how it ended.
-use Rattle.std.specs.Prelude.{◌≡◌, ℕ, ◌≤◌, true, List, [], ◌∷◌, ◌++◌, length, option_map, Option}
+use Rattle.std.specs.Prelude.{ℕ, ◌≤◌, List, [], ◌∷◌, ◌++◌, length, option_map, Option}
 use Rattle.std.specs.Io.KnownBytes.{Consumes}
 use Rattle.spec_model.specs.declared.game.Label.{Label}
 use Rattle.spec_model.specs.Values.{Assignment}
 use Rattle.spec_model.specs.Syntax.{Specification}
-use Rattle.spec_model.specs.Rules.{Run, after}
+use Rattle.spec_model.specs.Rules.{Run, line_label}
 use Rattle.spec_model.specs.Plays.{IsPlay}
 use Rattle.spec_model.specs.Realizable.{Kept}
-use Rattle.spec_model.specs.Moves.{broken_assumption, legal_output, rules_of}
-use Rattle.spec_model.specs.FirstBroken.{line_label}
+use Rattle.spec_model.specs.Moves.{broken_assumption, rules_of}
 use Rattle.session_lines.specs.Shown.{inputs_of, outputs_of, show}
 use Rattle.session_lines.specs.Reading.{Reads}
 use Rattle.session.specs.declared.talking.End.{End}
-use Rattle.session.specs.Exchanges.{Terms, Ends, Wrote}
+use Rattle.session.specs.Ends.{Ends, Wrote}
 
 -- the line reads as an input, the output as it is shown
 abbrev pub ReadsInput : Specification → List ℕ → Assignment → Type 0
@@ -53,35 +52,3 @@ pub record RunTalk (s : Specification) (k limit : ℕ) (left_old left_new writte
   pub few : length play ≤ limit
   pub wrote : Wrote end written_old written_new (shown_outputs s play)
   pub ends : EndsSo s limit given left_new handed play rose_in rose_out end
-
--- ---- as an exchange
-
--- the play so far, which keeps each recurring guarantee within so many rounds
-pub record RunState : Type 0 where
-  pub rounds : ℕ
-  pub play : Run
-
--- nothing is written before the first line
-pub record OpensRun (s : Specification) (st : RunState) (text : List ℕ) (next : RunState) : Type 0 where
-  pub nothing : text ≡ []
-  pub same : next ≡ st
-  pub kept : Kept (rules_of s) st.rounds st.play
-
--- a legal output is written
-pub record AnswersInput (s : Specification) (st : RunState) (x : Assignment) (text : List ℕ) (next : RunState) : Type 0 where
-  pub output : Assignment
-  pub legal : legal_output s st.play x output ≡ true
-  pub shown : text ≡ shown_output s output
-  pub goes_on : next ≡ record { rounds = st.rounds; play = after st.play x output }
-  pub kept : Kept (rules_of s) st.rounds (after st.play x output)
-
-abbrev pub run_terms : Specification → Terms RunState
-run_terms s =
-    record {
-      names = s.names;
-      wanted = inputs_of s;
-      shown = outputs_of s;
-      first_broken = λ st x. first_broken_after s st.play x;
-      Opens = OpensRun s;
-      Answers = AnswersInput s;
-    }

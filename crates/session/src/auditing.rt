@@ -16,7 +16,7 @@ use sp_outside::Source;
 use trace_planes::{Audit, Finding};
 
 /// How an audit ended.
-#[derive(Clone, Copy, Debug, PartialEq, Eq)]
+#[derive(Clone, Copy, PartialEq, Eq)]
 pub enum AuditEnd {
     /// The input gave its end, and none of so many positions breaks a line.
     Whole(u64),

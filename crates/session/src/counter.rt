@@ -114,7 +114,7 @@ fn write_answer<O: Sink>(lines: &mut Lines, note: Note, output: &mut O) -> Resul
 }
 
 impl<G: Regions> Protocol for Counterstrategy<G> {
-    ghost use Rattle.session.specs.CounterTalks.{CounterState, counter_terms};
+    ghost use Rattle.session.specs.CounterTerms.{CounterState, counter_terms};
     ghost use Rattle.session.specs.Counters.{WaitsIn, GivesIn};
 
     ghost State = { CounterState };

@@ -17,8 +17,6 @@ mod counter;
 mod protocol;
 mod strategy;
 mod talking;
-#[cfg(test)]
-mod tests;
 
 pub use auditing::{AuditEnd, audit_lines};
 pub use counter::counter_lines;

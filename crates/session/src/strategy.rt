@@ -51,7 +51,7 @@ fn choose<G: Regions>(play: &mut Controller<G>, lines: &mut Lines)
 }
 
 impl<G: Regions> Protocol for Controller<G> {
-    ghost use Rattle.session.specs.Talks.{RunState, run_terms};
+    ghost use Rattle.session.specs.RunTerms.{RunState, run_terms};
     ghost use Rattle.session.specs.Strategies.{PlaysFor};
 
     ghost State = { RunState };

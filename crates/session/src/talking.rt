@@ -13,7 +13,7 @@ use sp_outside::{Sink, Source};
 use spec_model::game::Label;
 
 /// How a talk ended.
-#[derive(Clone, Copy, Debug, PartialEq, Eq)]
+#[derive(Clone, Copy, PartialEq, Eq)]
 pub enum End {
     /// The input gave its end, and each line was answered.
     Finished,

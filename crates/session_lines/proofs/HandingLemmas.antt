@@ -6,7 +6,8 @@ use Rattle.session_lines.specs.declared.reader.Taken.{Taken}
 use Rattle.session_lines.specs.declared.reader.Taken.TheVariants as taken
 use Rattle.session_lines.specs.InputLines.{Line, input_lines}
 use Rattle.session_lines.specs.Taking.{Takes, GivesLine, IsEndIf, BeginsTooLong}
-use Rattle.session_lines.specs.Handing.{HandsOut, EndsWith, IsNext, AreFirst, Hands}
+use Rattle.session_lines.specs.Handing.{IsNext, AreFirst}
+use Rattle.session_lines.specs.Handed.{HandsOut, EndsWith, Hands}
 
 pub pushed : (handed : List (List ℕ)) (line : List ℕ) → map (λ l. Some l) (handed ++ line ∷ []) ≡ map (λ l. Some l) handed ++ Some line ∷ []
 pushed [] line = refl

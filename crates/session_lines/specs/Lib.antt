@@ -5,5 +5,6 @@ pub mod Pieces
 pub mod Taking
 pub mod Room
 pub mod Handing
+pub mod Handed
 pub mod Views
 pub mod Plain

@@ -7,7 +7,7 @@ ghost use Rattle.session_lines.specs.Shown.{show};
 ghost use Rattle.session_lines.specs.Reading.{Reads};
 ghost use Rattle.session_lines.specs.Room.{domains};
 ghost use Rattle.session_lines.specs.Taking.{GivesLine};
-ghost use Rattle.session_lines.specs.Handing.{HandsOut, EndsWith};
+ghost use Rattle.session_lines.specs.Handed.{HandsOut, EndsWith};
 ghost use Rattle.session_lines.specs.declared.reader.Taken.{Taken};
 ghost use Rattle.session_lines.specs.Plain.{ArePlain, AreWritable, AreNames};
 

@@ -25,9 +25,9 @@ use Rattle.region_bdd.proofs.JamLaws.{jam_fills}
 use Rattle.bit_compile.specs.Domains.{state_domains, level_count}
 use Rattle.bit_compile.specs.Filling.{IsFilledBy}
 use Rattle.bit_compile.proofs.Filled.{fill_wider}
-use Rattle.state_diagrams.specs.NamedGame.{IsOfGame}
-use Rattle.gr1_sys.specs.Moment as sys
-use Rattle.gr1_env.specs.Moment as env
+use Rattle.bdd_sets.specs.NamedGame.{IsOfGame}
+use Rattle.gr1_sys.specs.Told as sys
+use Rattle.gr1_env.specs.Told as env
 use Rattle.strategy_parts.specs.Told as strategy
 use Rattle.strategy_parts.specs.Told.{Tale}
 use Rattle.core_min.specs.declared.fault.CoreFault.{CoreFault}
@@ -39,7 +39,8 @@ use Rattle.solve.specs.declared.parts.Parts.{Parts}
 use Rattle.solve.specs.Judged.{whole_of, last_of}
 use Rattle.solve.specs.Places.{at_places, part_at}
 use Rattle.solve.specs.Spaces.{space_kept, IsNewOf}
-use Rattle.solve.specs.Crowded.{of_system, IsNamed, own, Crowded, IsOfOneMoment}
+use Rattle.solve.specs.Crowded.{of_system, IsNamed, own, Crowded}
+use Rattle.solve.specs.Told.{IsOfOneMoment}
 use Rattle.regions.specs.declared.regions.Regions.{Ghosts}
 use Rattle.solve.specs.declared.solving.Solved.{Solved}
 use Rattle.solve.specs.Solved.{IsSolved}

@@ -24,7 +24,8 @@ use Rattle.gr1_law.proofs.EnvLayering.{env_layers_of, env_layers_of-layers, some
 use Rattle.gr1_law.proofs.EnvCounts.{some_delay_counts}
 use Rattle.gr1_law.proofs.SidesDual.{sides_dual}
 use Rattle.gr1_law.proofs.OneSide.{environment_wins}
-use Rattle.solve.specs.Winners.{IsWonGame, IsLostGame, EnvironmentForces, IsWonBySystem, IsWonByEnvironment, OneOfBoth}
+use Rattle.solve.specs.Winners.{IsWonGame, IsLostGame, IsWonBySystem, IsWonByEnvironment}
+use Rattle.solve.specs.WinnerLaws.{EnvironmentForces, OneOfBoth}
 use Rattle.solve.specs.Solved.{AreEnvLayersOf}
 
 -- ---- who wins

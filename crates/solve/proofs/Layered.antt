@@ -11,7 +11,8 @@ use Rattle.gr1_law.specs.Layers.{LayerSets, goal_sets, assumption_sets, part_val
 use Rattle.gr1_law.specs.EnvLayers.{EnvLayerSets}
 use Rattle.gr1_sys.specs.declared.layers.SysLayer.{SysLayer}
 use Rattle.gr1_sys.specs.Held.{weight_as, ranks_of, layer_regions, goal_regions, all_regions}
-use Rattle.gr1_sys.specs.Solution.{iterate, greatest_of, part_of, layer_of, layers_for, following}
+use Rattle.gr1_sys.specs.Solution.{iterate, greatest_of, part_of, layer_of, following}
+use Rattle.gr1_sys.specs.Layered.{layers_for}
 use Rattle.gr1_sys.specs.Moment as sys
 use Rattle.gr1_sys.specs.Solved.{WonBySystem}
 use Rattle.gr1_sys.proofs.Greatest.{greatest_of-greatest}
@@ -20,6 +21,7 @@ use Rattle.gr1_sys.proofs.Lists.{length_map, weight_as-more, weight_as-none}
 use Rattle.gr1_sys.proofs.Won.{found, winning_one}
 use Rattle.gr1_env.specs.declared.layers.EnvLayer.{EnvLayer}
 use Rattle.gr1_env.specs.Held.{all_regions as env_regions}
+use Rattle.gr1_env.specs.Told as env_told
 use Rattle.gr1_env.specs.Moment as env
 use Rattle.gr1_env.specs.Solved.{WonByEnvironment}
 use Rattle.gr1_env.proofs.Settled.{of_one_moment}
@@ -131,7 +133,7 @@ module _ {G R M : Type 0} (old new : Kept R M) (z : R) (goals : List (Vec (SysLa
 -- ---- the environment's
 
 module _ (g : GameData) (m : env.Moment) where
-  meant : (ss : List StateSet) → Each (env.IsIterateOfMoment g m) (map States ss) → AreIterates g (of_environment m) ss
+  meant : (ss : List StateSet) → Each (env_told.IsIterateOfMoment g m) (map States ss) → AreIterates g (of_environment m) ss
   meant [] each = tt
   meant (s ∷ ss) each = (each.0, meant ss each.1)
 
@@ -139,5 +141,5 @@ module _ {G R M : Type 0} (old new : Kept R M) (ls : List (EnvLayer G R M)) (set
   pub environment_holds : IsSameGame old new → HoldsNothing old → HoldsOneMoment new
   environment_holds same nothing =
       let one = of_one_moment old new ls sets won in
-      holds_iterates old.game (of_environment (env.settled sets)) old new (env_regions ls) same.game nothing won.held one.moment
-      (meant old.game (env.settled sets) (map new.set (env_regions ls)) one.iterates)
+      holds_iterates old.game (of_environment (env_told.settled sets)) old new (env_regions ls) same.game nothing won.held one.moment
+      (meant old.game (env_told.settled sets) (map new.set (env_regions ls)) one.iterates)

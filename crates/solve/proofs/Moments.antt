@@ -21,10 +21,13 @@ use Rattle.controller.specs.Made as sys_made
 use Rattle.counterstrategy.specs.Made as env_made
 use Rattle.counterstrategy.specs.Settled.{tops}
 use Rattle.counterstrategy.specs.Owned.{all_delays}
+use Rattle.gr1_sys.specs.Told as sys_telling
 use Rattle.gr1_sys.specs.Moment as sys
+use Rattle.gr1_env.specs.Told as env_telling
 use Rattle.gr1_env.specs.Moment as env
 use Rattle.strategy_parts.specs.Told.{IsIn, Tale, IsMade, IsMadeBy, AsksFor, TellsBudget}
-use Rattle.solve.specs.Crowded.{Moment, of_system, of_environment, IsMomentOf, IsIterate, IsNamedState, IsLike, IsMeant, IfOneSet, AsksOfIterates, IsOfOneMoment}
+use Rattle.solve.specs.Crowded.{Moment, of_system, of_environment, IsMomentOf, IsIterate, IsNamedState}
+use Rattle.solve.specs.Told.{IsLike, IsMeant, IfOneSet, AsksOfIterates, IsOfOneMoment}
 use Rattle.solve.specs.Budgets.{HoldsNothing, HoldsOneMoment, IsIterateMeant}
 use Rattle.solve.proofs.Listed.{listed_alike, IsAlike, each_at, weigh-append, likeness, weighs_itself, weight_there}
 use Rattle.solve.proofs.Naming.{iterate_named}
@@ -57,19 +60,19 @@ jam_meant g m listed ys same each x there =
 -- ---- the solvers
 
 module _ (g : GameData) (z : StateSet) where
-  sys_meant : (y : Meaning) → sys.IsOfMoment g z y → IsMeant g (of_system z) y
+  sys_meant : (y : Meaning) → sys_telling.IsOfMoment g z y → IsMeant g (of_system z) y
   sys_meant (States t) is = itself g (sys.IsNamed g z) t is
   sys_meant (Outputs when t) none = absurd none
   sys_meant (Inputs when t) none = absurd none
 
-  sys_one : (arguments : List Meaning) → Each (sys.IsIterateOfMoment g z) arguments → IfOneSet (IsLike g (IsIterate g (of_system z))) arguments
+  sys_one : (arguments : List Meaning) → Each (sys_telling.IsIterateOfMoment g z) arguments → IfOneSet (IsLike g (IsIterate g (of_system z))) arguments
   sys_one [] each = tt
   sys_one (States t ∷ []) each = itself g (IsIterate g (of_system z)) t (inl each.0)
   sys_one (States t ∷ x ∷ more) each = tt
   sys_one (Outputs when t ∷ more) each = tt
   sys_one (Inputs when t ∷ more) each = tt
 
-  sys_asks : (asked : Call) (arguments : List Meaning) → sys.AsksOfIterates g z asked arguments → AsksOfIterates g (of_system z) asked arguments
+  sys_asks : (asked : Call) (arguments : List Meaning) → sys_telling.AsksOfIterates g z asked arguments → AsksOfIterates g (of_system z) asked arguments
   sys_asks All arguments is = tt
   sys_asks NoStates arguments is = tt
   sys_asks Copy arguments is = tt
@@ -85,19 +88,19 @@ module _ (g : GameData) (z : StateSet) where
   sys_asks StartEnv arguments none = absurd none
 
 module _ (g : GameData) (m : env.Moment) where
-  env_meant : (y : Meaning) → env.IsOfMoment g m y → IsMeant g (of_environment m) y
+  env_meant : (y : Meaning) → env_telling.IsOfMoment g m y → IsMeant g (of_environment m) y
   env_meant (States t) is = itself g (env.IsNamed g m) t is
   env_meant (Outputs when t) none = absurd none
   env_meant (Inputs when t) none = absurd none
 
-  env_one : (arguments : List Meaning) → Each (env.IsIterateOfMoment g m) arguments → IfOneSet (IsLike g (IsIterate g (of_environment m))) arguments
+  env_one : (arguments : List Meaning) → Each (env_telling.IsIterateOfMoment g m) arguments → IfOneSet (IsLike g (IsIterate g (of_environment m))) arguments
   env_one [] each = tt
   env_one (States t ∷ []) each = itself g (IsIterate g (of_environment m)) t each.0
   env_one (States t ∷ x ∷ more) each = tt
   env_one (Outputs when t ∷ more) each = tt
   env_one (Inputs when t ∷ more) each = tt
 
-  env_asks : (asked : Call) (arguments : List Meaning) → env.AsksOfIterates g m asked arguments → AsksOfIterates g (of_environment m) asked arguments
+  env_asks : (asked : Call) (arguments : List Meaning) → env_telling.AsksOfIterates g m asked arguments → AsksOfIterates g (of_environment m) asked arguments
   env_asks All arguments is = tt
   env_asks NoStates arguments is = tt
   env_asks Copy arguments is = tt
@@ -118,21 +121,21 @@ module _ {R M : Type 0} (old new : Kept R M) (nothing : HoldsNothing old) where
   besides_all : (listed besides : List Meaning) → ((w : Meaning → ℕ) → weigh w listed ≡ weigh w besides + weight old (λ i m. w m)) → (w : Meaning → ℕ) → weigh w listed ≡ weigh w besides
   besides_all listed besides held w = let sums = held w in let none = nothing (λ i m. w m) in omega (arith, sums, none)
 
-  pub sys_moment : (z : StateSet) → sys.IsValueOfZ old.game z → (tells : sys.TellsMoment old new z) → IsOfOneMoment old.game tells.jam
+  pub sys_moment : (z : StateSet) → sys.IsValueOfZ old.game z → (tells : sys_telling.TellsMoment old new z) → IsOfOneMoment old.game tells.jam
   sys_moment z is tells =
       record {
         moment = of_system z;
         is = is;
-        held = jam_meant old.game (of_system z) tells.jam.held tells.adds.besides (besides_all tells.jam.held tells.adds.besides tells.adds.held) (λ y there. sys_meant old.game z y (each_at (sys.IsOfMoment old.game z) tells.adds.besides y tells.adds.named there));
+        held = jam_meant old.game (of_system z) tells.jam.held tells.adds.besides (besides_all tells.jam.held tells.adds.besides tells.adds.held) (λ y there. sys_meant old.game z y (each_at (sys_telling.IsOfMoment old.game z) tells.adds.besides y tells.adds.named there));
         asked = sys_asks old.game z tells.jam.call tells.jam.arguments tells.asked;
       }
 
-  pub env_moment : (m : env.Moment) → env.IsMoment old.game m → (tells : env.TellsMoment old.game old new m) → IsOfOneMoment old.game tells.jam
+  pub env_moment : (m : env.Moment) → env.IsMoment old.game m → (tells : env_telling.TellsMoment old.game old new m) → IsOfOneMoment old.game tells.jam
   env_moment m is tells =
       record {
         moment = of_environment m;
         is = is;
-        held = jam_meant old.game (of_environment m) tells.jam.held tells.adds.besides (besides_all tells.jam.held tells.adds.besides tells.adds.held) (λ y there. env_meant old.game m y (each_at (env.IsOfMoment old.game m) tells.adds.besides y tells.adds.named there));
+        held = jam_meant old.game (of_environment m) tells.jam.held tells.adds.besides (besides_all tells.jam.held tells.adds.besides tells.adds.held) (λ y there. env_meant old.game m y (each_at (env_telling.IsOfMoment old.game m) tells.adds.besides y tells.adds.named there));
         asked = env_asks old.game m tells.jam.call tells.jam.arguments tells.asked;
       }
 

@@ -7,14 +7,15 @@ use Rattle.spec_model.specs.Sets.{StateSet, all_states, both}
 use Rattle.game_values.specs.declared.seen.At.{At}
 use Rattle.game_values.specs.declared.seen.At.TheVariants.{Now, Next}
 use Rattle.regions.specs.Kept.{Meaning, States, Outputs, Inputs, Call, All, NoStates, Copy, And, Or, Not, Holding, PreSys, PreEnv, OutMoves, InMoves, StartSys, StartEnv, Jam}
-use Rattle.state_diagrams.specs.StateBits.{Tells, bits_for}
-use Rattle.state_diagrams.specs.NamedMoves.{kept_out}
-use Rattle.state_diagrams.specs.NamedGame.{IsOfSet, first, into, out_of}
+use Rattle.bdd_sets.specs.StateBits.{Tells, bits_for}
+use Rattle.bdd_sets.specs.NamedMoves.{kept_out}
+use Rattle.bdd_sets.specs.NamedGame.{IsOfSet, first, into, out_of}
 use Rattle.gr1_law.specs.Layers.{goal_sets}
 use Rattle.gr1_sys.specs.Moment as sys
 use Rattle.gr1_env.specs.Moment as env
 use Rattle.region_bdd.specs.Crowding.{StandsFor, IsOneSet, IsOfCall, IsHeldAt}
-use Rattle.solve.specs.Crowded.{Moment, of_system, of_environment, IsIterate, IsNamedState, IsNamed, own, states, step, IsLike, IsMeant, IfOneSet, AsksOfIterates, IsOfOneMoment}
+use Rattle.solve.specs.Crowded.{Moment, of_system, of_environment, IsIterate, IsNamedState, IsNamed, own, states, step}
+use Rattle.solve.specs.Told.{IsLike, IsMeant, IfOneSet, AsksOfIterates, IsOfOneMoment}
 
 -- ---- sets of states
 

@@ -1,6 +1,6 @@
 -- Each part of a well-typed specification is solved, and one side wins it.
-use Rattle.std.proofs.Common.{◌≡◌, ◌==◌, ◌||◌, ◌⊎◌, inl, inr, ℕ, Bool, true, false, not, List, [], ◌∷◌, cond, filter, map, refl, ◌∙◌, ap}
-use Rattle.std.proofs.lemmas.Bool.{eq-eqb, or_left, or_right}
+use Rattle.std.proofs.Common.{◌≡◌, ◌==◌, ◌||◌, ◌⊎◌, inl, inr, ℕ, Bool, true, false, not, List, [], ◌∷◌, ◌++◌, cond, filter, map, refl, sym, ◌∙◌, ap, subst}
+use Rattle.std.proofs.lemmas.Bool.{eq-eqb, or_left, or_right, or_cases, false≢true}
 use Rattle.spec_model.specs.Syntax.{Specification, Statement}
 use Rattle.spec_model.specs.Moves.{is_guarantee, rules_of}
 use Rattle.spec_model.specs.Verdicts.{most_rounds, most_shifts, most_denials}
@@ -8,6 +8,7 @@ use Rattle.spec_model.specs.Cores.{Realizable, Unrealizable, with_guarantees, st
 use Rattle.spec_model.proofs.Duel.{never_both}
 use Rattle.spec_model.proofs.Growth.{realizable_grows, unrealizable_grows}
 use Rattle.gr1_law.specs.CoreLaws.{IsSolvable}
+use Rattle.gr1_law.proofs.CoreTrials.{part_stays}
 use Rattle.gr1_law.proofs.OneSide.{one_is_true}
 use Rattle.solve.specs.Winners.{IsWonBySystem, IsWonByEnvironment}
 
@@ -47,3 +48,22 @@ all_stay ns (l ∷ ls) has = at (is_guarantee l.role) has (λ more. all_stay ns 
 
 pub all_kept : (s : Specification) → with_guarantees s (guarantees_of s) ≡ s
 all_kept s = ap (λ (ls : List Statement). record s { lines = ls }) (all_stay (guarantees_of s) s.lines (λ k there. there))
+
+-- ---- a part of all guarantees
+
+in_later : (ns ms : List ℕ) (k : ℕ) → is_in ms k ≡ true → is_in (ns ++ ms) k ≡ true
+in_later [] ms k there = there
+in_later (n ∷ ns) ms k there = or_right (n == k) (is_in (ns ++ ms) k) (in_later ns ms k there)
+
+in_earlier : (ns ms : List ℕ) (k : ℕ) → is_in ns k ≡ true → is_in (ns ++ ms) k ≡ true
+in_earlier [] ms k there = absurd (false≢true there)
+in_earlier (n ∷ ns) ms k there = elim (or_cases (n == k) (is_in ns k) there) [
+  | inl here ↦ or_left (n == k) (is_in (ns ++ ms) k) here
+  | inr rest ↦ or_right (n == k) (is_in (ns ++ ms) k) (in_earlier ns ms k rest)
+]
+
+pub part_of_whole : (s : Specification) (part : List ℕ) → IsSolvable (with_guarantees s part) → Realizable s → Realizable (with_guarantees s part)
+part_of_whole s part solvable won =
+    let more : List ℕ = part ++ guarantees_of s in
+    let all : with_guarantees s more ≡ s = ap (λ (ls : List Statement). record s { lines = ls }) (all_stay more s.lines (λ k there. in_later part (guarantees_of s) k there)) in
+    part_stays s more part solvable (λ k there. in_earlier part (guarantees_of s) k there) (subst Realizable (sym all) won)

@@ -9,7 +9,8 @@ use Rattle.regions.specs.Kept.{Kept, Item, Meaning, States, Each, IsSameGame, Ja
 use Rattle.hidden_game.specs.GameOf.{game_of}
 use Rattle.core_min.specs.declared.fault.CoreFault.{CoreFault}
 use Rattle.core_min.specs.declared.fault.CoreFault.TheVariants as faults
-use Rattle.solve.specs.Crowded.{Moment, IsMomentOf, IsIterate, IsOfOneMoment, Crowded}
+use Rattle.solve.specs.Crowded.{Moment, IsMomentOf, IsIterate, Crowded}
+use Rattle.solve.specs.Told.{IsOfOneMoment}
 
 -- ---- of any regions
 

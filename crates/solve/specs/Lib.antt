@@ -1,10 +1,11 @@
 pub mod Spaces
 pub mod Crowded
+pub mod Told
 pub mod Budgets
 pub mod Winners
+pub mod WinnerLaws
 pub mod Solved
 pub mod Verdicts
 pub mod Places
 pub mod Judged
-pub mod OneSpelling
 pub mod Separations

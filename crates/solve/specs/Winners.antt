@@ -1,5 +1,5 @@
 -- Who wins a specification, and with which numbers.
-use Rattle.std.specs.Prelude.{◌≡◌, ◌⊎◌, ℕ, true, List, None}
+use Rattle.std.specs.Prelude.{◌≡◌, ℕ, true, List, None}
 use Rattle.spec_model.specs.Syntax.{Specification}
 use Rattle.spec_model.specs.Games.{GameData}
 use Rattle.spec_model.specs.Sets.{StateSet, system_forces, environment_forces}
@@ -31,10 +31,6 @@ pub record IsLostGame (g : GameData) (n m : ℕ) : Type 0 where
   pub forced : environment_forces g (layers.z n) None ≡ true
   pub denials : m ≡ denial_count g n counts
 
--- it does so, whichever its layers are
-abbrev pub EnvironmentForces : GameData → Type 0
-EnvironmentForces g = (e : EnvLayerSets) (n : ℕ) → AreEnvLayers g e → IsLayerCount e n → environment_forces g (e.z n) None ≡ true
-
 -- ---- specifications
 
 -- The system wins the specification with K, the number of its game.
@@ -46,11 +42,3 @@ pub record IsWonBySystem (s : Specification) (k : ℕ) : Type 0 where
 pub record IsWonByEnvironment (s : Specification) (n m : ℕ) : Type 0 where
   pub game : IsLostGame (game_of s) n m
   pub wins : EnvironmentWins s n m
-
--- no specification is won by both, whatever the numbers
-abbrev pub NeverBoth : Specification → Type 0
-NeverBoth s = (k n m : ℕ) → IsWonBySystem s k → IsWonByEnvironment s n m → ⊥
-
--- and one of the two wins it
-abbrev pub OneOfBoth : Specification → Type 0
-OneOfBoth s = ((k : ℕ) × IsWonBySystem s k) ⊎ ((n : ℕ) × (m : ℕ) × IsWonByEnvironment s n m)

@@ -7,7 +7,7 @@ ghost use Rattle.spec_model.specs.Moves.{is_guarantee};
 ghost use Rattle.spec_model.specs.WellTyped.{WellTyped};
 ghost use Rattle.spec_model.specs.Cores.{guarantees_of};
 ghost use Rattle.solve.specs.Places.{at_places};
-ghost use Rattle.solve.specs.OneSpelling.{IsName-prop};
+ghost use Rattle.spec_model.specs.OneSpelling.{IsName-prop};
 
 use crate::answers::Numbers;
 use crate::deciding::numbers;

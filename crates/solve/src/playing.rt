@@ -4,6 +4,7 @@ ghost use Rattle.std.specs.Prelude.{◌≡◌, None, IfOk, IfErr};
 ghost use Rattle.spec_model.specs.Syntax.{Specification};
 ghost use Rattle.spec_model.specs.Agreement.{Agrees};
 ghost use Rattle.spec_model.specs.Laws.{NumbersRise};
+ghost use Rattle.hidden_game.specs.GameOf.{game_of};
 ghost use Rattle.gr1_law.specs.Layers.{LayerSets};
 ghost use Rattle.gr1_law.specs.EnvLayers.{EnvLayerSets};
 ghost use Rattle.controller.specs.Made.{AreLayersOf};
@@ -29,7 +30,7 @@ pub fn system_play<G: Regions + Drop>(
     requires won { (l : LayerSets) × AreLayersOf (G.kept g) layers.z layers.goals.items l }
     ensures cause { IfErr result (PlayHalts G.kept (G.kept g)) }
     ensures won { IfOk result (λ p. IsWonGame (G.kept g).game p.0) }
-    ensures plays { IfOk result (λ p. (s : Specification) → Agrees s (G.kept g).game → IsPlayFor G.kept s p.0 p.1) }
+    ensures plays { IfOk result (λ p. (s : Specification) → (G.kept g).game ≡ game_of s → Agrees s (G.kept g).game → IsPlayFor G.kept s p.0 p.1) }
 {
     let k = layers.k();
     match Controller::make(alloc, g, layers) {
@@ -48,7 +49,7 @@ pub fn environment_play<G: Regions + Drop>(
     requires lost { (e : EnvLayerSets) × AreEnvLayersOf (G.kept g) layers.layers.items e }
     ensures cause { IfErr result (PlayHalts G.kept (G.kept g)) }
     ensures lost { IfOk result (λ p. IsLostGame (G.kept g).game p.0 p.1) }
-    ensures plays { IfOk result (λ p. (s : Specification) → Agrees s (G.kept g).game → NumbersRise s.lines → IsCounterplayFor G.kept s p.0 p.1 p.2) }
+    ensures plays { IfOk result (λ p. (s : Specification) → (G.kept g).game ≡ game_of s → Agrees s (G.kept g).game → NumbersRise s.lines → IsCounterplayFor G.kept s p.0 p.1 p.2) }
 {
     let n = layers.n();
     let m = layers.m();

@@ -3,7 +3,8 @@
 ghost use Rattle.std.specs.Prelude.{◌≤◌, IfOk, IfErr};
 ghost use Rattle.spec_model.specs.Views.{spec_data};
 ghost use Rattle.spec_model.specs.WellTyped.{WellTyped};
-ghost use Rattle.spec_model.specs.Cores.{HasRoomForOne, forced as forced_lem};
+ghost use Rattle.spec_model.specs.Cores.{forced as forced_lem};
+ghost use Rattle.spec_model.specs.Room.{HasRoomForOne};
 ghost use Rattle.solve.specs.Budgets.{MayHalt};
 ghost use Rattle.solve.specs.Separations.{IsSeparationOf};
 

@@ -4,7 +4,7 @@ ghost use Rattle.std.specs.Prelude.{◌≡◌, None, IfOk, IfErr};
 ghost use Rattle.spec_model.specs.WellMade.{WellMade};
 ghost use Rattle.regions.specs.Kept.{IsSameGame};
 ghost use Rattle.solve.specs.Budgets.{SolverHalts};
-ghost use Rattle.solve.specs.Winners.{EnvironmentForces};
+ghost use Rattle.solve.specs.WinnerLaws.{EnvironmentForces};
 ghost use Rattle.solve.specs.Solved.{IsSolved, HoldsLayers};
 ghost use Rattle.solve.specs.Verdicts.{AreNumbersOfGame};
 

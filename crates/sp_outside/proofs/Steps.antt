@@ -4,7 +4,8 @@ use Rattle.std.proofs.lemmas.List.{take_all, take-append-le}
 use Rattle.std.proofs.Math.Seq.{take-add, take-append-add}
 use Rattle.std.specs.Io.KnownBytes.{Appends}
 use borrow.Rule.Slice.PartMut.{put_mid, post_of}
-use Rattle.sp_outside.specs.Files.{Files, GivesPart, told_file, IsFrontOf}
+use Rattle.sp_outside.specs.Files.{Files, told_file}
+use Rattle.sp_outside.specs.Parts.{GivesPart, IsFrontOf}
 
 -- one write more
 pub appends_more : (a b c : Option (List ℕ)) (line : List ℕ) (t n : ℕ) → Appends a b (take t line) → Appends b c (take n (take (length line - t) (drop t line))) → Appends a c (take (t + n) line)

@@ -1,6 +1,7 @@
 ghost use Rattle.std.specs.Prelude.{◌≡◌, ◌≤◌, ◌<◌, length, take, vec_len, IfOk, OnOk, Err};
 ghost use Rattle.sp_outside.specs.Causes.{Rose};
-ghost use Rattle.sp_outside.specs.Files.{HasNoFile, IsFrontOf, told_file};
+ghost use Rattle.sp_outside.specs.Files.{HasNoFile, told_file};
+ghost use Rattle.sp_outside.specs.Parts.{IsFrontOf};
 
 use crate::{FileFault, OutOfMemory, Shelf};
 use std::alloc::Global;

@@ -2,7 +2,8 @@
 use Rattle.std.proofs.Common.{◌≡◌, ◌≢◌, ◌⊎◌, ℕ, zero, suc, ◌+◌, ◌<◌, ◌≤◌, Bool, true, false, cond, List, [], ◌∷◌, ◌++◌, length, refl, sym, ◌∙◌, ap, subst, inl, inr, arith}
 use Rattle.std.proofs.lemmas.Bool.{cases_order, cases_lt, cases_eq, false≢true, true≢false, eq-eqb, ne_eqb}
 use Rattle.std.proofs.lemmas.List.{get_or_push, get_or_append_left, length_push}
-use Rattle.spec_model.specs.Diagrams.{Diagram, constant, branch, Bits, bits_of, with_bit, value, IsLater, IsReduced, IsWithin, DifferSomewhere}
+use Rattle.spec_model.specs.Diagrams.{Diagram, constant, branch, Bits, with_bit, value, IsLater, IsReduced, IsWithin}
+use Rattle.spec_model.specs.DiagramReads.{bits_of, DifferSomewhere}
 
 -- ---- values
 

@@ -120,6 +120,7 @@ forced_is_well_typed s typed room =
           let le = sum_by-filter-le (nodes_of s (lines' s) s) (stays_too s) s.lines in
           omega arith;
       few_levels = both s (is_flat s (lines' s) (forced s)) (flat_lines s (lines' s) (others s) (list_all-filter _ (stays_too s) s.lines typed.few_levels)) refl;
+      few_pattern_levels = typed.few_pattern_levels;
       few_hidden =
           let few = typed.few_hidden in
           let same = ap (λ fs. length (distinct fs)) (forced_trees s) in

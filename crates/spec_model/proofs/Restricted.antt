@@ -15,8 +15,8 @@ use Rattle.spec_model.specs.declared.expr.Past.TheVariants.{Prev, Once, Historic
 use Rattle.spec_model.specs.Syntax.{Formula, Constant, Variable, NextOf, Negation, Conjunction, Disjunction, Implication, Equivalence, Comparison, Sum, Difference, Product, Remainder, PastOf, Entry, Formulas, Content, Initial, Safety, Recurring, PatternUse, TriggerUse, Statement, Specification}
 use Rattle.spec_model.specs.Moves.{is_assumption}
 use Rattle.spec_model.specs.Sizes.{compare_number, past_number, same_formula, same_formulas, past_trees, formulas_of, distinct}
-use Rattle.spec_model.specs.FormulaSizes.{nodes_in, levels_in}
-use Rattle.spec_model.specs.WellTyped.{is_typed_content, is_typed_line, are_rising, is_hidden}
+use Rattle.spec_model.specs.FormulaSizes.{nodes_in}
+use Rattle.spec_model.specs.WellTyped.{is_typed_content, is_typed_line, are_rising, is_hidden, have_few_levels}
 use Rattle.spec_model.specs.Cores.{stays}
 use Rattle.spec_model.specs.Laws.{RestrictedIsWellTyped}
 use Rattle.spec_model.proofs.AllStates.{same_value-true}
@@ -275,13 +275,13 @@ module _ (s : Specification) (others : List Statement) where
       and_from _ _ (same_content (is_assumption l.role) l.content ∙ parts.0) (typed_lines ls parts.1)
 
   abbrev pub is_flat : Specification → Statement → Bool
-  is_flat t l = list_all (λ e. nat_le (levels_in e) 512) (formulas_of t l.content)
+  is_flat t l = have_few_levels (formulas_of t l.content)
 
   pub flat_lines : (ls : List Statement) → list_all (is_flat s) ls ≡ true → list_all (is_flat changed) ls ≡ true
   flat_lines [] e = e
   flat_lines (l ∷ ls) e =
       let parts = and_parts (is_flat s l) _ e in
-      and_from _ _ (ap (list_all (λ f. nat_le (levels_in f) 512)) (same_formulas_of l.content) ∙ parts.0) (flat_lines ls parts.1)
+      and_from _ _ (ap have_few_levels (same_formulas_of l.content) ∙ parts.0) (flat_lines ls parts.1)
 
   abbrev pub nodes_of : Specification → Statement → ℕ
   nodes_of t l = sum_by nodes_in (formulas_of t l.content)
@@ -325,6 +325,7 @@ restricted_is_well_typed s typed kept =
           let le = sum_by-filter-le (nodes_of s stayed s) (stays kept) s.lines in
           omega arith;
       few_levels = flat_lines s stayed stayed (list_all-filter _ (stays kept) s.lines typed.few_levels);
+      few_pattern_levels = typed.few_pattern_levels;
       few_hidden =
           let few = typed.few_hidden in
           let same = ap (λ fs. length (distinct fs)) (same_trees s stayed stayed) in

@@ -3,7 +3,8 @@ use Rattle.std.proofs.Common.{◌≡◌, ℕ, zero, suc, ◌<◌, ◌≤◌, Lis
 use Rattle.spec_model.specs.Values.{Assignment}
 use Rattle.spec_model.specs.Rules.{Run, Position, after}
 use Rattle.spec_model.specs.Moves.{nothing}
-use Rattle.spec_model.specs.Games.{GameData, State, hidden_at, state_at, next_hidden}
+use Rattle.spec_model.specs.Games.{GameData, State, next_hidden}
+use Rattle.spec_model.specs.GameRuns.{hidden_at, state_at}
 use Rattle.spec_model.specs.Steps.{reached}
 use Rattle.spec_model.specs.GameRules.{before_at, last_state}
 

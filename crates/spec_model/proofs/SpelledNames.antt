@@ -1,16 +1,17 @@
--- No byte of a name is an ASCII character that a name can't have.
-use Rattle.std.proofs.Common.{◌≡◌, ℕ, suc, ◌<◌, ◌==◌, ◌||◌, ◌==◌, ◌⊎◌, Bool, true, false, List, [], ◌∷◌, length, get_or, refl, sym, ap, ◌∙◌, arith, inl, inr}
+-- Which ASCII characters stand in names.
+use Rattle.std.proofs.Common.{◌≡◌, ℕ, suc, ◌<◌, ◌==◌, ◌||◌, ◌==◌, ◌⊎◌, Bool, true, false, List, [], ◌∷◌, ◌++◌, length, get_or, refl, sym, ap, ◌∙◌, arith, inl, inr}
+use Rattle.std.specs.Prelude.{codes}
 use Rattle.std.specs.List.{list_all, list_any}
 use Rattle.std.specs.Char.{encode_utf8, is_ascii_alphanumeric}
-use Rattle.std.specs.Str.{encode_utf8_all}
+use Rattle.std.specs.Str.{encode_utf8_all, all_scalars}
 use Rattle.std.proofs.lemmas.Bool.{and_parts, and_from, or_from, or_cases, eqb-true, false≢true, false_from_ne_true}
 use Rattle.std.proofs.lemmas.List.Folds.{list_any-append}
 use Rattle.std.proofs.lemmas.List.{append-nil}
-use Rattle.std.proofs.lemmas.Str.{inside_one}
+use Rattle.std.proofs.lemmas.Str.{inside_one, encode_ascii}
 use Rattle.unicode_ident.specs.Ident.{is_xid_start, is_xid_continue}
 use Rattle.unicode_ident.proofs.Computing.{unicode_ident}
 use Rattle.unicode_ident.proofs.IdentLemmas.{is_xid_continue-ascii, is_xid_start-is_xid_continue}
-use Rattle.spec_model.specs.Names.{begins_name, is_spelled, IsName}
+use Rattle.spec_model.specs.Names.{begins_name, is_spelled, is_reserved, IsName}
 
 underscore_goes_on : is_xid_continue 95 ≡ true
 unfolding unicode_ident
@@ -54,3 +55,24 @@ module _ (p : ℕ → Bool) (never : (c : ℕ) → p c ≡ true → (c < 128) ×
   -- no byte of a name passes it
   pub none_in_name : (text : List ℕ) → IsName text → list_any p text ≡ false
   none_in_name text is = ap (list_any p) is.bytes ∙ none_in_all is.characters (all_go_on is.characters is.spelled)
+
+-- ---- short names
+
+one_is_name : (c : ℕ) → c < 128 → all_scalars (c ∷ []) ≡ true → begins_name c ≡ true → is_reserved (c ∷ []) ≡ false → IsName (c ∷ [])
+one_is_name c small scalar begins free =
+    record {
+      characters = c ∷ [];
+      scalars = scalar;
+      bytes = sym (ap (λ (bs : List ℕ). bs ++ []) (encode_ascii c small));
+      spelled = and_from _ _ begins refl;
+      unreserved = free;
+    }
+
+-- the names that worked games have
+pub a_is_name : IsName (codes "a")
+unfolding unicode_ident is_reserved
+a_is_name = one_is_name 97 (omega arith) refl refl refl
+
+pub g_is_name : IsName (codes "g")
+unfolding unicode_ident is_reserved
+g_is_name = one_is_name 103 (omega arith) refl refl refl

@@ -2,11 +2,11 @@
 use Rattle.std.specs.Prelude.{◌≡◌, ◌≤◌, [], length, option_map}
 use Rattle.spec_model.specs.Values.{Assignment}
 use Rattle.spec_model.specs.Syntax.{Specification}
-use Rattle.spec_model.specs.Rules.{Run}
+use Rattle.spec_model.specs.Rules.{Run, line_label}
 use Rattle.spec_model.specs.Moves.{is_assumption, is_guarantee, goals_of, broken_assumption, broken_guarantee, rules_of}
 use Rattle.spec_model.specs.Games.{GameData}
 use Rattle.spec_model.specs.GameRules.{last_state, rules_of_game}
-use Rattle.spec_model.specs.FirstBroken.{line_label, first_broken, first_broken_output}
+use Rattle.spec_model.specs.FirstBroken.{first_broken, first_broken_output}
 use Rattle.spec_model.specs.Sizes.{size_of}
 use Rattle.spec_model.specs.Steps.{states_of}
 

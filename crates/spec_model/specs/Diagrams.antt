@@ -12,10 +12,6 @@ pub data Diagram : Type 0 where
 abbrev pub Bits : Type 0
 Bits = ℕ → Bool
 
--- the bits that a list gives: its entries in order of their levels, and false past its end
-abbrev pub bits_of : List Bool → Bits
-bits_of bits level = slice_index_or bits level false
-
 -- a Boolean function of the bits
 abbrev pub Function : Type 0
 Function = Bits → Bool
@@ -51,11 +47,6 @@ abbrev pub IsPartOf : Diagram → Diagram → Type 0
 IsPartOf part (constant b) = part ≡ constant b
 IsPartOf part (branch level low high) = (part ≡ branch level low high) ⊎ (IsPartOf part low ⊎ IsPartOf part high)
 
--- the level stands in the diagram
-abbrev pub Reads : ℕ → Diagram → Type 0
-Reads level (constant b) = ⊥
-Reads level (branch own low high) = (level ≡ own) ⊎ (Reads level low ⊎ Reads level high)
-
 -- ---- functions after the operations
 
 -- the second where the first is true, and else the third
@@ -66,19 +57,10 @@ ite f g h s = if f s then g s else h s
 abbrev pub exists_at : ℕ → Function → Function
 exists_at level f s = f (with_bit s level false) || f (with_bit s level true)
 
--- true where both values of the level make it true
-abbrev pub forall_at : ℕ → Function → Function
-forall_at level f s = f (with_bit s level false) && f (with_bit s level true)
-
 -- true where some values at these levels make it true
 abbrev pub exists_over : List ℕ → Function → Function
 exists_over [] f = f
 exists_over (level ∷ levels) f = exists_at level (exists_over levels f)
-
--- true where all values at these levels make it true
-abbrev pub forall_over : List ℕ → Function → Function
-forall_over [] f = f
-forall_over (level ∷ levels) f = forall_at level (forall_over levels f)
 
 -- true where some values at these levels make both true
 abbrev pub and_exists_over : List ℕ → Function → Function → Function
@@ -87,9 +69,3 @@ and_exists_over levels f g = exists_over levels (λ s. f s && g s)
 -- each level is read at the level that the list gives for it
 abbrev pub shifted : List ℕ → Function → Function
 shifted to f s = f (λ level. s (slice_index_or to level level))
-
--- ---- laws
-
--- two different reduced diagrams differ on some list of bits
-abbrev pub DifferSomewhere : Diagram → Diagram → Type 0
-DifferSomewhere a b = IsReduced a → IsReduced b → a ≢ b → (bits : List Bool) × (value a (bits_of bits) ≢ value b (bits_of bits))

@@ -7,6 +7,7 @@ use Rattle.spec_model.specs.Syntax.{Formula}
 use Rattle.spec_model.specs.Moves.{has_next}
 use Rattle.spec_model.specs.Games.{GameData, outputs_of}
 use Rattle.spec_model.specs.Steps.{Before, reached, line_holds, waits_for_output}
+pub use Rattle.spec_model.specs.Rules.{line_label}
 
 -- the numbers of the lines that pass a test
 abbrev pub numbers_where : (Formula → Bool) → List (ℕ × Formula) → List ℕ
@@ -32,10 +33,6 @@ lesser (Some m) (Some n) = Some (min m n)
 abbrev pub least : List ℕ → Option ℕ
 least [] = None
 least (n ∷ ns) = lesser (Some n) (least ns)
-
--- the line with a number, as it has one part
-abbrev pub line_label : ℕ → Label
-line_label n = record { line = n; part = 0 }
 
 -- the first assumption that the input breaks: numbers rise in text order
 abbrev pub first_broken : GameData → Before → Assignment → Option Label

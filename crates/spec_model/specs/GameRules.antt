@@ -1,7 +1,8 @@
 -- A game as its players see it, over runs with their hidden values.
 use Rattle.std.specs.Prelude.{ℕ, zero, suc, ◌&&◌, Some, None, length}
 use Rattle.spec_model.specs.Rules.{Run, Rules}
-use Rattle.spec_model.specs.Games.{GameData, state_at, goals_in}
+use Rattle.spec_model.specs.Games.{GameData}
+use Rattle.spec_model.specs.GameRuns.{state_at, goals_in}
 use Rattle.spec_model.specs.Steps.{Before, is_input, is_output, legal_input, legal_output}
 
 -- the state before a position of the run

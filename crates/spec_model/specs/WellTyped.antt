@@ -1,20 +1,21 @@
 -- Which specifications are well typed: each formula has its kind and stands where it may, and no limit is passed.
-use Rattle.std.specs.Prelude.{ℕ, suc, ◌+◌, ◌*◌, ◌≤◌, length, Bool, true, false, not, ◌&&◌, ◌||◌, ◌==◌, nat_lt, nat_le, List, [], ◌∷◌, ◌++◌, Some, None, map, replicate, count_by, option_map, unwrap_or, slice_get, sum_by, All, IsTrue}
+use Rattle.std.specs.Prelude.{ℕ, suc, ◌+◌, ◌*◌, ◌≤◌, length, Bool, true, false, not, ◌&&◌, ◌||◌, ◌==◌, nat_lt, nat_le, List, [], ◌∷◌, ◌++◌, Some, None, map, replicate, option_map, unwrap_or, slice_get, sum_by, All, IsTrue}
 use Rattle.std.specs.List.{list_all}
 use Rattle.spec_model.specs.declared.value.Value.TheVariants as value
-use Rattle.spec_model.specs.Values.{Assignment, DomainData, TruthValues, WholeNumbers, Enumeration, assignments_of}
+use Rattle.spec_model.specs.Values.{DomainData, TruthValues, WholeNumbers, Enumeration, same_names}
 use Rattle.spec_model.specs.Syntax.{Formula, Constant, Variable, NextOf, Negation, Conjunction, Disjunction, Implication, Equivalence, Comparison, Sum, Difference, Product, Remainder, PastOf, Entry, Formulas, Regular, Atom, Sequence, Choice, Repetition, Regulars, Content, Initial, Safety, Recurring, PatternUse, TriggerUse, Statement, PatternData, TriggerData, Specification}
 use Rattle.spec_model.specs.declared.spec.Role.{Role}
 use Rattle.spec_model.specs.declared.spec.Role.TheVariants.{Monitor}
 use Rattle.spec_model.specs.Moves.{has_next, is_assumption}
-use Rattle.spec_model.specs.Patterns.{all_hold}
-use Rattle.spec_model.specs.Sizes.{atoms_of, past_trees, domain_size, formulas_of, past_operators, product}
+use Rattle.spec_model.specs.Sizes.{atoms_of, past_trees, domain_size, formulas_of, product}
 use Rattle.spec_model.specs.Steps.{is_output_variable}
-use Rattle.spec_model.specs.Typing.{Scope, kind_of, is_truth, same_names}
+use Rattle.spec_model.specs.Typing.{Scope, kind_of, is_truth}
 use Rattle.spec_model.specs.WellMade.{all_differ, is_domain}
 use Rattle.spec_model.specs.Names.{IsName}
 use Rattle.spec_model.specs.FormulaSizes.{nodes_in, levels_in}
 use Rattle.spec_model.specs.TriggerStates.{trigger_atoms, trigger_states}
+pub use Rattle.spec_model.specs.Patterns.{tells_one, letters_of, is_determined}
+pub use Rattle.spec_model.specs.Sizes.{is_hidden, all_hidden}
 
 -- ---- what stands in a formula
 
@@ -161,19 +162,6 @@ is_first_line p names e = is_pattern_line p names e && (not (has_next e) && not 
 abbrev pub is_step_line : PatternData → (names : ℕ) → Formula → Bool
 is_step_line p names e = is_pattern_line p names e && not (shifts_some (is_parameter p) e)
 
--- whether a test tells one assignment of the own variables alone
-abbrev pub tells_one : PatternData → (Assignment → Bool) → Bool
-tells_one p test = count_by test (assignments_of p.domains) == 1
-
-abbrev pub letters_of : PatternData → List Assignment
-letters_of p = assignments_of (replicate p.params TruthValues)
-
--- The lines allow one first assignment alone, and one next assignment for each assignment and letter.
-abbrev pub is_determined : PatternData → Bool
-is_determined p =
-    tells_one p (λ own. all_hold p.first (replicate p.params (value.Bool false) ++ own) [])
-    && list_all (λ letter. list_all (λ own. tells_one p (λ next. all_hold p.step (letter ++ own) (letter ++ next))) (assignments_of p.domains)) (letters_of p)
-
 abbrev pub is_typed_pattern : (names : ℕ) → PatternData → Bool
 is_typed_pattern names p =
     nat_le p.params 8
@@ -224,6 +212,10 @@ is_typed_trigger s t = is_typed_side s t.cause && (is_typed_side s t.effect && (
 
 -- ---- limits
 
+-- none of the formulas is nested too deep
+abbrev pub have_few_levels : List Formula → Bool
+have_few_levels es = list_all (λ e. nat_le (levels_in e) 512) es
+
 -- the formulas of a pattern's lines
 abbrev pub pattern_formulas : PatternData → List Formula
 pattern_formulas p = p.first ++ (p.step ++ p.goals)
@@ -232,15 +224,6 @@ pattern_formulas p = p.first ++ (p.step ++ p.goals)
 abbrev pub all_nodes : Specification → ℕ
 all_nodes s =
     sum_by (λ l. sum_by nodes_in (formulas_of s l.content)) s.lines + sum_by (λ p. sum_by nodes_in (pattern_formulas p)) s.patterns
-
--- past operators, used patterns and triggers, which have a hidden table each
-abbrev pub is_hidden : Content → Bool
-is_hidden (PatternUse p es) = true
-is_hidden (TriggerUse t) = true
-is_hidden _ = false
-
-abbrev pub all_hidden : Specification → ℕ
-all_hidden s = length (past_operators s) + count_by (λ l. is_hidden l.content) s.lines
 
 -- ---- specifications
 
@@ -260,5 +243,6 @@ pub record WellTyped (s : Specification) : Type 0 where
   pub few_lines : length s.lines ≤ 4097
   pub rising : IsTrue (are_rising 1 s.lines)
   pub few_nodes : all_nodes s ≤ 1_000_001
-  pub few_levels : IsTrue (list_all (λ l. list_all (λ e. nat_le (levels_in e) 512) (formulas_of s l.content)) s.lines)
+  pub few_levels : IsTrue (list_all (λ l. have_few_levels (formulas_of s l.content)) s.lines)
+  pub few_pattern_levels : IsTrue (list_all (λ p. have_few_levels (pattern_formulas p)) s.patterns)
   pub few_hidden : all_hidden s ≤ 1024

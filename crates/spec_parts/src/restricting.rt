@@ -2,7 +2,8 @@
 
 ghost use Rattle.std.specs.Prelude.{◌≡◌, ◌≤◌, IfOk};
 ghost use Rattle.spec_model.specs.Views.{spec_data};
-ghost use Rattle.spec_model.specs.Cores.{HasRoomForOne, with_guarantees, forced as forced_lem};
+ghost use Rattle.spec_model.specs.Cores.{with_guarantees, forced as forced_lem};
+ghost use Rattle.spec_model.specs.Room.{HasRoomForOne};
 ghost use Rattle.spec_model.specs.WellTyped.{WellTyped, all_hidden};
 
 use crate::OutOfMemory;

@@ -4,7 +4,7 @@
 #![tactic(auto)]
 
 use sp_outside::{OutOfMemory, RealShelf, RealSink, RealSource};
-use spectra_top::status::Status;
+use spectra_talks::status::Status;
 use spectra_top::top::spectra;
 use std::env;
 use std::io::ErrorKind;

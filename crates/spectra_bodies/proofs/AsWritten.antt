@@ -5,7 +5,7 @@ use Rattle.std.proofs.lemmas.List.{length-map}
 use Rattle.std.proofs.lemmas.Option.{slice_get-map, slice_get_within}
 use Rattle.spectra_resolved.specs.Resolved.{ResolvedTree}
 use Rattle.spectra_resolved.specs.Texts.{ResolvedDefinition}
-use Rattle.spectra_judge.specs.Erased.{is_put_in}
+use Rattle.spectra_judge.specs.PutIn.{is_put_in}
 use Rattle.spectra_uses.specs.Uses.{uses_in, all_uses}
 use Rattle.spectra_uses.specs.Cycles.{reaches}
 use Rattle.spectra_uses.specs.Orders.{IsOrderOf}

@@ -11,7 +11,8 @@ use Rattle.spectra_resolved.specs.Texts.{ResolvedDefinition, ResolvedText}
 use Rattle.spectra_holes.specs.Holed.{holed}
 use Rattle.spectra_elaboration.specs.PuttingViews.{bodies_data}
 use Rattle.spectra_notes.specs.TypeKinds.{type_kinds, known_by}
-use Rattle.spectra_notes.specs.Notes.{Noted, stand_of, noted, known_inside, known_in_body}
+use Rattle.spectra_notes.specs.Notes.{Noted, stand_of, noted, known_inside}
+use Rattle.spectra_notes.specs.Bodies.{known_in_body}
 use Rattle.spectra_notes.proofs.Noting.{parameters_at}
 use Rattle.spectra_bodies.specs.PutIn.{body_with, numbered_body, bodies}
 

@@ -5,7 +5,7 @@ use Rattle.std.specs.List.{enumerate_from}
 use Rattle.std.proofs.lemmas.List.{length-map, get_or-map}
 use Rattle.std.proofs.lemmas.List.FromFn.{length-enumerate_from, get_or-enumerate_from}
 use Rattle.std.proofs.lemmas.Option.{same_Some, slice_get_cases}
-use Rattle.spectra_trees.specs.declared.faults.TheConstants.{CYCLE}
+use Rattle.spectra_trees.specs.Faults.{Cycle, number_of}
 use Rattle.spectra_resolved.specs.declared.spot.Spot.{Spot}
 use Rattle.spectra_resolved.specs.declared.findings.Finding.{Finding}
 use Rattle.spectra_resolved.specs.Findings.{precedes, with_faults}
@@ -53,15 +53,15 @@ ranges_have_numbers text e =
 
 -- ---- cycles
 
-unmarked : (b : Bool) (at : Spot) → fault_if b CYCLE at ≡ [] → b ≡ false
+unmarked : (b : Bool) (at : Spot) → fault_if b (number_of Cycle) at ≡ [] → b ≡ false
 unmarked true at e = absurd (cc)
 unmarked false at e = refl
 
 pub none_marked : (marks : List Bool) (places : List Spot) (k : ℕ) → length marks ≡ length places → cycle_faults marks places ≡ [] → k < length marks → get_or marks k false ≡ false
 none_marked [] places k same e below = absurd (omega arith)
 none_marked (b ∷ marks) [] k same e below = absurd (omega arith)
-none_marked (b ∷ marks) (at ∷ places) zero same e below = unmarked b at (both_empty (fault_if b CYCLE at) (cycle_faults marks places) e).0
-none_marked (b ∷ marks) (at ∷ places) (suc k) same e below = none_marked marks places k (omega arith) (both_empty (fault_if b CYCLE at) (cycle_faults marks places) e).1 (omega arith)
+none_marked (b ∷ marks) (at ∷ places) zero same e below = unmarked b at (both_empty (fault_if b (number_of Cycle) at) (cycle_faults marks places) e).0
+none_marked (b ∷ marks) (at ∷ places) (suc k) same e below = none_marked marks places k (omega arith) (both_empty (fault_if b (number_of Cycle) at) (cycle_faults marks places) e).1 (omega arith)
 
 pub mark_is : (uses : List (List ℕ)) (k : ℕ) → k < length uses → get_or (on_cycles uses) k false ≡ is_on_cycle uses k
 mark_is uses k below =

@@ -1,5 +1,5 @@
 -- What the program's basis of bounds stands for.
-use Rattle.spectra_judge.specs.Known.{known_data}
+use Rattle.spectra_judge.specs.KindViews.{known_data}
 use Rattle.spectra_bounds.specs.TypeViews.{constants_data}
 use Rattle.spectra_elaboration.specs.PuttingViews.{bodies_data}
 use Rattle.spectra_bodies.specs.declared.bounds.Basis as code_basis

@@ -10,7 +10,7 @@ use Rattle.spectra_bounds.specs.ByUses.{is_on_cycle}
 use Rattle.spectra_bounds.specs.Cycles.{type_uses}
 use Rattle.spectra_notes.specs.Notes.{noted, known_in_line}
 use Rattle.spectra_judge.specs.Judged.{faults_of}
-use Rattle.spectra_judge.specs.Erased.{is_put_in}
+use Rattle.spectra_judge.specs.PutIn.{is_put_in}
 use Rattle.spectra_holes.specs.Holed.{holed}
 use Rattle.spectra_elaboration.specs.Putting.{put_in}
 use Rattle.spectra_elaboration.specs.Written.{is_written, AreWritten}

@@ -1,5 +1,5 @@
 -- Ranges without numbers where nothing else is wrong.
-use Rattle.spectra_trees.specs.declared.faults.TheConstants.{TOO_LARGE}
+use Rattle.spectra_trees.specs.Faults.{TooLarge, number_of}
 use Rattle.std.specs.Prelude.{List, [], ◌++◌, flat_map}
 use Rattle.spectra_resolved.specs.declared.findings.Finding.{Finding}
 use Rattle.spectra_resolved.specs.Texts.{ResolvedType, RangeOf, ResolvedVariable, ResolvedAlias, ResolvedDefinition, ResolvedPattern, ResolvedText}
@@ -10,7 +10,7 @@ use Rattle.spectra_bounds.specs.Types.{own_kind}
 
 -- a range whose bounds have no numbers
 abbrev pub unmeant : Constants → ResolvedType → List Finding
-unmeant c (RangeOf at low high) = fault_if (is_anything (own_kind c (RangeOf at low high))) TOO_LARGE at
+unmeant c (RangeOf at low high) = fault_if (is_anything (own_kind c (RangeOf at low high))) (number_of TooLarge) at
 unmeant c _ = []
 
 abbrev pub each_unmeant : Constants → List ResolvedType → List Finding

@@ -1,7 +1,8 @@
 //! The faults of definitions.
 
 ghost use Rattle.std.specs.Prelude.{◌≡◌, ◌<◌, Some, map, flat_map, length, slice_get, IfOk, OnOk};
-ghost use Rattle.spectra_resolved.specs.Findings.{found_in, with_faults};
+ghost use Rattle.spectra_resolved.specs.Findings.{with_faults};
+ghost use Rattle.spectra_resolved.specs.Reports.{found_in};
 ghost use Rattle.spectra_resolved.specs.Texts.{ResolvedDefinition};
 ghost use Rattle.spectra_resolved.specs.TextViews.{definition_data, text_data};
 ghost use Rattle.spectra_notes.specs.Notes.{noted, body_faults, known_inside};

@@ -1,7 +1,8 @@
 //! All faults of types and definitions.
 
 ghost use Rattle.std.specs.Prelude.{◌≡◌, OnOk, IfOk};
-ghost use Rattle.spectra_resolved.specs.Findings.{found_in, with_faults, first_of_faults};
+ghost use Rattle.spectra_resolved.specs.Findings.{with_faults, first_of_faults};
+ghost use Rattle.spectra_resolved.specs.Reports.{found_in};
 ghost use Rattle.spectra_resolved.specs.TextViews.{text_data};
 ghost use Rattle.spectra_elaboration.specs.PuttingViews.{bodies_data};
 ghost use Rattle.spectra_notes.specs.Notes.{noted};

@@ -1,10 +1,11 @@
 //! The faults of all types in a text.
 
 ghost use Rattle.std.specs.Prelude.{◌≡◌, map, flat_map, OnOk};
-ghost use Rattle.spectra_resolved.specs.Findings.{found_in, with_faults};
+ghost use Rattle.spectra_resolved.specs.Findings.{with_faults};
+ghost use Rattle.spectra_resolved.specs.Reports.{found_in};
 ghost use Rattle.spectra_resolved.specs.Texts.{ResolvedVariable, ResolvedAlias, ResolvedDefinition};
 ghost use Rattle.spectra_resolved.specs.TextViews.{variable_data, alias_data, definition_data, pattern_data, text_data};
-ghost use Rattle.spectra_judge.specs.Around.{AreRising};
+ghost use Rattle.spectra_judge.specs.Rising.{AreRising};
 ghost use Rattle.spectra_elaboration.specs.PuttingViews.{bodies_data};
 ghost use Rattle.spectra_notes.specs.Notes.{noted};
 ghost use Rattle.spectra_notes.specs.NoteViews.{notes_data};

@@ -1,7 +1,8 @@
 //! Ranges without numbers where nothing else is wrong.
 
 ghost use Rattle.std.specs.Prelude.{◌≡◌, map, flat_map};
-ghost use Rattle.spectra_resolved.specs.Findings.{found_in, with_faults};
+ghost use Rattle.spectra_resolved.specs.Findings.{with_faults};
+ghost use Rattle.spectra_resolved.specs.Reports.{found_in};
 ghost use Rattle.spectra_resolved.specs.Texts.{ResolvedVariable, ResolvedAlias, ResolvedDefinition, ResolvedPattern};
 ghost use Rattle.spectra_resolved.specs.TextViews.{type_data, variable_data, alias_data, definition_data, pattern_data, text_data};
 ghost use Rattle.spectra_judge.specs.KindViews.{kind_data};

@@ -1,10 +1,12 @@
 -- The numbers of operators in text order, each of which has all before it as its first operand.
 use Rattle.std.proofs.Common.{◌≡◌, ℕ, ◌+◌, ◌<◌, ℤ, List, [], ◌∷◌, length, map, drop, get_or, Option, refl, sym, ap}
 use Rattle.spectra_resolved.specs.declared.tree.Link.{Link}
-use Rattle.spectra_resolved.specs.Resolved.{ResolvedTree, LinkData, joined, chained}
+use Rattle.spectra_resolved.specs.Resolved.{ResolvedTree}
+use Rattle.spectra_resolved.specs.Chained.{LinkData, joined, chained}
 use Rattle.spectra_resolved.specs.Views.{link_data}
 use Rattle.spectra_judge.proofs.Lists.{mapped_left}
-use Rattle.spectra_bounds.specs.Numbers.{joined_number, number_in, chain_number}
+use Rattle.spectra_bounds.specs.Numbers.{joined_number, number_in}
+use Rattle.spectra_bounds.specs.Links.{chain_number}
 
 pub chain_number_is : (numbers : List (Option ℤ)) (t : ResolvedTree) (ls : List LinkData) → chain_number numbers (number_in numbers t) ls ≡ number_in numbers (chained t ls)
 chain_number_is numbers t [] = refl

@@ -5,7 +5,7 @@ use Rattle.std.proofs.Math.Seq.{drop-cons}
 use Rattle.std.proofs.lemmas.List.{length-map, get_or-map, ext_get_or}
 use Rattle.std.proofs.lemmas.List.FromFn.{length-enumerate_from, get_or-enumerate_from}
 use Rattle.std.proofs.lemmas.Option.{get_or_from_slice_get}
-use Rattle.spectra_trees.specs.declared.faults.TheConstants.{CYCLE}
+use Rattle.spectra_trees.specs.Faults.{Cycle, number_of}
 use Rattle.spectra_resolved.specs.declared.spot.Spot.{Spot}
 use Rattle.spectra_resolved.specs.declared.findings.Finding.{Finding}
 use Rattle.spectra_resolved.specs.Findings.{with_faults}
@@ -43,9 +43,9 @@ on_cycles-length uses = length-map (enumerate_from 0 uses) _ ∙ length-enumerat
 
 -- what is found in a loop over marks, and what is left to find
 pub mark_left : (found : Option Finding) (marks : List Bool) (places : List Spot) (k : ℕ) (b : Bool) (at : Spot) → k < length marks → k < length places → b ≡ get_or marks k b → at ≡ get_or places k at
-    → with_faults (with_faults found (fault_if b CYCLE at)) (cycle_faults (drop (k + 1) marks) (drop (k + 1) places)) ≡ with_faults found (cycle_faults (drop k marks) (drop k places))
+    → with_faults (with_faults found (fault_if b (number_of Cycle) at)) (cycle_faults (drop (k + 1) marks) (drop (k + 1) places)) ≡ with_faults found (cycle_faults (drop k marks) (drop k places))
 mark_left found marks places k b at in_marks in_places mark place =
-    sym (with_faults_append found (fault_if b CYCLE at) (cycle_faults (drop (k + 1) marks) (drop (k + 1) places)))
+    sym (with_faults_append found (fault_if b (number_of Cycle) at) (cycle_faults (drop (k + 1) marks) (drop (k + 1) places)))
     ∙ ap (with_faults found) (sym ((λ i. cycle_faults (first i) (second i))))
   where
     first : drop k marks ≡ b ∷ drop (k + 1) marks

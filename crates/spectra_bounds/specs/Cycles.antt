@@ -1,5 +1,5 @@
 -- Types and definitions that are used in their own bodies.
-use Rattle.spectra_trees.specs.declared.faults.TheConstants.{CYCLE}
+use Rattle.spectra_trees.specs.Faults.{Cycle, number_of}
 use Rattle.std.specs.Prelude.{ℕ, Bool, List, [], ◌∷◌, ◌++◌, map}
 use Rattle.std.specs.List.{enumerate_from}
 use Rattle.spectra_resolved.specs.declared.spot.Spot.{Spot}
@@ -14,7 +14,7 @@ on_cycles uses = map (λ u. is_on_cycle uses u.0) (enumerate_from 0 uses)
 
 -- each definition that is used in its own body, at the place of its name
 abbrev pub cycle_faults : (on_cycle : List Bool) → List Spot → List Finding
-cycle_faults (b ∷ bs) (at ∷ ats) = fault_if b CYCLE at ++ cycle_faults bs ats
+cycle_faults (b ∷ bs) (at ∷ ats) = fault_if b (number_of Cycle) at ++ cycle_faults bs ats
 cycle_faults _ _ = []
 
 -- the declared type that a type is a name for

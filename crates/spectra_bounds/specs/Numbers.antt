@@ -1,5 +1,5 @@
 -- The numbers of bounds, and of the defines that bounds may use.
-use Rattle.std.specs.Prelude.{ℤ, pos, neg_ℤ, ◌+ℤ◌, ◌-ℤ◌, ◌*ℤ◌, int_lt, if◌then◌else◌, Bool, is_some, List, [], ◌∷◌, Option, Some, None, map, get_or}
+use Rattle.std.specs.Prelude.{ℤ, pos, neg_ℤ, ◌+ℤ◌, ◌-ℤ◌, ◌*ℤ◌, int_lt, if◌then◌else◌, Bool, is_some, List, [], Option, Some, None, map, get_or}
 use Rattle.std.specs.Int.{int_min, int_max, int_rem_euclid}
 use Rattle.spectra_trees.specs.declared.tree.BinaryWord.{BinaryWord}
 use Rattle.spectra_trees.specs.declared.tree.BinaryWord.TheVariants as binary
@@ -10,7 +10,7 @@ use Rattle.spectra_resolved.specs.declared.tree.Leaf.TheVariants as leaf
 use Rattle.spectra_resolved.specs.declared.findings.Finding.{Finding}
 use Rattle.spectra_resolved.specs.Findings.{first_of_faults}
 use Rattle.spectra_resolved.specs.Numbers.{beyond}
-use Rattle.spectra_resolved.specs.Resolved.{ResolvedTree, tree, Form, LinkData}
+use Rattle.spectra_resolved.specs.Resolved.{ResolvedTree, tree, Form}
 use Rattle.spectra_resolved.specs.Texts.{ResolvedDefinition}
 use Rattle.spectra_judge.specs.Kinds.{Kind, Anything}
 use Rattle.spectra_judge.specs.Around.{nothing_brought}
@@ -55,11 +55,6 @@ abbrev mutual
   form_number numbers (Form.Binary word a b) = joined_number word (number_in numbers a) (number_in numbers b)
   form_number numbers (Form.Mod t number_at n) = remainder_number n (number_in numbers t)
   form_number numbers _ = None
-
--- what operators in text order make behind a first operand with this number
-abbrev pub chain_number : (numbers : List (Option ℤ)) → (first : Option ℤ) → List LinkData → Option ℤ
-chain_number numbers first [] = first
-chain_number numbers first (l ∷ ls) = chain_number numbers (joined_number l.word first (number_in numbers l.second)) ls
 
 -- ---- constants
 

@@ -1,5 +1,5 @@
 -- What types stand for, and ranges without numbers.
-use Rattle.spectra_trees.specs.declared.faults.TheConstants.{WIDE_INT}
+use Rattle.spectra_trees.specs.Faults.{WideInt, number_of}
 use Rattle.std.specs.Prelude.{ℕ, zero, suc, ℤ, pos, ◌-ℤ◌, int_le, int_lt, Bool, not, ◌&&◌, if◌then◌else◌, List, [], Option, Some, None, length, map, get_or}
 use Rattle.spectra_resolved.specs.declared.spot.Spot.{Spot}
 use Rattle.spectra_resolved.specs.declared.stand.Stand.TheVariants as stand
@@ -41,7 +41,7 @@ type_kind c types t = own_kind c (meant_within (length types) types t)
 
 -- two bounds with numbers that are no range
 abbrev pub no_range : Option ℤ → Option ℤ → Spot → List Finding
-no_range (Some low) (Some high) at = fault_if (not (is_range low high)) WIDE_INT at
+no_range (Some low) (Some high) at = fault_if (not (is_range low high)) (number_of WideInt) at
 no_range (Some low) None at = []
 no_range None high at = []
 

@@ -1,7 +1,8 @@
 //! Types and definitions that are used in their own bodies.
 
 ghost use Rattle.std.specs.Prelude.{◌≡◌, map, length, OnOk, IfOk};
-ghost use Rattle.spectra_resolved.specs.Findings.{found_in, with_faults};
+ghost use Rattle.spectra_resolved.specs.Findings.{with_faults};
+ghost use Rattle.spectra_resolved.specs.Reports.{found_in};
 ghost use Rattle.spectra_resolved.specs.Texts.{ResolvedAlias};
 ghost use Rattle.spectra_resolved.specs.TextViews.{type_data, alias_data};
 ghost use Rattle.spectra_bounds.specs.Cycles.{on_cycles as on_cycles_lem, type_uses as type_uses_lem, cycle_faults, type_cycles};

@@ -1,9 +1,11 @@
 //! The numbers of expressions that read no variable.
 
 ghost use Rattle.std.specs.Prelude.{◌≡◌, map};
-ghost use Rattle.spectra_resolved.specs.Resolved.{Form, chained};
+ghost use Rattle.spectra_resolved.specs.Resolved.{Form};
+ghost use Rattle.spectra_resolved.specs.Chained.{chained};
 ghost use Rattle.spectra_resolved.specs.Views.{resolved_data, link_data, form_data};
-ghost use Rattle.spectra_bounds.specs.Numbers.{capped_number as capped_number_lem, joined_number as joined_number_lem, remainder_number as remainder_number_lem, leaf_number as leaf_number_lem, number_in as number_in_lem, form_number, chain_number as chain_number_lem};
+ghost use Rattle.spectra_bounds.specs.Numbers.{capped_number as capped_number_lem, joined_number as joined_number_lem, remainder_number as remainder_number_lem, leaf_number as leaf_number_lem, number_in as number_in_lem, form_number};
+ghost use Rattle.spectra_bounds.specs.Links.{chain_number as chain_number_lem};
 
 use spectra_resolved::tree::{Leaf, Link, Resolved, Shape};
 use spectra_trees::tree::BinaryWord;

@@ -1,7 +1,8 @@
 //! What types stand for, and ranges without numbers.
 
 ghost use Rattle.std.specs.Prelude.{◌≡◌, map, length};
-ghost use Rattle.spectra_resolved.specs.Findings.{found_in, with_faults};
+ghost use Rattle.spectra_resolved.specs.Findings.{with_faults};
+ghost use Rattle.spectra_resolved.specs.Reports.{found_in};
 ghost use Rattle.spectra_resolved.specs.TextViews.{type_data, alias_data};
 ghost use Rattle.spectra_judge.specs.KindViews.{kind_data};
 ghost use Rattle.spectra_bounds.specs.Types.{is_range as is_range_lem, range_kind as range_kind_lem, meant_within, own_kind as own_kind_lem, type_kind as type_kind_lem, no_range, range_faults};

@@ -3,10 +3,12 @@ use Rattle.std.proofs.Common.{◌≡◌, ℕ, ◌+◌, ◌<◌, List, [], ◌∷
 use Rattle.spectra_resolved.specs.declared.spot.Spot.{Spot}
 use Rattle.spectra_resolved.specs.declared.tree.Resolved.{Resolved}
 use Rattle.spectra_resolved.specs.declared.tree.Link.{Link}
-use Rattle.spectra_resolved.specs.Resolved.{ResolvedTree, LinkData, trees, joined, chained}
+use Rattle.spectra_resolved.specs.Resolved.{ResolvedTree}
+use Rattle.spectra_resolved.specs.Chained.{LinkData, trees, joined, chained}
 use Rattle.spectra_resolved.specs.Views.{resolved_data, link_data}
 use Rattle.spectra_judge.proofs.Lists.{mapped_left}
-use Rattle.spectra_brought.specs.Names.{names_in, each_names, link_names}
+use Rattle.spectra_brought.specs.Names.{names_in, each_names}
+use Rattle.spectra_brought.specs.Links.{link_names}
 
 pub chained_names : (t : ResolvedTree) (ls : List LinkData) → names_in (chained t ls) ≡ names_in t ++ link_names ls
 chained_names t [] = sym (append-nil (names_in t))

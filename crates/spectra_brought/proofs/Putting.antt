@@ -7,7 +7,8 @@ use Rattle.std.proofs.lemmas.List.{take-append-drop, take_more}
 use Rattle.std.proofs.lemmas.List.Elements.{All-append, All-take, All-drop}
 use Rattle.std.proofs.lemmas.List.Folds.{list_any-append}
 use Rattle.spectra_resolved.specs.declared.spot.Spot.{Spot}
-use Rattle.spectra_judge.specs.Around.{same_spot, is_brought, comes_before, AreRising}
+use Rattle.spectra_judge.specs.Around.{same_spot, is_brought, comes_before}
+use Rattle.spectra_judge.specs.Rising.{AreRising}
 use Rattle.spectra_judge.proofs.Lists.{get_or_any}
 use Rattle.spectra_judge.proofs.Searching.{before_trans, behind_is, rising_at, found_at}
 use Rattle.spectra_brought.specs.Orders.{is_behind, is_apart, IsPlaceAmong, AreInOrder}

@@ -3,7 +3,7 @@ use Rattle.std.specs.Prelude.{List, [], ◌∷◌, ◌++◌}
 use Rattle.spectra_resolved.specs.declared.spot.Spot.{Spot}
 use Rattle.spectra_resolved.specs.declared.tree.Leaf.{Leaf}
 use Rattle.spectra_resolved.specs.declared.tree.Leaf.TheVariants as leaf
-use Rattle.spectra_resolved.specs.Resolved.{ResolvedTree, tree, Form, LinkData, ResolvedTrees}
+use Rattle.spectra_resolved.specs.Resolved.{ResolvedTree, tree, Form, ResolvedTrees}
 
 abbrev pub leaf_names : Spot → Leaf → List Spot
 leaf_names at (leaf.Define k) = at ∷ []
@@ -28,8 +28,3 @@ abbrev mutual
   pub each_names : ResolvedTrees → List Spot
   each_names ResolvedTrees.none = []
   each_names (ResolvedTrees.one_more t ts) = names_in t ++ each_names ts
-
--- those in the second operands of operators
-abbrev pub link_names : List LinkData → List Spot
-link_names [] = []
-link_names (l ∷ ls) = names_in l.second ++ link_names ls

@@ -1,7 +1,8 @@
 -- Places in text order.
 use Rattle.std.specs.Prelude.{◌≡◌, ℕ, ◌-◌, ◌<◌, ◌≤◌, ◌==◌, Bool, true, false, if◌then◌else◌, List, length, get_or}
 use Rattle.spectra_resolved.specs.declared.spot.Spot.{Spot}
-use Rattle.spectra_judge.specs.Around.{comes_before, AreRising, is_brought}
+use Rattle.spectra_judge.specs.Around.{comes_before, is_brought}
+use Rattle.spectra_judge.specs.Rising.{AreRising}
 
 -- whether the one before a number comes behind a place
 abbrev pub is_behind : List Spot → (number : ℕ) → Spot → Bool

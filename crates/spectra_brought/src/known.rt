@@ -1,8 +1,9 @@
 //! What is known of names where bodies are put in.
 
 ghost use Rattle.std.specs.Prelude.{◌≡◌};
-ghost use Rattle.spectra_judge.specs.Around.{AreRising, is_brought};
-ghost use Rattle.spectra_judge.specs.Known.{known_data};
+ghost use Rattle.spectra_judge.specs.Around.{is_brought};
+ghost use Rattle.spectra_judge.specs.Rising.{AreRising};
+ghost use Rattle.spectra_judge.specs.KindViews.{known_data};
 
 use spectra_judge::known::Known;
 use spectra_resolved::spot::Spot;

@@ -1,9 +1,10 @@
 //! The places of the names of definitions in an expression.
 
 ghost use Rattle.std.specs.Prelude.{◌≡◌, ◌++◌, ◌∷◌, [], map, OnOk};
-ghost use Rattle.spectra_resolved.specs.Resolved.{chained, trees};
+ghost use Rattle.spectra_resolved.specs.Chained.{chained, trees};
 ghost use Rattle.spectra_resolved.specs.Views.{resolved_data, link_data, form_data};
-ghost use Rattle.spectra_brought.specs.Names.{leaf_names, names_in, form_names, each_names, link_names};
+ghost use Rattle.spectra_brought.specs.Names.{leaf_names, names_in, form_names, each_names};
+ghost use Rattle.spectra_brought.specs.Links.{link_names};
 
 use spectra_resolved::spot::Spot;
 use spectra_resolved::tree::{Leaf, Link, Resolved, Shape};

@@ -2,7 +2,7 @@
 
 ghost use Rattle.std.specs.Prelude.{◌≡◌, ◌++◌, ◌∷◌, [], ◌<◌, ◌≤◌, length, get_or, OnOk, IfOk};
 ghost use Rattle.spectra_resolved.specs.Views.{resolved_data};
-ghost use Rattle.spectra_judge.specs.Around.{AreRising};
+ghost use Rattle.spectra_judge.specs.Rising.{AreRising};
 ghost use Rattle.spectra_brought.specs.Names.{names_in};
 ghost use Rattle.spectra_brought.specs.Orders.{is_behind as is_behind_lem, is_apart as is_apart_lem, IsPlaceAmong, AreInOrder};
 

@@ -3,9 +3,10 @@
 ghost use Rattle.std.specs.Prelude.{◌≡◌, List};
 ghost use Rattle.spectra_resolved.specs.declared.findings.Finding.{Finding};
 ghost use Rattle.spectra_resolved.specs.Views.{resolved_data};
-ghost use Rattle.spectra_resolved.specs.Findings.{found_in, with_faults, first_of_faults};
-ghost use Rattle.spectra_judge.specs.Around.{AreRising};
-ghost use Rattle.spectra_judge.specs.Known.{known_data};
+ghost use Rattle.spectra_resolved.specs.Findings.{with_faults, first_of_faults};
+ghost use Rattle.spectra_resolved.specs.Reports.{found_in};
+ghost use Rattle.spectra_judge.specs.Rising.{AreRising};
+ghost use Rattle.spectra_judge.specs.KindViews.{known_data};
 ghost use Rattle.spectra_judge.specs.Judged.{faults_of};
 
 use spectra_judge::judging::judge;

@@ -4,7 +4,8 @@ use Rattle.spectra_resolved.specs.declared.findings.Finding.{Finding}
 use Rattle.spectra_declared.specs.declared.declaring.Space.{Space}
 use Rattle.spectra_declared.specs.declared.declaring.Space.TheVariants as spaces
 use Rattle.spectra_resolved.specs.Findings.{with_faults}
-use Rattle.spectra_resolved.specs.Spaces.{declared, clashes, Told, with_entries}
+use Rattle.spectra_resolved.specs.Spaces.{declared, clashes}
+use Rattle.spectra_resolved.specs.SpaceViews.{Told, with_entries}
 use Rattle.spectra_declared.specs.Items.{FiledItem}
 use Rattle.spectra_declared.specs.Declarations.{enums_in, entries, names_past, scope_faults}
 use Rattle.spectra_resolved.proofs.First.{with_faults_append}

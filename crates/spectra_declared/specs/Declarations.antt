@@ -1,5 +1,5 @@
 -- What the items of several files declare, each name space in text order, and the faults of declarations.
-use Rattle.spectra_trees.specs.declared.faults.TheConstants.{IMPORTED_LINE, TOO_MANY}
+use Rattle.spectra_trees.specs.Faults.{ImportedLine, TooMany, number_of}
 use Rattle.std.specs.Prelude.{ℕ, suc, ◌+◌, ◌-◌, nat_lt, Bool, true, false, if◌then◌else◌, List, [], ◌∷◌, ◌++◌, Option, Some, None, length, map, flat_map, position, unwrap_or, slice_get, option_to_list, bytes_eq}
 use Rattle.spectra_trees.specs.declared.tree.Place.{Place}
 use Rattle.spectra_trees.specs.Data.{NameData, Expression, ItemData, TreeData}
@@ -131,13 +131,13 @@ lines_of _ = 0
 -- the first item with more of something than there is room for
 abbrev pub past : (ItemData → ℕ) → (room : ℕ) → List FiledItem → List Finding
 past weight room [] = []
-past weight room (i ∷ items) = if nat_lt room (weight i.1) then fault TOO_MANY (spot_of_item i) ∷ [] else past weight (room - weight i.1) items
+past weight room (i ∷ items) = if nat_lt room (weight i.1) then fault (number_of TooMany) (spot_of_item i) ∷ [] else past weight (room - weight i.1) items
 
 -- the first item with which there are more than so many different enum names
 abbrev pub names_past : (most : ℕ) → (before : List (List ℕ)) → List FiledItem → List Finding
 names_past most before [] = []
 names_past most before (i ∷ items) =
-    if nat_lt most (length (with_names before (enum_names_of i.1))) then fault TOO_MANY (spot_of_item i) ∷ []
+    if nat_lt most (length (with_names before (enum_names_of i.1))) then fault (number_of TooMany) (spot_of_item i) ∷ []
     else names_past most (with_names before (enum_names_of i.1)) items
 
 -- ---- what may not stand in an imported file
@@ -150,16 +150,16 @@ is_main (ItemData.Statement l) = true
 is_main _ = false
 
 abbrev pub imported_faults : (last : ℕ) → FiledItem → List Finding
-imported_faults last i = if nat_lt i.0 last then (if is_main i.1 then fault IMPORTED_LINE (spot_of_item i) ∷ [] else []) else []
+imported_faults last i = if nat_lt i.0 last then (if is_main i.1 then fault (number_of ImportedLine) (spot_of_item i) ∷ [] else []) else []
 
 -- the import past the limit, where there is one
 abbrev pub import_past : (file : ℕ) → Option NameData → List Finding
-import_past file (Some n) = fault TOO_MANY (spot_of file n) ∷ []
+import_past file (Some n) = fault (number_of TooMany) (spot_of file n) ∷ []
 import_past file None = []
 
 -- an imported file imports nothing, and the main one at most 64 files
 abbrev pub import_faults : (file : ℕ) → (imported : Bool) → List NameData → List Finding
-import_faults file imported imports = if imported then map (λ n. fault IMPORTED_LINE (spot_of file n)) imports else import_past file (slice_get imports 64)
+import_faults file imported imports = if imported then map (λ n. fault (number_of ImportedLine) (spot_of file n)) imports else import_past file (slice_get imports 64)
 
 -- the faults of imports in files, where so many stand before these
 abbrev pub imports_faults : (last before : ℕ) → List TreeData → List Finding

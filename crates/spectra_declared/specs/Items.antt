@@ -1,16 +1,11 @@
 -- The items of several files, each with the number of its file, and the enum names in them.
 use Rattle.std.specs.Prelude.{ℕ, suc, List, [], ◌∷◌, ◌++◌, map, flat_map}
 use Rattle.spectra_trees.specs.Data.{NameData, PartData, PartShape, ItemData, TreeData}
-use Rattle.spectra_trees.specs.Views.{item_data}
-use Rattle.spectra_declared.specs.declared.items.Filed.{Filed}
 use Rattle.spectra_resolved.specs.Enums.{enum_names}
 
 -- an item, behind the number of its file
 abbrev pub FiledItem : Type 0
 FiledItem = ℕ × ItemData
-
-abbrev pub filed_data : Filed → FiledItem
-filed_data f = (f.file, item_data f.item.now)
 
 -- the items of files, where so many files stand before these
 abbrev pub items_from : (before : ℕ) → List TreeData → List FiledItem

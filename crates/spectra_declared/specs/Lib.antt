@@ -1,4 +1,5 @@
 pub mod Items
+pub mod ItemViews
 pub mod MentionViews
 pub mod Declarations
 pub mod LimitViews

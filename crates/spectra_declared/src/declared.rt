@@ -2,12 +2,14 @@
 
 ghost use Rattle.std.specs.Prelude.{◌≡◌, ◌-◌, [], length, map, IfOk, OnOk};
 ghost use Rattle.spectra_trees.specs.Views.{tree_data};
-ghost use Rattle.spectra_resolved.specs.Findings.{found_in, with_faults};
+ghost use Rattle.spectra_resolved.specs.Findings.{with_faults};
+ghost use Rattle.spectra_resolved.specs.Reports.{found_in};
 ghost use Rattle.spectra_resolved.specs.Enums.{with_names};
 ghost use Rattle.spectra_resolved.specs.EnumViews.{names_in};
 ghost use Rattle.spectra_declared.specs.MentionViews.{names_data};
 ghost use Rattle.spectra_resolved.specs.LookViews.{scope_data};
-ghost use Rattle.spectra_declared.specs.Items.{filed_data, items_from, enum_names_of as enum_names_of_lem};
+ghost use Rattle.spectra_declared.specs.Items.{items_from, enum_names_of as enum_names_of_lem};
+ghost use Rattle.spectra_declared.specs.ItemViews.{filed_data};
 ghost use Rattle.spectra_declared.specs.Declarations.{enums_in, names_past, names_of, scope_faults, limit_faults, import_and_item_faults, declaration_faults};
 
 use crate::declaring::{Space, space_of};

@@ -2,13 +2,14 @@
 
 ghost use Rattle.std.specs.Prelude.{◌≡◌, ◌+◌, [], ◌∷◌, map, IfOk, OnOk};
 ghost use Rattle.spectra_trees.specs.Views.{name_data, expr_data, item_data};
-ghost use Rattle.spectra_resolved.specs.Findings.{found_in};
-ghost use Rattle.spectra_resolved.specs.Spaces.{with_entries, no_names};
+ghost use Rattle.spectra_resolved.specs.Reports.{found_in};
+ghost use Rattle.spectra_resolved.specs.Spaces.{no_names};
+ghost use Rattle.spectra_resolved.specs.SpaceViews.{with_entries};
 ghost use Rattle.spectra_resolved.specs.Tables.{told};
 ghost use Rattle.spectra_resolved.specs.Spots.{mentioned as mentioned_lem};
 ghost use Rattle.spectra_resolved.specs.EnumViews.{names_in};
 ghost use Rattle.spectra_declared.specs.MentionViews.{names_data};
-ghost use Rattle.spectra_declared.specs.Items.{filed_data};
+ghost use Rattle.spectra_declared.specs.ItemViews.{filed_data};
 ghost use Rattle.spectra_declared.specs.Declarations.{no_counts, counted as counted_lem, enum_entry, define_entries, own_entries, enum_entries, entries_of, entries};
 
 use crate::items::Filed;

@@ -2,7 +2,8 @@
 
 ghost use Rattle.std.specs.Prelude.{◌≡◌, ◌++◌, map, IfOk, OnOk};
 ghost use Rattle.spectra_trees.specs.Views.{item_data, tree_data};
-ghost use Rattle.spectra_declared.specs.Items.{items_from, filed_data};
+ghost use Rattle.spectra_declared.specs.Items.{items_from};
+ghost use Rattle.spectra_declared.specs.ItemViews.{filed_data};
 
 use spectra_trees::tree::{Item, Tree};
 use std::alloc::{AllocError, Global};

@@ -2,8 +2,9 @@
 
 ghost use Rattle.std.specs.Prelude.{◌≡◌, true, map, flat_map, nat_lt};
 ghost use Rattle.spectra_trees.specs.Views.{name_data, item_data, tree_data};
-ghost use Rattle.spectra_resolved.specs.Findings.{found_in, with_faults};
-ghost use Rattle.spectra_declared.specs.Items.{filed_data};
+ghost use Rattle.spectra_resolved.specs.Findings.{with_faults};
+ghost use Rattle.spectra_resolved.specs.Reports.{found_in};
+ghost use Rattle.spectra_declared.specs.ItemViews.{filed_data};
 ghost use Rattle.spectra_declared.specs.Declarations.{spot_of_item as spot_of_item_lem, past, is_main as is_main_lem, imported_faults, import_faults, imports_faults};
 ghost use Rattle.spectra_declared.specs.LimitViews.{weight_of};
 

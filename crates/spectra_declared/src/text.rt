@@ -2,7 +2,7 @@
 
 ghost use Rattle.std.specs.Prelude.{◌≡◌, map, IfOk, OnOk};
 ghost use Rattle.spectra_trees.specs.Views.{tree_data};
-ghost use Rattle.spectra_declared.specs.Items.{filed_data};
+ghost use Rattle.spectra_declared.specs.ItemViews.{filed_data};
 ghost use Rattle.spectra_resolved.specs.LookViews.{scope_data};
 ghost use Rattle.spectra_resolved.specs.TextViews.{text_data};
 ghost use Rattle.spectra_items.specs.Meanings.{faults_in};

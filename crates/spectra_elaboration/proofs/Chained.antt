@@ -1,9 +1,11 @@
 -- What chains stand for, what is put in in them, and their nodes.
 use Rattle.std.proofs.Common.{◌≡◌, ◌+◌, List, [], ◌∷◌, map, Option, refl, ap, ◌∙◌, arith}
 use Rattle.spectra_resolved.specs.declared.spot.Spot.{Spot}
-use Rattle.spectra_resolved.specs.Resolved.{ResolvedTree, LinkData, joined, chained}
+use Rattle.spectra_resolved.specs.Resolved.{ResolvedTree}
+use Rattle.spectra_resolved.specs.Chained.{LinkData, joined, chained}
 use Rattle.spectra_elaboration.specs.Putting.{Put, placed, filled}
-use Rattle.spectra_elaboration.specs.Nodes.{tree_nodes, link_nodes}
+use Rattle.spectra_elaboration.specs.Nodes.{tree_nodes}
+use Rattle.spectra_elaboration.specs.Links.{link_nodes}
 
 pub map_twice : {X Y Z : Type 0} (f : Y → Z) (g : X → Y) (xs : List X) → map f (map g xs) ≡ map (λ x. f (g x)) xs
 map_twice f g [] = refl

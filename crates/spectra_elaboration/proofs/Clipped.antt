@@ -10,9 +10,10 @@ use Rattle.spectra_resolved.specs.declared.tree.Hole.{Hole}
 use Rattle.spectra_resolved.specs.declared.tree.Hole.TheVariants as hole
 use Rattle.spectra_resolved.specs.Resolved.{ResolvedTree, tree, Form, ResolvedTrees, listed}
 use Rattle.spectra_elaboration.specs.declared.counted.Counted.{Counted}
-use Rattle.spectra_elaboration.specs.declared.halt.Halt.{Halt}
+use Rattle.spectra_elaboration.specs.declared.refusal.Refusal.{Refusal}
 use Rattle.spectra_elaboration.specs.Putting.{Bodies, Put, placed, leaf_put, filled, form_filled, each_filled, body_of, body_put, put_deep}
-use Rattle.spectra_elaboration.specs.Nodes.{tree_nodes, each_nodes, too_large, clipped}
+use Rattle.spectra_elaboration.specs.Nodes.{tree_nodes, each_nodes}
+use Rattle.spectra_elaboration.specs.Clipped.{too_large, clipped}
 use Rattle.spectra_elaboration.specs.Making.{Makes}
 use Rattle.spectra_elaboration.specs.PuttingViews.{argument_data}
 use Rattle.spectra_elaboration.proofs.Made.{same, small as fits_in, nodes_are, stop}
@@ -143,7 +144,7 @@ module _ (limit : ℕ) where
       omega (arith, there, size)
 
   -- what there is room for is the same in both
-  pub made_same : (a b : ResolvedTree) → Agree a b → (room : ℕ) → room ≤ limit → (r : Result Counted Halt) → Makes room a r → Makes room b r
+  pub made_same : (a b : ResolvedTree) → Agree a b → (room : ℕ) → room ≤ limit → (r : Result Counted Refusal) → Makes room a r → Makes room b r
   made_same a b (inl e) room small r made = same room a b r e made
   made_same a b (inr p) room small (Ok made) is =
       let large = p.0 in

@@ -3,9 +3,11 @@ use Rattle.std.proofs.Common.{◌≡◌, ℕ, suc, ◌+◌, ◌-◌, ◌<◌, �
 use Rattle.std.proofs.lemmas.Bool.Decides.{nat_tests}
 use Rattle.spectra_resolved.specs.declared.tree.Resolved.{Resolved}
 use Rattle.spectra_resolved.specs.declared.tree.Link.{Link}
-use Rattle.spectra_resolved.specs.Resolved.{ResolvedTree, tree, Form, LinkData, trees, joined, chained}
+use Rattle.spectra_resolved.specs.Resolved.{ResolvedTree, tree, Form}
+use Rattle.spectra_resolved.specs.Chained.{LinkData, trees, joined, chained}
 use Rattle.spectra_resolved.specs.Views.{resolved_data, link_data}
-use Rattle.spectra_elaboration.specs.Levels.{tree_levels, form_levels, each_levels, are_flat_above}
+use Rattle.spectra_elaboration.specs.Levels.{tree_levels, form_levels, each_levels}
+use Rattle.spectra_elaboration.specs.Links.{are_flat_above}
 use Rattle.spectra_judge.proofs.Lists.{mapped_left}
 
 -- the greater of two is within a limit where both are

@@ -10,7 +10,8 @@ use Rattle.spectra_resolved.specs.declared.tree.Resolved.TheVariants.{rolls-Node
 use Rattle.spectra_resolved.specs.declared.tree.Shape.{Shape, Shape-F, fold-roll-Shape}
 use Rattle.spectra_resolved.specs.declared.tree.Shape.TheVariants as variants
 use Rattle.spectra_resolved.specs.declared.tree.Shape.TheVariants.{rolls-Leaf, rolls-Predicate, rolls-Misuse, rolls-Next, rolls-Prefix, rolls-Mod, rolls-And, rolls-Or}
-use Rattle.spectra_resolved.specs.Resolved.{ResolvedTree, tree, Form, LinkData, trees}
+use Rattle.spectra_resolved.specs.Resolved.{ResolvedTree, tree, Form}
+use Rattle.spectra_resolved.specs.Chained.{LinkData, trees}
 use Rattle.spectra_resolved.specs.Views.{resolved_data, form_data, resolved_step, shape_step, link_step}
 
 pub leaf_data : (leaf : Leaf) → form_data (variants.Leaf leaf) ≡ Form.LeafOf leaf

@@ -3,7 +3,8 @@ use Rattle.std.proofs.Common.{◌≡◌, ℕ, ◌+◌, ◌<◌, List, [], ◌∷
 use Rattle.spec_model.specs.Syntax as model
 use Rattle.spec_model.specs.Syntax.{Formula, Formulas, formulas}
 use Rattle.spectra_resolved.specs.declared.tree.Link.{Link}
-use Rattle.spectra_resolved.specs.Resolved.{ResolvedTree, LinkData, joined, chained}
+use Rattle.spectra_resolved.specs.Resolved.{ResolvedTree}
+use Rattle.spectra_resolved.specs.Chained.{LinkData, joined, chained}
 use Rattle.spectra_resolved.specs.Views.{resolved_data, link_data}
 use Rattle.spectra_judge.specs.Erased.{binary_formula, erased}
 use Rattle.spectra_judge.proofs.Lists.{mapped_left}

@@ -6,17 +6,19 @@ use Rattle.spectra_trees.specs.declared.tree.PrefixWord.{PrefixWord}
 use Rattle.spectra_resolved.specs.declared.spot.Spot.{Spot}
 use Rattle.spectra_resolved.specs.declared.tree.Resolved.{Resolved}
 use Rattle.spectra_resolved.specs.declared.tree.Link.{Link}
-use Rattle.spectra_resolved.specs.Resolved.{ResolvedTree, tree, Form, ResolvedTrees, LinkData, trees, listed}
+use Rattle.spectra_resolved.specs.Resolved.{ResolvedTree, tree, Form, ResolvedTrees, listed}
+use Rattle.spectra_resolved.specs.Chained.{LinkData, trees}
 use Rattle.spectra_resolved.specs.Views.{resolved_data, link_data}
 use Rattle.spectra_resolved.proofs.Trees.{trees-listed}
 use Rattle.spectra_judge.proofs.Lists.{mapped_left}
 use Rattle.spectra_elaboration.specs.declared.counted.Counted.{Counted}
 use Rattle.spectra_elaboration.specs.declared.counted.Operands.{Operands}
 use Rattle.spectra_elaboration.specs.declared.counted.Operators.{Operators}
-use Rattle.spectra_elaboration.specs.declared.halt.Halt.{Halt}
-use Rattle.spectra_elaboration.specs.declared.halt.Halt.TheVariants.{Large, Memory}
+use Rattle.spectra_elaboration.specs.declared.refusal.Refusal.{Refusal}
+use Rattle.spectra_elaboration.specs.declared.refusal.Refusal.TheVariants.{Large, Memory}
 use Rattle.spectra_elaboration.specs.Putting.{Put, placed, filled, form_filled, each_filled}
-use Rattle.spectra_elaboration.specs.Nodes.{tree_nodes, each_nodes, link_nodes, within_room}
+use Rattle.spectra_elaboration.specs.Nodes.{tree_nodes, each_nodes, within_room}
+use Rattle.spectra_elaboration.specs.Links.{link_nodes}
 use Rattle.spectra_elaboration.specs.Making.{Makes, MakesEach, MakesLinks}
 use Rattle.spectra_elaboration.proofs.Chained.{link_filled}
 
@@ -30,7 +32,7 @@ no_room e = absurd (distinct e)
 -- ---- what an answer says
 
 module _ (room : ℕ) where
-  pub same : (a b : ResolvedTree) (r : Result Counted Halt) → a ≡ b → Makes room a r → Makes room b r
+  pub same : (a b : ResolvedTree) (r : Result Counted Refusal) → a ≡ b → Makes room a r → Makes room b r
   same a b r e made = subst (λ t. Makes room t r) e made
 
   pub tree_is : (t : ResolvedTree) (made : Counted) → Makes room t (Ok made) → resolved_data made.tree ≡ t
@@ -44,11 +46,11 @@ module _ (room : ℕ) where
   pub nodes_are : (t : ResolvedTree) (made : Counted) → Makes room t (Ok made) → made.nodes ≡ tree_nodes t
   nodes_are t made m = made.counted ∙ ap tree_nodes (tree_is t made m)
 
-  pub large : (t : ResolvedTree) (halt : Halt) → Makes room t (Err halt) → halt ≡ Large → room < tree_nodes t
+  pub large : (t : ResolvedTree) (halt : Refusal) → Makes room t (Err halt) → halt ≡ Large → room < tree_nodes t
   unfolding Makes
   large t halt m = m
 
-  pub stop : (t : ResolvedTree) (halt : Halt) (r : Result Counted Halt) → IsErrAnd r (λ y. y ≡ halt) → (halt ≡ Large → room < tree_nodes t) → Makes room t r
+  pub stop : (t : ResolvedTree) (halt : Refusal) (r : Result Counted Refusal) → IsErrAnd r (λ y. y ≡ halt) → (halt ≡ Large → room < tree_nodes t) → Makes room t r
   unfolding Makes
   stop t halt (Ok made) is few = absurd is
   stop t halt (Err y) is few = λ e. few (sym is ∙ e)
@@ -57,11 +59,11 @@ module _ (room : ℕ) where
   unfolding MakesEach
   trees_are ts made m = m.0
 
-  pub large_each : (ts : ResolvedTrees) (halt : Halt) → MakesEach room ts (Err halt) → halt ≡ Large → room < each_nodes ts
+  pub large_each : (ts : ResolvedTrees) (halt : Refusal) → MakesEach room ts (Err halt) → halt ≡ Large → room < each_nodes ts
   unfolding MakesEach
   large_each ts halt m = m
 
-  pub stop_each : (ts : ResolvedTrees) (halt : Halt) (r : Result Operands Halt) → IsErrAnd r (λ y. y ≡ halt) → (halt ≡ Large → room < each_nodes ts) → MakesEach room ts r
+  pub stop_each : (ts : ResolvedTrees) (halt : Refusal) (r : Result Operands Refusal) → IsErrAnd r (λ y. y ≡ halt) → (halt ≡ Large → room < each_nodes ts) → MakesEach room ts r
   unfolding MakesEach
   stop_each ts halt (Ok made) is few = absurd is
   stop_each ts halt (Err y) is few = λ e. few (sym is ∙ e)
@@ -74,11 +76,11 @@ module _ (room : ℕ) where
   unfolding MakesLinks
   small_links ls made m = m.1
 
-  pub large_links : (ls : List LinkData) (halt : Halt) → MakesLinks room ls (Err halt) → halt ≡ Large → room < link_nodes ls
+  pub large_links : (ls : List LinkData) (halt : Refusal) → MakesLinks room ls (Err halt) → halt ≡ Large → room < link_nodes ls
   unfolding MakesLinks
   large_links ls halt m = m
 
-  pub stop_links : (ls : List LinkData) (halt : Halt) (r : Result Operators Halt) → IsErrAnd r (λ y. y ≡ halt) → (halt ≡ Large → room < link_nodes ls) → MakesLinks room ls r
+  pub stop_links : (ls : List LinkData) (halt : Refusal) (r : Result Operators Refusal) → IsErrAnd r (λ y. y ≡ halt) → (halt ≡ Large → room < link_nodes ls) → MakesLinks room ls r
   unfolding MakesLinks
   stop_links ls halt (Ok made) is few = absurd is
   stop_links ls halt (Err y) is few = λ e. few (sym is ∙ e)
@@ -172,7 +174,7 @@ module _ (put : Put) (brought : Option Spot) (arguments : List ResolvedTree) whe
 
   -- ---- nodes above their operands
 
-  module _ (room : ℕ) (first at : Spot) (form : Form) (r : Result Counted Halt) where
+  module _ (room : ℕ) (first at : Spot) (form : Form) (r : Result Counted Refusal) where
     abbrev Whole : Form → ResolvedTree
     Whole f = form_filled put brought arguments first at f
 
@@ -180,14 +182,14 @@ module _ (put : Put) (brought : Option Spot) (arguments : List ResolvedTree) whe
     by_form : (f : Form) (made : ResolvedTree) → form ≡ f → made ≡ Whole f → Makes room made r → Makes room (Whole form) r
     by_form f made is e m = same room made (Whole form) r (e ∙ sym (ap Whole is)) m
 
-    stop_form : (f : Form) (halt : Halt) → form ≡ f → IsErrAnd r (λ y. y ≡ halt) → (halt ≡ Large → room < tree_nodes (Whole f)) → Makes room (Whole form) r
+    stop_form : (f : Form) (halt : Refusal) → form ≡ f → IsErrAnd r (λ y. y ≡ halt) → (halt ≡ Large → room < tree_nodes (Whole f)) → Makes room (Whole form) r
     stop_form f halt is err few = same room (Whole f) (Whole form) r (sym (ap Whole is)) (stop room (Whole f) halt r err few)
 
     pub next_made : (t : ResolvedTree) (operand : Counted) → form ≡ Form.Next t → Makes room (Fill t) (Ok operand)
         → Makes room (tree first at (Form.Next (resolved_data operand.tree))) r → Makes room (Whole form) r
     next_made t operand is own m = by_form (Form.Next t) (tree first at (Form.Next (resolved_data operand.tree))) is (ap (λ x. tree first at (Form.Next x)) (tree_is room (Fill t) operand own)) m
 
-    pub next_stops : (t : ResolvedTree) (halt : Halt) → form ≡ Form.Next t → Makes room (Fill t) (Err halt) → IsErrAnd r (λ y. y ≡ halt) → Makes room (Whole form) r
+    pub next_stops : (t : ResolvedTree) (halt : Refusal) → form ≡ Form.Next t → Makes room (Fill t) (Err halt) → IsErrAnd r (λ y. y ≡ halt) → Makes room (Whole form) r
     next_stops t halt is own err = stop_form (Form.Next t) halt is err (λ e. let few = large room (Fill t) halt own e in omega (arith, few))
 
     pub prefix_made : (word : PrefixWord) (t : ResolvedTree) (operand : Counted) → form ≡ Form.Prefix word t → Makes room (Fill t) (Ok operand)
@@ -195,7 +197,7 @@ module _ (put : Put) (brought : Option Spot) (arguments : List ResolvedTree) whe
     prefix_made word t operand is own m =
         by_form (Form.Prefix word t) (tree first at (Form.Prefix word (resolved_data operand.tree))) is (ap (λ x. tree first at (Form.Prefix word x)) (tree_is room (Fill t) operand own)) m
 
-    pub prefix_stops : (word : PrefixWord) (t : ResolvedTree) (halt : Halt) → form ≡ Form.Prefix word t → Makes room (Fill t) (Err halt) → IsErrAnd r (λ y. y ≡ halt) → Makes room (Whole form) r
+    pub prefix_stops : (word : PrefixWord) (t : ResolvedTree) (halt : Refusal) → form ≡ Form.Prefix word t → Makes room (Fill t) (Err halt) → IsErrAnd r (λ y. y ≡ halt) → Makes room (Whole form) r
     prefix_stops word t halt is own err = stop_form (Form.Prefix word t) halt is err (λ e. let few = large room (Fill t) halt own e in omega (arith, few))
 
     pub mod_made : (t : ResolvedTree) (number_at : Spot) (n : ℤ) (operand : Counted) → form ≡ Form.Mod t number_at n → Makes room (Fill t) (Ok operand)
@@ -204,7 +206,7 @@ module _ (put : Put) (brought : Option Spot) (arguments : List ResolvedTree) whe
         by_form (Form.Mod t number_at n) (tree first at (Form.Mod (resolved_data operand.tree) (placed brought number_at) n)) is
         (ap (λ x. tree first at (Form.Mod x (placed brought number_at) n)) (tree_is room (Fill t) operand own)) m
 
-    pub mod_stops : (t : ResolvedTree) (number_at : Spot) (n : ℤ) (halt : Halt) → form ≡ Form.Mod t number_at n → Makes room (Fill t) (Err halt) → IsErrAnd r (λ y. y ≡ halt) → Makes room (Whole form) r
+    pub mod_stops : (t : ResolvedTree) (number_at : Spot) (n : ℤ) (halt : Refusal) → form ≡ Form.Mod t number_at n → Makes room (Fill t) (Err halt) → IsErrAnd r (λ y. y ≡ halt) → Makes room (Whole form) r
     mod_stops t number_at n halt is own err = stop_form (Form.Mod t number_at n) halt is err (λ e. let few = large room (Fill t) halt own e in omega (arith, few))
 
     pub and_made : (ts : ResolvedTrees) (operators : List Spot) (operands : Operands) → form ≡ Form.And ts operators → MakesEach room (FillEach ts) (Ok operands)
@@ -213,7 +215,7 @@ module _ (put : Put) (brought : Option Spot) (arguments : List ResolvedTree) whe
         by_form (Form.And ts operators) (tree first at (Form.And (trees (map resolved_data operands.all.items)) (map (placed brought) operators))) is
         (ap (λ xs. tree first at (Form.And xs (map (placed brought) operators))) (trees_are room (FillEach ts) operands own)) m
 
-    pub and_stops : (ts : ResolvedTrees) (operators : List Spot) (halt : Halt) → form ≡ Form.And ts operators → MakesEach room (FillEach ts) (Err halt) → IsErrAnd r (λ y. y ≡ halt) → Makes room (Whole form) r
+    pub and_stops : (ts : ResolvedTrees) (operators : List Spot) (halt : Refusal) → form ≡ Form.And ts operators → MakesEach room (FillEach ts) (Err halt) → IsErrAnd r (λ y. y ≡ halt) → Makes room (Whole form) r
     and_stops ts operators halt is own err = stop_form (Form.And ts operators) halt is err (λ e. let few = large_each room (FillEach ts) halt own e in omega (arith, few))
 
     pub or_made : (ts : ResolvedTrees) (operators : List Spot) (operands : Operands) → form ≡ Form.Or ts operators → MakesEach room (FillEach ts) (Ok operands)
@@ -222,7 +224,7 @@ module _ (put : Put) (brought : Option Spot) (arguments : List ResolvedTree) whe
         by_form (Form.Or ts operators) (tree first at (Form.Or (trees (map resolved_data operands.all.items)) (map (placed brought) operators))) is
         (ap (λ xs. tree first at (Form.Or xs (map (placed brought) operators))) (trees_are room (FillEach ts) operands own)) m
 
-    pub or_stops : (ts : ResolvedTrees) (operators : List Spot) (halt : Halt) → form ≡ Form.Or ts operators → MakesEach room (FillEach ts) (Err halt) → IsErrAnd r (λ y. y ≡ halt) → Makes room (Whole form) r
+    pub or_stops : (ts : ResolvedTrees) (operators : List Spot) (halt : Refusal) → form ≡ Form.Or ts operators → MakesEach room (FillEach ts) (Err halt) → IsErrAnd r (λ y. y ≡ halt) → Makes room (Whole form) r
     or_stops ts operators halt is own err = stop_form (Form.Or ts operators) halt is err (λ e. let few = large_each room (FillEach ts) halt own e in omega (arith, few))
 
 -- ---- the whole

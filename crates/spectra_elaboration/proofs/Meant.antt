@@ -6,7 +6,8 @@ use Rattle.spectra_resolved.specs.declared.tree.Leaf.{Leaf}
 use Rattle.spectra_resolved.specs.Resolved.{ResolvedTree, tree, Form, ResolvedTrees, listed}
 use Rattle.spectra_judge.specs.Kinds.{Kind, Anything}
 use Rattle.spectra_judge.specs.Known.{Known}
-use Rattle.spectra_holes.specs.Holed.{is_anything, is_meant, form_meant, each_meant, arguments_meant}
+use Rattle.spectra_holes.specs.Holed.{is_anything}
+use Rattle.spectra_holes.specs.HoleViews.{is_meant, form_meant, each_meant, arguments_meant}
 use Rattle.spectra_holes.proofs.Stays.{holed_stays}
 use Rattle.spectra_elaboration.specs.Written.{is_use, is_written, form_written, each_written}
 use Rattle.spectra_elaboration.specs.Laws.{HasMeantParameters, HoledIsAsWritten}

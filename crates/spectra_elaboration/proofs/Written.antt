@@ -11,7 +11,7 @@ use Rattle.spectra_resolved.specs.declared.tree.Leaf.TheVariants as leaf
 use Rattle.spectra_resolved.specs.declared.tree.Hole.{Hole}
 use Rattle.spectra_resolved.specs.declared.tree.Hole.TheVariants as hole
 use Rattle.spectra_resolved.specs.Resolved.{ResolvedTree, tree, Form, ResolvedTrees, listed}
-use Rattle.spectra_judge.specs.Erased.{is_put_in, each_put_in}
+use Rattle.spectra_judge.specs.PutIn.{is_put_in, each_put_in}
 use Rattle.spectra_elaboration.specs.Putting.{Bodies, Put, placed, leaf_put, filled, form_filled, each_filled, body_of, body_put, put_deep, put_in}
 use Rattle.spectra_uses.specs.Uses.{uses_in, form_uses, each_uses}
 use Rattle.spectra_uses.specs.Cycles.{reaches}

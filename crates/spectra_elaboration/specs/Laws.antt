@@ -7,7 +7,8 @@ use Rattle.spectra_resolved.specs.declared.stand.Stand.{Stand}
 use Rattle.spectra_judge.specs.Kinds.{Anything}
 use Rattle.spectra_judge.specs.Known.{Known}
 use Rattle.spectra_judge.specs.Judged.{faults_of}
-use Rattle.spectra_judge.specs.Erased.{erased, is_put_in}
+use Rattle.spectra_judge.specs.Erased.{erased}
+use Rattle.spectra_judge.specs.PutIn.{is_put_in}
 use Rattle.spectra_holes.specs.Holed.{is_anything, holed}
 use Rattle.spectra_elaboration.specs.Putting.{put_in}
 use Rattle.spectra_elaboration.specs.Nodes.{tree_nodes}

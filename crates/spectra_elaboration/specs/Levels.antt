@@ -1,6 +1,6 @@
 -- How many levels of an expression stand in one another.
-use Rattle.std.specs.Prelude.{ℕ, ◌+◌, max, nat_le, Bool, true, ◌&&◌, List, [], ◌∷◌}
-use Rattle.spectra_resolved.specs.Resolved.{ResolvedTree, tree, Form, LinkData, ResolvedTrees}
+use Rattle.std.specs.Prelude.{ℕ, ◌+◌, max}
+use Rattle.spectra_resolved.specs.Resolved.{ResolvedTree, tree, Form, ResolvedTrees}
 
 -- a part without parts is one level, and so is what isn't put in
 abbrev mutual
@@ -21,8 +21,3 @@ abbrev mutual
   pub each_levels : ResolvedTrees → ℕ
   each_levels ResolvedTrees.none = 0
   each_levels (ResolvedTrees.one_more t ts) = max (tree_levels t) (each_levels ts)
-
--- the second operands of operators, each of which may have one level more than the one before it
-abbrev pub are_flat_above : ℕ → List LinkData → Bool
-are_flat_above limit [] = true
-are_flat_above limit (l ∷ ls) = nat_le (tree_levels l.second) limit && are_flat_above (limit + 1) ls

@@ -1,5 +1,7 @@
 pub mod Putting
 pub mod Nodes
+pub mod Clipped
+pub mod Links
 pub mod Making
 pub mod Levels
 pub mod Written

@@ -1,22 +1,24 @@
 -- What the program makes where there is room for it.
 use Rattle.std.specs.Prelude.{◌≡◌, ℕ, ◌<◌, ◌≤◌, map, List, Result, MatchResult}
-use Rattle.spectra_resolved.specs.Resolved.{ResolvedTree, ResolvedTrees, LinkData, trees}
+use Rattle.spectra_resolved.specs.Resolved.{ResolvedTree, ResolvedTrees}
+use Rattle.spectra_resolved.specs.Chained.{LinkData, trees}
 use Rattle.spectra_resolved.specs.Views.{resolved_data, link_data}
 use Rattle.spectra_elaboration.specs.declared.counted.Counted.{Counted}
 use Rattle.spectra_elaboration.specs.declared.counted.Operands.{Operands}
 use Rattle.spectra_elaboration.specs.declared.counted.Operators.{Operators}
-use Rattle.spectra_elaboration.specs.declared.halt.Halt.{Halt}
-use Rattle.spectra_elaboration.specs.declared.halt.Halt.TheVariants.{Large}
-use Rattle.spectra_elaboration.specs.Nodes.{tree_nodes, each_nodes, link_nodes}
+use Rattle.spectra_elaboration.specs.declared.refusal.Refusal.{Refusal}
+use Rattle.spectra_elaboration.specs.declared.refusal.Refusal.TheVariants.{Large}
+use Rattle.spectra_elaboration.specs.Nodes.{tree_nodes, each_nodes}
+use Rattle.spectra_elaboration.specs.Links.{link_nodes}
 
 -- an expression, where it has no more nodes than there is room for; it is too large only where it has more
-unfoldable pub Makes : (room : ℕ) → ResolvedTree → Result Counted Halt → Type 0
+unfoldable pub Makes : (room : ℕ) → ResolvedTree → Result Counted Refusal → Type 0
 Makes room t r = MatchResult r (λ made. (resolved_data made.tree ≡ t) × (made.nodes ≤ room)) (λ halt. halt ≡ Large → room < tree_nodes t)
 
 -- operands
-unfoldable pub MakesEach : (room : ℕ) → ResolvedTrees → Result Operands Halt → Type 0
+unfoldable pub MakesEach : (room : ℕ) → ResolvedTrees → Result Operands Refusal → Type 0
 MakesEach room ts r = MatchResult r (λ made. (trees (map resolved_data made.all.items) ≡ ts) × (made.nodes ≤ room)) (λ halt. halt ≡ Large → room < each_nodes ts)
 
 -- operators with their second operands
-unfoldable pub MakesLinks : (room : ℕ) → List LinkData → Result Operators Halt → Type 0
+unfoldable pub MakesLinks : (room : ℕ) → List LinkData → Result Operators Refusal → Type 0
 MakesLinks room ls r = MatchResult r (λ made. (map link_data made.all.items ≡ ls) × (made.nodes ≤ room)) (λ halt. halt ≡ Large → room < link_nodes ls)

@@ -7,7 +7,7 @@ use Rattle.spectra_resolved.specs.declared.tree.Hole.{Hole}
 use Rattle.spectra_resolved.specs.declared.tree.Hole.TheVariants as hole
 use Rattle.spectra_resolved.specs.declared.tree.Misuse.{Misuse}
 use Rattle.spectra_resolved.specs.declared.tree.Misuse.TheVariants as misuse
-use Rattle.spectra_resolved.specs.Resolved.{ResolvedTree, tree, Form, LinkData, ResolvedTrees, listed}
+use Rattle.spectra_resolved.specs.Resolved.{ResolvedTree, tree, Form, ResolvedTrees, listed}
 
 -- What is put in for each definition of a text: its body, with holes for faulty arguments; and nothing where the definition
 -- has no meaning, since it is faulty as it is written or is used in its own body.
@@ -20,10 +20,6 @@ Bodies = List (Option ResolvedTree)
 abbrev pub placed : (brought : Option Spot) → Spot → Spot
 placed (Some name) at = name
 placed None at = at
-
--- an operator with another second operand
-abbrev pub placed_link : (brought : Option Spot) → LinkData → ResolvedTree → LinkData
-placed_link brought l second = record { first = placed brought l.first; at = placed brought l.at; word = l.word; second = second }
 
 -- ---- holes
 

@@ -1,14 +1,16 @@
 -- What the program puts in, and by what.
 use Rattle.std.specs.Prelude.{ℕ, List, Option, Some, None, map, option_map}
 use Rattle.spectra_resolved.specs.declared.spot.Spot.{Spot}
-use Rattle.spectra_resolved.specs.Resolved.{ResolvedTree, Form, LinkData, ResolvedTrees}
+use Rattle.spectra_resolved.specs.Resolved.{ResolvedTree, Form, ResolvedTrees}
+use Rattle.spectra_resolved.specs.Chained.{LinkData}
 use Rattle.spectra_resolved.specs.declared.tree.Resolved.{Resolved, size-Resolved}
 use Rattle.spectra_resolved.specs.declared.tree.Leaf.{Leaf}
 use Rattle.spectra_resolved.specs.Views.{resolved_data}
 use Rattle.spectra_elaboration.specs.declared.counted.Counted.{Counted}
 use Rattle.spectra_elaboration.specs.declared.putting.Within.{Within}
-use Rattle.spectra_elaboration.specs.Putting.{Bodies, Put, put_deep, placed_link, leaf_put, filled, form_filled, each_filled}
-use Rattle.spectra_elaboration.specs.Nodes.{too_large}
+use Rattle.spectra_elaboration.specs.Putting.{Bodies, Put, put_deep, leaf_put, filled, form_filled, each_filled}
+use Rattle.spectra_elaboration.specs.Links.{placed_link}
+use Rattle.spectra_elaboration.specs.Clipped.{too_large}
 
 abbrev pub bodies_data : List (Option Resolved) → Bodies
 bodies_data bs = map (λ b. option_map resolved_data b) bs

@@ -1,7 +1,7 @@
 //! Copies of resolved trees.
 
 ghost use Rattle.std.specs.Prelude.{◌≡◌, map, IfOk};
-ghost use Rattle.spectra_resolved.specs.Resolved.{chained};
+ghost use Rattle.spectra_resolved.specs.Chained.{chained};
 ghost use Rattle.spectra_resolved.specs.Views.{resolved_data, link_data, form_data};
 
 use crate::parts::chain;

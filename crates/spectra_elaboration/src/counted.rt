@@ -1,9 +1,10 @@
 //! Expressions in which everything is put in, with their nodes counted.
 
 ghost use Rattle.std.specs.Prelude.{◌≡◌, map};
-ghost use Rattle.spectra_resolved.specs.Resolved.{trees};
+ghost use Rattle.spectra_resolved.specs.Chained.{trees};
 ghost use Rattle.spectra_resolved.specs.Views.{resolved_data, link_data};
-ghost use Rattle.spectra_elaboration.specs.Nodes.{tree_nodes, each_nodes, link_nodes};
+ghost use Rattle.spectra_elaboration.specs.Nodes.{tree_nodes, each_nodes};
+ghost use Rattle.spectra_elaboration.specs.Links.{link_nodes};
 
 use spectra_resolved::tree::{Link, Resolved};
 

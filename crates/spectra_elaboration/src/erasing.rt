@@ -3,7 +3,7 @@
 ghost use Rattle.std.specs.Prelude.{◌≡◌, ◌+◌, ◌∷◌, [], map, IfOk};
 ghost use Rattle.spec_model.specs.Views.{formula};
 ghost use Rattle.spec_model.specs.Syntax.{PastOf, formulas};
-ghost use Rattle.spectra_resolved.specs.Resolved.{chained, trees};
+ghost use Rattle.spectra_resolved.specs.Chained.{chained, trees};
 ghost use Rattle.spectra_resolved.specs.Views.{resolved_data, link_data, form_data};
 ghost use Rattle.spectra_judge.specs.Erased.{leaf_formula, prefix_formula, binary_formula, erased, form_erased, each_erased};
 

@@ -1,9 +1,10 @@
 //! Whether the levels of an expression are few enough.
 
 ghost use Rattle.std.specs.Prelude.{◌≡◌, ◌+◌, ◌≤◌, nat_le, map, length};
-ghost use Rattle.spectra_resolved.specs.Resolved.{chained, trees};
+ghost use Rattle.spectra_resolved.specs.Chained.{chained, trees};
 ghost use Rattle.spectra_resolved.specs.Views.{resolved_data, link_data, form_data};
-ghost use Rattle.spectra_elaboration.specs.Levels.{tree_levels, form_levels, each_levels, are_flat_above};
+ghost use Rattle.spectra_elaboration.specs.Levels.{tree_levels, form_levels, each_levels};
+ghost use Rattle.spectra_elaboration.specs.Links.{are_flat_above};
 
 use spectra_resolved::tree::{Link, Resolved, Shape};
 

@@ -10,9 +10,9 @@
 pub mod copying;
 pub mod counted;
 pub mod erasing;
-pub mod halt;
 pub mod laws;
 pub mod levels;
 pub mod nodes;
 pub mod parts;
 pub mod putting;
+pub mod refusal;

@@ -3,7 +3,8 @@
 //! `room` counts nodes. Each call that makes a tree gives `Large` only where the tree has more, and `Memory` only where none was given.
 
 ghost use Rattle.std.specs.Prelude.{◌≡◌, ◌+◌, ◌<◌, ◌≤◌, map, MatchResult};
-ghost use Rattle.spectra_resolved.specs.Resolved.{tree, Form, chained, trees};
+ghost use Rattle.spectra_resolved.specs.Resolved.{tree, Form};
+ghost use Rattle.spectra_resolved.specs.Chained.{chained, trees};
 ghost use Rattle.spectra_resolved.specs.Views.{resolved_data, link_data, form_data};
 ghost use Rattle.spectra_elaboration.specs.Putting.{placed as placed_lem};
 ghost use Rattle.spectra_elaboration.specs.Nodes.{form_nodes};
@@ -11,31 +12,37 @@ ghost use Rattle.spectra_elaboration.specs.Making.{Makes};
 
 use crate::copying::copy_tree;
 use crate::counted::{Counted, Operands, Operators};
-use crate::halt::Halt;
 use crate::parts::{chain, placed_each};
+use crate::refusal::Refusal;
 use spectra_resolved::spot::Spot;
 use spectra_resolved::tree::{Leaf, Resolved, Shape};
 use spectra_trees::tree::PrefixWord;
 use std::alloc::Global;
 
 /// What is left of a room behind a node and so many below it. `Large`: there is less room.
-pub fn left_of(room: usize, below: usize) -> Result<usize, Halt>
-    ensures { MatchResult result (λ left. left + (1 + below) ≡ room) (λ halt. (halt ≡ Halt.Large) × (room < 1 + below)) }
+pub fn left_of(room: usize, below: usize) -> Result<usize, Refusal>
+    ensures { MatchResult result (λ left. left + (1 + below) ≡ room) (λ halt. (halt ≡ Refusal.Large) × (room < 1 + below)) }
 {
     if below >= room {
-        return Err(Halt::Large);
+        return Err(Refusal::Large);
     }
     Ok(room - below - 1)
 }
 
 #[tactic(auto, unfolding(crate::specs::Making::Makes))]
 /// A node with so many nodes below it. `Large`: there is less room.
-pub fn node(room: usize, first: Spot, at: Spot, shape: Shape, below: usize) -> Result<Counted, Halt>
+pub fn node(
+    room: usize,
+    first: Spot,
+    at: Spot,
+    shape: Shape,
+    below: usize,
+) -> Result<Counted, Refusal>
     requires { form_nodes (form_data shape) ≡ 1 + below }
     ensures { Makes room (tree first at (form_data shape)) result }
 {
     if below >= room {
-        return Err(Halt::Large);
+        return Err(Refusal::Large);
     }
     Ok(Counted {
         tree: Resolved::Node(first, at, shape),
@@ -44,7 +51,7 @@ pub fn node(room: usize, first: Spot, at: Spot, shape: Shape, below: usize) -> R
 }
 
 /// A part without parts.
-pub fn leaf_at(room: usize, first: Spot, at: Spot, leaf: Leaf) -> Result<Counted, Halt>
+pub fn leaf_at(room: usize, first: Spot, at: Spot, leaf: Leaf) -> Result<Counted, Refusal>
     ensures { Makes room (tree first at (Form.LeafOf leaf)) result }
 {
     node(room, first, at, Shape::Leaf(leaf), 0)
@@ -57,7 +64,7 @@ pub fn next_above(
     first: Spot,
     at: Spot,
     operand: Counted,
-) -> Result<Counted, Halt>
+) -> Result<Counted, Refusal>
     ensures { Makes room (tree first at (Form.Next (resolved_data operand.tree))) result }
 {
     let nodes = operand.nodes;
@@ -73,7 +80,7 @@ pub fn prefix_above(
     at: Spot,
     word: PrefixWord,
     operand: Counted,
-) -> Result<Counted, Halt>
+) -> Result<Counted, Refusal>
     ensures { Makes room (tree first at (Form.Prefix word (resolved_data operand.tree))) result }
 {
     let nodes = operand.nodes;
@@ -90,7 +97,7 @@ pub fn mod_above(
     operand: Counted,
     number_at: Spot,
     number: i64,
-) -> Result<Counted, Halt>
+) -> Result<Counted, Refusal>
     ensures { Makes room (tree first at (Form.Mod (resolved_data operand.tree) number_at number)) result }
 {
     let nodes = operand.nodes;
@@ -107,7 +114,7 @@ pub fn and_above(
     operands: Operands,
     brought: Option<Spot>,
     operators: &[Spot],
-) -> Result<Counted, Halt>
+) -> Result<Counted, Refusal>
     ensures { Makes room (tree first at (Form.And (trees (map resolved_data operands.all.items)) (map (placed_lem brought) operators.now))) result }
 {
     let nodes = operands.nodes;
@@ -124,7 +131,7 @@ pub fn or_above(
     operands: Operands,
     brought: Option<Spot>,
     operators: &[Spot],
-) -> Result<Counted, Halt>
+) -> Result<Counted, Refusal>
     ensures { Makes room (tree first at (Form.Or (trees (map resolved_data operands.all.items)) (map (placed_lem brought) operators.now))) result }
 {
     let nodes = operands.nodes;
@@ -139,7 +146,7 @@ pub fn chain_of(
     room: usize,
     head: Counted,
     links: Operators,
-) -> Result<Counted, Halt>
+) -> Result<Counted, Refusal>
     requires { head.nodes + links.nodes ≤ room }
     ensures { Makes room (chained (resolved_data head.tree) (map link_data links.all.items)) result }
 {
@@ -150,11 +157,11 @@ pub fn chain_of(
 
 #[tactic(auto, unfolding(crate::specs::Making::Makes))]
 /// A copy. `Large`: there is less room.
-pub fn copied(alloc: Global, room: usize, t: &Counted) -> Result<Counted, Halt>
+pub fn copied(alloc: Global, room: usize, t: &Counted) -> Result<Counted, Refusal>
     ensures { Makes room (resolved_data t.now.tree) result }
 {
     if t.nodes > room {
-        return Err(Halt::Large);
+        return Err(Refusal::Large);
     }
     Ok(Counted {
         tree: copy_tree(alloc, &t.tree)?,

@@ -2,9 +2,10 @@
 
 ghost use Rattle.std.specs.Prelude.{◌≡◌, ◌≤◌, option_map, map, IfOk, IfSome, Some};
 ghost use denote.Param.Weighed.{most};
-ghost use Rattle.spectra_resolved.specs.Resolved.{chained};
+ghost use Rattle.spectra_resolved.specs.Chained.{chained};
 ghost use Rattle.spectra_resolved.specs.Views.{resolved_data, link_data};
-ghost use Rattle.spectra_elaboration.specs.Putting.{placed as placed_lem, misuse_hole as misuse_hole_lem, body_of as body_of_lem, placed_link as placed_link_lem};
+ghost use Rattle.spectra_elaboration.specs.Putting.{placed as placed_lem, misuse_hole as misuse_hole_lem, body_of as body_of_lem};
+ghost use Rattle.spectra_elaboration.specs.Links.{placed_link as placed_link_lem};
 ghost use Rattle.spectra_elaboration.specs.PuttingViews.{bodies_data, body_size};
 
 use spectra_resolved::spot::Spot;

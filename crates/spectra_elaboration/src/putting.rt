@@ -2,19 +2,21 @@
 
 ghost use Rattle.std.specs.Prelude.{◌≡◌, ℕ, ◌≤◌, map, option_map, IfOk};
 ghost use Rattle.spectra_resolved.specs.declared.tree.Leaf.TheVariants as leaves;
-ghost use Rattle.spectra_resolved.specs.Resolved.{chained, trees, listed};
+ghost use Rattle.spectra_resolved.specs.Resolved.{listed};
+ghost use Rattle.spectra_resolved.specs.Chained.{chained, trees};
 ghost use Rattle.spectra_resolved.specs.Views.{resolved_data, link_data, form_data};
 ghost use Rattle.spectra_elaboration.specs.Putting.{put_in as put_in_lem};
-ghost use Rattle.spectra_elaboration.specs.Nodes.{within_room, clipped};
+ghost use Rattle.spectra_elaboration.specs.Nodes.{within_room};
+ghost use Rattle.spectra_elaboration.specs.Clipped.{clipped};
 ghost use Rattle.spectra_elaboration.specs.Making.{Makes, MakesEach, MakesLinks};
 ghost use Rattle.spectra_elaboration.specs.PuttingViews.{bodies_data, put_within, argument_data, leaf_within, filled_within, form_within, each_within, link_within};
 
 use crate::counted::{Counted, Operands, Operators};
-use crate::halt::Halt;
 use crate::nodes::{
     and_above, chain_of, copied, leaf_at, left_of, mod_above, next_above, or_above, prefix_above,
 };
 use crate::parts::{body_of, misuse_hole, placed, placed_link};
+use crate::refusal::Refusal;
 use spectra_resolved::spot::Spot;
 use spectra_resolved::tree::{Hole, Leaf, Link, Resolved, Shape};
 use std::alloc::{AllocError, Global};
@@ -39,13 +41,13 @@ fn argument(
     first: Spot,
     at: Spot,
     place: usize,
-) -> Result<Counted, Halt>
+) -> Result<Counted, Refusal>
     requires room { room ≤ within.now.limit }
     ensures { Makes room (leaf_within within.now first at (leaves.Parameter place)) result }
 {
     match within.arguments.get(place) {
         Some(Some(argument)) => copied(within.alloc, room, argument),
-        Some(None) => Err(Halt::Large),
+        Some(None) => Err(Refusal::Large),
         None => leaf_at(room, first, at, Leaf::Parameter(place)),
     }
 }
@@ -57,7 +59,7 @@ fn own_leaf(
     first: Spot,
     at: Spot,
     leaf: Leaf,
-) -> Result<Counted, Halt>
+) -> Result<Counted, Refusal>
     requires room { room ≤ within.now.limit }
     requires own { (number : ℕ) → leaf ≡ leaves.Define number → ⊥ }
     ensures { Makes room (leaf_within within.now first at leaf) result }
@@ -76,7 +78,7 @@ fn own_leaf(
 
 // An expression there.
 #[cycle(putting)]
-fn fill(within: &Within<'_>, room: usize, t: &Resolved) -> Result<Counted, Halt>
+fn fill(within: &Within<'_>, room: usize, t: &Resolved) -> Result<Counted, Refusal>
     requires room { room ≤ within.now.limit }
     ensures { Makes room (filled_within within.now (resolved_data t.now)) result }
 {
@@ -97,7 +99,7 @@ fn fill_chain(
     room: usize,
     head: &Resolved,
     links: &[Link],
-) -> Result<Counted, Halt>
+) -> Result<Counted, Refusal>
     requires room { room ≤ within.now.limit }
     ensures { Makes room (filled_within within.now (chained (resolved_data head.now) (map link_data links.now))) result }
 {
@@ -108,7 +110,7 @@ fn fill_chain(
 
 // Operators with their second operands.
 #[cycle(putting)]
-fn fill_links(within: &Within<'_>, room: usize, links: &[Link]) -> Result<Operators, Halt>
+fn fill_links(within: &Within<'_>, room: usize, links: &[Link]) -> Result<Operators, Refusal>
     requires room { room ≤ within.now.limit }
     ensures { MakesLinks room (map (link_within within.now) (map link_data links.now)) result }
 {
@@ -135,7 +137,7 @@ fn fill_shape(
     first: Spot,
     at: Spot,
     shape: &Shape,
-) -> Result<Counted, Halt>
+) -> Result<Counted, Refusal>
     requires room { room ≤ within.now.limit }
     ensures { Makes room (form_within within.now first at (form_data shape.now)) result }
 {
@@ -177,7 +179,7 @@ fn fill_leaf(
     first: Spot,
     at: Spot,
     leaf: Leaf,
-) -> Result<Counted, Halt>
+) -> Result<Counted, Refusal>
     requires room { room ≤ within.now.limit }
     ensures { Makes room (leaf_within within.now first at leaf) result }
 {
@@ -189,7 +191,7 @@ fn fill_leaf(
 
 // The operands of a node.
 #[cycle(putting)]
-fn fill_operands(within: &Within<'_>, room: usize, ts: &[Resolved]) -> Result<Operands, Halt>
+fn fill_operands(within: &Within<'_>, room: usize, ts: &[Resolved]) -> Result<Operands, Refusal>
     requires room { room ≤ within.now.limit }
     ensures { MakesEach room (each_within within.now (trees (map resolved_data ts.now))) result }
 {
@@ -215,7 +217,7 @@ fn fill_predicate(
     at: Spot,
     number: usize,
     ts: &[Resolved],
-) -> Result<Counted, Halt>
+) -> Result<Counted, Refusal>
     requires room { room ≤ within.now.limit }
     ensures { Makes room (put_within within.now Hole.Truth number at (listed (each_within within.now (trees (map resolved_data ts.now))))) result }
 {
@@ -242,8 +244,8 @@ fn fill_argument(within: &Within<'_>, t: &Resolved) -> Result<Option<Counted>, A
 {
     match fill(within, within.limit, t) {
         Ok(made) => Ok(Some(made)),
-        Err(Halt::Large) => Ok(None),
-        Err(Halt::Memory) => Err(AllocError),
+        Err(Refusal::Large) => Ok(None),
+        Err(Refusal::Memory) => Err(AllocError),
     }
 }
 
@@ -256,7 +258,7 @@ fn put(
     number: usize,
     at: Spot,
     arguments: &[Option<Counted>],
-) -> Result<Counted, Halt>
+) -> Result<Counted, Refusal>
     requires room { room ≤ within.now.limit }
     ensures { Makes room (put_within within.now hole number at (map (argument_data within.now.limit) arguments.now)) result }
 {
@@ -298,7 +300,7 @@ pub fn put_in(
     };
     match fill(&within, room, t) {
         Ok(made) => Ok(Some(made.tree)),
-        Err(Halt::Large) => Ok(None),
-        Err(Halt::Memory) => Err(AllocError),
+        Err(Refusal::Large) => Ok(None),
+        Err(Refusal::Memory) => Err(AllocError),
     }
 }

@@ -4,7 +4,8 @@ use Rattle.spectra_exprs.specs.declared.fault.SyntaxFault.{SyntaxFault}
 use Rattle.spectra_exprs.specs.declared.fault.SyntaxFault.TheVariants as faults
 use Rattle.spectra_trees.specs.Lexemes.{Lexeme}
 use Rattle.spectra_exprs.specs.Read.{Read, Reader, ◌>>=◌, grow, all_of}
-use Rattle.spectra_exprs.specs.Operators.{is_operator, closed}
+use Rattle.spectra_exprs.specs.Operators.{is_operator}
+use Rattle.spectra_exprs.specs.OperatorReaders.{closed}
 use Rattle.spectra_exprs.proofs.Soundness.{ok_value}
 use Rattle.spectra_exprs.proofs.Stopping.{err_is, ok_no_err, err_no_ok}
 use Rattle.spectra_exprs.proofs.Awaiting.{quiet, anywhere, Cut, AwaitsAt, Awaits, Closes}

@@ -7,7 +7,8 @@ use Rattle.spectra_trees.specs.declared.class.Class.{Class}
 use Rattle.spectra_trees.specs.Classes.{same_class}
 use Rattle.spectra_trees.specs.Lexemes.{Lexeme}
 use Rattle.spectra_exprs.specs.Read.{Read, Reader, ◌>>=◌, unexpected, first_number, expect, grow, all_of}
-use Rattle.spectra_exprs.specs.Operators.{is_operator, closed}
+use Rattle.spectra_exprs.specs.Operators.{is_operator}
+use Rattle.spectra_exprs.specs.OperatorReaders.{closed}
 use Rattle.spectra_exprs.specs.Nesting.{Opening, Nesting, sort_of, completed, nested, behind, levels_of}
 use Rattle.spectra_exprs.proofs.Soundness.{sound_token, ok_value}
 use Rattle.spectra_exprs.proofs.Stopping.{err_is, ok_no_err, err_no_ok}

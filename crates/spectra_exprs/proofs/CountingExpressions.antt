@@ -10,7 +10,7 @@ use Rattle.spectra_trees.specs.Classes.{place_of, same_class}
 use Rattle.spectra_trees.specs.Data.{Expression, Form, expression, expressions, first_of}
 use Rattle.spectra_trees.specs.Lexemes.{Lexeme, name_of}
 use Rattle.spectra_exprs.specs.Read.{Reader, ◌>>=◌, starts, expect, all_of}
-use Rattle.spectra_exprs.specs.Operators.{starts_sum, starts_or}
+use Rattle.spectra_exprs.specs.OperatorReaders.{starts_sum, starts_or}
 use Rattle.spectra_exprs.specs.Expressions.{leaf, between, opened, Term, Chain, Inside, negative, number_of, literal, next_of, parentheses_of, call_of, read_of, named_of, prim_of, prefixed_of, operand_of, times_of, prod_of, plus_of, modulo, sum_of, side_of, compared_of, comparison_of, cmp_of, conjunct_of, conjunction_of, conj_of, disjunct_of, disjunction_of, disj_of, arrow_of, past_of, alone_of, expr_of, whole_of, bound_of, argument_of, some_arguments_of, arguments_of, inside}
 use Rattle.spectra_exprs.specs.Nesting.{Opening, Nesting, sort_of, completed, levels_of}
 use Rattle.spectra_exprs.proofs.SoundExpressions.{literal_same, named_same, prim_same}

@@ -11,7 +11,7 @@ use Rattle.spectra_trees.specs.declared.tree.PrefixWord.{PrefixWord}
 use Rattle.spectra_trees.specs.Classes.{place_of, same_class}
 use Rattle.spectra_trees.specs.Lexemes.{Lexeme}
 use Rattle.spectra_exprs.specs.Read.{Reader, ◌>>=◌, starts, expect}
-use Rattle.spectra_exprs.specs.Operators.{operator_at, prefix_at, expect_or}
+use Rattle.spectra_exprs.specs.OperatorReaders.{operator_at, prefix_at, expect_or}
 use Rattle.spectra_exprs.specs.Grammar.{Operator, Prefix}
 use Rattle.spectra_exprs.specs.Nesting.{Opening, Nesting, TokenSort, sort_of, completed, without_last, stacked, plain_behind, nested, levels_of}
 use Rattle.spectra_exprs.proofs.Soundness.{Got}

@@ -4,7 +4,8 @@ use Rattle.std.proofs.lemmas.List.{length-map}
 use Rattle.spectra_exprs.specs.declared.fault.SyntaxFault.{SyntaxFault}
 use Rattle.spectra_exprs.specs.declared.fault.SyntaxFault.TheVariants as faults
 use Rattle.spectra_trees.specs.declared.lexeme.Spelled.{Spelled}
-use Rattle.spectra_trees.specs.Lexemes.{Lexeme, lexeme_of, lexemes_of}
+use Rattle.spectra_trees.specs.Lexemes.{Lexeme}
+use Rattle.spectra_trees.specs.Views.{lexeme_of, lexemes_of}
 use Rattle.spectra_exprs.specs.Read.{Read, Reader, grow, all_of, Fails}
 
 pub length-lexemes : (ts : List Spelled) → length (lexemes_of ts) ≡ length ts

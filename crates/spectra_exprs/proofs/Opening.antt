@@ -6,7 +6,8 @@ use Rattle.spectra_trees.specs.declared.class.Class.{Class}
 use Rattle.spectra_trees.specs.Classes.{same_class}
 use Rattle.spectra_trees.specs.Lexemes.{Lexeme}
 use Rattle.spectra_exprs.specs.Read.{Read, Reader, ◌>>=◌, unexpected, first_number, expect}
-use Rattle.spectra_exprs.specs.Operators.{is_operator, closed}
+use Rattle.spectra_exprs.specs.Operators.{is_operator}
+use Rattle.spectra_exprs.specs.OperatorReaders.{closed}
 use Rattle.spectra_exprs.specs.Forms.{Gives, Token, ◌▸◌, ◌∣◌}
 use Rattle.spectra_exprs.specs.Phrases.{Phrase, ArePhrase}
 use Rattle.spectra_exprs.specs.Spellings.{IsSpelled, AreSpelled}

@@ -1,7 +1,8 @@
 -- A turn of a loop, of which each step uses a token at least.
 use Rattle.std.proofs.Common.{◌≡◌, ◌<◌, Bool, true, false, List, length, Ok, sym, arith}
 use Rattle.spectra_trees.specs.declared.lexeme.Spelled.{Spelled}
-use Rattle.spectra_trees.specs.Lexemes.{Lexeme, lexemes_of}
+use Rattle.spectra_trees.specs.Lexemes.{Lexeme}
+use Rattle.spectra_trees.specs.Views.{lexemes_of}
 use Rattle.spectra_exprs.specs.declared.fault.SyntaxFault.{SyntaxFault}
 use Rattle.spectra_exprs.specs.Read.{Read, Reader, Fails}
 use Rattle.spectra_exprs.proofs.Loops.{Grown, grown_next, grown_last, grown_fails, length-lexemes}

@@ -12,7 +12,8 @@ use Rattle.spectra_trees.specs.declared.tree.PrefixWord.TheVariants as prefixes
 use Rattle.spectra_trees.specs.Classes.{place_of, same_class}
 use Rattle.spectra_trees.specs.Lexemes.{Lexeme}
 use Rattle.spectra_exprs.specs.Read.{starts}
-use Rattle.spectra_exprs.specs.Operators.{operator_word, prefix_word, arrow_word, past_word, relation_word, sum_word, joins, is_operator, operator_at, prefix_at, starts_sum, starts_or, expect_or, closed}
+use Rattle.spectra_exprs.specs.Operators.{operator_word, prefix_word, arrow_word, past_word, relation_word, sum_word, joins, is_operator}
+use Rattle.spectra_exprs.specs.OperatorReaders.{operator_at, prefix_at, starts_sum, starts_or, expect_or, closed}
 use Rattle.spectra_exprs.specs.Forms.{Gives}
 use Rattle.spectra_exprs.specs.Grammar.{Operator, Prefix, OrSign}
 use Rattle.spectra_exprs.proofs.ClassSets.{among, going, Within, going_within}

@@ -11,7 +11,7 @@ use Rattle.spectra_trees.specs.Classes.{place_of}
 use Rattle.spectra_trees.specs.Data.{Expression, Form, expression, expressions, first_of}
 use Rattle.spectra_trees.specs.Lexemes.{Lexeme, name_of}
 use Rattle.spectra_exprs.specs.Read.{unexpected, starts, all_of}
-use Rattle.spectra_exprs.specs.Operators.{starts_sum, starts_or}
+use Rattle.spectra_exprs.specs.OperatorReaders.{starts_sum, starts_or}
 use Rattle.spectra_exprs.specs.Expressions.{leaf, between, opened, Term, Chain, Inside, negative, number_of, literal, next_of, parentheses_of, call_of, read_of, named_of, prim_of, prefixed_of, operand_of, times_of, prod_of, plus_of, modulo, sum_of, side_of, compared_of, comparison_of, cmp_of, conjunct_of, conjunction_of, conj_of, disjunct_of, disjunction_of, disj_of, arrow_of, past_of, alone_of, expr_of, whole_of, bound_of, argument_of, some_arguments_of, arguments_of, inside}
 use Rattle.spectra_exprs.specs.Forms.{Gives, Token, ◌▸◌, ◌∣◌, Steps}
 use Rattle.spectra_exprs.specs.Grammar.{Operator, Prefix, OrSign, Deeper, Literal, Prim, Prefixed, Operand, Times, Prod, Plus, Modulo, Alone, Sum, Side, Cmp, Conjunct, Conj, Disjunct, Disj, ExprOf, Argument, Arguments, Levels}

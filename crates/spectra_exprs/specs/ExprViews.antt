@@ -3,7 +3,7 @@ use Rattle.std.specs.Prelude.{map}
 use Rattle.spectra_exprs.specs.declared.terms.Term.{Term as TermTree}
 use Rattle.spectra_exprs.specs.declared.terms.Chain.{Chain as ChainTree}
 use Rattle.spectra_trees.specs.Views.{expr_data}
-use Rattle.spectra_exprs.specs.Expressions.{Term, Chain}
+use Rattle.spectra_exprs.specs.Forms.{Term, Chain}
 
 abbrev pub term_data : TermTree → Term
 term_data o = (expr_data o.tree, o.alone)

@@ -12,24 +12,8 @@ use Rattle.spectra_trees.specs.Classes.{same_class}
 use Rattle.spectra_trees.specs.Data.{Expression, Form, expression, expressions, first_of}
 use Rattle.spectra_trees.specs.Lexemes.{Lexeme, name_of}
 use Rattle.spectra_exprs.specs.Read.{Reader, ◌>>=◌, unexpected, starts, expect, all_of}
-use Rattle.spectra_exprs.specs.Operators.{operator_at, prefix_at, starts_sum, starts_or, expect_or, closed}
-
--- ---- trees
-
-abbrev pub leaf : Lexeme → Form → Expression
-leaf t form = expression t.at t.at form
-
--- an operator at a place between its operands
-abbrev pub between : Place → BinaryWord → Expression → Expression → Expression
-between at word a b = expression (first_of a) at (Form.Binary word a b)
-
--- the tree between parentheses, whose first token is the opening one
-abbrev pub opened : Lexeme → Expression → Expression
-opened t (expression first at form) = expression t.at at form
-
--- an expression, and whether it is one prim alone
-abbrev pub Term : Type 0
-Term = Expression × Bool
+use Rattle.spectra_exprs.specs.OperatorReaders.{operator_at, prefix_at, starts_sum, starts_or, expect_or, closed}
+pub use Rattle.spectra_exprs.specs.Forms.{leaf, between, opened, Term, Chain, levels_of_a_text}
 
 -- ---- one level deeper
 
@@ -139,10 +123,6 @@ cmp_of d ts = option_map_or (λ p. prefixed_of d p.0.0 p.0.1 p.1 >>= λ e rest. 
 
 -- ---- conjunctions and disjunctions
 
--- the operands and the places of the operators so far
-abbrev pub Chain : Type 0
-Chain = List Expression × List Place
-
 unfoldable pub conjunct_of : Inside → Chain → Reader Chain
 conjunct_of d all ts = expect classes.And ts >>= λ t rest. cmp_of d rest >>= λ p rest. Ok ((all.0 ++ p.0 ∷ [], all.1 ++ t.at ∷ []), rest)
 
@@ -213,7 +193,3 @@ arguments_of d ts = if starts classes.Close ts then (expect classes.Close ts >>=
 unfoldable pub inside : ℕ → Inside
 inside zero = record { whole = deep; operand = deep; arguments = deep }
 inside (suc left) = record { whole = λ t. whole_of (inside left); operand = λ t. operand_of (inside left); arguments = λ t. arguments_of (inside left) }
-
--- how many levels may be opened
-abbrev pub levels_of_a_text : ℕ
-levels_of_a_text = 128

@@ -1,9 +1,12 @@
 -- The forms that productions are made of, as relations between the tokens that are used, all of them, and what they mean.
 -- No form looks ahead, and alternatives stand in no order.
-use Rattle.std.specs.Prelude.{◌≡◌, true, List, [], ◌∷◌, ◌++◌, ◌⊎◌}
+use Rattle.std.specs.Prelude.{◌≡◌, true, List, [], ◌∷◌, ◌++◌, ◌⊎◌, ℕ, Bool}
 use Rattle.spectra_trees.specs.declared.class.Class.{Class}
 use Rattle.spectra_trees.specs.Classes.{same_class}
 use Rattle.spectra_trees.specs.Lexemes.{Lexeme}
+use Rattle.spectra_trees.specs.declared.tree.Place.{Place}
+use Rattle.spectra_trees.specs.declared.tree.BinaryWord.{BinaryWord}
+use Rattle.spectra_trees.specs.Data.{Expression, Form, expression, first_of}
 
 abbrev pub Grammar : Type 0 → Type 1
 Grammar A = List Lexeme → A → Type 0
@@ -40,3 +43,32 @@ P ∣ Q = λ used a. P used a ⊎ Q used a
 pub data Steps {A : Type 0} (step : A → List Lexeme → A → Type 0) : A → List Lexeme → A → Type 0 where
   done : (a : A) → Steps step a [] a
   one_more : (a : A) (front : List Lexeme) (b : A) (back : List Lexeme) (c : A) → step a front b → Steps step b back c → Steps step a (front ++ back) c
+
+-- ---- trees
+
+abbrev pub leaf : Lexeme → Form → Expression
+leaf t form = expression t.at t.at form
+
+-- an operator at a place between its operands
+abbrev pub between : Place → BinaryWord → Expression → Expression → Expression
+between at word a b = expression (first_of a) at (Form.Binary word a b)
+
+-- the tree between parentheses, whose first token is the opening one
+abbrev pub opened : Lexeme → Expression → Expression
+opened t (expression first at form) = expression t.at at form
+
+-- an expression, and whether it is one prim alone
+abbrev pub Term : Type 0
+Term = Expression × Bool
+
+-- ---- conjunctions and disjunctions
+
+-- the operands and the places of the operators so far
+abbrev pub Chain : Type 0
+Chain = List Expression × List Place
+
+-- ---- levels
+
+-- how many levels may be opened
+abbrev pub levels_of_a_text : ℕ
+levels_of_a_text = 128

@@ -11,8 +11,7 @@ use Rattle.spectra_trees.specs.declared.tree.BinaryWord.TheVariants as binaries
 use Rattle.spectra_trees.specs.Data.{Expression, Form, expression, expressions, first_of}
 use Rattle.spectra_trees.specs.Lexemes.{Lexeme, name_of}
 use Rattle.spectra_exprs.specs.Operators.{operator_word, prefix_word}
-use Rattle.spectra_exprs.specs.Expressions.{leaf, between, opened, Term, Chain}
-use Rattle.spectra_exprs.specs.Forms.{Grammar, Gives, Token, ◌▸◌, ◌∣◌, Steps}
+use Rattle.spectra_exprs.specs.Forms.{Grammar, Gives, Token, ◌▸◌, ◌∣◌, Steps, leaf, between, opened, Term, Chain}
 
 -- ---- operators
 

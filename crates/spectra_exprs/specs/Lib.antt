@@ -1,5 +1,6 @@
 pub mod Read
 pub mod Operators
+pub mod OperatorReaders
 pub mod Expressions
 pub mod ExprViews
 pub mod Forms

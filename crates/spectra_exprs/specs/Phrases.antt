@@ -2,7 +2,7 @@
 use Rattle.std.specs.Prelude.{ℕ, List}
 use Rattle.spectra_trees.specs.Data.{Expression}
 use Rattle.spectra_trees.specs.Lexemes.{Lexeme}
-use Rattle.spectra_exprs.specs.Expressions.{Term}
+use Rattle.spectra_exprs.specs.Forms.{Term}
 use Rattle.spectra_exprs.specs.Grammar.{ExprOf, Sum, Levels}
 
 -- an expression, and the bound of a range

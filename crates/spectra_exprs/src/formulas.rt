@@ -1,10 +1,9 @@
 //! Comparisons, conjunctions, disjunctions and whole expressions: one function for each production.
 
 ghost use Rattle.std.specs.Prelude.{◌<◌};
-ghost use Rattle.spectra_trees.specs.Views.{expr_data};
-ghost use Rattle.spectra_trees.specs.Lexemes.{lexemes_of};
+ghost use Rattle.spectra_trees.specs.Views.{expr_data, lexemes_of};
 ghost use Rattle.spectra_exprs.specs.Read.{Gives, starts as starts_lem, all_of};
-ghost use Rattle.spectra_exprs.specs.Operators.{starts_or as starts_or_lem};
+ghost use Rattle.spectra_exprs.specs.OperatorReaders.{starts_or as starts_or_lem};
 ghost use Rattle.spectra_exprs.specs.ExprViews.{term_data, chain_data};
 ghost use Rattle.spectra_exprs.specs.Expressions.{inside, side_of, compared_of, comparison_of, cmp_of, conjunct_of, conjunction_of, conj_of, disjunct_of, disjunction_of, disj_of, arrow_of, past_of, alone_of, expr_of, whole_of};
 

@@ -3,8 +3,7 @@
 //! Each function answers the tree and the tokens behind it, or the fault at the first token that goes on no text.
 
 ghost use Rattle.std.specs.Prelude.{◌<◌, map};
-ghost use Rattle.spectra_trees.specs.Views.{expr_data};
-ghost use Rattle.spectra_trees.specs.Lexemes.{lexeme_of, lexemes_of};
+ghost use Rattle.spectra_trees.specs.Views.{expr_data, lexeme_of, lexemes_of};
 ghost use Rattle.spectra_exprs.specs.Read.{Gives, starts as starts_lem, all_of};
 ghost use Rattle.spectra_exprs.specs.Expressions.{read_of, inside, next_of, parentheses_of, call_of, named_of, prim_of, prefixed_of, operand_of, argument_of, some_arguments_of, arguments_of};
 

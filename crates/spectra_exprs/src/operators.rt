@@ -1,10 +1,10 @@
 //! Tokens and operators at the front of what is left to read.
 
 ghost use Rattle.std.specs.Prelude.{◌≡◌, ◌<◌, IfErr, option_map};
-ghost use Rattle.spectra_trees.specs.Views.{expr_data};
-ghost use Rattle.spectra_trees.specs.Lexemes.{lexeme_of, lexemes_of};
+ghost use Rattle.spectra_trees.specs.Views.{expr_data, lexeme_of, lexemes_of};
 ghost use Rattle.spectra_exprs.specs.Read.{Gives, first_number as first_number_lem, starts as starts_lem, expect as expect_lem};
-ghost use Rattle.spectra_exprs.specs.Operators.{prefix_word as prefix_word_lem, arrow_word as arrow_word_lem, past_word as past_word_lem, relation_word as relation_word_lem, sum_word as sum_word_lem, operator_word as operator_word_lem, operator_at, prefix_at, starts_sum as starts_sum_lem, starts_or as starts_or_lem, expect_or as expect_or_lem, joins as joins_lem, is_operator as is_operator_lem, closed as closed_lem};
+ghost use Rattle.spectra_exprs.specs.Operators.{prefix_word as prefix_word_lem, arrow_word as arrow_word_lem, past_word as past_word_lem, relation_word as relation_word_lem, sum_word as sum_word_lem, operator_word as operator_word_lem, joins as joins_lem, is_operator as is_operator_lem};
+ghost use Rattle.spectra_exprs.specs.OperatorReaders.{operator_at, prefix_at, starts_sum as starts_sum_lem, starts_or as starts_or_lem, expect_or as expect_or_lem, closed as closed_lem};
 
 use crate::fault::SyntaxFault;
 use spectra_trees::class::{Class, is_same};
@@ -18,7 +18,7 @@ pub type Tokens<'t> = &'t [Spelled<'t>];
 pub type Read<'t, T> = Result<(T, Tokens<'t>), SyntaxFault>;
 
 /// Between what an operator stands.
-#[derive(Clone, Copy, Debug)]
+#[derive(Clone, Copy)]
 pub enum Level {
     /// Two disjunctions.
     Arrow,
@@ -165,7 +165,7 @@ fn operator_word(level: Level, class: Class) -> Option<BinaryWord>
 }
 
 /// An operator of a level at the front, with its place, and what is behind it.
-#[tactic(auto, unfolding(crate::specs::Operators::operator_at))]
+#[tactic(auto, unfolding(crate::specs::OperatorReaders::operator_at))]
 pub fn take_operator<'t>(
     tokens: Tokens<'t>,
     level: Level,
@@ -178,7 +178,7 @@ pub fn take_operator<'t>(
 }
 
 /// PREFIX at the front, and what is behind it.
-#[tactic(auto, unfolding(crate::specs::Operators::prefix_at))]
+#[tactic(auto, unfolding(crate::specs::OperatorReaders::prefix_at))]
 pub fn take_prefix<'t>(
     tokens: Tokens<'t>,
 ) -> Option<(&'t Spelled<'t>, PrefixWord, &'t [Spelled<'t>])>
@@ -198,7 +198,7 @@ pub fn begun<'t, T>(first: T, tokens: Tokens<'t>) -> (T, &'t [Spelled<'t>])
 }
 
 /// Whether a sum goes on.
-#[tactic(auto, unfolding(crate::specs::Operators::starts_sum))]
+#[tactic(auto, unfolding(crate::specs::OperatorReaders::starts_sum))]
 pub fn starts_sum(tokens: &[Spelled<'_>]) -> bool
     ensures { result ≡ starts_sum_lem (lexemes_of tokens.now) }
 {
@@ -206,7 +206,7 @@ pub fn starts_sum(tokens: &[Spelled<'_>]) -> bool
 }
 
 /// Whether a disjunction goes on: by the sign or by the word.
-#[tactic(auto, unfolding(crate::specs::Operators::starts_or))]
+#[tactic(auto, unfolding(crate::specs::OperatorReaders::starts_or))]
 pub fn starts_or(tokens: &[Spelled<'_>]) -> bool
     ensures { result ≡ starts_or_lem (lexemes_of tokens.now) }
 {
@@ -214,7 +214,7 @@ pub fn starts_or(tokens: &[Spelled<'_>]) -> bool
 }
 
 /// "|" | "or"
-#[tactic(auto, unfolding(crate::specs::Operators::expect_or))]
+#[tactic(auto, unfolding(crate::specs::OperatorReaders::expect_or))]
 pub fn expect_or<'t>(tokens: Tokens<'t>) -> Read<'t, &'t Spelled<'t>>
     ensures read { Gives (λ x. (lexeme_of x.0.now, lexemes_of x.1.now)) result (expect_or_lem (lexemes_of tokens.now)) }
     ensures told { IfErr result (λ e. e ≡ SyntaxFault.Memory → ⊥) }
@@ -250,7 +250,7 @@ pub fn is_operator(class: Class) -> bool
 }
 
 /// What was read, where no operator follows. An operator behind a whole expression wants parentheses.
-#[tactic(auto, unfolding(crate::specs::Operators::closed))]
+#[tactic(auto, unfolding(crate::specs::OperatorReaders::closed))]
 pub fn closed<'t>(tree: ExprTree, tokens: Tokens<'t>) -> Read<'t, ExprTree>
     ensures read { Gives (λ x. (expr_data x.0, lexemes_of x.1.now)) result (closed_lem (expr_data tree) (lexemes_of tokens.now)) }
     ensures told { IfErr result (λ e. e ≡ SyntaxFault.Memory → ⊥) }

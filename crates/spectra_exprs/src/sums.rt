@@ -1,10 +1,9 @@
 //! Products, sums and bounds: one function for each production.
 
 ghost use Rattle.std.specs.Prelude.{◌<◌};
-ghost use Rattle.spectra_trees.specs.Views.{expr_data};
-ghost use Rattle.spectra_trees.specs.Lexemes.{lexemes_of};
+ghost use Rattle.spectra_trees.specs.Views.{expr_data, lexemes_of};
 ghost use Rattle.spectra_exprs.specs.Read.{Gives, starts as starts_lem, all_of};
-ghost use Rattle.spectra_exprs.specs.Operators.{starts_sum as starts_sum_lem};
+ghost use Rattle.spectra_exprs.specs.OperatorReaders.{starts_sum as starts_sum_lem};
 ghost use Rattle.spectra_exprs.specs.ExprViews.{term_data};
 ghost use Rattle.spectra_exprs.specs.Expressions.{inside, times_of, prod_of, plus_of, sum_of, bound_of};
 

@@ -2,8 +2,7 @@
 
 ghost use Rattle.std.specs.Prelude.{◌≡◌, ◌<◌, ◌++◌, ◌∷◌, [], false, true, map, IfOk, IfErr};
 ghost use Rattle.spectra_trees.specs.Data.{expression};
-ghost use Rattle.spectra_trees.specs.Views.{expr_data, form_data};
-ghost use Rattle.spectra_trees.specs.Lexemes.{lexeme_of, lexemes_of};
+ghost use Rattle.spectra_trees.specs.Views.{expr_data, form_data, lexeme_of, lexemes_of};
 ghost use Rattle.spectra_exprs.specs.Read.{Gives};
 ghost use Rattle.spectra_exprs.specs.ExprViews.{term_data, chain_data};
 ghost use Rattle.spectra_exprs.specs.Expressions.{leaf as leaf_lem, between as between_lem, opened as opened_lem, negative as negative_lem, number_of, literal as literal_lem, modulo as modulo_lem, read_of};
@@ -56,7 +55,7 @@ pub fn opened(token: &Spelled<'_>, tree: ExprTree) -> ExprTree
     }
 }
 /// An expression, and whether it is one prim alone.
-#[derive(Debug, Drop)]
+#[derive(Drop)]
 pub struct Term {
     pub tree: ExprTree,
     pub alone: bool,
@@ -139,7 +138,7 @@ pub fn read<'t>(alloc: Global, token: &Spelled<'t>, tokens: Tokens<'t>) -> Read<
 }
 
 /// The operands of a conjunction or a disjunction so far, and the places of its operators.
-#[derive(Debug, Drop)]
+#[derive(Drop)]
 pub struct Chain {
     pub operands: Vec<ExprTree>,
     pub operators: Vec<Place>,

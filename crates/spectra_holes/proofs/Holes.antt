@@ -3,12 +3,14 @@ use Rattle.std.proofs.Common.{◌≡◌, ℕ, ◌+◌, ◌<◌, true, List, [], 
 use Rattle.spectra_resolved.specs.declared.tree.Resolved.{Resolved}
 use Rattle.spectra_resolved.specs.declared.findings.Finding.{Finding}
 use Rattle.spectra_resolved.specs.Findings.{with_faults}
-use Rattle.spectra_resolved.specs.Resolved.{ResolvedTree, LinkData, trees, listed, joined, chained}
+use Rattle.spectra_resolved.specs.Resolved.{ResolvedTree, listed}
+use Rattle.spectra_resolved.specs.Chained.{LinkData, trees, joined, chained}
 use Rattle.spectra_resolved.specs.Views.{resolved_data}
 use Rattle.spectra_judge.specs.Kinds.{Kind, Anything}
 use Rattle.spectra_judge.specs.declared.around.Around.{Around}
 use Rattle.spectra_judge.specs.Known.{Setting}
-use Rattle.spectra_holes.specs.Holed.{is_some_fault, part_holed, argument_holed, arguments_holed, links_holed}
+use Rattle.spectra_holes.specs.Holed.{is_some_fault, part_holed, arguments_holed}
+use Rattle.spectra_holes.specs.HoleViews.{argument_holed, links_holed}
 use Rattle.spectra_judge.specs.Chains.{opened}
 use Rattle.spectra_judge.proofs.Lists.{first_left, drop_one, mapped_left}
 

@@ -14,7 +14,8 @@ use Rattle.spectra_judge.specs.declared.around.Around.{Around}
 use Rattle.spectra_judge.specs.Around.{nothing_open, under_next, within, next_faults, shifted}
 use Rattle.spectra_judge.specs.Known.{Known, Setting, is_system, wanted}
 use Rattle.spectra_judge.specs.Judged.{kind_of, first_of, wrong, binary_faults, remainder_faults, operator_faults, leaf_faults, faults, form_faults, operand_faults, argument_faults}
-use Rattle.spectra_holes.specs.Holed.{is_some_fault, own_bans, is_faulty, is_anything, is_lost, hole_for, part_holed, form_holed, each_holed, arguments_holed, is_meant, form_meant, each_meant, arguments_meant}
+use Rattle.spectra_holes.specs.Holed.{is_some_fault, own_bans, is_faulty, is_anything, is_lost, hole_for, part_holed, form_holed, each_holed, arguments_holed}
+use Rattle.spectra_holes.specs.HoleViews.{is_meant, form_meant, each_meant, arguments_meant}
 use Rattle.spectra_holes.specs.Laws.{HoledStays}
 use Rattle.spectra_judge.proofs.Empty.{not_empty, empty_parts, right}
 

@@ -1,11 +1,11 @@
 -- What is left of an expression where it is put in: an argument that is faulty as it is written is a hole.
-use Rattle.std.specs.Prelude.{Bool, true, false, not, ◌&&◌, ◌||◌, if◌then◌else◌, List, [], ◌∷◌, Option, Some, None, get_or, drop}
+use Rattle.std.specs.Prelude.{Bool, true, false, not, ◌||◌, if◌then◌else◌, List, [], ◌∷◌, Option, Some, None, get_or, drop}
 use Rattle.spectra_resolved.specs.declared.spot.Spot.{Spot}
 use Rattle.spectra_resolved.specs.declared.stand.Stand.{Stand}
 use Rattle.spectra_resolved.specs.declared.tree.Leaf.TheVariants as leaf
 use Rattle.spectra_resolved.specs.declared.tree.Hole.TheVariants as hole
 use Rattle.spectra_resolved.specs.declared.findings.Finding.{Finding}
-use Rattle.spectra_resolved.specs.Resolved.{ResolvedTree, tree, Form, LinkData, ResolvedTrees}
+use Rattle.spectra_resolved.specs.Resolved.{ResolvedTree, tree, Form, ResolvedTrees}
 use Rattle.spectra_judge.specs.Kinds.{Kind, Anything, can_equal}
 use Rattle.spectra_judge.specs.Operators.{is_past, is_past_prefix}
 use Rattle.spectra_judge.specs.declared.standing.Bans.{Bans}
@@ -14,7 +14,6 @@ use Rattle.spectra_judge.specs.declared.around.Around.{Around}
 use Rattle.spectra_judge.specs.Around.{nothing_open, under_next, within}
 use Rattle.spectra_judge.specs.Known.{Known, Setting, wanted}
 use Rattle.spectra_judge.specs.Judged.{kind_of, first_of, faults}
-use Rattle.spectra_judge.specs.Chains.{opened}
 
 -- ---- arguments of which nothing is left
 
@@ -72,42 +71,7 @@ abbrev mutual
   arguments_holed s o kinds (ResolvedTrees.one_more t ts) =
       ResolvedTrees.one_more (if is_lost s o (get_or kinds 0 Anything) t then hole_for t else part_holed s o t) (arguments_holed s o (drop 1 kinds) ts)
 
--- an argument for a parameter of a kind
-abbrev pub argument_holed : Setting → Around → (parameter : Kind) → ResolvedTree → ResolvedTree
-argument_holed s o k t = if is_lost s o k t then hole_for t else part_holed s o t
-
 -- An expression as it is written, which stands there, with a hole for each faulty argument. A misused name stays without its
 -- arguments.
 abbrev pub holed : Known → Stand → ResolvedTree → ResolvedTree
 holed known stand t = part_holed (record { known = known; bans = bans_of stand }) nothing_open t
-
--- ---- types with a meaning
-
--- whether no parameter of a predicate that is used has a type without meaning
-abbrev mutual
-  pub is_meant : Known → ResolvedTree → Bool
-  is_meant known (tree first at form) = form_meant known form
-
-  pub form_meant : Known → Form → Bool
-  form_meant known (Form.LeafOf l) = true
-  form_meant known (Form.PredicateOf k ts) = arguments_meant known (wanted known (Some k)) ts
-  form_meant known (Form.MisuseOf m ts) = true
-  form_meant known (Form.Next t) = is_meant known t
-  form_meant known (Form.Prefix word t) = is_meant known t
-  form_meant known (Form.Binary word a b) = is_meant known a && is_meant known b
-  form_meant known (Form.Mod t number_at n) = is_meant known t
-  form_meant known (Form.And ts operators) = each_meant known ts
-  form_meant known (Form.Or ts operators) = each_meant known ts
-
-  pub each_meant : Known → ResolvedTrees → Bool
-  each_meant known ResolvedTrees.none = true
-  each_meant known (ResolvedTrees.one_more t ts) = is_meant known t && each_meant known ts
-
-  pub arguments_meant : Known → (kinds : List Kind) → ResolvedTrees → Bool
-  arguments_meant known kinds ResolvedTrees.none = true
-  arguments_meant known kinds (ResolvedTrees.one_more t ts) = not (is_anything (get_or kinds 0 Anything)) && (is_meant known t && arguments_meant known (drop 1 kinds) ts)
-
--- operators with holes in their second operands, one behind another
-abbrev pub links_holed : Setting → Around → List LinkData → List LinkData
-links_holed s around [] = []
-links_holed s around (l ∷ ls) = record l { second = part_holed s (opened s.known.brought around (l ∷ ls)) l.second } ∷ links_holed s around ls

@@ -4,7 +4,8 @@ use Rattle.spectra_resolved.specs.declared.stand.Stand.{Stand}
 use Rattle.spectra_resolved.specs.Resolved.{ResolvedTree}
 use Rattle.spectra_judge.specs.Known.{Known}
 use Rattle.spectra_judge.specs.Judged.{faults_of}
-use Rattle.spectra_holes.specs.Holed.{holed, is_meant}
+use Rattle.spectra_holes.specs.Holed.{holed}
+use Rattle.spectra_holes.specs.HoleViews.{is_meant}
 
 -- Where an expression has no fault as it is written, and no parameter's type is without meaning, no argument becomes a hole.
 abbrev pub HoledStays : Type 0

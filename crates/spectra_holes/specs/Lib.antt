@@ -1,2 +1,3 @@
 pub mod Holed
+pub mod HoleViews
 pub mod Laws

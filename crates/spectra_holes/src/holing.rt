@@ -1,12 +1,13 @@
 //! Holes for faulty arguments.
 
 ghost use Rattle.std.specs.Prelude.{◌≡◌, ℕ, map, drop, Some, IfOk};
-ghost use Rattle.spectra_resolved.specs.Resolved.{trees};
+ghost use Rattle.spectra_resolved.specs.Chained.{trees};
 ghost use Rattle.spectra_resolved.specs.Views.{resolved_data, link_data, form_data};
-ghost use Rattle.spectra_judge.specs.KindViews.{kind_data};
-ghost use Rattle.spectra_judge.specs.Around.{AreRising};
-ghost use Rattle.spectra_judge.specs.Known.{known_data, setting_data, wanted};
-ghost use Rattle.spectra_holes.specs.Holed.{own_bans as own_bans_lem, is_anything as is_anything_lem, is_lost as is_lost_lem, hole_for as hole_for_lem, part_holed, form_holed, each_holed, argument_holed, arguments_holed, links_holed, holed as holed_lem};
+ghost use Rattle.spectra_judge.specs.KindViews.{kind_data, known_data, setting_data};
+ghost use Rattle.spectra_judge.specs.Rising.{AreRising};
+ghost use Rattle.spectra_judge.specs.Known.{wanted};
+ghost use Rattle.spectra_holes.specs.Holed.{own_bans as own_bans_lem, is_anything as is_anything_lem, is_lost as is_lost_lem, hole_for as hole_for_lem, part_holed, form_holed, each_holed, arguments_holed, holed as holed_lem};
+ghost use Rattle.spectra_holes.specs.HoleViews.{argument_holed, links_holed};
 ghost use Rattle.spectra_judge.specs.OpenedViews.{opened_at};
 ghost use Rattle.spectra_judge.specs.Chains.{opened as opened_lem};
 

@@ -2,7 +2,8 @@
 use Rattle.std.proofs.Common.{◌≡◌, ℕ, List, [], ◌∷◌, ◌++◌, map, flat_map, refl, ap}
 use Rattle.spectra_trees.specs.Data.{Expression, expressions}
 use Rattle.spectra_resolved.specs.Looks.{Looking}
-use Rattle.spectra_resolved.specs.Resolved.{ResolvedTree, trees, listed}
+use Rattle.spectra_resolved.specs.Resolved.{ResolvedTree, listed}
+use Rattle.spectra_resolved.specs.Chained.{trees}
 use Rattle.spectra_resolved.specs.Resolving.{resolved, resolved_each, misuses, misuses_of_each}
 
 pub listed-trees : (ts : List ResolvedTree) → listed (trees ts) ≡ ts

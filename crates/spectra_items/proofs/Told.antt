@@ -5,7 +5,8 @@ use Rattle.std.specs.Str.{bytes_eq}
 use Rattle.spectra_resolved.specs.declared.table.Named.{Named}
 use Rattle.spectra_resolved.specs.declared.findings.Finding.{Finding}
 use Rattle.spectra_resolved.specs.Findings.{with_faults}
-use Rattle.spectra_resolved.specs.Spaces.{Entry, declared, and_name, clash, clashes_after, clashes, no_names, Told, with_entry, with_entries}
+use Rattle.spectra_resolved.specs.Spaces.{Entry, declared, and_name, clash, clashes_after, clashes, no_names}
+use Rattle.spectra_resolved.specs.SpaceViews.{Told, with_entry, with_entries}
 use Rattle.spectra_resolved.proofs.Naming.{or-none}
 use Rattle.spectra_resolved.proofs.First.{with_faults_append}
 

@@ -11,7 +11,7 @@ use Rattle.spectra_trees.specs.Views.{name_data, expr_data, type_data, part_data
 use Rattle.spectra_resolved.specs.declared.spot.Mention.{Mention}
 use Rattle.spectra_resolved.specs.declared.table.Named.{Named}
 use Rattle.spectra_resolved.specs.declared.table.Table.{Table}
-use Rattle.spectra_resolved.specs.Spots.{mention_data}
+use Rattle.spectra_resolved.specs.MentionViews.{mention_data}
 use Rattle.spectra_resolved.specs.Spaces.{Entry}
 use Rattle.spectra_resolved.specs.Tables.{in_table}
 use Rattle.spectra_resolved.specs.Looks.{Looking}

@@ -1,5 +1,5 @@
 -- What an item declares and says with each name resolved, and the names that mean nothing in it.
-use Rattle.spectra_trees.specs.declared.faults.TheConstants.{ARITY, UNKNOWN}
+use Rattle.spectra_trees.specs.Faults.{Arity, Unknown, number_of}
 use Rattle.std.specs.Prelude.{ℕ, suc, ◌==◌, false, if◌then◌else◌, List, [], ◌∷◌, ◌++◌, Option, Some, None, length, map, flat_map, option_map}
 use Rattle.spec_model.specs.declared.value.Owner.{Owner}
 use Rattle.spec_model.specs.declared.value.Owner.TheVariants as owners
@@ -166,8 +166,8 @@ use_of _ n = uses.Unknown
 
 abbrev pub use_faults : Spot → PatternUse → List Finding
 use_faults at (uses.Pattern k) = []
-use_faults at (uses.Arity k) = fault ARITY at ∷ []
-use_faults at uses.Unknown = fault UNKNOWN at ∷ []
+use_faults at (uses.Arity k) = fault (number_of Arity) at ∷ []
+use_faults at uses.Unknown = fault (number_of Unknown) at ∷ []
 
 abbrev pub body_of : Names → Looking → (file : ℕ) → BodyData → ResolvedBody
 body_of s look file (BodyData.Initial e) = ResolvedBody.Initial (resolved look file e)

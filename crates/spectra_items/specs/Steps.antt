@@ -3,7 +3,8 @@ use Rattle.std.specs.Prelude.{◌≡◌, List, ◌++◌, map}
 use Rattle.spectra_resolved.specs.declared.findings.Finding.{Finding}
 use Rattle.spectra_resolved.specs.declared.findings.Findings.{Findings}
 use Rattle.spectra_resolved.specs.declared.resolving.Resolver.{Resolver}
-use Rattle.spectra_resolved.specs.Findings.{found_in, with_faults}
+use Rattle.spectra_resolved.specs.Findings.{with_faults}
+use Rattle.spectra_resolved.specs.Reports.{found_in}
 use Rattle.spectra_resolved.specs.Looks.{Looking, Names}
 use Rattle.spectra_resolved.specs.LookViews.{scope_data, look_data}
 

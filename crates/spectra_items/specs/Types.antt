@@ -1,5 +1,5 @@
 -- What types stand for, and their faults: unknown names, and names twice in one enum.
-use Rattle.spectra_trees.specs.declared.faults.TheConstants.{UNKNOWN}
+use Rattle.spectra_trees.specs.Faults.{Unknown, number_of}
 use Rattle.std.specs.Prelude.{ℕ, Bool, true, false, not, ◌&&◌, if◌then◌else◌, List, [], ◌∷◌, ◌++◌, Option, Some, map, position, unwrap_or, bytes_eq}
 use Rattle.std.specs.List.{list_all}
 use Rattle.spectra_trees.specs.Data.{NameData, TypeData, TypeShape}
@@ -40,7 +40,7 @@ named_type _ = NoType
 
 abbrev pub named_faults : Option Named → Spot → List Finding
 named_faults (Some (names.Type k)) at = []
-named_faults _ at = fault UNKNOWN at ∷ []
+named_faults _ at = fault (number_of Unknown) at ∷ []
 
 -- what a type stands for, where its bounds' names are looked up so
 abbrev pub type_of : Names → Looking → (file : ℕ) → TypeData → ResolvedType

@@ -3,7 +3,8 @@
 ghost use Rattle.std.specs.Prelude.{◌≡◌, map, flat_map, IfOk, OnOk};
 ghost use Rattle.spectra_trees.specs.Data.{TypeData, NameData};
 ghost use Rattle.spectra_trees.specs.Views.{expr_data};
-ghost use Rattle.spectra_resolved.specs.Findings.{found_in, with_faults};
+ghost use Rattle.spectra_resolved.specs.Findings.{with_faults};
+ghost use Rattle.spectra_resolved.specs.Reports.{found_in};
 ghost use Rattle.spectra_resolved.specs.Spaces.{clashes};
 ghost use Rattle.spectra_resolved.specs.Resolving.{misuses, resolved};
 ghost use Rattle.spectra_resolved.specs.Views.{resolved_data};

@@ -1,8 +1,9 @@
 //! Small name spaces: the names of an enum, the parameters of a definition, the names in a pattern.
 
 ghost use Rattle.std.specs.Prelude.{◌≡◌, map, IfOk, OnOk};
-ghost use Rattle.spectra_resolved.specs.Findings.{found_in};
-ghost use Rattle.spectra_resolved.specs.Spaces.{with_entries, no_names, declared, clashes, is_doubled as is_doubled_lem};
+ghost use Rattle.spectra_resolved.specs.Reports.{found_in};
+ghost use Rattle.spectra_resolved.specs.Spaces.{no_names, declared, clashes, is_doubled as is_doubled_lem};
+ghost use Rattle.spectra_resolved.specs.SpaceViews.{with_entries};
 ghost use Rattle.spectra_resolved.specs.Looks.{looked_up};
 ghost use Rattle.spectra_resolved.specs.LookViews.{scope_data};
 ghost use Rattle.spectra_resolved.specs.Tables.{told};

@@ -18,7 +18,8 @@ use Rattle.spectra_judge.specs.Around.{Around, outer_of, under_next, within, nex
 use Rattle.spectra_judge.specs.Kinds.{is_truth}
 use Rattle.spectra_judge.specs.Known.{Setting}
 use Rattle.spectra_judge.specs.Judged.{kind_of, wrong, binary_faults, remainder_faults, operator_faults, leaf_faults, faults, form_faults, operand_faults}
-use Rattle.spectra_judge.specs.Erased.{leaf_formula, prefix_formula, binary_formula, erased, form_erased, each_erased, is_put_in, form_put_in, each_put_in}
+use Rattle.spectra_judge.specs.Erased.{leaf_formula, prefix_formula, binary_formula, erased, form_erased, each_erased}
+use Rattle.spectra_judge.specs.PutIn.{is_put_in, form_put_in, each_put_in}
 use Rattle.spectra_judge.proofs.Empty.{empty_parts}
 
 -- a test that a formula passes where a part of it does

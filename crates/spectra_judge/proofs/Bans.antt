@@ -13,7 +13,8 @@ use Rattle.spectra_judge.specs.Standings.{Bans, bans_of, is_wanted}
 use Rattle.spectra_judge.specs.Around.{Around, nothing_open, under_next, in_next, in_past, next_faults, shifted, meeting}
 use Rattle.spectra_judge.specs.Known.{Known, Setting, is_system}
 use Rattle.spectra_judge.specs.Judged.{kind_of, wrong, first_of, leaf_faults, faults}
-use Rattle.spectra_judge.specs.Erased.{leaf_formula, erased, is_put_in, in_line, in_pattern}
+use Rattle.spectra_judge.specs.Erased.{leaf_formula, erased}
+use Rattle.spectra_judge.specs.PutIn.{is_put_in, in_line, in_pattern}
 use Rattle.spectra_judge.specs.Laws.{LineKeepsBans, PatternKeepsBans}
 use Rattle.spectra_judge.proofs.Empty.{empty_parts, no_fault}
 use Rattle.spectra_judge.proofs.Banned.{IsSome, none_in}

@@ -21,7 +21,8 @@ use Rattle.spectra_judge.specs.Findings.{fault_if}
 use Rattle.spectra_judge.specs.Kinds.{Kind, Truth, Whole, SomeWhole, NameOf, OneName, Anything, is_truth, is_whole, can_equal, is_wide, added, subtracted, multiplied, reduced}
 use Rattle.spectra_judge.specs.Operators.{gives, takes}
 use Rattle.spectra_judge.specs.Judged.{wrong, wide, binary_faults}
-use Rattle.spectra_judge.specs.Erased.{prefix_formula, binary_formula, domain_kind, has_room}
+use Rattle.spectra_judge.specs.Erased.{prefix_formula, binary_formula, has_room}
+use Rattle.spectra_judge.specs.PutIn.{domain_kind}
 use Rattle.spectra_judge.proofs.Empty.{empty_parts, no_fault, right}
 use Rattle.spectra_judge.proofs.Spans.{narrow, whole-narrow, sum_span, difference_span, product_span}
 

@@ -2,7 +2,8 @@
 use Rattle.std.proofs.Common.{◌≡◌, ◌-◌, suc, List, [], ◌∷◌, length, map, slice_get, Some, None, refl, sym, ap, ◌∙◌, arith}
 use Rattle.spectra_resolved.specs.declared.spot.Spot.{Spot}
 use Rattle.spectra_resolved.specs.declared.tree.Link.{Link}
-use Rattle.spectra_resolved.specs.Resolved.{ResolvedTree, LinkData, joined, chained}
+use Rattle.spectra_resolved.specs.Resolved.{ResolvedTree}
+use Rattle.spectra_resolved.specs.Chained.{LinkData, joined, chained}
 use Rattle.spectra_judge.specs.Judged.{first_of}
 use Rattle.spectra_resolved.specs.Views.{link_data}
 

@@ -15,11 +15,13 @@ use Rattle.spectra_resolved.specs.declared.tree.Leaf.{Leaf}
 use Rattle.spectra_resolved.specs.declared.tree.Leaf.TheVariants as leaf
 use Rattle.spectra_resolved.specs.Resolved.{ResolvedTree, Form}
 use Rattle.spectra_judge.specs.Kinds.{Kind, Truth, Whole, Anything, is_truth, is_wide}
-use Rattle.spectra_judge.specs.Standings.{Bans, bans_of, is_wanted, wants_truth}
+use Rattle.spectra_judge.specs.Standings.{Bans, bans_of, is_wanted}
+use Rattle.spectra_judge.specs.Wanting.{wants_truth}
 use Rattle.spectra_judge.specs.Around.{Around, nothing_open}
 use Rattle.spectra_judge.specs.Known.{Known, Setting}
 use Rattle.spectra_judge.specs.Judged.{kind_of, wrong, wide, first_of, leaf_faults, faults, faults_of}
-use Rattle.spectra_judge.specs.Erased.{erased, is_put_in, in_line, in_pattern, domain_kind, has_room}
+use Rattle.spectra_judge.specs.Erased.{erased, has_room}
+use Rattle.spectra_judge.specs.PutIn.{is_put_in, in_line, in_pattern, domain_kind}
 use Rattle.spectra_judge.specs.Laws.{LineIsTyped, PatternIsTyped}
 use Rattle.spectra_judge.proofs.Empty.{empty_parts, no_fault, right}
 use Rattle.spectra_judge.proofs.Spans.{narrow, whole-narrow}

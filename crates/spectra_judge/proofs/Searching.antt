@@ -3,7 +3,8 @@ use Rattle.std.proofs.Common.{◌≡◌, ℕ, zero, suc, ◌+◌, ◌<◌, ◌�
 use Rattle.std.proofs.lemmas.Bool.{cases_lt}
 use Rattle.std.proofs.lemmas.Bool.Decides.{nat_tests}
 use Rattle.spectra_resolved.specs.declared.spot.Spot.{Spot}
-use Rattle.spectra_judge.specs.Around.{same_spot, is_brought, comes_before, AreRising}
+use Rattle.spectra_judge.specs.Around.{same_spot, is_brought, comes_before}
+use Rattle.spectra_judge.specs.Rising.{AreRising}
 
 -- one number decides, and where it is the same, a test
 abbrev lex : ℕ → ℕ → Bool → Bool

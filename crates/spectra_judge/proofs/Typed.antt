@@ -14,7 +14,8 @@ use Rattle.spectra_judge.specs.Operators.{is_past, is_past_prefix}
 use Rattle.spectra_judge.specs.Around.{Around, under_next, within, next_faults}
 use Rattle.spectra_judge.specs.Known.{Known, Setting}
 use Rattle.spectra_judge.specs.Judged.{kind_of, form_kind, wrong, wide, binary_faults, remainder_faults, operator_faults, leaf_faults, faults, form_faults, operand_faults}
-use Rattle.spectra_judge.specs.Erased.{erased, form_erased, each_erased, is_put_in, form_put_in, each_put_in}
+use Rattle.spectra_judge.specs.Erased.{erased, form_erased, each_erased}
+use Rattle.spectra_judge.specs.PutIn.{is_put_in, form_put_in, each_put_in}
 use Rattle.spectra_judge.proofs.Empty.{empty_parts, right}
 use Rattle.spectra_judge.proofs.KindsFit.{Fits, truth_fits, whole_fits, prefix_fits, remainder_fits, binary_fits}
 use Rattle.spectra_judge.proofs.Nesting.{StandsWell, next_free, prefix_stands, binary_stands}

@@ -1,6 +1,6 @@
 -- What is open around a part of an expression, and the faults of what stands where it may not.
-use Rattle.spectra_trees.specs.declared.faults.TheConstants.{NEXT_HERE, NEXT_NESTED, NEXT_OF_SYSTEM, SYSTEM_IN_INITIAL, WRONG_TYPE}
-use Rattle.std.specs.Prelude.{◌≡◌, ℕ, Bool, true, false, ◌==◌, nat_lt, ◌&&◌, ◌||◌, if◌then◌else◌, List, [], ◌∷◌, ◌++◌, Option, Some, None, unwrap_or, All}
+use Rattle.spectra_trees.specs.Faults.{NextHere, NextNested, NextOfSystem, SystemInInitial, WrongType, number_of}
+use Rattle.std.specs.Prelude.{ℕ, Bool, true, false, ◌==◌, nat_lt, ◌&&◌, ◌||◌, if◌then◌else◌, List, [], ◌∷◌, ◌++◌, Option, Some, None, unwrap_or}
 use Rattle.std.specs.List.{list_any}
 use Rattle.spectra_resolved.specs.declared.spot.Spot.{Spot}
 use Rattle.spectra_resolved.specs.declared.findings.Finding.{Finding}
@@ -29,11 +29,6 @@ is_brought names at = list_any (λ name. same_spot name at) names
 abbrev pub comes_before : Spot → Spot → Bool
 comes_before a b =
     if a.file == b.file then (if a.line == b.line then nat_lt a.column b.column else nat_lt a.line b.line) else nat_lt a.file b.file
-
--- the names stand in text order
-abbrev pub AreRising : List Spot → Type 0
-AreRising [] = Unit {0}
-AreRising (name ∷ names) = All (λ later. comes_before name later ≡ true) names × AreRising names
 
 -- Where a fault of two parts stands: at the outer one where a body brings it, or else at the inner one where one does, and
 -- where none does, at the one that is said.
@@ -69,19 +64,19 @@ within brings false at o = o
 
 -- a part in a `next`, where it may not be
 abbrev pub in_next : Brought → Option Spot → Spot → List Finding
-in_next brings (Some outer) at = fault NEXT_NESTED (meeting brings outer at at) ∷ []
+in_next brings (Some outer) at = fault (number_of NextNested) (meeting brings outer at at) ∷ []
 in_next brings None at = []
 
 -- a `next` in past operators: at the first of them that a body brings, or else at itself
 abbrev pub in_past : Around → Spot → List Finding
-in_past o at = fault_if o.past NEXT_NESTED (unwrap_or o.brought at)
+in_past o at = fault_if o.past (number_of NextNested) (unwrap_or o.brought at)
 
 -- a `next`, and a past operator
 abbrev pub next_faults : Brought → Bans → Around → Spot → List Finding
-next_faults brings bans o at = fault_if bans.next NEXT_HERE at ++ (in_next brings o.next at ++ in_past o at)
+next_faults brings bans o at = fault_if bans.next (number_of NextHere) at ++ (in_next brings o.next at ++ in_past o at)
 
 abbrev pub past_faults : Brought → Bans → (next : Option Spot) → Spot → List Finding
-past_faults brings bans next at = fault_if bans.past WRONG_TYPE at ++ in_next brings next at
+past_faults brings bans next at = fault_if bans.past (number_of WrongType) at ++ in_next brings next at
 
 -- what is read under a `next`, where it may not be
 abbrev pub shifted : Brought → (banned : Bool) → ℕ → (next : Option Spot) → Spot → List Finding
@@ -91,11 +86,11 @@ shifted brings banned number None at = []
 -- a variable, of the system or not
 abbrev pub variable_faults : Brought → Bans → (next : Option Spot) → Spot → (system : Bool) → List Finding
 variable_faults brings bans next at system =
-    fault_if bans.variable WRONG_TYPE at ++ (fault_if (bans.system && system) SYSTEM_IN_INITIAL at ++ shifted brings (bans.shifted_system && system) NEXT_OF_SYSTEM next at)
+    fault_if bans.variable (number_of WrongType) at ++ (fault_if (bans.system && system) (number_of SystemInInitial) at ++ shifted brings (bans.shifted_system && system) (number_of NextOfSystem) next at)
 
 -- a parameter of a pattern, and one of its own variables
 abbrev pub parameter_faults : Brought → Bans → (next : Option Spot) → Spot → List Finding
-parameter_faults brings bans next at = fault_if (bans.variable || bans.parameter) WRONG_TYPE at ++ shifted brings bans.shifted_parameter NEXT_HERE next at
+parameter_faults brings bans next at = fault_if (bans.variable || bans.parameter) (number_of WrongType) at ++ shifted brings bans.shifted_parameter (number_of NextHere) next at
 
 abbrev pub own_faults : Bans → Spot → List Finding
-own_faults bans at = fault_if bans.variable WRONG_TYPE at
+own_faults bans at = fault_if bans.variable (number_of WrongType) at

@@ -2,7 +2,7 @@
 use Rattle.std.specs.Prelude.{Bool, ◌&&◌, List, [], ◌∷◌, ◌++◌, Option, None}
 use Rattle.std.specs.List.{list_any}
 use Rattle.spectra_resolved.specs.declared.spot.Spot.{Spot}
-use Rattle.spectra_resolved.specs.Resolved.{LinkData}
+use Rattle.spectra_resolved.specs.Chained.{LinkData}
 use Rattle.spectra_resolved.specs.declared.findings.Finding.{Finding}
 use Rattle.spectra_judge.specs.Kinds.{Kind}
 use Rattle.spectra_judge.specs.Operators.{gives, is_past}

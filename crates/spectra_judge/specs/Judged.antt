@@ -1,5 +1,5 @@
 -- The kind of an expression, and its faults.
-use Rattle.spectra_trees.specs.declared.faults.TheConstants.{WIDE_INT, WRONG_TYPE}
+use Rattle.spectra_trees.specs.Faults.{WideInt, WrongType, number_of}
 use Rattle.std.specs.Prelude.{ℤ, pos, int_le, Bool, not, if◌then◌else◌, List, [], ◌∷◌, ◌++◌, Option, Some, None, get_or, drop}
 use Rattle.spectra_trees.specs.declared.tree.BinaryWord.{BinaryWord}
 use Rattle.spectra_resolved.specs.declared.spot.Spot.{Spot}
@@ -61,18 +61,18 @@ abbrev mutual
 
 -- an operand or argument of the wrong kind
 abbrev pub wrong : (right : Bool) → Spot → List Finding
-wrong right at = fault_if (not right) WRONG_TYPE at
+wrong right at = fault_if (not right) (number_of WrongType) at
 
 -- a span that is too wide
 abbrev pub wide : Kind → Spot → List Finding
-wide k at = fault_if (is_wide k) WIDE_INT at
+wide k at = fault_if (is_wide k) (number_of WideInt) at
 
 abbrev pub binary_faults : BinaryWord → Kind → Kind → Spot → List Finding
 binary_faults word a b at = wrong (takes word a b) at ++ wide (gives word a b) at
 
 -- the number of a remainder is 0, or the remainders are too many
 abbrev pub remainder_faults : Kind → (operator number_at : Spot) → ℤ → List Finding
-remainder_faults k operator number_at n = wrong (is_whole k) operator ++ (fault_if (int_le n (pos 0)) WIDE_INT number_at ++ wide (reduced n) operator)
+remainder_faults k operator number_at n = wrong (is_whole k) operator ++ (fault_if (int_le n (pos 0)) (number_of WideInt) number_at ++ wide (reduced n) operator)
 
 -- an operator where it stands, which speaks of the past or not
 abbrev pub operator_faults : Setting → (past : Bool) → (next : Option Spot) → Spot → List Finding

@@ -2,7 +2,7 @@
 use Rattle.std.specs.Prelude.{ℕ, ◌^◌, ◌==◌, ℤ, pos, neg_ℤ, ◌+ℤ◌, ◌-ℤ◌, ◌*ℤ◌, int_lt, Bool, true, false, not, ◌||◌, if◌then◌else◌, List}
 use Rattle.std.specs.List.{list_any}
 use Rattle.std.specs.Int.{int_min, int_max, saturate_signed, w64}
-use Rattle.spec_model.specs.Typing.{same_names}
+use Rattle.spec_model.specs.Values.{same_names}
 
 -- Truth values; whole numbers of an interval; whole numbers whose span isn't known; names of a list; one name, which fits
 -- every list that it stands in; and what fits everything, as an unknown name does.

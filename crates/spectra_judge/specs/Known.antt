@@ -1,10 +1,7 @@
 -- What is known of the names in an expression.
-use Rattle.std.specs.Prelude.{ℕ, Bool, false, List, [], Option, Some, None, map, get_or}
-use Rattle.spectra_judge.specs.declared.known.Known as code_known
-use Rattle.spectra_judge.specs.declared.known.Setting as code_setting
+use Rattle.std.specs.Prelude.{ℕ, Bool, false, List, [], Option, Some, None, get_or}
 use Rattle.spectra_judge.specs.Kinds.{Kind}
-use Rattle.spectra_judge.specs.KindViews.{kind_data}
-use Rattle.spectra_judge.specs.Around.{Brought, is_brought}
+use Rattle.spectra_judge.specs.Around.{Brought}
 use Rattle.spectra_judge.specs.Standings.{Bans}
 
 -- The kinds of variables, of definitions that are defines, of the parameters of those that are predicates, and of the
@@ -30,18 +27,3 @@ is_system known k = get_or known.system k false
 abbrev pub wanted : Known → Option ℕ → List Kind
 wanted known (Some k) = get_or known.predicates k []
 wanted known None = []
-
-abbrev pub known_data : code_known.Known → Known
-known_data k =
-    record {
-      variables = map kind_data k.variables.now;
-      system = k.system.now;
-      defines = map kind_data k.defines.now;
-      predicates = map (λ ks. map kind_data ks.items) k.predicates.now;
-      parameters = map kind_data k.parameters.now;
-      own = map kind_data k.own.now;
-      brought = is_brought k.brought.now;
-    }
-
-abbrev pub setting_data : code_setting.Setting → Setting
-setting_data s = record { known = known_data s.known; bans = s.bans }

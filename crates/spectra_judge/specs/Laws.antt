@@ -10,10 +10,12 @@ use Rattle.spectra_resolved.specs.Resolved.{ResolvedTree}
 use Rattle.spectra_resolved.specs.declared.findings.Finding.{Finding}
 use Rattle.spectra_resolved.specs.Findings.{precedes, first_of_faults}
 use Rattle.spectra_judge.specs.Kinds.{Truth}
-use Rattle.spectra_judge.specs.Standings.{Bans, bans_of, wants_truth}
+use Rattle.spectra_judge.specs.Standings.{Bans, bans_of}
+use Rattle.spectra_judge.specs.Wanting.{wants_truth}
 use Rattle.spectra_judge.specs.Known.{Known, is_system}
 use Rattle.spectra_judge.specs.Judged.{faults_of}
-use Rattle.spectra_judge.specs.Erased.{erased, is_put_in, in_line, in_pattern, domain_kind, has_room}
+use Rattle.spectra_judge.specs.Erased.{erased, has_room}
+use Rattle.spectra_judge.specs.PutIn.{is_put_in, in_line, in_pattern, domain_kind}
 
 -- none where there are no faults, and else one of them that no other one comes before
 abbrev pub IsFirst : List Finding → Option Finding → Type 0

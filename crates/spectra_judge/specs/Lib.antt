@@ -2,11 +2,14 @@ pub mod Kinds
 pub mod KindViews
 pub mod Operators
 pub mod Standings
+pub mod Wanting
 pub mod Findings
 pub mod Around
+pub mod Rising
 pub mod Known
 pub mod Judged
 pub mod Chains
 pub mod OpenedViews
 pub mod Erased
+pub mod PutIn
 pub mod Laws

@@ -29,9 +29,3 @@ abbrev pub is_wanted : Stand → Kind → Bool
 is_wanted stand.Bound k = is_whole k
 is_wanted stand.Define k = true
 is_wanted _ k = is_truth k
-
--- where an expression is to be a truth value
-abbrev pub wants_truth : Stand → Bool
-wants_truth stand.Bound = false
-wants_truth stand.Define = false
-wants_truth _ = true

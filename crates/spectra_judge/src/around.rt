@@ -1,14 +1,15 @@
 //! What is open around a part of an expression.
 
 ghost use Rattle.std.specs.Prelude.{◌≡◌};
-ghost use Rattle.spectra_judge.specs.Around.{AreRising, nothing_open as nothing_open_lem, outer_of as outer_of_lem, under_next as under_next_lem, is_brought as is_brought_lem, first_brought as first_brought_lem, within as within_lem};
+ghost use Rattle.spectra_judge.specs.Around.{nothing_open as nothing_open_lem, outer_of as outer_of_lem, under_next as under_next_lem, is_brought as is_brought_lem, first_brought as first_brought_lem, within as within_lem};
+ghost use Rattle.spectra_judge.specs.Rising.{AreRising};
 
 use crate::brought::is_brought;
 use spectra_resolved::spot::Spot;
 
 /// What is open around a part: the outermost `next` by its place, whether there is a past operator, and the outermost one of
 /// those that bodies bring.
-#[derive(Clone, Copy, Debug)]
+#[derive(Clone, Copy)]
 pub struct Around {
     pub next: Option<Spot>,
     pub past: bool,

@@ -1,7 +1,8 @@
 //! Which parts of an expression a body brings that is put in, and where a fault of two parts stands.
 
 ghost use Rattle.std.specs.Prelude.{◌≡◌, ◌<◌, length, get_or};
-ghost use Rattle.spectra_judge.specs.Around.{is_brought as is_brought_lem, same_spot as same_spot_lem, comes_before as comes_before_lem, meeting as meeting_lem, AreRising};
+ghost use Rattle.spectra_judge.specs.Around.{is_brought as is_brought_lem, same_spot as same_spot_lem, comes_before as comes_before_lem, meeting as meeting_lem};
+ghost use Rattle.spectra_judge.specs.Rising.{AreRising};
 
 use spectra_resolved::spot::Spot;
 

@@ -3,7 +3,8 @@
 ghost use Rattle.std.specs.Prelude.{◌≡◌, ℕ, ◌∷◌, ◌&&◌, get_or, map, drop, nat_lt, if◌then◌else◌, None};
 ghost use Rattle.spectra_resolved.specs.Views.{resolved_data, link_data};
 ghost use Rattle.spectra_judge.specs.Operators.{is_past as is_past_lem};
-ghost use Rattle.spectra_judge.specs.Around.{Around, AreRising, is_brought as is_brought_lem};
+ghost use Rattle.spectra_judge.specs.Around.{Around, is_brought as is_brought_lem};
+ghost use Rattle.spectra_judge.specs.Rising.{AreRising};
 ghost use Rattle.spectra_judge.specs.Judged.{first_of as first_of_lem};
 ghost use Rattle.spectra_judge.specs.Chains.{opened, has_past, brought_in};
 ghost use Rattle.spectra_judge.specs.OpenedViews.{outer_or, opened_at};
@@ -16,7 +17,7 @@ use spectra_resolved::tree::{Link, Resolved};
 
 /// So many of several operators have one behind them that a body brings and that speaks of the past, or are one. The last of
 /// these stands at `first`.
-#[derive(Clone, Copy, Debug)]
+#[derive(Clone, Copy)]
 pub struct Bringing {
     pub until: usize,
     pub first: Option<Spot>,
@@ -24,7 +25,7 @@ pub struct Bringing {
 
 /// What is open in the operands of several operators: so many have a past operator behind them or are one, and so many one
 /// that a body brings.
-#[derive(Clone, Copy, Debug)]
+#[derive(Clone, Copy)]
 pub struct Opened {
     pub past: usize,
     pub bringing: Bringing,

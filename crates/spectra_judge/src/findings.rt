@@ -1,7 +1,8 @@
 //! Faults that are found where a test holds.
 
 ghost use Rattle.std.specs.Prelude.{◌≡◌};
-ghost use Rattle.spectra_resolved.specs.Findings.{found_in, with_faults};
+ghost use Rattle.spectra_resolved.specs.Findings.{with_faults};
+ghost use Rattle.spectra_resolved.specs.Reports.{found_in};
 ghost use Rattle.spectra_judge.specs.Findings.{fault_if};
 
 use spectra_resolved::findings::Findings;

@@ -3,9 +3,8 @@
 ghost use Rattle.std.specs.Prelude.{◌≡◌};
 ghost use Rattle.spectra_resolved.specs.Views.{resolved_data};
 ghost use Rattle.spectra_resolved.specs.Findings.{first_of_faults};
-ghost use Rattle.spectra_judge.specs.KindViews.{kind_data};
-ghost use Rattle.spectra_judge.specs.Around.{AreRising};
-ghost use Rattle.spectra_judge.specs.Known.{known_data};
+ghost use Rattle.spectra_judge.specs.KindViews.{kind_data, known_data};
+ghost use Rattle.spectra_judge.specs.Rising.{AreRising};
 ghost use Rattle.spectra_judge.specs.Judged.{kind_of, faults_of};
 
 use crate::around::nothing_open;
@@ -20,7 +19,7 @@ use spectra_resolved::stand::Stand;
 use spectra_resolved::tree::Resolved;
 
 /// The kind of an expression, and the first of its faults where it has one.
-#[derive(Clone, Copy, Debug)]
+#[derive(Clone, Copy)]
 pub struct Judged<'a> {
     pub kind: Kind<'a>,
     pub fault: Option<Finding>,

@@ -8,7 +8,7 @@ ghost use Rattle.spectra_judge.specs.KindViews.{kind_data};
 
 /// Truth values; whole numbers from a least to a greatest one; whole numbers whose span isn't known; names of a list; one
 /// name, which fits every list that it stands in; and what fits everything, as an unknown name does.
-#[derive(Clone, Copy, Debug)]
+#[derive(Clone, Copy)]
 pub enum Kind<'a> {
     Truth,
     Whole(i64, i64),

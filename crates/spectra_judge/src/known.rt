@@ -2,8 +2,8 @@
 
 ghost use Rattle.std.specs.Prelude.{◌≡◌, get_or, map};
 ghost use Rattle.spectra_judge.specs.Kinds.{Anything};
-ghost use Rattle.spectra_judge.specs.KindViews.{kind_data};
-ghost use Rattle.spectra_judge.specs.Known.{known_data, is_system as is_system_lem, wanted as wanted_lem};
+ghost use Rattle.spectra_judge.specs.KindViews.{kind_data, known_data};
+ghost use Rattle.spectra_judge.specs.Known.{is_system as is_system_lem, wanted as wanted_lem};
 
 use crate::kind::Kind;
 use crate::standing::Bans;

@@ -1,10 +1,10 @@
 //! The kinds and faults of single parts of an expression.
 
 ghost use Rattle.std.specs.Prelude.{◌≡◌};
-ghost use Rattle.spectra_resolved.specs.Findings.{found_in, with_faults};
-ghost use Rattle.spectra_judge.specs.KindViews.{kind_data};
-ghost use Rattle.spectra_judge.specs.Around.{AreRising};
-ghost use Rattle.spectra_judge.specs.Known.{known_data, setting_data};
+ghost use Rattle.spectra_resolved.specs.Findings.{with_faults};
+ghost use Rattle.spectra_resolved.specs.Reports.{found_in};
+ghost use Rattle.spectra_judge.specs.KindViews.{kind_data, known_data, setting_data};
+ghost use Rattle.spectra_judge.specs.Rising.{AreRising};
 ghost use Rattle.spectra_judge.specs.Judged.{hole_kind as hole_kind_lem, leaf_kind as leaf_kind_lem, misuse_kind as misuse_kind_lem, wrong, wide, binary_faults, remainder_faults, leaf_faults, misuse_faults};
 
 use crate::findings::report_if;

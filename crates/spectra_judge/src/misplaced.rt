@@ -1,9 +1,11 @@
 //! The faults of what stands where it may not: `next`, past operators, variables and parameters.
 
 ghost use Rattle.std.specs.Prelude.{◌≡◌};
-ghost use Rattle.spectra_resolved.specs.Findings.{found_in, with_faults};
-ghost use Rattle.spectra_judge.specs.Known.{setting_data};
-ghost use Rattle.spectra_judge.specs.Around.{AreRising, is_brought, in_next, in_past, next_faults, past_faults, shifted, variable_faults, parameter_faults, own_faults};
+ghost use Rattle.spectra_resolved.specs.Findings.{with_faults};
+ghost use Rattle.spectra_resolved.specs.Reports.{found_in};
+ghost use Rattle.spectra_judge.specs.KindViews.{setting_data};
+ghost use Rattle.spectra_judge.specs.Around.{is_brought, in_next, in_past, next_faults, past_faults, shifted, variable_faults, parameter_faults, own_faults};
+ghost use Rattle.spectra_judge.specs.Rising.{AreRising};
 ghost use Rattle.spectra_judge.specs.Judged.{operator_faults};
 
 use crate::around::Around;

@@ -8,7 +8,7 @@ use crate::kind::{Kind, is_truth, is_whole};
 use spectra_resolved::stand::Stand;
 
 /// What may not stand in an expression. The last two speak of what is read under a `next`.
-#[derive(Clone, Copy, Debug)]
+#[derive(Clone, Copy)]
 pub struct Bans {
     pub next: bool,
     pub past: bool,

@@ -1,14 +1,16 @@
 //! One walk over an expression, which gives its kind and reports its faults.
 
 ghost use Rattle.std.specs.Prelude.{◌≡◌, ℕ, ◌∷◌, ◌++◌, map, drop};
-ghost use Rattle.spectra_resolved.specs.Resolved.{Form, trees};
+ghost use Rattle.spectra_resolved.specs.Resolved.{Form};
+ghost use Rattle.spectra_resolved.specs.Chained.{trees};
 ghost use Rattle.spectra_resolved.specs.Views.{resolved_data, link_data, form_data};
-ghost use Rattle.spectra_resolved.specs.Findings.{found_in, with_faults};
+ghost use Rattle.spectra_resolved.specs.Findings.{with_faults};
+ghost use Rattle.spectra_resolved.specs.Reports.{found_in};
 ghost use Rattle.spectra_judge.specs.Kinds.{Truth, is_truth as is_truth_lem, can_equal as can_equal_lem, reduced as reduced_lem};
-ghost use Rattle.spectra_judge.specs.KindViews.{kind_data};
+ghost use Rattle.spectra_judge.specs.KindViews.{kind_data, setting_data};
 ghost use Rattle.spectra_judge.specs.Operators.{gives as gives_lem};
-ghost use Rattle.spectra_judge.specs.Around.{AreRising};
-ghost use Rattle.spectra_judge.specs.Known.{setting_data, wanted};
+ghost use Rattle.spectra_judge.specs.Rising.{AreRising};
+ghost use Rattle.spectra_judge.specs.Known.{wanted};
 ghost use Rattle.spectra_judge.specs.Judged.{kind_of, form_kind, wrong, first_of as first_of_lem, faults, form_faults, operand_faults, argument_faults};
 ghost use Rattle.spectra_judge.specs.OpenedViews.{opened_at};
 ghost use Rattle.spectra_judge.specs.Chains.{opened as opened_lem, link_faults, chain_kind, chain_faults};

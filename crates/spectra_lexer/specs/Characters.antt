@@ -3,7 +3,7 @@ use Rattle.std.specs.Prelude.{ℕ, ◌≡◌, ◌==◌, ◌&&◌, ◌||◌, nat_
 use Rattle.std.specs.List.{list_all}
 use Rattle.unicode_ident.specs.Ident.{is_xid_continue}
 -- what a name begins with
-pub use Rattle.spec_model.specs.Names.{begins_name}
+pub use Rattle.spec_model.specs.Words.{begins_name}
 use Rattle.spectra_lexer.specs.declared.characters.Run.{Run}
 use Rattle.spectra_lexer.specs.declared.characters.Run.TheVariants as runs
 

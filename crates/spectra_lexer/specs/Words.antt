@@ -3,8 +3,8 @@ use Rattle.std.specs.Prelude.{ℕ, ◌≡◌, ◌≤◌, nat_eq, Bool, true, Lis
 use Rattle.std.specs.List.{list_any}
 use Rattle.std.specs.Cmp.Lexicographic.{pointwise}
 -- the words that are no names
-pub use Rattle.spec_model.specs.Names.{reserved_words}
-unfoldable pub use Rattle.spec_model.specs.Names.{is_reserved}
+pub use Rattle.spec_model.specs.Words.{reserved_words}
+unfoldable pub use Rattle.spec_model.specs.Words.{is_reserved}
 
 -- whether two texts are the same
 abbrev pub same_text : List ℕ → List ℕ → Bool

@@ -11,7 +11,7 @@ ghost use Rattle.spectra_lexer.specs.Progress.{IsInside};
 use crate::spot::Spot;
 
 /// What goes on in a run.
-#[derive(Clone, Copy, Debug, PartialEq, Eq)]
+#[derive(Clone, Copy, PartialEq, Eq)]
 pub enum Run {
     /// Blanks.
     Blank,

@@ -7,7 +7,7 @@ ghost use Rattle.spectra_lexer.specs.Pieces.{opening_of};
 use crate::characters::{begins_name, begins_with, is_blank, is_digit, split_first};
 
 /// What the piece at the front of a text is.
-#[derive(Clone, Copy, Debug, PartialEq, Eq)]
+#[derive(Clone, Copy, PartialEq, Eq)]
 pub enum Opening {
     /// There are no characters.
     Nothing,

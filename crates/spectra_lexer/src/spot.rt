@@ -6,7 +6,7 @@ use crate::token::{Kind, Token};
 const FIRST: u32 = 1;
 
 /// How many bytes come before a character, and its line and column, from 1.
-#[derive(Clone, Copy, Debug, PartialEq, Eq)]
+#[derive(Clone, Copy, PartialEq, Eq)]
 pub struct Spot {
     pub byte: u32,
     pub line: u32,

@@ -1,7 +1,7 @@
 //! A token and its kind.
 
 /// What a token is.
-#[derive(Clone, Copy, Debug, PartialEq, Eq)]
+#[derive(Clone, Copy, PartialEq, Eq)]
 pub enum Kind {
     /// A reserved word.
     Word,
@@ -18,7 +18,7 @@ pub enum Kind {
 }
 
 /// A token: its kind, its slice `from..to` of the text in bytes, and the place of its first character, from 1:1.
-#[derive(Clone, Copy, Debug, PartialEq, Eq)]
+#[derive(Clone, Copy, PartialEq, Eq)]
 pub struct Token {
     pub kind: Kind,
     pub from: u32,

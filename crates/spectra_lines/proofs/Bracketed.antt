@@ -4,7 +4,8 @@ use Rattle.std.specs.Borrow.{Bor}
 use Rattle.spectra_resolved.specs.declared.tree.Resolved.{Resolved}
 use Rattle.spectra_resolved.specs.declared.tree.Regex.{Regex}
 use Rattle.spectra_resolved.specs.declared.tree.Times.{Times}
-use Rattle.spectra_resolved.specs.Resolved.{ResolvedTree, ResolvedRegex, Repetition, ResolvedRegexes, regexes, repeated}
+use Rattle.spectra_resolved.specs.Resolved.{ResolvedTree, ResolvedRegex, Repetition, ResolvedRegexes}
+use Rattle.spectra_resolved.specs.Chained.{regexes, repeated}
 use Rattle.spectra_resolved.specs.Views.{resolved_data, regex_data}
 use Rattle.spectra_judge.proofs.Lists.{mapped_left}
 use Rattle.spectra_elaboration.specs.Nodes.{tree_nodes}

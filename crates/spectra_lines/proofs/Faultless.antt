@@ -18,7 +18,7 @@ use Rattle.spectra_lines.specs.Parts.{TypedPattern, TextPart, LinePart, PatternP
 use Rattle.spectra_lines.specs.Meanings.{statements, triggers}
 use Rattle.spectra_patterns.specs.Hidden.{alone, most_hidden, are_many, hidden_faults}
 use Rattle.spectra_lines.specs.Said.{all_room, small_lines, tables_faults}
-use Rattle.spectra_lines.specs.Laws.{nodes_of_lines, nodes_of_pattern, nodes_of_patterns, are_all_sound, HasNoFault, HaveNoFault, PatternsHaveNoFault, FaultlessAreMeant}
+use Rattle.spectra_lines.specs.Laws.{nodes_of_lines, nodes_of_pattern, nodes_of_patterns, are_flat_lines, are_all_sound, HasNoFault, HaveNoFault, PatternsHaveNoFault, FaultlessAreMeant}
 use Rattle.spectra_lines.proofs.Rooms.{some_left}
 use Rattle.spectra_lines.proofs.Stated.{length_statements}
 
@@ -77,14 +77,15 @@ some_room r n has = by (room_behind (Some r) n) refl has
     by (Some left) e is = (left, sym e, some_left r n left (sym e))
     by None e is = absurd (false≢true is)
 
-lines_room : (r : ℕ) (ls : List ResolvedPatternLine) → large_lines (Some r) ls ≡ [] → (left : ℕ) × (Some left ≡ room_behind_lines (Some r) ls) × (left + nodes_of_pattern ls ≡ r)
-lines_room r [] none = (r, refl, omega arith)
+lines_room : (r : ℕ) (ls : List ResolvedPatternLine) → large_lines (Some r) ls ≡ [] → (left : ℕ) × (Some left ≡ room_behind_lines (Some r) ls) × (left + nodes_of_pattern ls ≡ r) × (are_flat_lines ls ≡ true)
+lines_room r [] none = (r, refl, omega arith, refl)
 lines_room r (l ∷ ls) none =
     let parts = empty_parts (large_line (Some r) l) (large_lines (line_room (Some r) l) ls) none in
     let small = not-false (is_small (Some r) (line_tree l ∷ [])) (no_fault _ _ _ parts.0) in
-    let here = some_room r (nodes_of (line_tree l ∷ [])) (and_parts _ _ small).0 in
+    let fits = and_parts _ _ small in
+    let here = some_room r (nodes_of (line_tree l ∷ [])) fits.0 in
     let rest = lines_room here.0 ls (ap (λ room. large_lines room ls) here.1 ∙ parts.1) in
-    (rest.0, rest.1 ∙ ap (λ room. room_behind_lines room ls) here.1, (let a = rest.2 in let b = here.2 in omega (arith, a, b)))
+    (rest.0, rest.1 ∙ ap (λ room. room_behind_lines room ls) here.1, (let a = rest.2 in let b = here.2 in omega (arith, a, b)), and_from _ _ fits.1 rest.3)
 
 -- ---- all parts
 
@@ -102,11 +103,15 @@ all_nodes f (PatternPart p ∷ ps) = let rest = all_nodes f ps in omega (arith, 
 abbrev meaning : TypedPattern → PatternData
 meaning p = pattern_of p.own p.pattern
 
+abbrev is_flat : TypedPattern → Bool
+is_flat p = are_flat_lines p.pattern.lines
+
 record PartsMeant (f : Facts) (r : ℕ) (ps : List TextPart) : Type 0 where
   pub lines : parts_lines f (Some r) ps ≡ map (line_put f) (lines_among ps)
   pub patterns : are_all_sound (patterns_among ps) ≡ true → parts_patterns f (Some r) ps ≡ map meaning (patterns_among ps)
   pub nodes : nodes_among f ps ≤ r
   pub levels : list_all (λ l. are_flat (put_trees f l)) (lines_among ps) ≡ true
+  pub pattern_levels : list_all is_flat (patterns_among ps) ≡ true
   pub lines_right : HaveNoFault f (lines_among ps)
   pub patterns_right : PatternsHaveNoFault (patterns_among ps)
 
@@ -131,7 +136,7 @@ one_meant r p small none sound =
     ap option_to_list ((λ i. meant (whole i) p.own p.pattern) ∙ (λ i. if true && is_empty (faultless i) then Some (meaning p) else None))
 
 parts_meant : (f : Facts) (r : ℕ) (ps : List TextPart) → parts_faults f (Some r) ps ≡ [] → PartsMeant f r ps
-parts_meant f r [] none = record { lines = refl; patterns = λ sound. refl; nodes = omega arith; levels = refl; lines_right = tt; patterns_right = tt }
+parts_meant f r [] none = record { lines = refl; patterns = λ sound. refl; nodes = omega arith; levels = refl; pattern_levels = refl; lines_right = tt; patterns_right = tt }
 parts_meant f r (LinePart l ∷ ps) none =
     let parts = empty_parts (line_faults f (Some r) l) (parts_faults f (part_room f (Some r) (LinePart l)) ps) none in
     let own = empty_parts (as_written f l) _ parts.0 in
@@ -146,6 +151,7 @@ parts_meant f r (LinePart l ∷ ps) none =
       patterns = λ sound. ap (λ room. parts_patterns f room ps) (sym here.1) ∙ rest.patterns sound;
       nodes = (let a = rest.nodes in let b = here.2 in omega (arith, a, b));
       levels = and_from _ _ fits.1 rest.levels;
+      pattern_levels = rest.pattern_levels;
       lines_right = (line_right f l own.0 more.0 (sym (ap (λ b. if b then put_faults f l else []) small) ∙ large.1), rest.lines_right);
       patterns_right = rest.patterns_right;
     }
@@ -161,6 +167,7 @@ parts_meant f r (PatternPart p ∷ ps) none =
           (λ i. one_meant r p own.0 own.1 sounds.0 i ++ parts_patterns f (sym here.1 i) ps) ∙ ap (λ qs. meaning p ∷ qs) (rest.patterns sounds.1);
       nodes = (let a = rest.nodes in let b = here.2 in omega (arith, a, b));
       levels = rest.levels;
+      pattern_levels = and_from _ _ here.3 rest.pattern_levels;
       lines_right = rest.lines_right;
       patterns_right = (λ sound. one_right r p own.0 own.1 sound, rest.patterns_right);
     }
@@ -200,6 +207,7 @@ faultless f ps ls none =
       patterns = λ sound. all.patterns (ap are_all_sound patterns ∙ sound) ∙ ap (map meaning) patterns;
       nodes = subst (λ n. n ≤ most_nodes) (all_nodes f (in_text_order ps ls) ∙ (λ i. nodes_of_lines f (lines i) + nodes_of_patterns (patterns i))) all.nodes;
       levels = ap (list_all (λ l. are_flat (put_trees f l))) (sym lines) ∙ all.levels;
+      pattern_levels = ap (list_all is_flat) (sym patterns) ∙ all.pattern_levels;
       hidden = all_few (small_lines f ps ls) parts.1;
       lines_right = subst (HaveNoFault f) lines all.lines_right;
       patterns_right = subst PatternsHaveNoFault patterns all.patterns_right;

@@ -8,7 +8,8 @@ use Rattle.spec_model.specs.declared.spec.Trigger.{Trigger}
 use Rattle.spec_model.specs.Views.{trigger_data}
 use Rattle.spectra_resolved.specs.Resolved.{ResolvedRegex}
 use Rattle.spectra_patterns.specs.Patterns.{is_empty}
-use Rattle.spectra_patterns.specs.Triggers.{trigger_of, is_right, meant_by}
+use Rattle.spectra_patterns.specs.Triggers.{trigger_of, is_right}
+use Rattle.spectra_patterns.specs.TriggerParts.{meant_by}
 use Rattle.spectra_brought.proofs.Found.{no_faults}
 
 pub none_empty : (fs : List Finding) (first : Option Finding) → first ≡ first_of_faults fs → is_none first ≡ is_empty fs

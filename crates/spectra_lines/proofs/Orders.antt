@@ -2,7 +2,8 @@
 use Rattle.std.proofs.Common.{◌≡◌, ℕ, zero, suc, ◌+◌, ◌-◌, ◌≤◌, arith, length-drop, List, [], ◌∷◌, ◌++◌, length, map, take, drop, refl, sym, ap, ◌∙◌, append_assoc}
 use Rattle.std.proofs.lemmas.List.{drop-drop}
 use Rattle.spectra_resolved.specs.Texts.{ResolvedLine}
-use Rattle.spectra_lines.specs.Parts.{TypedPattern, TextPart, LinePart, PatternPart, AreSound, leading, in_text_order}
+use Rattle.spectra_lines.specs.Parts.{TypedPattern, TextPart, LinePart, PatternPart, leading, in_text_order}
+use Rattle.spectra_lines.specs.SoundParts.{AreSound}
 use Rattle.spectra_lines.specs.Steps.{ArePartsSound}
 
 -- ---- sound patterns are sound parts

@@ -3,10 +3,12 @@ use Rattle.std.proofs.Common.{◌≡◌, ℕ, ◌+◌, ◌-◌, ◌<◌, nat_le,
 use Rattle.std.proofs.lemmas.Bool.Decides.{nat_tests}
 use Rattle.spectra_resolved.specs.declared.tree.Resolved.{Resolved}
 use Rattle.spectra_resolved.specs.declared.tree.Link.{Link}
-use Rattle.spectra_resolved.specs.Resolved.{ResolvedTree, trees}
+use Rattle.spectra_resolved.specs.Resolved.{ResolvedTree}
+use Rattle.spectra_resolved.specs.Chained.{trees}
 use Rattle.spectra_resolved.specs.Views.{resolved_data, link_data}
 use Rattle.spectra_judge.proofs.Lists.{mapped_left}
-use Rattle.spectra_elaboration.specs.Nodes.{tree_nodes, each_nodes, link_nodes, within_room}
+use Rattle.spectra_elaboration.specs.Nodes.{tree_nodes, each_nodes, within_room}
+use Rattle.spectra_elaboration.specs.Links.{link_nodes}
 use Rattle.spectra_lines.specs.Limits.{nodes_of, are_flat, room_behind, is_small}
 
 fits_both : (r a b : ℕ) → nat_le a r ≡ true → nat_le b (r - a) ≡ nat_le (a + b) r

@@ -1,7 +1,7 @@
 -- Laws over the definitions alone, each of which the function of its name in src/laws.rt proves.
 use Rattle.std.specs.Prelude.{◌≡◌, ℕ, ◌+◌, ◌≤◌, Bool, true, List, [], ◌∷◌, map}
 use Rattle.std.specs.List.{list_all}
-use Rattle.spec_model.specs.WellTyped.{all_hidden}
+use Rattle.spec_model.specs.Sizes.{all_hidden}
 use Rattle.spectra_resolved.specs.Texts.{ResolvedPatternLine, ResolvedLine}
 use Rattle.spectra_patterns.specs.Patterns.{line_tree, pattern_faults, pattern_of}
 use Rattle.spectra_lines.specs.Contents.{Facts, line_put}
@@ -23,6 +23,10 @@ nodes_of_pattern (l ∷ ls) = nodes_of (line_tree l ∷ []) + nodes_of_pattern l
 abbrev pub nodes_of_patterns : List TypedPattern → ℕ
 nodes_of_patterns [] = 0
 nodes_of_patterns (p ∷ ps) = nodes_of_pattern p.pattern.lines + nodes_of_patterns ps
+
+-- no line of a pattern is nested too deep
+abbrev pub are_flat_lines : List ResolvedPatternLine → Bool
+are_flat_lines ls = list_all (λ l. are_flat (line_tree l ∷ [])) ls
 
 abbrev pub are_all_sound : List TypedPattern → Bool
 are_all_sound ps = list_all (λ (p : TypedPattern). p.sound) ps
@@ -49,6 +53,7 @@ pub record AreMeant (f : Facts) (ps : List TypedPattern) (ls : List ResolvedLine
   pub patterns : are_all_sound ps ≡ true → patterns_meant f ps ls ≡ map (λ (p : TypedPattern). pattern_of p.own p.pattern) ps
   pub nodes : nodes_of_lines f ls + nodes_of_patterns ps ≤ most_nodes
   pub levels : list_all (λ l. are_flat (put_trees f l)) ls ≡ true
+  pub pattern_levels : list_all (λ (p : TypedPattern). are_flat_lines p.pattern.lines) ps ≡ true
   pub hidden : all_hidden (alone (triggers_meant f ps ls) (lines_meant f ps ls)) ≤ most_hidden
   pub lines_right : HaveNoFault f ls
   pub patterns_right : PatternsHaveNoFault ps

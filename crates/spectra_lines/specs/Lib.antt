@@ -2,6 +2,7 @@ pub mod Contents
 pub mod Limits
 pub mod Lines
 pub mod Parts
+pub mod SoundParts
 pub mod Meanings
 pub mod Said
 pub mod Views

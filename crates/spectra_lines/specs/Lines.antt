@@ -1,5 +1,5 @@
 -- The faults of a line.
-use Rattle.spectra_trees.specs.declared.faults.TheConstants.{TOO_LARGE}
+use Rattle.spectra_trees.specs.Faults.{TooLarge, number_of}
 use Rattle.std.specs.Prelude.{ℕ, ◌&&◌, if◌then◌else◌, List, [], ◌++◌, flat_map, Option}
 use Rattle.spectra_resolved.specs.declared.stand.Stand.{Stand}
 use Rattle.spectra_resolved.specs.declared.findings.Finding.{Finding}
@@ -60,4 +60,4 @@ abbrev pub line_faults : Facts → Option ℕ → ResolvedLine → List Finding
 line_faults f room l =
     as_written f l
     ++ (own_faults l.body
-    ++ (fault_if (is_too_large room (put_trees f l)) TOO_LARGE l.at ++ (if is_small room (put_trees f l) then put_faults f l else [])))
+    ++ (fault_if (is_too_large room (put_trees f l)) (number_of TooLarge) l.at ++ (if is_small room (put_trees f l) then put_faults f l else [])))

@@ -1,6 +1,6 @@
 -- The lines of a text and its patterns, in text order, and what they are found to be.
-use Rattle.spectra_trees.specs.declared.faults.TheConstants.{TOO_LARGE}
-use Rattle.std.specs.Prelude.{◌≡◌, ℕ, Bool, true, ◌&&◌, if◌then◌else◌, List, [], ◌∷◌, ◌++◌, map, take, drop, Option, option_to_list}
+use Rattle.spectra_trees.specs.Faults.{TooLarge, number_of}
+use Rattle.std.specs.Prelude.{ℕ, Bool, ◌&&◌, if◌then◌else◌, List, [], ◌∷◌, ◌++◌, map, take, drop, Option, option_to_list}
 use Rattle.std.specs.List.{prefix_len}
 use Rattle.spec_model.specs.Syntax.{PatternData}
 use Rattle.spectra_resolved.specs.declared.spot.Spot.{Spot}
@@ -9,7 +9,7 @@ use Rattle.spectra_resolved.specs.Texts.{ResolvedPatternLine, ResolvedPattern, R
 use Rattle.spectra_judge.specs.Findings.{fault_if}
 use Rattle.spectra_judge.specs.Kinds.{Kind}
 use Rattle.spectra_judge.specs.Around.{comes_before}
-use Rattle.spectra_patterns.specs.Patterns.{line_at, line_tree, lines_faults, is_empty, pattern_faults, meant, IsSound}
+use Rattle.spectra_patterns.specs.Patterns.{line_at, line_tree, is_empty, pattern_faults, meant}
 use Rattle.spectra_lines.specs.Contents.{Facts, line_put}
 use Rattle.spectra_lines.specs.Limits.{nodes_of, room_behind, is_small, is_too_large}
 use Rattle.spectra_lines.specs.Lines.{put_trees, line_faults}
@@ -21,14 +21,6 @@ pub record TypedPattern : Type 0 where
   pub sound : Bool
   pub own : List Kind
   pub pattern : ResolvedPattern
-
--- what is said to be sound is so, where its lines have no fault
-abbrev pub IsSoundTyped : TypedPattern → Type 0
-IsSoundTyped p = p.sound ≡ true → lines_faults p.own p.pattern ≡ [] → IsSound p.own p.pattern
-
-abbrev pub AreSound : List TypedPattern → Type 0
-AreSound [] = Unit {0}
-AreSound (p ∷ ps) = IsSoundTyped p × AreSound ps
 
 -- what has nodes in a text
 pub data TextPart : Type 0 where
@@ -50,7 +42,7 @@ abbrev pub line_room : Option ℕ → ResolvedPatternLine → Option ℕ
 line_room room l = room_behind room (nodes_of (line_tree l ∷ []))
 
 abbrev pub large_line : Option ℕ → ResolvedPatternLine → List Finding
-large_line room l = fault_if (is_too_large room (line_tree l ∷ [])) TOO_LARGE (line_at l)
+large_line room l = fault_if (is_too_large room (line_tree l ∷ [])) (number_of TooLarge) (line_at l)
 
 abbrev pub large_lines : Option ℕ → List ResolvedPatternLine → List Finding
 large_lines room [] = []

@@ -4,7 +4,8 @@ use Rattle.spec_model.specs.Views.{pattern_data as model_pattern}
 use Rattle.spectra_resolved.specs.TextViews.{line_data}
 use Rattle.spectra_lines.specs.declared.reading.Read.{Read}
 use Rattle.spectra_lines.specs.Contents.{Facts}
-use Rattle.spectra_lines.specs.Parts.{TextPart, LinePart, PatternPart, IsSoundTyped, part_room, part_lines, part_patterns}
+use Rattle.spectra_lines.specs.Parts.{TextPart, LinePart, PatternPart, part_room, part_lines, part_patterns}
+use Rattle.spectra_lines.specs.SoundParts.{IsSoundTyped}
 
 -- what a part gives stands behind what was read, and it takes the room that it needs
 pub record ReadsPart (f : Facts) (p : TextPart) (old new : Read) : Type 0 where

@@ -5,8 +5,7 @@ use Rattle.spectra_resolved.specs.declared.tree.Resolved.{Resolved}
 use Rattle.spectra_resolved.specs.Resolved.{ResolvedTree}
 use Rattle.spectra_resolved.specs.Views.{resolved_data}
 use Rattle.spectra_resolved.specs.TextViews.{pattern_data, line_data}
-use Rattle.spectra_judge.specs.KindViews.{kind_data}
-use Rattle.spectra_judge.specs.Known.{known_data}
+use Rattle.spectra_judge.specs.KindViews.{kind_data, known_data}
 use Rattle.spectra_elaboration.specs.PuttingViews.{bodies_data}
 use Rattle.spectra_lines.specs.declared.facts.Facts as code
 use Rattle.spectra_lines.specs.declared.order.Typed.{Typed}

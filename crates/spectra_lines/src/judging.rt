@@ -1,11 +1,12 @@
 //! The faults of expressions, and of triggers as wholes.
 
 ghost use Rattle.std.specs.Prelude.{◌≡◌, map, flat_map, IfOk, OnOk};
-ghost use Rattle.spectra_resolved.specs.Findings.{found_in, with_faults, first_of_faults};
+ghost use Rattle.spectra_resolved.specs.Findings.{with_faults, first_of_faults};
+ghost use Rattle.spectra_resolved.specs.Reports.{found_in};
 ghost use Rattle.spectra_resolved.specs.Views.{regex_data};
 ghost use Rattle.spectra_resolved.specs.TextViews.{body_data};
-ghost use Rattle.spectra_judge.specs.Around.{AreRising};
-ghost use Rattle.spectra_judge.specs.Known.{known_data};
+ghost use Rattle.spectra_judge.specs.Rising.{AreRising};
+ghost use Rattle.spectra_judge.specs.KindViews.{known_data};
 ghost use Rattle.spectra_brought.specs.Names.{names_in};
 ghost use Rattle.spectra_brought.specs.Orders.{AreInOrder};
 ghost use Rattle.spectra_patterns.specs.Triggers.{is_right as is_right_lem};

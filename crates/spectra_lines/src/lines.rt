@@ -1,10 +1,11 @@
 //! The faults of a line, and the line with everything put in.
 
 ghost use Rattle.std.specs.Prelude.{◌≡◌, ◌&&◌, ◌++◌, [], is_none, if◌then◌else◌, option_map, Some, None, IfOk, OnOk};
-ghost use Rattle.spectra_resolved.specs.Findings.{found_in, with_faults, first_of_faults};
+ghost use Rattle.spectra_resolved.specs.Findings.{with_faults, first_of_faults};
+ghost use Rattle.spectra_resolved.specs.Reports.{found_in};
 ghost use Rattle.spectra_resolved.specs.TextViews.{body_data, line_data};
-ghost use Rattle.spectra_judge.specs.Around.{AreRising};
-ghost use Rattle.spectra_judge.specs.Known.{known_data};
+ghost use Rattle.spectra_judge.specs.Rising.{AreRising};
+ghost use Rattle.spectra_judge.specs.KindViews.{known_data};
 ghost use Rattle.spectra_patterns.specs.Patterns.{is_empty};
 ghost use Rattle.spectra_lines.specs.Contents.{trees_in, line_put};
 ghost use Rattle.spectra_lines.specs.Limits.{nodes_of, room_behind, is_small};

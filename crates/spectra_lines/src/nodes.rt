@@ -1,9 +1,10 @@
 //! The room that is left behind the nodes of expressions.
 
 ghost use Rattle.std.specs.Prelude.{◌≡◌, ◌+◌, map};
-ghost use Rattle.spectra_resolved.specs.Resolved.{chained, trees};
+ghost use Rattle.spectra_resolved.specs.Chained.{chained, trees};
 ghost use Rattle.spectra_resolved.specs.Views.{resolved_data, link_data, form_data};
-ghost use Rattle.spectra_elaboration.specs.Nodes.{tree_nodes, form_nodes, each_nodes, link_nodes};
+ghost use Rattle.spectra_elaboration.specs.Nodes.{tree_nodes, form_nodes, each_nodes};
+ghost use Rattle.spectra_elaboration.specs.Links.{link_nodes};
 ghost use Rattle.spectra_lines.specs.Limits.{room_behind};
 
 use spectra_resolved::tree::{Link, Resolved, Shape};

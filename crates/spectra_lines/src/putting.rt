@@ -1,12 +1,12 @@
 //! Lines in which everything is put in, within the room that is left for their nodes.
 
 ghost use Rattle.std.specs.Prelude.{◌≡◌, ◌+◌, ◌<◌, ◌++◌, map, option_map, Some, None, if◌then◌else◌, IfOk, OnOk, IsErrOf};
-ghost use Rattle.spectra_resolved.specs.Resolved.{regexes, repeated as repeated_lem};
+ghost use Rattle.spectra_resolved.specs.Chained.{regexes, repeated as repeated_lem};
 ghost use Rattle.spectra_resolved.specs.Views.{resolved_data, regex_data};
 ghost use Rattle.spectra_resolved.specs.TextViews.{body_data, line_data};
-ghost use Rattle.spectra_judge.specs.Around.{AreRising};
+ghost use Rattle.spectra_judge.specs.Rising.{AreRising};
 ghost use Rattle.spectra_elaboration.specs.Nodes.{tree_nodes};
-ghost use Rattle.spectra_elaboration.specs.declared.halt.Halt.TheVariants.{Large};
+ghost use Rattle.spectra_elaboration.specs.declared.refusal.Refusal.TheVariants.{Large};
 ghost use Rattle.spectra_lines.specs.Contents.{brackets_in, brackets_of_each, trees_in, tree_put, regex_put, each_regex_put, body_put, line_put};
 ghost use Rattle.spectra_lines.specs.Limits.{nodes_of, room_behind, is_small, are_flat as are_flat_lem};
 ghost use Rattle.spectra_lines.specs.Lines.{put_trees};
@@ -15,8 +15,8 @@ ghost use Rattle.spectra_lines.specs.Views.{facts_data};
 use crate::facts::Facts;
 use crate::nodes::behind;
 use crate::trees::{are_flat, initial_stand, is_assumption, safety_stand, trees_of};
-use spectra_elaboration::halt::Halt;
 use spectra_elaboration::putting::put_in;
+use spectra_elaboration::refusal::Refusal;
 use spectra_holes::holing::holed;
 use spectra_resolved::stand::Stand;
 use spectra_resolved::text::{Body, Line};
@@ -30,7 +30,7 @@ fn put_tree(
     room: &mut usize,
     stand: Stand,
     t: &Resolved,
-) -> Result<Resolved, Halt>
+) -> Result<Resolved, Refusal>
     requires rising { AreRising facts.now.known.brought.now }
     ensures made { IfOk result (λ made. resolved_data made ≡ tree_put (facts_data facts.now) stand (resolved_data t.now)) }
     ensures room { OnOk result (room.new + tree_nodes (tree_put (facts_data facts.now) stand (resolved_data t.now)) ≡ room.old) }
@@ -43,9 +43,9 @@ fn put_tree(
                 *room = left;
                 Ok(made)
             }
-            None => Err(Halt::Large),
+            None => Err(Refusal::Large),
         },
-        None => Err(Halt::Large),
+        None => Err(Refusal::Large),
     }
 }
 
@@ -79,7 +79,7 @@ fn put_regex(
     facts: &Facts<'_, '_>,
     room: &mut usize,
     r: &Regex,
-) -> Result<Regex, Halt>
+) -> Result<Regex, Refusal>
     requires rising { AreRising facts.now.known.brought.now }
     ensures made { IfOk result (λ made. regex_data made ≡ regex_put (facts_data facts.now) (regex_data r.now)) }
     ensures room { OnOk result (room.new + nodes_of (brackets_in (regex_put (facts_data facts.now) (regex_data r.now))) ≡ room.old) }
@@ -106,7 +106,7 @@ fn put_regexes(
     facts: &Facts<'_, '_>,
     room: &mut usize,
     rs: &[Regex],
-) -> Result<Vec<Regex>, Halt>
+) -> Result<Vec<Regex>, Refusal>
     requires rising { AreRising facts.now.known.brought.now }
     ensures made { IfOk result (λ made. regexes (map regex_data made.items) ≡ each_regex_put (facts_data facts.now) (regexes (map regex_data rs.now))) }
     ensures room { OnOk result (room.new + nodes_of (brackets_of_each (each_regex_put (facts_data facts.now) (regexes (map regex_data rs.now)))) ≡ room.old) }
@@ -127,7 +127,7 @@ fn put_arguments(
     facts: &Facts<'_, '_>,
     room: &mut usize,
     ts: &[Resolved],
-) -> Result<Vec<Resolved>, Halt>
+) -> Result<Vec<Resolved>, Refusal>
     requires rising { AreRising facts.now.known.brought.now }
     ensures made { IfOk result (λ made. map resolved_data made.items ≡ map (tree_put (facts_data facts.now) Stand.Argument) (map resolved_data ts.now)) }
     ensures room { OnOk result (room.new + nodes_of (map (tree_put (facts_data facts.now) Stand.Argument) (map resolved_data ts.now)) ≡ room.old) }
@@ -148,7 +148,7 @@ fn put_body(
     room: &mut usize,
     asm: bool,
     body: &Body,
-) -> Result<Body, Halt>
+) -> Result<Body, Refusal>
     requires rising { AreRising facts.now.known.brought.now }
     ensures made { IfOk result (λ made. body_data made ≡ body_put (facts_data facts.now) asm (body_data body.now)) }
     ensures room { OnOk result (room.new + nodes_of (trees_in (body_put (facts_data facts.now) asm (body_data body.now))) ≡ room.old) }
@@ -218,10 +218,10 @@ pub fn put_line<'t>(
             };
             if flat { Ok(Some(made)) } else { Ok(None) }
         }
-        Err(Halt::Large) => {
+        Err(Refusal::Large) => {
             *room = None;
             Ok(None)
         }
-        Err(Halt::Memory) => Err(AllocError),
+        Err(Refusal::Memory) => Err(AllocError),
     }
 }

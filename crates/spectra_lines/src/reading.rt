@@ -2,14 +2,16 @@
 
 ghost use Rattle.std.specs.Prelude.{◌≡◌, ◌++◌, map, option_map, option_to_list, OnOk, IfOk};
 ghost use Rattle.spec_model.specs.Views.{pattern_data as model_pattern};
-ghost use Rattle.spectra_resolved.specs.Findings.{found_in, with_faults, first_of_faults};
+ghost use Rattle.spectra_resolved.specs.Findings.{with_faults, first_of_faults};
+ghost use Rattle.spectra_resolved.specs.Reports.{found_in};
 ghost use Rattle.spectra_resolved.specs.Views.{resolved_data};
 ghost use Rattle.spectra_resolved.specs.TextViews.{pattern_line_data, line_data};
-ghost use Rattle.spectra_judge.specs.Around.{AreRising};
+ghost use Rattle.spectra_judge.specs.Rising.{AreRising};
 ghost use Rattle.spectra_patterns.specs.Patterns.{line_at, line_tree, pattern_faults};
 ghost use Rattle.spectra_lines.specs.Contents.{Facts as FactsData};
 ghost use Rattle.spectra_lines.specs.Lines.{line_faults};
-ghost use Rattle.spectra_lines.specs.Parts.{LinePart, PatternPart, IsSoundTyped, line_room, large_line, large_lines, room_behind_lines, is_whole, part_faults, parts_faults, parts_lines, parts_patterns};
+ghost use Rattle.spectra_lines.specs.Parts.{LinePart, PatternPart, line_room, large_line, large_lines, room_behind_lines, is_whole, part_faults, parts_faults, parts_lines, parts_patterns};
+ghost use Rattle.spectra_lines.specs.SoundParts.{IsSoundTyped};
 ghost use Rattle.spectra_lines.specs.Said.{all_room};
 ghost use Rattle.spectra_lines.specs.Steps.{ReadsPart, IsSoundPart, ArePartsSound};
 ghost use Rattle.spectra_lines.specs.Views.{facts_data, typed_data, part_data};

@@ -2,11 +2,12 @@
 
 ghost use Rattle.std.specs.Prelude.{◌≡◌, map, IfOk, OnOk};
 ghost use Rattle.spec_model.specs.Views.{line_data as model_line, trigger_data, pattern_data as model_pattern};
-ghost use Rattle.spectra_resolved.specs.Findings.{found_in, with_faults};
+ghost use Rattle.spectra_resolved.specs.Findings.{with_faults};
+ghost use Rattle.spectra_resolved.specs.Reports.{found_in};
 ghost use Rattle.spectra_resolved.specs.TextViews.{line_data};
-ghost use Rattle.spectra_judge.specs.Around.{AreRising};
+ghost use Rattle.spectra_judge.specs.Rising.{AreRising};
 ghost use Rattle.spectra_lines.specs.Said.{lines_faults, lines_meant, triggers_meant, patterns_meant};
-ghost use Rattle.spectra_lines.specs.Parts.{AreSound};
+ghost use Rattle.spectra_lines.specs.SoundParts.{AreSound};
 ghost use Rattle.spectra_lines.specs.Views.{facts_data, typed_data};
 
 use crate::facts::Facts;

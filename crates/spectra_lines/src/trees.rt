@@ -2,7 +2,7 @@
 
 ghost use Rattle.std.specs.Prelude.{◌≡◌, ◌++◌, ◌∷◌, [], map, nat_le, IfOk, OnOk};
 ghost use Rattle.spec_model.specs.Moves.{is_assumption as is_assumption_lem};
-ghost use Rattle.spectra_resolved.specs.Resolved.{regexes};
+ghost use Rattle.spectra_resolved.specs.Chained.{regexes};
 ghost use Rattle.spectra_resolved.specs.Views.{resolved_data, regex_data};
 ghost use Rattle.spectra_resolved.specs.TextViews.{body_data};
 ghost use Rattle.spectra_lines.specs.Contents.{brackets_in, brackets_of_each, trees_in, initial_stand as initial_stand_lem, safety_stand as safety_stand_lem, stand_in as stand_in_lem};

@@ -7,7 +7,7 @@ use Rattle.std.proofs.lemmas.Bool.{false≢true, and_parts, and_from}
 use Rattle.std.proofs.lemmas.Bool.Decides.{nat_tests}
 use Rattle.std.proofs.lemmas.List.{get_or-map, length-map}
 use Rattle.std.proofs.lemmas.List.FromFn.{length-enumerate_from, get_or-enumerate_from}
-use Rattle.spectra_trees.specs.declared.faults.TheConstants.{CYCLE}
+use Rattle.spectra_trees.specs.Faults.{Cycle, number_of}
 use Rattle.spectra_resolved.specs.declared.spot.Spot.{Spot}
 use Rattle.spectra_resolved.specs.declared.stand.Stand.TheVariants as stand
 use Rattle.spectra_resolved.specs.Resolved.{ResolvedTree}
@@ -30,8 +30,8 @@ use Rattle.spectra_meant.proofs.Numbers.{bound_near}
 none_marked : (marks : List Bool) (places : List Spot) (k : ℕ) → length marks ≡ length places → cycle_faults marks places ≡ [] → k < length marks → get_or marks k false ≡ false
 none_marked [] places k same e below = absurd (omega (arith, below))
 none_marked (b ∷ marks) [] k same e below = absurd (omega (arith, same))
-none_marked (b ∷ marks) (at ∷ places) zero same e below = no_fault b CYCLE at (empty_parts (fault_if b CYCLE at) (cycle_faults marks places) e).0
-none_marked (b ∷ marks) (at ∷ places) (suc k) same e below = none_marked marks places k (omega (arith, same)) (empty_parts (fault_if b CYCLE at) (cycle_faults marks places) e).1 (omega (arith, below))
+none_marked (b ∷ marks) (at ∷ places) zero same e below = no_fault b (number_of Cycle) at (empty_parts (fault_if b (number_of Cycle) at) (cycle_faults marks places) e).0
+none_marked (b ∷ marks) (at ∷ places) (suc k) same e below = none_marked marks places k (omega (arith, same)) (empty_parts (fault_if b (number_of Cycle) at) (cycle_faults marks places) e).1 (omega (arith, below))
 
 mark_is : (uses : List (List ℕ)) (k : ℕ) → k < length uses → get_or (on_cycles uses) k false ≡ is_on_cycle uses k
 mark_is uses k below =

@@ -1,3 +1,4 @@
 pub mod TypeKinds
 pub mod Notes
+pub mod Bodies
 pub mod NoteViews

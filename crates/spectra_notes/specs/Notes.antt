@@ -1,5 +1,5 @@
 -- Which definitions have a meaning, and the kinds of defines.
-use Rattle.std.specs.Prelude.{ℕ, Bool, true, false, ◌||◌, if◌then◌else◌, List, [], map, get_or, replicate}
+use Rattle.std.specs.Prelude.{Bool, true, false, ◌||◌, if◌then◌else◌, List, [], map, replicate}
 use Rattle.spectra_resolved.specs.declared.stand.Stand.{Stand}
 use Rattle.spectra_resolved.specs.declared.stand.Stand.TheVariants as stand
 use Rattle.spectra_resolved.specs.declared.text.DefinitionWord.{DefinitionWord}
@@ -68,10 +68,6 @@ noted text =
 -- what is known of the names in a line
 abbrev pub known_in_line : Noted → Known
 known_in_line n = known_by n.kinds n.defines [] []
-
--- what is known of the names in the body of a definition, by its number
-abbrev pub known_in_body : Noted → ℕ → Known
-known_in_body n k = known_by n.kinds n.defines (get_or n.kinds.predicates k []) []
 
 -- what is known of the names in a pattern, whose parameters are truth values
 abbrev pub known_in_pattern : ResolvedText → ResolvedPattern → Known

@@ -6,12 +6,13 @@ ghost use Rattle.spectra_resolved.specs.Texts.{ResolvedDefinition};
 ghost use Rattle.spectra_uses.specs.Cycles.{AreOnCycle};
 ghost use Rattle.spectra_uses.specs.Orders.{IsOrderOf};
 ghost use Rattle.spectra_resolved.specs.TextViews.{definition_data, text_data};
-ghost use Rattle.spectra_judge.specs.Around.{AreRising, nothing_brought};
-ghost use Rattle.spectra_judge.specs.KindViews.{kind_data};
-ghost use Rattle.spectra_judge.specs.Known.{known_data};
+ghost use Rattle.spectra_judge.specs.Around.{nothing_brought};
+ghost use Rattle.spectra_judge.specs.Rising.{AreRising};
+ghost use Rattle.spectra_judge.specs.KindViews.{kind_data, known_data};
 ghost use Rattle.spectra_uses.specs.Uses.{all_uses};
 ghost use Rattle.spectra_notes.specs.TypeKinds.{type_kinds as type_kinds_lem, known_by as known_by_lem};
-ghost use Rattle.spectra_notes.specs.Notes.{stand_of as stand_of_lem, no_meaning as no_meaning_lem, note_of as note_of_lem, known_inside, noted, known_in_line as known_in_line_lem, known_in_body as known_in_body_lem};
+ghost use Rattle.spectra_notes.specs.Notes.{stand_of as stand_of_lem, no_meaning as no_meaning_lem, note_of as note_of_lem, known_inside, noted, known_in_line as known_in_line_lem};
+ghost use Rattle.spectra_notes.specs.Bodies.{known_in_body as known_in_body_lem};
 ghost use Rattle.spectra_notes.specs.NoteViews.{type_kinds_data, note_data, notes_data};
 
 use crate::kinds::{TypeKinds, type_kinds};

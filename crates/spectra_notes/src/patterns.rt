@@ -2,10 +2,9 @@
 
 ghost use Rattle.std.specs.Prelude.{◌≡◌, map, replicate, IfOk};
 ghost use Rattle.spectra_resolved.specs.TextViews.{pattern_data, text_data};
-ghost use Rattle.spectra_judge.specs.Around.{AreRising};
+ghost use Rattle.spectra_judge.specs.Rising.{AreRising};
 ghost use Rattle.spectra_judge.specs.Kinds.{Truth};
-ghost use Rattle.spectra_judge.specs.KindViews.{kind_data};
-ghost use Rattle.spectra_judge.specs.Known.{known_data};
+ghost use Rattle.spectra_judge.specs.KindViews.{kind_data, known_data};
 ghost use Rattle.spectra_notes.specs.TypeKinds.{kind_in, known_by as known_by_lem};
 ghost use Rattle.spectra_notes.specs.Notes.{noted};
 ghost use Rattle.spectra_notes.specs.NoteViews.{notes_data};

@@ -8,7 +8,8 @@ use Rattle.spectra_exprs.proofs.Opening.{Begun, IsNext, IsLast, IsOperator, Open
 use Rattle.spectra_exprs.proofs.Examples.{a_Finish}
 use Rattle.spectra_parser.specs.Items.{text_of}
 use Rattle.spectra_parser.specs.ItemGrammar.{TextIn}
-use Rattle.spectra_parser.specs.Texts.{IsWholeFrom, BeginText, IsBehindPhrase}
+use Rattle.spectra_parser.specs.Texts.{BeginText, IsBehindPhrase}
+use Rattle.spectra_parser.specs.Wholes.{IsWholeFrom}
 use Rattle.spectra_parser.proofs.OpeningItems.{wide}
 use Rattle.spectra_parser.proofs.OpeningTexts.{full_text}
 use Rattle.spectra_parser.proofs.Places.{Numbered, whole_numbered, number_at}

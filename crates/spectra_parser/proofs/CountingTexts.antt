@@ -23,7 +23,8 @@ use Rattle.spectra_regexes.specs.Regexes.{inside_regex}
 use Rattle.spectra_regexes.proofs.CountingRegexes.{counts_inside_regex, counts_regex}
 use Rattle.spectra_parser.specs.Items.{body_formula, trigger, use_behind, pattern_use, body_of, Said, labelled, unlabelled, named, said, line, declaration, item_of, item_after, before_end, semicolon, imported, import_after, text_of}
 use Rattle.spectra_parser.specs.ItemGrammar.{Owner, RoleOf}
-use Rattle.spectra_parser.specs.Texts.{HasTree, IsWholeFrom, IsShallow}
+use Rattle.spectra_parser.specs.Texts.{HasTree, IsShallow}
+use Rattle.spectra_parser.specs.Wholes.{IsWholeFrom}
 use Rattle.spectra_parser.proofs.SoundItems.{n}
 use Rattle.spectra_parser.proofs.SoundTexts.{body_at, trigger_at, body_same, owner_at, role_at, owner_looks, role_looks, declaration_same, item_same}
 use Rattle.spectra_parser.proofs.WholeTexts.{owner_table, role_table, in_owners, in_roles}

@@ -19,7 +19,8 @@ use Rattle.spectra_exprs.proofs.ShapesOfExpressions.{formed_expr, formed_sum, fo
 use Rattle.spectra_exprs.proofs.Examples.{a_True}
 use Rattle.spectra_exprs.proofs.Comparing.{Fresh, fresh_behind, Pair, said, instead, Compared}
 use Rattle.spectra_parser.specs.Items.{text_of}
-use Rattle.spectra_parser.specs.Texts.{IsWholeFrom, IsBehindPhrase}
+use Rattle.spectra_parser.specs.Texts.{IsBehindPhrase}
+use Rattle.spectra_parser.specs.Wholes.{IsWholeFrom}
 use Rattle.spectra_parser.proofs.WholeText.{text_reaches}
 use Rattle.spectra_parser.proofs.StoppingTexts.{to_first_end}
 use Rattle.spectra_parser.proofs.Places.{Numbered, whole_numbered, number_at, stopped, to_end_reaches, refuted, not_deep}

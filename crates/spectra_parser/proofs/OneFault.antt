@@ -5,7 +5,8 @@ use Rattle.spectra_exprs.specs.declared.fault.SyntaxFault.TheVariants as faults
 use Rattle.spectra_trees.specs.Data.{TreeData}
 use Rattle.spectra_trees.specs.Lexemes.{Lexeme}
 use Rattle.spectra_parser.specs.ItemGrammar.{Text}
-use Rattle.spectra_parser.specs.Texts.{HasTree, BeginText, BeginNoText, IsRefused, OpensLevelTooMany, IsBehindPhrase, Explains, AreOne}
+use Rattle.spectra_parser.specs.Texts.{HasTree, BeginText, BeginNoText, IsRefused, OpensLevelTooMany, IsBehindPhrase, Explains}
+use Rattle.spectra_parser.specs.Wholes.{AreOne}
 use Rattle.spectra_parser.proofs.CountingTexts.{tree_shallow}
 
 -- ---- places

@@ -17,7 +17,8 @@ use Rattle.spectra_exprs.proofs.Completeness.{Reaches}
 use Rattle.spectra_exprs.proofs.WholeExpressions.{keys}
 use Rattle.spectra_parser.proofs.WholeTexts.{owner_table, role_table, finds_owner, finds_role}
 use Rattle.spectra_parser.specs.Items.{item_after, at_end, before_end, import_after, text_of}
-use Rattle.spectra_parser.specs.Texts.{IsWholeFrom, BeginNoText}
+use Rattle.spectra_parser.specs.Texts.{BeginNoText}
+use Rattle.spectra_parser.specs.Wholes.{IsWholeFrom}
 use Rattle.spectra_parser.proofs.WholeText.{text_reaches}
 use Rattle.spectra_parser.proofs.StoppingTexts.{stable_item_after, uses_item_after, stable_import_after, uses_import_after, goes_on, to_first_end, stable_to_first_end}
 

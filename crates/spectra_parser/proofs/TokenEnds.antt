@@ -14,7 +14,7 @@ use Rattle.spectra_trees.specs.declared.class.Class.{Class}
 use Rattle.spectra_trees.specs.declared.class.Class.TheVariants as classes
 use Rattle.spectra_trees.specs.Classes.{words, signs, class_in, word_class, sign_class, class_of, same_class, place_of}
 use Rattle.spectra_trees.specs.Lexemes.{Lexeme, lexeme, lexemes_from, lexemes}
-use Rattle.spectra_parser.specs.Texts.{IsWholeFrom}
+use Rattle.spectra_parser.specs.Wholes.{IsWholeFrom}
 
 -- ---- no word and no sign ends a text
 

@@ -1,5 +1,5 @@
 -- The grammar of items and texts: one relation for each production.
-use Rattle.std.specs.Prelude.{ℕ, ◌≡◌, ◌⊎◌, true, List, [], ◌∷◌, ◌++◌, Some, None}
+use Rattle.std.specs.Prelude.{ℕ, ◌≡◌, ◌⊎◌, true, List, [], ◌∷◌, ◌++◌, Some, None, nat_eq, reverse, Option, if◌then◌else◌}
 use Rattle.spec_model.specs.declared.spec.Role.{Role}
 use Rattle.spectra_trees.specs.declared.class.Class.TheVariants as classes
 use Rattle.spectra_trees.specs.declared.tree.Place.{Place}
@@ -7,10 +7,43 @@ use Rattle.spectra_trees.specs.declared.tree.OwnerWord.{OwnerWord}
 use Rattle.spectra_trees.specs.Classes.{same_class}
 use Rattle.spectra_trees.specs.Data.{NameData, Expression, TypeData, TypeShape, PartData, PartShape, BodyData, ItemData, TreeData}
 use Rattle.spectra_trees.specs.Lexemes.{Lexeme, name_of}
-use Rattle.spectra_parser.specs.Items.{owner_word, role_word, imported, Said}
 use Rattle.spectra_exprs.specs.Forms.{Grammar, Gives, Token, ◌▸◌, ◌∣◌, Steps}
 use Rattle.spectra_exprs.specs.Grammar.{ExprOf, Sum, Arguments, Levels}
 use Rattle.spectra_regexes.specs.RegexGrammar.{RegexOf, RegexLevels}
+use Rattle.spec_model.specs.declared.spec.Role.TheVariants.{Assumption, Guarantee}
+use Rattle.spectra_trees.specs.declared.class.Class.{Class}
+use Rattle.spectra_trees.specs.declared.tree.OwnerWord.TheVariants as owners
+
+-- ---- lines
+
+-- a line's name, where it has one, and its body
+abbrev pub Said : Type 0
+Said = Option NameData × BodyData
+
+-- ---- items
+
+unfoldable pub owner_word : Class → Option OwnerWord
+owner_word c =
+    if same_class c classes.Env then Some owners.Env else if same_class c classes.Sys then Some owners.Sys else if same_class c classes.Aux then Some owners.Aux else None
+
+-- ASM and GAR
+unfoldable pub role_word : Class → Option Role
+role_word c = if same_class c classes.Asm then Some Assumption else if same_class c classes.Gar then Some Guarantee else None
+
+-- ---- texts
+
+-- a text without a quote at its front
+unfoldable pub without_quote : List ℕ → List ℕ
+without_quote [] = []
+without_quote (c ∷ cs) = if nat_eq c 34 then cs else c ∷ cs
+
+-- a quoted text without its quotes: without one at its front, and without one at its end
+unfoldable pub unquoted : List ℕ → List ℕ
+unquoted text = reverse (without_quote (reverse (without_quote text)))
+
+-- the place of the word and the text of the name
+abbrev pub imported : Lexeme → Lexeme → NameData
+imported word t = record { text = unquoted t.text; line = word.at.line; column = word.at.column }
 
 -- ---- names and types, with so many levels that an expression may open
 

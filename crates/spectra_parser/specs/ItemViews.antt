@@ -6,7 +6,7 @@ use Rattle.spectra_trees.specs.declared.tree.TypeTree.{TypeTree}
 use Rattle.spectra_parser.specs.declared.lines.Said.{Said as SaidTree}
 use Rattle.spectra_trees.specs.Data.{NameData, Expression, TypeData}
 use Rattle.spectra_trees.specs.Views.{name_data, expr_data, type_data, body_data}
-use Rattle.spectra_parser.specs.Items.{Said}
+use Rattle.spectra_parser.specs.ItemGrammar.{Said}
 
 abbrev pub body_pair : Name × ExprTree → NameData × Expression
 body_pair b = (name_data b.0, expr_data b.1)

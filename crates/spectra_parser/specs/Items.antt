@@ -1,20 +1,20 @@
 -- Reading items and whole texts.
-use Rattle.std.specs.Prelude.{ℕ, ◌||◌, nat_eq, not, Bool, false, List, [], ◌∷◌, ◌++◌, reverse, Option, Some, None, Ok, Err, if◌then◌else◌}
+use Rattle.std.specs.Prelude.{◌||◌, not, Bool, false, List, [], ◌∷◌, ◌++◌, Some, None, Ok, Err, if◌then◌else◌}
 use Rattle.std.specs.Option.{option_map_or}
 use Rattle.spec_model.specs.declared.spec.Role.{Role}
-use Rattle.spec_model.specs.declared.spec.Role.TheVariants.{Assumption, Guarantee}
 use Rattle.spectra_exprs.specs.declared.fault.SyntaxFault.TheVariants as faults
-use Rattle.spectra_trees.specs.declared.class.Class.{Class}
 use Rattle.spectra_trees.specs.declared.class.Class.TheVariants as classes
 use Rattle.spectra_trees.specs.declared.tree.Place.{Place}
 use Rattle.spectra_trees.specs.declared.tree.OwnerWord.{OwnerWord}
-use Rattle.spectra_trees.specs.declared.tree.OwnerWord.TheVariants as owners
 use Rattle.spectra_trees.specs.Classes.{same_class}
 use Rattle.spectra_trees.specs.Data.{NameData, Expression, TypeData, TypeShape, PartData, PartShape, BodyData, ItemData, TreeData}
 use Rattle.spectra_trees.specs.Lexemes.{Lexeme, name_of}
 use Rattle.spectra_exprs.specs.Read.{Reader, ◌>>=◌, unexpected, starts, expect, all_of}
-use Rattle.spectra_exprs.specs.Expressions.{inside, whole_of, bound_of, arguments_of, levels_of_a_text}
+use Rattle.spectra_exprs.specs.Expressions.{inside, whole_of, bound_of, arguments_of}
+use Rattle.spectra_exprs.specs.Forms.{levels_of_a_text}
 use Rattle.spectra_regexes.specs.Regexes.{inside_regex, regex_of}
+pub use Rattle.spectra_parser.specs.ItemGrammar.{Said, imported}
+unfoldable pub use Rattle.spectra_parser.specs.ItemGrammar.{owner_word, role_word, without_quote, unquoted}
 
 -- an expr with all levels open to it
 abbrev pub formula : Reader Expression
@@ -194,10 +194,6 @@ body_of (t ∷ ts) =
     else if same_class t.class classes.Trig then trigger t.at ts
     else pattern_use (t ∷ ts)
 
--- a line's name, where it has one, and its body
-abbrev pub Said : Type 0
-Said = Option NameData × BodyData
-
 -- ":" body behind NAME
 unfoldable pub labelled : Lexeme → Reader Said
 labelled n ts = expect classes.Colon ts >>= λ c rest. body_of rest >>= λ b rest. Ok ((Some (name_of n), b), rest)
@@ -219,14 +215,6 @@ line at role ts =
     said ts >>= λ b rest. expect classes.Semicolon rest >>= λ s rest. Ok (ItemData.Statement (record { at = at; role = role; name = b.0; body = b.1 }), rest)
 
 -- ---- items
-
-unfoldable pub owner_word : Class → Option OwnerWord
-owner_word c =
-    if same_class c classes.Env then Some owners.Env else if same_class c classes.Sys then Some owners.Sys else if same_class c classes.Aux then Some owners.Aux else None
-
--- ASM and GAR
-unfoldable pub role_word : Class → Option Role
-role_word c = if same_class c classes.Asm then Some Assumption else if same_class c classes.Gar then Some Guarantee else None
 
 -- typedecl | define | predicate | pattern | monitor
 unfoldable pub declaration : Reader ItemData
@@ -258,22 +246,9 @@ at_end (t ∷ u ∷ ts) = false
 unfoldable pub before_end : List Lexeme → Bool
 before_end ts = not (at_end ts)
 
--- a text without a quote at its front
-unfoldable pub without_quote : List ℕ → List ℕ
-without_quote [] = []
-without_quote (c ∷ cs) = if nat_eq c 34 then cs else c ∷ cs
-
--- a quoted text without its quotes: without one at its front, and without one at its end
-unfoldable pub unquoted : List ℕ → List ℕ
-unquoted text = reverse (without_quote (reverse (without_quote text)))
-
 -- [ ";" ]
 unfoldable pub semicolon : {A : Type 0} → A → Reader A
 semicolon a ts = if starts classes.Semicolon ts then (expect classes.Semicolon ts >>= λ s rest. Ok (a, rest)) else Ok (a, ts)
-
--- the place of the word and the text of the name
-abbrev pub imported : Lexeme → Lexeme → NameData
-imported word t = record { text = unquoted t.text; line = word.at.line; column = word.at.column }
 
 -- import = "import" TEXT [ ";" ]
 unfoldable pub import_after : List NameData → Reader (List NameData)

@@ -1,13 +1,11 @@
 -- What a text's tree is, and what an answer of the program says.
-use Rattle.std.specs.Prelude.{ℕ, ◌≡◌, ◌+◌, ◌<◌, ◌≤◌, ◌⊎◌, true, false, List, [], ◌∷◌, ◌++◌, length, take}
+use Rattle.std.specs.Prelude.{ℕ, ◌≡◌, ◌+◌, ◌<◌, ◌≤◌, true, List, ◌∷◌, ◌++◌, length, take}
 use Rattle.spectra_lexer.specs.declared.token.Token.{Token}
 use Rattle.spectra_exprs.specs.declared.fault.SyntaxFault.{SyntaxFault}
 use Rattle.spectra_exprs.specs.declared.fault.SyntaxFault.TheVariants as faults
-use Rattle.spectra_trees.specs.declared.class.Class.TheVariants as classes
-use Rattle.spectra_trees.specs.Classes.{same_class}
 use Rattle.spectra_trees.specs.Data.{TreeData}
 use Rattle.spectra_trees.specs.Lexemes.{Lexeme, lexemes}
-use Rattle.spectra_exprs.specs.Expressions.{levels_of_a_text}
+use Rattle.spectra_exprs.specs.Forms.{levels_of_a_text}
 use Rattle.spectra_exprs.specs.Nesting.{open_levels}
 use Rattle.spectra_exprs.specs.Operators.{is_operator}
 use Rattle.spectra_exprs.specs.Phrases.{Phrase, ArePhrase}
@@ -21,12 +19,6 @@ HasTree ts tree = Text levels_of_a_text ts tree
 -- the tree of a text, by its tokens
 abbrev pub IsText : (text : List ℕ) → List Token → TreeData → Type 0
 IsText text tokens tree = HasTree (lexemes text tokens) tree
-
--- the tokens of a whole text, numbered from a number on: the last, and no other, is the end of the text
-abbrev pub IsWholeFrom : ℕ → List Lexeme → Type 0
-IsWholeFrom number [] = ⊥
-IsWholeFrom number (t ∷ []) = (t.number ≡ number) × (same_class t.class classes.Finish ≡ true)
-IsWholeFrom number (t ∷ u ∷ ts) = (t.number ≡ number) × (same_class t.class classes.Finish ≡ false) × IsWholeFrom (number + 1) (u ∷ ts)
 
 -- tokens that begin a text with at most so many levels: with some tokens behind them, each as the lexer gives it, they are one
 pub record BeginText (left : ℕ) (ts : List Lexeme) : Type 0 where
@@ -87,7 +79,3 @@ Explains ts (faults.Unexpected at) = IsRefused ts at × (IsBehindPhrase ts at �
 Explains ts (faults.TooDeep at) = IsTooDeep ts at
 Explains ts (faults.Parentheses at) = IsRefused ts at × IsBehindPhrase ts at
 Explains ts faults.Memory = Unit {0}
-
--- the same fault, unless memory ran out
-abbrev pub AreOne : SyntaxFault → SyntaxFault → Type 0
-AreOne first second = (first ≡ second) ⊎ (first ≡ faults.Memory) ⊎ (second ≡ faults.Memory)

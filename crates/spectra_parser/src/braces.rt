@@ -1,8 +1,7 @@
 //! Patterns and monitors: one function for each production.
 
 ghost use Rattle.std.specs.Prelude.{◌≡◌, ◌<◌, map};
-ghost use Rattle.spectra_trees.specs.Views.{item_data, name_data, part_data, part_shape};
-ghost use Rattle.spectra_trees.specs.Lexemes.{lexemes_of};
+ghost use Rattle.spectra_trees.specs.Views.{item_data, name_data, part_data, part_shape, lexemes_of};
 ghost use Rattle.spectra_exprs.specs.Read.{Gives, all_of};
 ghost use Rattle.spectra_parser.specs.Items.{mitem as mitem_lem, mitem_after as mitem_after_lem, mitems as mitems_lem, monitor as monitor_lem, name_parameters as name_parameters_lem, own as own_lem, part_line as part_line_lem, part_shape as part_shape_lem, pattern as pattern_lem, pitem as pitem_lem, pitem_after as pitem_after_lem, pitems as pitems_lem, inside_braces};
 

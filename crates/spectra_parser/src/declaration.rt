@@ -1,8 +1,7 @@
 //! Declarations of variables, types, defines and predicates: one function for each production.
 
 ghost use Rattle.std.specs.Prelude.{◌<◌, map};
-ghost use Rattle.spectra_trees.specs.Views.{item_data};
-ghost use Rattle.spectra_trees.specs.Lexemes.{lexemes_of};
+ghost use Rattle.spectra_trees.specs.Views.{item_data, lexemes_of};
 ghost use Rattle.spectra_exprs.specs.Read.{Gives, starts as starts_lem, all_of};
 ghost use Rattle.spectra_parser.specs.ItemViews.{body_pair, parameter_pair};
 ghost use Rattle.spectra_parser.specs.Items.{define as define_lem, definition as definition_lem, definition_after as definition_after_lem, parameter as parameter_lem, parameter_after as parameter_after_lem, parameters as parameters_lem, predicate as predicate_lem, some_parameters as some_parameters_lem, typedecl as typedecl_lem, vardecl as vardecl_lem};

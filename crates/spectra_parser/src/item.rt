@@ -1,8 +1,7 @@
 //! Items and whole texts: one function for each production.
 
 ghost use Rattle.std.specs.Prelude.{◌≡◌, ◌<◌, map, IfOk, IfErr};
-ghost use Rattle.spectra_trees.specs.Views.{item_data, name_data, tree_data};
-ghost use Rattle.spectra_trees.specs.Lexemes.{lexeme_of, lexemes_of};
+ghost use Rattle.spectra_trees.specs.Views.{item_data, name_data, tree_data, lexeme_of, lexemes_of};
 ghost use Rattle.spectra_exprs.specs.Read.{Gives, starts as starts_lem, all_of};
 ghost use Rattle.spectra_parser.specs.Items.{declaration as declaration_lem, import_after as import_after_lem, imported as imported_lem, item_after as item_after_lem, owner_word as owner_word_lem, role_word as role_word_lem, semicolon as semicolon_lem, before_end, item_of, text_of};
 
@@ -19,7 +18,7 @@ use spectra_trees::tree::{Item, Name, OwnerWord, Tree};
 use std::alloc::Global;
 
 /// "env" | "sys" | "aux"
-#[tactic(auto, unfolding(crate::specs::Items::owner_word))]
+#[tactic(auto, unfolding(crate::specs::ItemGrammar::owner_word))]
 fn owner_word(class: Class) -> Option<OwnerWord>
     ensures { result ≡ owner_word_lem class }
 {
@@ -35,7 +34,7 @@ fn owner_word(class: Class) -> Option<OwnerWord>
 }
 
 /// ASM and GAR.
-#[tactic(auto, unfolding(crate::specs::Items::role_word))]
+#[tactic(auto, unfolding(crate::specs::ItemGrammar::role_word))]
 fn role_word(class: Class) -> Option<Role>
     ensures { result ≡ role_word_lem class }
 {

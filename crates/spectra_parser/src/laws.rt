@@ -5,7 +5,8 @@ ghost use Rattle.spectra_trees.specs.Data.{TreeData};
 ghost use Rattle.spectra_trees.specs.Lexemes.{lexemes};
 ghost use Rattle.spectra_exprs.specs.declared.fault.SyntaxFault.{SyntaxFault as Fault};
 ghost use Rattle.spectra_exprs.specs.declared.fault.SyntaxFault.TheVariants.{TooDeep, Memory};
-ghost use Rattle.spectra_parser.specs.Texts.{IsText, OpensLevelTooMany, Explains, AreOne};
+ghost use Rattle.spectra_parser.specs.Texts.{IsText, OpensLevelTooMany, Explains};
+ghost use Rattle.spectra_parser.specs.Wholes.{AreOne};
 
 use spectra_lexer::Token;
 

@@ -1,8 +1,7 @@
 //! Assumptions and guarantees: one function for each production.
 
 ghost use Rattle.std.specs.Prelude.{◌<◌};
-ghost use Rattle.spectra_trees.specs.Views.{body_data, item_data};
-ghost use Rattle.spectra_trees.specs.Lexemes.{lexeme_of, lexemes_of};
+ghost use Rattle.spectra_trees.specs.Views.{body_data, item_data, lexeme_of, lexemes_of};
 ghost use Rattle.spectra_exprs.specs.Read.{Gives};
 ghost use Rattle.spectra_parser.specs.ItemViews.{said_data};
 ghost use Rattle.spectra_parser.specs.Items.{labelled as labelled_lem, line as line_lem, named as named_lem, pattern_use as pattern_use_lem, said as said_lem, trigger as trigger_lem, unlabelled as unlabelled_lem, use_behind as use_behind_lem, body_of};
@@ -77,7 +76,7 @@ fn body<'t>(alloc: Global, tokens: Tokens<'t>) -> Read<'t, BodyTree>
 }
 
 /// What a line says, with its name where it has one.
-#[derive(Debug, Drop)]
+#[derive(Drop)]
 pub struct Said {
     pub name: Option<Name>,
     pub body: BodyTree,

@@ -3,10 +3,11 @@
 ghost use Rattle.std.specs.Prelude.{◌≡◌, IfOk, IfErr};
 ghost use Rattle.spectra_lexer.specs.Tokens.{AreTokens};
 ghost use Rattle.spectra_trees.specs.Data.{TreeData};
-ghost use Rattle.spectra_trees.specs.Views.{tree_data};
-ghost use Rattle.spectra_trees.specs.Lexemes.{lexemes, lexemes_of};
+ghost use Rattle.spectra_trees.specs.Views.{tree_data, lexemes_of};
+ghost use Rattle.spectra_trees.specs.Lexemes.{lexemes};
 ghost use Rattle.spectra_parser.specs.Shapes.{IsShaped};
-ghost use Rattle.spectra_parser.specs.Texts.{HasTree, IsText, IsWholeFrom, Explains};
+ghost use Rattle.spectra_parser.specs.Texts.{HasTree, IsText, Explains};
+ghost use Rattle.spectra_parser.specs.Wholes.{IsWholeFrom};
 ghost use Rattle.spectra_exprs.specs.declared.fault.SyntaxFault.TheVariants.{Memory};
 
 use crate::item;

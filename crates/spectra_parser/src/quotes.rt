@@ -24,7 +24,7 @@ fn without_last(text: &str) -> &str
 }
 
 /// A quoted text without its quotes.
-#[tactic(auto, unfolding(crate::specs::Items::unquoted))]
+#[tactic(auto, unfolding(crate::specs::ItemGrammar::unquoted))]
 pub fn unquoted(text: &str) -> &str
     ensures ends { result.now ≡ unquoted_lem text.now }
     ensures between { (inside : List ℕ) → text.now ≡ 34 ∷ (inside ++ 34 ∷ []) → result.now ≡ inside }

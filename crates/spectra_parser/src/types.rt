@@ -1,8 +1,7 @@
 //! Types: one function for each production.
 
 ghost use Rattle.std.specs.Prelude.{◌<◌, map};
-ghost use Rattle.spectra_trees.specs.Views.{name_data, type_data};
-ghost use Rattle.spectra_trees.specs.Lexemes.{lexeme_of, lexemes_of};
+ghost use Rattle.spectra_trees.specs.Views.{name_data, type_data, lexeme_of, lexemes_of};
 ghost use Rattle.spectra_exprs.specs.Read.{Gives, starts as starts_lem, all_of};
 ghost use Rattle.spectra_parser.specs.Items.{name_after as name_after_lem, name_type as name_type_lem, named_type as named_type_lem, names as names_lem, range_type as range_type_lem, type_of};
 

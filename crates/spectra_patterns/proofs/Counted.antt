@@ -13,7 +13,7 @@ use Rattle.spectra_patterns.specs.Hidden.{alone, most_hidden, are_many}
 use Rattle.spectra_patterns.specs.Gathering.{past_in, own_tables, IsCount}
 use Rattle.spec_model.specs.declared.spec.Line.{Line}
 use Rattle.spec_model.specs.Views.{line_data as model_line}
-use Rattle.spectra_trees.specs.declared.faults.TheConstants.{TOO_MANY}
+use Rattle.spectra_trees.specs.Faults.{TooMany, number_of}
 use Rattle.spectra_resolved.specs.declared.spot.Spot.{Spot}
 use Rattle.spectra_resolved.specs.Findings.{fault}
 use Rattle.spectra_resolved.proofs.Mapped.{map_push}
@@ -90,10 +90,10 @@ lines_so_far lines k l below is =
 pub hidden_step : (ts : List TriggerData) (lines : List Line) (places : List Spot) (k : ℕ) (l : Line) (at : Spot) (many : Bool) → k < length lines → k < length places → l ≡ get_or lines k l → at ≡ get_or places k at →
     are_many ts (map model_line (take k lines) ++ model_line l ∷ []) ≡ many →
     hidden_faults ts (map model_line (take k lines)) (drop k places) (map model_line (drop k lines))
-    ≡ (if many then fault TOO_MANY at ∷ [] else hidden_faults ts (map model_line (take (k + 1) lines)) (drop (k + 1) places) (map model_line (drop (k + 1) lines)))
+    ≡ (if many then fault (number_of TooMany) at ∷ [] else hidden_faults ts (map model_line (take (k + 1) lines)) (drop (k + 1) places) (map model_line (drop (k + 1) lines)))
 hidden_step ts lines places k l at many below within is there are =
     (λ i. hidden_faults ts (map model_line (take k lines)) (place_left places k at within there i) (mapped_left model_line lines k l below is i))
-    ∙ (λ i. if are i then fault TOO_MANY at ∷ [] else hidden_faults ts (lines_so_far lines k l below is i) (drop (k + 1) places) (map model_line (drop (k + 1) lines)))
+    ∙ (λ i. if are i then fault (number_of TooMany) at ∷ [] else hidden_faults ts (lines_so_far lines k l below is i) (drop (k + 1) places) (map model_line (drop (k + 1) lines)))
 
 -- where there aren't too many, their test says so
 pub not_many : (ts : List TriggerData) (lines : List Statement) (t : Tables) → IsCount ts lines t → are_many ts lines ≡ false

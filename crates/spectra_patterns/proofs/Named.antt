@@ -11,7 +11,7 @@ use Rattle.spectra_resolved.specs.Spots.{spot_at, spot_of}
 use Rattle.spectra_resolved.specs.Looks.{Looking}
 use Rattle.spectra_resolved.specs.Resolved.{ResolvedTrees}
 use Rattle.spectra_resolved.specs.Resolving.{read_form, call_form, resolved, resolved_form, resolved_each, misuses, form_misuses, misuses_of_each}
-use Rattle.spectra_judge.specs.Erased.{is_put_in, form_put_in, each_put_in}
+use Rattle.spectra_judge.specs.PutIn.{is_put_in, form_put_in, each_put_in}
 use Rattle.spectra_judge.proofs.Empty.{empty_parts, not_empty}
 use Rattle.spectra_patterns.specs.Laws.{StandForLeaves, ResolvedIsPutIn}
 

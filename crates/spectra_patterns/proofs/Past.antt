@@ -18,7 +18,8 @@ use Rattle.spectra_judge.specs.declared.around.Around.{Around}
 use Rattle.spectra_judge.specs.Around.{under_next, within, in_next, next_faults}
 use Rattle.spectra_judge.specs.Known.{Setting}
 use Rattle.spectra_judge.specs.Judged.{kind_of, wrong, binary_faults, remainder_faults, operator_faults, faults, form_faults, operand_faults}
-use Rattle.spectra_judge.specs.Erased.{leaf_formula, prefix_formula, binary_formula, erased, form_erased, each_erased, is_put_in, form_put_in, each_put_in}
+use Rattle.spectra_judge.specs.Erased.{leaf_formula, prefix_formula, binary_formula, erased, form_erased, each_erased}
+use Rattle.spectra_judge.specs.PutIn.{is_put_in, form_put_in, each_put_in}
 use Rattle.spectra_judge.proofs.Empty.{empty_parts, no_fault}
 
 neither : (xs ys : List Formula) → xs ≡ [] → ys ≡ [] → xs ++ ys ≡ []

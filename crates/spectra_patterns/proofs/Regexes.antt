@@ -22,18 +22,21 @@ use Rattle.spectra_resolved.specs.declared.findings.Finding.{Finding}
 use Rattle.spectra_resolved.specs.declared.stand.Stand.TheVariants as stand
 use Rattle.spectra_resolved.specs.declared.tree.Times.{Times}
 use Rattle.spectra_resolved.specs.declared.tree.Regex.{Regex}
-use Rattle.spectra_resolved.specs.Resolved.{ResolvedTree, ResolvedRegex, Atom, Sequence, Choice, Repetition, ResolvedRegexes, regexes, repeated}
+use Rattle.spectra_resolved.specs.Resolved.{ResolvedTree, ResolvedRegex, Atom, Sequence, Choice, Repetition, ResolvedRegexes}
+use Rattle.spectra_resolved.specs.Chained.{regexes, repeated}
 use Rattle.spectra_resolved.specs.Views.{regex_data}
 use Rattle.spectra_judge.specs.Known.{Known}
 use Rattle.spectra_judge.specs.Judged.{faults_of}
-use Rattle.spectra_judge.specs.Erased.{erased, is_put_in, in_line, domain_kind, has_room}
+use Rattle.spectra_judge.specs.Erased.{erased, has_room}
+use Rattle.spectra_judge.specs.PutIn.{is_put_in, in_line, domain_kind}
 use Rattle.spectra_resolved.specs.Findings.{with_faults}
 use Rattle.spectra_resolved.proofs.First.{with_faults_append}
 use Rattle.spectra_judge.proofs.Empty.{empty_parts}
 use Rattle.spectra_judge.proofs.Lists.{mapped_left}
 use Rattle.spectra_judge.proofs.Lines.{line_is_typed}
 use Rattle.spectra_judge.proofs.Bans.{line_keeps_bans}
-use Rattle.spectra_patterns.specs.Triggers.{atom_faults, each_atom_faults, regex_put_in, each_regex_put_in, is_count, count_of, are_counts, counts_well, each_counts_well, regular_of, regulars_of, with_repeats, trigger_of, is_narrow}
+use Rattle.spectra_patterns.specs.Triggers.{is_count, count_of, are_counts, counts_well, each_counts_well, regular_of, regulars_of, trigger_of, is_narrow}
+use Rattle.spectra_patterns.specs.TriggerParts.{atom_faults, each_atom_faults, regex_put_in, each_regex_put_in, with_repeats}
 use Rattle.spectra_patterns.specs.Laws.{TriggerIsTyped, has_choices, each_has_choices, has_some, IsFaultless}
 
 -- ---- parts

@@ -19,16 +19,19 @@ use Rattle.spectra_resolved.specs.declared.tree.Leaf.{Leaf}
 use Rattle.spectra_resolved.specs.Resolved.{ResolvedTree}
 use Rattle.spectra_resolved.specs.Texts.{ResolvedPatternLine, Initial, Safety, Recurring, ResolvedPattern}
 use Rattle.spectra_judge.specs.Kinds.{Kind, Truth, Whole, SomeWhole, NameOf, OneName, Anything}
-use Rattle.spectra_judge.specs.Standings.{bans_of, is_wanted, wants_truth}
+use Rattle.spectra_judge.specs.Standings.{bans_of, is_wanted}
+use Rattle.spectra_judge.specs.Wanting.{wants_truth}
 use Rattle.spectra_judge.specs.Around.{nothing_open}
 use Rattle.spectra_judge.specs.Known.{Known, Setting}
 use Rattle.spectra_judge.specs.Judged.{kind_of, wrong, first_of, faults, faults_of}
-use Rattle.spectra_judge.specs.Erased.{erased, is_put_in, in_pattern, domain_kind, has_room}
+use Rattle.spectra_judge.specs.Erased.{erased, has_room}
+use Rattle.spectra_judge.specs.PutIn.{is_put_in, in_pattern, domain_kind}
 use Rattle.spectra_judge.specs.Laws.{KeepsPatternBans}
 use Rattle.spectra_judge.proofs.Empty.{empty_parts, not_empty}
 use Rattle.spectra_judge.proofs.Lines.{pattern_is_typed}
 use Rattle.spectra_judge.proofs.Bans.{pattern_keeps_bans}
-use Rattle.spectra_patterns.specs.Patterns.{pattern_known, line_tree, line_faults, lines_faults, domain_of, first_in, step_in, goals_in, pattern_of, table_fault, table_faults, is_empty, pattern_faults, is_type_kind, IsSound}
+use Rattle.spectra_patterns.specs.Patterns.{pattern_known, line_tree, line_faults, lines_faults, domain_of, first_in, step_in, goals_in, pattern_of, table_fault, table_faults, is_empty, pattern_faults}
+use Rattle.spectra_patterns.specs.SoundPatterns.{is_type_kind, IsSound}
 use Rattle.spectra_patterns.specs.Laws.{PatternIsTyped}
 use Rattle.spectra_patterns.proofs.Past.{no_past}
 

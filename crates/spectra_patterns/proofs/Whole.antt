@@ -12,7 +12,8 @@ use Rattle.spectra_resolved.specs.Texts.{ResolvedPattern}
 use Rattle.spectra_judge.specs.declared.kind.Kind as code
 use Rattle.spectra_judge.specs.KindViews.{kind_data}
 use Rattle.spectra_judge.specs.Kinds.{Kind, NameOf}
-use Rattle.spectra_patterns.specs.Patterns.{lines_faults, pattern_of, table_fault, is_empty, pattern_faults, unless, meant, is_type_kind, IsSound}
+use Rattle.spectra_patterns.specs.Patterns.{lines_faults, pattern_of, table_fault, is_empty, pattern_faults, meant}
+use Rattle.spectra_patterns.specs.SoundPatterns.{unless, is_type_kind, IsSound}
 use Rattle.spectra_patterns.proofs.Shaped.{whole_faults, lines_fault_is}
 
 -- ---- kinds of types

@@ -1,8 +1,7 @@
 -- The past operators of lines, and what is counted of them.
 use Rattle.std.specs.Prelude.{◌≡◌, ℕ, ◌≤◌, if◌then◌else◌, List, [], map, flat_map, count_by}
 use Rattle.spec_model.specs.Syntax.{Formula, Content, Statement, TriggerData}
-use Rattle.spec_model.specs.Sizes.{past_trees, formulas_of, past_operators}
-use Rattle.spec_model.specs.WellTyped.{is_hidden, all_hidden}
+use Rattle.spec_model.specs.Sizes.{past_trees, formulas_of, past_operators, is_hidden, all_hidden}
 use Rattle.past_bits.specs.Bits.{tree_of}
 use Rattle.spectra_patterns.specs.declared.gathering.Tables.{Tables}
 use Rattle.spectra_patterns.specs.Hidden.{alone, most_hidden}

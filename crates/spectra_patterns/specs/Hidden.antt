@@ -1,8 +1,8 @@
 -- The line with which there are too many hidden tables.
-use Rattle.spectra_trees.specs.declared.faults.TheConstants.{TOO_MANY}
+use Rattle.spectra_trees.specs.Faults.{TooMany, number_of}
 use Rattle.std.specs.Prelude.{ℕ, nat_lt, Bool, if◌then◌else◌, List, [], ◌∷◌, ◌++◌}
 use Rattle.spec_model.specs.Syntax.{Statement, TriggerData, Specification}
-use Rattle.spec_model.specs.WellTyped.{all_hidden}
+use Rattle.spec_model.specs.Sizes.{all_hidden}
 use Rattle.spectra_resolved.specs.declared.spot.Spot.{Spot}
 use Rattle.spectra_resolved.specs.declared.findings.Finding.{Finding}
 use Rattle.spectra_resolved.specs.Findings.{fault}
@@ -23,4 +23,4 @@ abbrev pub hidden_faults : List TriggerData → (before : List Statement) → Li
 hidden_faults triggers before places [] = []
 hidden_faults triggers before [] (l ∷ ls) = []
 hidden_faults triggers before (at ∷ places) (l ∷ ls) =
-    if are_many triggers (before ++ l ∷ []) then fault TOO_MANY at ∷ [] else hidden_faults triggers (before ++ l ∷ []) places ls
+    if are_many triggers (before ++ l ∷ []) then fault (number_of TooMany) at ∷ [] else hidden_faults triggers (before ++ l ∷ []) places ls

@@ -13,9 +13,12 @@ use Rattle.spectra_resolved.specs.Resolved.{ResolvedRegex, Atom, Sequence, Choic
 use Rattle.spectra_resolved.specs.Texts.{ResolvedPattern}
 use Rattle.spectra_judge.specs.Kinds.{Kind}
 use Rattle.spectra_judge.specs.Known.{Known}
-use Rattle.spectra_judge.specs.Erased.{is_put_in, in_line, domain_kind, has_room}
-use Rattle.spectra_patterns.specs.Patterns.{pattern_of, pattern_faults, IsSound}
-use Rattle.spectra_patterns.specs.Triggers.{atom_faults, regex_put_in, trigger_of, is_right}
+use Rattle.spectra_judge.specs.Erased.{has_room}
+use Rattle.spectra_judge.specs.PutIn.{is_put_in, in_line, domain_kind}
+use Rattle.spectra_patterns.specs.Patterns.{pattern_of, pattern_faults}
+use Rattle.spectra_patterns.specs.SoundPatterns.{IsSound}
+use Rattle.spectra_patterns.specs.Triggers.{trigger_of, is_right}
+use Rattle.spectra_patterns.specs.TriggerParts.{atom_faults, regex_put_in}
 
 -- a pattern without a fault means one that is well typed
 abbrev pub PatternIsTyped : Type 0

@@ -1,5 +1,7 @@
 pub mod Patterns
+pub mod SoundPatterns
 pub mod Triggers
+pub mod TriggerParts
 pub mod Laws
 pub mod Hidden
 pub mod Gathering

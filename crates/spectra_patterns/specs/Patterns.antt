@@ -1,11 +1,10 @@
 -- The faults of a pattern, and the pattern of the specification that it means.
-use Rattle.spectra_trees.specs.declared.faults.TheConstants.{PATTERN_OPEN, PATTERN_WIDE}
-use Rattle.std.specs.Prelude.{ℕ, Bool, true, false, ◌&&◌, if◌then◌else◌, List, [], ◌∷◌, ◌++◌, Option, Some, None, option_map, option_to_list, length, map, flat_map, replicate, IsTrue}
-use Rattle.std.specs.List.{list_all}
+use Rattle.spectra_trees.specs.Faults.{PatternOpen, PatternWide, number_of}
+use Rattle.std.specs.Prelude.{ℕ, Bool, true, false, ◌&&◌, if◌then◌else◌, List, [], ◌∷◌, ◌++◌, Option, Some, None, option_map, option_to_list, map, flat_map, replicate}
 use Rattle.spec_model.specs.Values.{DomainData, TruthValues, WholeNumbers, Enumeration}
 use Rattle.spec_model.specs.Syntax.{Formula, PatternData}
-use Rattle.spec_model.specs.WellTyped.{is_domain_of, is_determined}
-use Rattle.pattern_rows.specs.Patterns.{is_wide}
+use Rattle.spec_model.specs.Patterns.{is_determined}
+use Rattle.pattern_rows.specs.Rows.{is_wide}
 use Rattle.spectra_resolved.specs.declared.spot.Spot.{Spot}
 use Rattle.spectra_resolved.specs.declared.stand.Stand.{Stand}
 use Rattle.spectra_resolved.specs.declared.stand.Stand.TheVariants as stand
@@ -17,7 +16,7 @@ use Rattle.spectra_judge.specs.Around.{nothing_brought}
 use Rattle.spectra_judge.specs.Kinds.{Kind, Truth, Whole, NameOf}
 use Rattle.spectra_judge.specs.Known.{Known}
 use Rattle.spectra_judge.specs.Judged.{faults_of}
-use Rattle.spectra_judge.specs.Erased.{erased, is_put_in, in_pattern}
+use Rattle.spectra_judge.specs.Erased.{erased}
 
 -- ---- lines
 
@@ -83,7 +82,7 @@ pattern_of own p =
 
 -- it is too wide, or else its lines leave open which values its own variables have
 abbrev pub table_fault : PatternData → Option ℕ
-table_fault p = if is_wide p then Some PATTERN_WIDE else (if is_determined p then None else Some PATTERN_OPEN)
+table_fault p = if is_wide p then Some (number_of PatternWide) else (if is_determined p then None else Some (number_of PatternOpen))
 
 abbrev pub table_faults : Spot → PatternData → List Finding
 table_faults at p = option_to_list (option_map (λ number. fault number at) (table_fault p))
@@ -97,27 +96,5 @@ abbrev pub pattern_faults : (sound : Bool) → List Kind → ResolvedPattern →
 pattern_faults sound own p =
     lines_faults own p ++ (if sound && is_empty (lines_faults own p) then table_faults p.name.at (pattern_of own p) else [])
 
--- what it means, unless it has a fault
-abbrev pub unless : Option ℕ → PatternData → Option PatternData
-unless (Some number) p = None
-unless None p = Some p
-
 abbrev pub meant : (sound : Bool) → List Kind → ResolvedPattern → Option PatternData
 meant sound own p = if sound && is_empty (pattern_faults sound own p) then Some (pattern_of own p) else None
-
--- ---- patterns whose names and types have no fault
-
--- the kind of a type of truth values, of a range or of an enum, where so many enum names are declared
-abbrev pub is_type_kind : (names : ℕ) → Kind → Bool
-is_type_kind names Truth = true
-is_type_kind names (Whole low high) = is_domain_of names (WholeNumbers low high)
-is_type_kind names (NameOf ns) = is_domain_of names (Enumeration ns)
-is_type_kind names _ = false
-
--- Each of its own variables has a type, whose enum names have numbers of 16 bits, and in its lines stand so many enum names, its
--- parameters and its own variables alone.
-pub record IsSound (own : List Kind) (p : ResolvedPattern) : Type 0 where
-  pub names : ℕ
-  pub types : IsTrue (list_all (is_type_kind names) own)
-  pub few : IsTrue (list_all (is_type_kind 65_536) own)
-  pub lines : IsTrue (list_all (λ l. is_put_in (in_pattern names p.params (length own)) (line_tree l)) p.lines)

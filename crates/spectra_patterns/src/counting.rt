@@ -3,7 +3,7 @@
 ghost use Rattle.std.specs.Prelude.{◌≡◌, map};
 ghost use Rattle.std.specs.List.{list_all};
 ghost use Rattle.spectra_resolved.specs.declared.tree.Times.{Times};
-ghost use Rattle.spectra_resolved.specs.Resolved.{regexes};
+ghost use Rattle.spectra_resolved.specs.Chained.{regexes};
 ghost use Rattle.spectra_resolved.specs.Views.{regex_data};
 ghost use Rattle.spectra_patterns.specs.Triggers.{is_count as is_count_lem, are_counts as are_counts_lem, counts_well as counts_well_lem, each_counts_well as each_counts_well_lem};
 

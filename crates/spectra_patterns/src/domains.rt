@@ -3,7 +3,8 @@
 ghost use Rattle.std.specs.Prelude.{◌≡◌, true, IfOk, All, ◌<◌, ◌^◌};
 ghost use Rattle.spec_model.specs.Views.{domain_data};
 ghost use Rattle.spectra_judge.specs.KindViews.{kind_data};
-ghost use Rattle.spectra_patterns.specs.Patterns.{domain_of as domain_of_lem, is_type_kind};
+ghost use Rattle.spectra_patterns.specs.Patterns.{domain_of as domain_of_lem};
+ghost use Rattle.spectra_patterns.specs.SoundPatterns.{is_type_kind};
 
 use spec_model::value::Domain;
 use spectra_judge::kind::Kind;

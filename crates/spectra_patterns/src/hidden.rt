@@ -4,7 +4,8 @@ ghost use Rattle.std.specs.Prelude.{◌≡◌, ◌+◌, ◌<◌, ◌≤◌, true
 ghost use Rattle.spec_model.specs.Syntax.{Statement};
 ghost use Rattle.spec_model.specs.Views.{content_data, line_data as model_line, trigger_data};
 ghost use Rattle.spec_model.specs.WellTyped.{is_hidden as is_hidden_lem};
-ghost use Rattle.spectra_resolved.specs.Findings.{found_in, with_faults};
+ghost use Rattle.spectra_resolved.specs.Findings.{with_faults};
+ghost use Rattle.spectra_resolved.specs.Reports.{found_in};
 ghost use Rattle.spectra_patterns.specs.declared.stop.Stop.TheVariants.{Many};
 ghost use Rattle.spectra_patterns.specs.Hidden.{are_many, hidden_faults};
 ghost use Rattle.spectra_patterns.specs.Gathering.{own_tables, IsCount};

@@ -3,13 +3,14 @@
 ghost use Rattle.std.specs.Prelude.{◌≡◌, ◌≤◌, ◌++◌, [], true, map, flat_map, option_map, replicate, All, IfOk, OnOk};
 ghost use Rattle.spec_model.specs.Views.{formula, domain_data, pattern_data as model_data};
 ghost use Rattle.pattern_rows.specs.Patterns.{IsPattern};
-ghost use Rattle.spectra_resolved.specs.Findings.{found_in, with_faults, first_of_faults};
+ghost use Rattle.spectra_resolved.specs.Findings.{with_faults, first_of_faults};
+ghost use Rattle.spectra_resolved.specs.Reports.{found_in};
 ghost use Rattle.spectra_resolved.specs.TextViews.{pattern_line_data, pattern_data};
-ghost use Rattle.spectra_judge.specs.Around.{AreRising};
+ghost use Rattle.spectra_judge.specs.Rising.{AreRising};
 ghost use Rattle.spectra_judge.specs.Kinds.{Truth};
-ghost use Rattle.spectra_judge.specs.KindViews.{kind_data};
-ghost use Rattle.spectra_judge.specs.Known.{known_data};
-ghost use Rattle.spectra_patterns.specs.Patterns.{line_faults, lines_faults, domain_of as domain_of_lem, first_in, step_in, goals_in, pattern_of, table_fault as table_fault_lem, table_faults, unless, pattern_faults, meant, is_type_kind, IsSound};
+ghost use Rattle.spectra_judge.specs.KindViews.{kind_data, known_data};
+ghost use Rattle.spectra_patterns.specs.Patterns.{line_faults, lines_faults, domain_of as domain_of_lem, first_in, step_in, goals_in, pattern_of, table_fault as table_fault_lem, table_faults, pattern_faults, meant};
+ghost use Rattle.spectra_patterns.specs.SoundPatterns.{unless, is_type_kind, IsSound};
 
 use crate::domains::domain_of;
 use pattern_rows::{RowFault, rows};

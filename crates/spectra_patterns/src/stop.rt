@@ -6,7 +6,7 @@ ghost use Rattle.spectra_patterns.specs.declared.stop.Stop.TheVariants.{Memory};
 use std::alloc::{AllocError, AllocFailed};
 
 /// Why no more hidden tables are counted.
-#[derive(Clone, Copy, Debug, PartialEq, Eq)]
+#[derive(Clone, Copy, PartialEq, Eq)]
 pub enum Stop {
     /// There are too many.
     Many,

@@ -3,14 +3,16 @@
 ghost use Rattle.std.specs.Prelude.{◌≡◌, true, [], ◌∷◌, map, option_map, All, IfOk, OnOk, if◌then◌else◌, Some, None};
 ghost use Rattle.spec_model.specs.Syntax.{regulars};
 ghost use Rattle.spec_model.specs.Views.{regular, trigger_data};
-ghost use Rattle.spectra_resolved.specs.Findings.{found_in, with_faults};
+ghost use Rattle.spectra_resolved.specs.Findings.{with_faults};
+ghost use Rattle.spectra_resolved.specs.Reports.{found_in};
 ghost use Rattle.spectra_resolved.specs.declared.tree.Regex.{Regex};
 ghost use Rattle.spectra_resolved.specs.declared.tree.Times.{Times};
-ghost use Rattle.spectra_resolved.specs.Resolved.{regexes};
+ghost use Rattle.spectra_resolved.specs.Chained.{regexes};
 ghost use Rattle.spectra_resolved.specs.Views.{regex_data};
-ghost use Rattle.spectra_judge.specs.Around.{AreRising};
-ghost use Rattle.spectra_judge.specs.Known.{known_data};
-ghost use Rattle.spectra_patterns.specs.Triggers.{atom_faults, each_atom_faults, count_of, regular_of, regulars_of, repeat_faults, is_narrow as is_narrow_lem, with_repeats, trigger_of as trigger_of_lem, meant_by};
+ghost use Rattle.spectra_judge.specs.Rising.{AreRising};
+ghost use Rattle.spectra_judge.specs.KindViews.{known_data};
+ghost use Rattle.spectra_patterns.specs.Triggers.{count_of, regular_of, regulars_of, repeat_faults, is_narrow as is_narrow_lem, trigger_of as trigger_of_lem};
+ghost use Rattle.spectra_patterns.specs.TriggerParts.{atom_faults, each_atom_faults, with_repeats, meant_by};
 
 use crate::counting::{MAX_COUNT, counts_well};
 use spec_model::expr;

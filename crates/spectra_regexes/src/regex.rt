@@ -1,8 +1,7 @@
 //! Regular expressions: one function for each production. `left` says how many levels may still be opened.
 
 ghost use Rattle.std.specs.Prelude.{◌≡◌, ◌<◌, map};
-ghost use Rattle.spectra_trees.specs.Views.{expr_data, regex_data};
-ghost use Rattle.spectra_trees.specs.Lexemes.{lexeme_of, lexemes_of};
+ghost use Rattle.spectra_trees.specs.Views.{expr_data, regex_data, lexeme_of, lexemes_of};
 ghost use Rattle.spectra_exprs.specs.Read.{Gives, starts as starts_lem, all_of};
 ghost use Rattle.spectra_regexes.specs.Regexes.{atom_of, group_of, ratom_of, post_of, starts_ratom as starts_ratom_lem, follower_of, followed_of, cat_of, branch_of, branched_of, regex_of, inside_regex};
 

@@ -1,8 +1,7 @@
 //! What may stand behind a regular expression: how often it is repeated.
 
 ghost use Rattle.std.specs.Prelude.{◌≡◌, ◌<◌, IfErr, string_bytes};
-ghost use Rattle.spectra_trees.specs.Views.{regex_data, repeat_data};
-ghost use Rattle.spectra_trees.specs.Lexemes.{lexemes_of};
+ghost use Rattle.spectra_trees.specs.Views.{regex_data, repeat_data, lexemes_of};
 ghost use Rattle.spectra_exprs.specs.Read.{Gives, all_of};
 ghost use Rattle.spectra_regexes.specs.Regexes.{between_of, exactly_of, counted as counted_lem, repeat as repeat_lem, starts_repeat as starts_repeat_lem, repeated as repeated_lem};
 

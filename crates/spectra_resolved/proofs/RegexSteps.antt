@@ -7,7 +7,8 @@ use Rattle.spectra_resolved.specs.declared.tree.Regex.{Regex}
 use Rattle.spectra_resolved.specs.declared.resolving.Resolver.{Resolver}
 use Rattle.spectra_resolved.specs.declared.findings.Finding.{Finding}
 use Rattle.spectra_resolved.specs.Findings.{with_faults}
-use Rattle.spectra_resolved.specs.Resolved.{ResolvedRegex, ResolvedRegexes, regexes, regex_list}
+use Rattle.spectra_resolved.specs.Resolved.{ResolvedRegex, ResolvedRegexes}
+use Rattle.spectra_resolved.specs.Chained.{regexes, regex_list}
 use Rattle.spectra_resolved.specs.Views.{regex_data}
 use Rattle.spectra_resolved.specs.Regexes.{regex_misuses, misuses_of_regexes}
 use Rattle.spectra_resolved.specs.ResolverViews.{regex_by, regexes_by}

@@ -14,7 +14,8 @@ use Rattle.spectra_resolved.specs.declared.resolving.Resolver.{Resolver}
 use Rattle.spectra_resolved.specs.declared.findings.Finding.{Finding}
 use Rattle.spectra_resolved.specs.Spots.{spot_at}
 use Rattle.spectra_resolved.specs.Findings.{with_faults}
-use Rattle.spectra_resolved.specs.Resolved.{ResolvedTree, tree, Form, LinkData, chained, listed}
+use Rattle.spectra_resolved.specs.Resolved.{ResolvedTree, tree, Form, listed}
+use Rattle.spectra_resolved.specs.Chained.{LinkData, chained}
 use Rattle.spectra_resolved.specs.Views.{resolved_data, link_data}
 use Rattle.spectra_resolved.specs.Resolving.{misuses, misuses_of_each}
 use Rattle.spectra_resolved.specs.ResolverViews.{resolved_by, resolved_each_by}

@@ -12,9 +12,11 @@ use Rattle.spectra_resolved.specs.declared.tree.Regex.{Regex, the_lemmas as rege
 use Rattle.spectra_resolved.specs.declared.tree.Misuse.TheVariants as misuse
 use Rattle.spectra_resolved.specs.declared.table.Named.{Named}
 use Rattle.spectra_resolved.specs.declared.table.Named.TheVariants as names
-use Rattle.spectra_resolved.specs.Resolved.{ResolvedTree, ResolvedTrees, Form, LinkData, trees, listed, chained, repeated}
+use Rattle.spectra_resolved.specs.Resolved.{ResolvedTree, ResolvedTrees, Form, listed}
+use Rattle.spectra_resolved.specs.Chained.{LinkData, trees, chained, repeated}
 use Rattle.spectra_resolved.specs.Views.{resolved_data, link_data, resolved_step, shape_step, link_step, regex_data}
-use Rattle.spectra_resolved.specs.Resolving.{call_form, read_form, own_misuse, form_misuses, misuses_of_each}
+use Rattle.spectra_resolved.specs.Resolving.{call_form, read_form, form_misuses, misuses_of_each}
+use Rattle.spectra_resolved.specs.Misused.{own_misuse}
 
 pub count_of_trees : (vs : List Resolved) → length (listed (trees (map resolved_data vs))) ≡ length vs
 count_of_trees [] = refl

@@ -2,7 +2,6 @@
 use Rattle.std.specs.Prelude.{ℕ, Bool, ◌==◌, nat_lt, List, [], ◌∷◌, Option, Some, None, if◌then◌else◌}
 use Rattle.spectra_resolved.specs.declared.spot.Spot.{Spot}
 use Rattle.spectra_resolved.specs.declared.findings.Finding.{Finding}
-use Rattle.spectra_resolved.specs.declared.findings.Findings.{Findings}
 
 abbrev pub fault : ℕ → Spot → Finding
 fault number at = record { number = number; at = at }
@@ -28,7 +27,3 @@ with_faults found (f ∷ fs) = with_faults (with_fault found f) fs
 -- the fault that comes first
 abbrev pub first_of_faults : List Finding → Option Finding
 first_of_faults fs = with_faults None fs
-
--- what the program has found so far
-abbrev pub found_in : Findings → Option Finding
-found_in f = f.first

@@ -1,5 +1,5 @@
 -- Regular expressions with each name replaced by what it stands for.
-use Rattle.std.specs.Prelude.{ℕ, pos, Bool, true, false, List, [], ◌++◌, Some, None}
+use Rattle.std.specs.Prelude.{ℕ, pos, List, [], ◌++◌, Some, None}
 use Rattle.spectra_trees.specs.Data.{RegexData, Regexes, RepeatData}
 use Rattle.spectra_resolved.specs.declared.tree.Times.{Times}
 use Rattle.spectra_resolved.specs.declared.findings.Finding.{Finding}
@@ -15,11 +15,6 @@ times_of RepeatData.Plus = record { least = pos 1; most = None }
 times_of RepeatData.Optional = record { least = pos 0; most = Some (pos 1) }
 times_of (RepeatData.Exactly n) = record { least = number_of n; most = Some (number_of n) }
 times_of (RepeatData.Between n m) = record { least = number_of n; most = Some (number_of m) }
-
--- whether it is a part with a repeat behind it
-abbrev pub is_repeat : RegexData → Bool
-is_repeat (RegexData.Repeat r times) = true
-is_repeat _ = false
 
 abbrev mutual
   pub resolved_regex : Looking → (file : ℕ) → RegexData → ResolvedRegex

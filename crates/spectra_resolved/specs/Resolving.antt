@@ -1,9 +1,8 @@
 -- The tree of an expression with each name replaced by what it stands for, and the names that mean nothing in it.
-use Rattle.spectra_trees.specs.declared.faults.TheConstants.{ARITY, UNKNOWN, WRONG_TYPE}
-use Rattle.std.specs.Prelude.{ℕ, ◌==◌, true, false, List, [], ◌∷◌, ◌++◌, Option, Some, None, length, map, if◌then◌else◌}
-use Rattle.spectra_trees.specs.declared.tree.Place.{Place}
+use Rattle.spectra_trees.specs.Faults.{Arity, Unknown, WrongType, number_of as fault_number}
+use Rattle.std.specs.Prelude.{ℕ, ◌==◌, true, false, List, [], ◌∷◌, ◌++◌, Option, Some, length, map, if◌then◌else◌}
 use Rattle.spectra_trees.specs.Data as written
-use Rattle.spectra_trees.specs.Data.{NameData, Expression, expression, Expressions}
+use Rattle.spectra_trees.specs.Data.{Expression, expression, Expressions}
 use Rattle.spectra_resolved.specs.declared.spot.Spot.{Spot}
 use Rattle.spectra_resolved.specs.declared.tree.Leaf.TheVariants as leaves
 use Rattle.spectra_resolved.specs.declared.tree.Misuse.{Misuse}
@@ -58,15 +57,10 @@ abbrev mutual
 
 -- the number of the fault: an unknown name, a wrong number of arguments, a predicate without parentheses or another name with
 abbrev pub fault_of : Misuse → ℕ
-fault_of misuse.Unknown = UNKNOWN
-fault_of (misuse.Arity k) = ARITY
-fault_of (misuse.Bare k) = WRONG_TYPE
-fault_of (misuse.Called leaf) = WRONG_TYPE
-
--- a misused name, at the name
-abbrev pub own_misuse : Spot → Form → List Finding
-own_misuse at (Form.MisuseOf m ts) = fault (fault_of m) at ∷ []
-own_misuse at _ = []
+fault_of misuse.Unknown = fault_number Unknown
+fault_of (misuse.Arity k) = fault_number Arity
+fault_of (misuse.Bare k) = fault_number WrongType
+fault_of (misuse.Called leaf) = fault_number WrongType
 
 -- each misused name in a tree
 abbrev mutual

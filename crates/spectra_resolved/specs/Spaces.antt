@@ -1,12 +1,12 @@
 -- Name spaces: lists of declarations in text order. A name stands for its first declaration, and each later one is a fault.
-use Rattle.spectra_trees.specs.declared.faults.TheConstants.{TWICE}
-use Rattle.std.specs.Prelude.{ℕ, Bool, true, false, List, [], ◌∷◌, ◌++◌, Option, Some, None, find, is_some, option_map, bytes_eq, if◌then◌else◌}
+use Rattle.spectra_trees.specs.Faults.{Twice, number_of}
+use Rattle.std.specs.Prelude.{ℕ, Bool, List, [], ◌∷◌, ◌++◌, Option, Some, None, find, is_some, option_map, bytes_eq, if◌then◌else◌}
 use Rattle.std.specs.Option.{option_or}
 use Rattle.spectra_resolved.specs.declared.table.Named.{Named}
 use Rattle.spectra_resolved.specs.declared.table.Named.TheVariants as names
 use Rattle.spectra_resolved.specs.declared.tree.Leaf.TheVariants as leaves
 use Rattle.spectra_resolved.specs.declared.findings.Finding.{Finding}
-use Rattle.spectra_resolved.specs.Findings.{fault, with_faults, first_of_faults}
+use Rattle.spectra_resolved.specs.Findings.{fault, first_of_faults}
 use Rattle.spectra_resolved.specs.Spots.{MentionData}
 
 -- a declaration: a name, and what it stands for
@@ -28,7 +28,7 @@ clash (Some first) d = again first d.1
   where
     again : Named → Named → List Finding
     again (names.Leaf (leaves.EnumName m)) (names.Leaf (leaves.EnumName n)) = []
-    again _ _ = fault TWICE d.0.at ∷ []
+    again _ _ = fault (number_of Twice) d.0.at ∷ []
 
 -- each declaration whose name has an earlier one, behind those that a look-up finds
 abbrev pub clashes_after : (before : List ℕ → Option Named) → List Entry → List Finding
@@ -45,17 +45,3 @@ clashes space = clashes_after no_names space
 -- whether some name is declared again
 abbrev pub is_doubled : List Entry → Bool
 is_doubled space = is_some (first_of_faults (clashes space))
-
--- ---- what is known of the declarations so far
-
--- what a name stands for, and the fault that was found first
-pub record Told : Type 0 where
-  pub look : List ℕ → Option Named
-  pub found : Option Finding
-
-abbrev pub with_entry : Told → Entry → Told
-with_entry t d = record { look = and_name t.look d.0.text d.1; found = with_faults t.found (clash (t.look d.0.text) d) }
-
-abbrev pub with_entries : Told → List Entry → Told
-with_entries t [] = t
-with_entries t (d ∷ ds) = with_entries (with_entry t d) ds

@@ -3,7 +3,6 @@ use Rattle.std.specs.Prelude.{ℕ, List}
 use Rattle.spectra_trees.specs.declared.tree.Place.{Place}
 use Rattle.spectra_trees.specs.Data.{NameData}
 use Rattle.spectra_resolved.specs.declared.spot.Spot.{Spot}
-use Rattle.spectra_resolved.specs.declared.spot.Mention.{Mention}
 
 -- a place of a file
 abbrev pub spot_at : (file : ℕ) → Place → Spot
@@ -20,7 +19,3 @@ pub record MentionData : Type 0 where
 
 abbrev pub mentioned : (file : ℕ) → NameData → MentionData
 mentioned file name = record { text = name.text; at = spot_of file name }
-
--- what the program's stand for
-abbrev pub mention_data : Mention → MentionData
-mention_data m = record { text = m.text.now; at = m.at }

@@ -4,8 +4,8 @@ use Rattle.indexmap.specs.IndexMap.{get_by}
 use Rattle.spectra_resolved.specs.declared.table.Named.{Named}
 use Rattle.spectra_resolved.specs.declared.table.Table.{Table}
 use Rattle.spectra_resolved.specs.declared.findings.Findings.{Findings}
-use Rattle.spectra_resolved.specs.Findings.{found_in}
-use Rattle.spectra_resolved.specs.Spaces.{Told}
+use Rattle.spectra_resolved.specs.Reports.{found_in}
+use Rattle.spectra_resolved.specs.SpaceViews.{Told}
 
 -- what a table has for a name
 abbrev pub in_table : Table → List ℕ → Option Named

@@ -13,7 +13,7 @@ use Rattle.spectra_resolved.specs.declared.text.Body.TheVariants as bodies
 use Rattle.spectra_resolved.specs.declared.text.Line.{Line}
 use Rattle.spectra_resolved.specs.declared.text.Text.{Text}
 use Rattle.spectra_resolved.specs.Views.{resolved_data, regex_data}
-use Rattle.spectra_resolved.specs.Spots.{mention_data}
+use Rattle.spectra_resolved.specs.MentionViews.{mention_data}
 use Rattle.spectra_resolved.specs.Texts.{ResolvedType, ResolvedVariable, ResolvedAlias, ResolvedDefinition, ResolvedPatternLine, ResolvedPattern, ResolvedBody, ResolvedLine, ResolvedText}
 
 abbrev pub type_data : TypeUse → ResolvedType

@@ -5,7 +5,8 @@ use Rattle.spectra_resolved.specs.declared.tree.Shape.{Shape, fold-Shape}
 use Rattle.spectra_resolved.specs.declared.tree.Link.{Link}
 use Rattle.spectra_resolved.specs.declared.tree.Regex.{Regex, fold-Regex}
 use Rattle.spectra_resolved.specs.declared.tree.Regex.TheOpen.{Regex-F}
-use Rattle.spectra_resolved.specs.Resolved.{ResolvedTree, tree, Form, LinkData, trees, chained, ResolvedRegex, regexes, repeated}
+use Rattle.spectra_resolved.specs.Resolved.{ResolvedTree, tree, Form, ResolvedRegex}
+use Rattle.spectra_resolved.specs.Chained.{LinkData, trees, chained, regexes, repeated}
 
 -- one level of a tree, with each part already seen as its plain data
 abbrev pub shape_step : Shape-F ResolvedTree Form LinkData → Form

@@ -1,19 +1,20 @@
 //! The fault that comes first among those that were found.
 
 ghost use Rattle.std.specs.Prelude.{◌≡◌, None};
-ghost use Rattle.spectra_resolved.specs.Findings.{found_in, precedes as precedes_lem, with_fault};
+ghost use Rattle.spectra_resolved.specs.Findings.{precedes as precedes_lem, with_fault};
+ghost use Rattle.spectra_resolved.specs.Reports.{found_in};
 
 use crate::spot::Spot;
 
 /// What is wrong, by the number of the fault, and where.
-#[derive(Clone, Copy, Debug, PartialEq, Eq)]
+#[derive(Clone, Copy, PartialEq, Eq)]
 pub struct Finding {
     pub number: u8,
     pub at: Spot,
 }
 
 /// The finding that comes first among all so far.
-#[derive(Clone, Copy, Debug, Drop)]
+#[derive(Clone, Copy, Drop)]
 pub struct Findings {
     first: Option<Finding>,
 }

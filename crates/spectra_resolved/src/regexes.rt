@@ -3,10 +3,12 @@
 ghost use Rattle.std.specs.Prelude.{◌≡◌, false, map, IfOk, OnOk};
 ghost use Rattle.spectra_trees.specs.Data as written;
 ghost use Rattle.spectra_trees.specs.Views.{repeat_data, regex_data as tree_regex};
-ghost use Rattle.spectra_resolved.specs.Findings.{found_in, with_faults};
-ghost use Rattle.spectra_resolved.specs.Resolved.{repeated, regexes as regexes_lem};
+ghost use Rattle.spectra_resolved.specs.Findings.{with_faults};
+ghost use Rattle.spectra_resolved.specs.Reports.{found_in};
+ghost use Rattle.spectra_resolved.specs.Chained.{repeated, regexes as regexes_lem};
 ghost use Rattle.spectra_resolved.specs.Views.{regex_data};
-ghost use Rattle.spectra_resolved.specs.Regexes.{times_of as times_of_lem, is_repeat, regex_misuses, misuses_of_regexes};
+ghost use Rattle.spectra_resolved.specs.Regexes.{times_of as times_of_lem, regex_misuses, misuses_of_regexes};
+ghost use Rattle.spectra_resolved.specs.Repeats.{is_repeat};
 ghost use Rattle.spectra_resolved.specs.ResolverViews.{regex_by, regexes_by};
 
 use crate::findings::Findings;

@@ -5,10 +5,13 @@ ghost use Rattle.spectra_trees.specs.Data.{expressions};
 ghost use Rattle.spectra_trees.specs.Chains.{is_joined};
 ghost use Rattle.spectra_trees.specs.Views.{name_data, expr_data};
 ghost use Rattle.spectra_resolved.specs.Spots.{spot_at as spot_at_lem, spot_of as spot_of_lem};
-ghost use Rattle.spectra_resolved.specs.Findings.{found_in, with_faults};
-ghost use Rattle.spectra_resolved.specs.Resolved.{tree as tree_lem, trees as trees_lem, Form, chained};
+ghost use Rattle.spectra_resolved.specs.Findings.{with_faults};
+ghost use Rattle.spectra_resolved.specs.Reports.{found_in};
+ghost use Rattle.spectra_resolved.specs.Resolved.{tree as tree_lem, Form};
+ghost use Rattle.spectra_resolved.specs.Chained.{trees as trees_lem, chained};
 ghost use Rattle.spectra_resolved.specs.Views.{resolved_data, link_data};
-ghost use Rattle.spectra_resolved.specs.Resolving.{read_form, call_form, misuses, misuses_of_each, own_misuse, fault_of as fault_of_lem};
+ghost use Rattle.spectra_resolved.specs.Resolving.{read_form, call_form, misuses, misuses_of_each, fault_of as fault_of_lem};
+ghost use Rattle.spectra_resolved.specs.Misused.{own_misuse};
 ghost use Rattle.spectra_resolved.specs.LookViews.{look_data};
 ghost use Rattle.spectra_resolved.specs.ResolverViews.{resolved_by, resolved_each_by};
 

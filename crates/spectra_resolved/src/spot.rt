@@ -2,12 +2,13 @@
 
 ghost use Rattle.std.specs.Prelude.{◌≡◌};
 ghost use Rattle.spectra_trees.specs.Views.{name_data};
-ghost use Rattle.spectra_resolved.specs.Spots.{spot_at as spot_at_lem, spot_of as spot_of_lem, mentioned as mentioned_lem, mention_data};
+ghost use Rattle.spectra_resolved.specs.Spots.{spot_at as spot_at_lem, spot_of as spot_of_lem, mentioned as mentioned_lem};
+ghost use Rattle.spectra_resolved.specs.MentionViews.{mention_data};
 
 use spectra_trees::tree::{Name, Place};
 
 /// A place in one of several files: the file's number in the order of reading, from 0, with the line and the column, from 1.
-#[derive(Clone, Copy, Debug, PartialEq, Eq)]
+#[derive(Clone, Copy, PartialEq, Eq)]
 pub struct Spot {
     pub file: usize,
     pub line: u32,

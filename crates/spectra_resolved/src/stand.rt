@@ -2,7 +2,7 @@
 
 /// What a tree is judged as. The lines of a monitor stand as initial and safety guarantees. In a recurring line the role
 /// makes no difference: a `next` is a fault there by itself.
-#[derive(Clone, Copy, Debug, PartialEq, Eq)]
+#[derive(Clone, Copy, PartialEq, Eq)]
 pub enum Stand {
     InitialAssumption,
     InitialGuarantee,

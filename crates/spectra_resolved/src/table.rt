@@ -3,9 +3,11 @@
 ghost use Rattle.std.specs.Prelude.{◌≡◌, List, ℕ, None, OnOk};
 ghost use Rattle.spectra_resolved.specs.Spaces.{and_name};
 ghost use Rattle.spectra_resolved.specs.Tables.{in_table, told};
-ghost use Rattle.spectra_resolved.specs.Spots.{mention_data};
-ghost use Rattle.spectra_resolved.specs.Spaces.{clash, with_entry};
-ghost use Rattle.spectra_resolved.specs.Findings.{found_in, with_faults};
+ghost use Rattle.spectra_resolved.specs.MentionViews.{mention_data};
+ghost use Rattle.spectra_resolved.specs.Spaces.{clash};
+ghost use Rattle.spectra_resolved.specs.SpaceViews.{with_entry};
+ghost use Rattle.spectra_resolved.specs.Findings.{with_faults};
+ghost use Rattle.spectra_resolved.specs.Reports.{found_in};
 
 use crate::findings::Findings;
 use crate::spot::Mention;
@@ -16,7 +18,7 @@ use std::alloc::{AllocError, Global};
 
 /// What a name stands for: a value without parentheses; a predicate or a pattern, by its number and that of its parameters; a
 /// type, by its number; nothing but itself, as the name of a line.
-#[derive(Clone, Copy, Debug, PartialEq, Eq)]
+#[derive(Clone, Copy, PartialEq, Eq)]
 pub enum Named {
     Leaf(Leaf),
     Predicate(usize, usize),

@@ -34,7 +34,7 @@ pub struct Alias<'t> {
 }
 
 /// Which word declares a definition.
-#[derive(Clone, Copy, Debug, PartialEq, Eq)]
+#[derive(Clone, Copy, PartialEq, Eq)]
 pub enum DefinitionWord {
     Define,
     Predicate,
@@ -71,7 +71,7 @@ pub struct Pattern<'t> {
 }
 
 /// What the name of a pattern in a line stands for, with its number among the patterns.
-#[derive(Clone, Copy, Debug, PartialEq, Eq)]
+#[derive(Clone, Copy, PartialEq, Eq)]
 pub enum PatternUse {
     Pattern(usize),
     Unknown,

@@ -11,14 +11,14 @@ use crate::spot::Spot;
 use spectra_trees::tree::{BinaryWord, PrefixWord};
 
 /// What takes the place of something that has no meaning: it fits every type, or every Boolean.
-#[derive(Clone, Copy, Debug, PartialEq, Eq)]
+#[derive(Clone, Copy, PartialEq, Eq)]
 pub enum Hole {
     Anything,
     Truth,
 }
 
 /// A tree without parts. A number is at most 10^12 + 1 and at least the negative of that, which stand for all beyond.
-#[derive(Clone, Copy, Debug, PartialEq, Eq)]
+#[derive(Clone, Copy, PartialEq, Eq)]
 pub enum Leaf {
     Truth(bool),
     Number(i64),
@@ -34,7 +34,7 @@ pub enum Leaf {
 }
 
 /// A name that means nothing where it stands, which is a fault at the name. Its arguments are judged all the same.
-#[derive(Clone, Copy, Debug, PartialEq, Eq)]
+#[derive(Clone, Copy, PartialEq, Eq)]
 pub enum Misuse {
     /// No declaration is visible: it fits every type.
     Unknown,
@@ -85,7 +85,7 @@ pub enum Resolved {
 
 /// How often a part is repeated: from the first number on, up to the second where there is one. A number is at most
 /// 10^12 + 1, which stands for all beyond.
-#[derive(Clone, Copy, Debug, PartialEq, Eq)]
+#[derive(Clone, Copy, PartialEq, Eq)]
 pub struct Times {
     pub least: i64,
     pub most: Option<i64>,

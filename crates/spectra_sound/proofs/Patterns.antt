@@ -24,7 +24,7 @@ use Rattle.spectra_items.specs.Types.{type_faults}
 use Rattle.spectra_items.specs.Meanings.{by_place, own_names, pattern_entries, in_pattern, own_types, pattern_lines, pattern_of, part_faults, patterns_in}
 use Rattle.spectra_declared.specs.Items.{FiledItem, part_enum_names}
 use Rattle.spectra_parser.specs.Shapes.{IsShapedType, part_types}
-use Rattle.spectra_judge.specs.Erased as judged
+use Rattle.spectra_judge.specs.PutIn as judged
 use Rattle.spectra_patterns.specs.Laws.{StandForLeaves}
 use Rattle.spectra_patterns.proofs.Named.{resolved_put}
 use Rattle.spectra_sound.specs.Sound.{Sizes, is_type, is_sound_pattern_line, is_sound_pattern}

@@ -12,7 +12,7 @@ use Rattle.spectra_resolved.specs.declared.text.PatternUse.{PatternUse}
 use Rattle.spectra_resolved.specs.declared.text.PatternUse.TheVariants as uses
 use Rattle.spectra_resolved.specs.Resolved.{ResolvedTree, ResolvedRegex, Atom, Sequence, Choice, Repetition, ResolvedRegexes}
 use Rattle.spectra_resolved.specs.Texts.{ResolvedType, Booleans, RangeOf, EnumOf, TypeNumber, NoType, ResolvedVariable, ResolvedAlias, ResolvedDefinition, ResolvedPatternLine, ResolvedPattern, ResolvedBody, ResolvedLine, ResolvedText}
-use Rattle.spectra_judge.specs.Erased.{is_put_in, in_line, in_pattern}
+use Rattle.spectra_judge.specs.PutIn.{is_put_in, in_line, in_pattern}
 use Rattle.spectra_elaboration.specs.Written.{is_use, is_written}
 
 -- ---- types

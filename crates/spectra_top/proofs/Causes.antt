@@ -9,19 +9,18 @@ use Rattle.session.specs.declared.talking.End.TheVariants as ends
 use Rattle.session.specs.declared.auditing.AuditEnd.{AuditEnd}
 use Rattle.session.specs.declared.auditing.AuditEnd.TheVariants as audits
 use Rattle.session.specs.AuditTalks.{AuditTalk}
-use Rattle.spectra_words.specs.declared.words.Command.{Command}
-use Rattle.spectra_words.specs.declared.words.Command.TheVariants.{Synth}
-use Rattle.spectra_words.specs.Commands.{AsksArbiter}
+use Rattle.command_words.specs.declared.words.Command.{Command}
+use Rattle.command_words.specs.declared.words.Command.TheVariants.{Synth}
+use Rattle.command_words.specs.Commands.{AsksArbiter}
 use Rattle.spec_gen.specs.Arbiter.{arbiter_text}
-use Rattle.spectra_top.specs.declared.status.Status.{Status}
-use Rattle.spectra_top.specs.declared.status.Status.TheVariants.{Done, Other, Words, Refused, Assumption, Budget, BadLine, ShelfFault, InputFault, OutputFault, Memory, NoFile, Limit}
-use Rattle.spectra_top.specs.Endings.{Ending, status_of, realizable, unrealizable}
-use Rattle.spectra_top.specs.Streams.{Moment, Writes, Ends, whole, cut, WantsMemory, headed, no_room}
-use Rattle.spectra_top.specs.Streams as headings
-use Rattle.spectra_top.specs.Sessions as sessions
-use Rattle.spectra_top.specs.Sessions.{Talk, Closes, HoldsSession, session, cut_at_once, ending_after, RunTalks, counter_ending_after, CounterTalks, most_positions, audit_ending_after}
-use Rattle.spectra_top.specs.Reading.{Told, import_names}
-use Rattle.spectra_top.specs.Top.{Stops, Decides, ServesTrees, ServesTree, ServesText, ServesFile, ServesWords, ServesArbiter, arbiter_name, HasCause, StopsBelowLine, IsCaused}
+use Rattle.spectra_talks.specs.declared.status.Status.{Status}
+use Rattle.spectra_talks.specs.declared.status.Status.TheVariants.{Done, Other, Words, Refused, Assumption, Budget, BadLine, ShelfFault, InputFault, OutputFault, Memory, NoFile, Limit}
+use Rattle.spectra_talks.specs.Endings.{Ending, status_of, realizable, unrealizable}
+use Rattle.spectra_talks.specs.Streams.{Moment, Writes, Ends, whole, cut, WantsMemory}
+use Rattle.spectra_top.specs.Top.{headed, no_room, Stops, Decides, ServesTrees, ServesTree, ServesText, ServesFile, ServesWords, ServesArbiter, arbiter_name, HasCause, StopsBelowLine, IsCaused}
+use Rattle.spectra_talks.specs.Sessions as sessions
+use Rattle.spectra_talks.specs.Sessions.{Talk, Closes, HoldsSession, session, cut_at_once, ending_after, RunTalks, counter_ending_after, CounterTalks, most_positions, audit_ending_after}
+use Rattle.spectra_files.specs.Reading.{Told, import_names}
 use Rattle.spectra_top.specs.Top as top
 
 module _ (failed : Type 0) (before after : Moment) where
@@ -139,7 +138,7 @@ module _ (words : List (List ℕ)) (failed : Type 0) (before after : Moment) whe
       (λ rose. subst (λ (n : ℕ). Rose n after.read_faults) line.unread.faults rose) (λ rose. let later = line.later in omega (arith, later, rose))
       (λ wants. inr (record { clients = clients; nodes = nodes; between = between; asks = asks; headed = line; wants = wants })) status
       (of_text failed between after Synth nodes arbiter_name told (arbiter_text clients) status serves)
-  of_arbiter told clients nodes asks _ (headings.cut_at_once unread part rose) = rose
+  of_arbiter told clients nodes asks _ (top.cut_at_once unread part rose) = rose
   of_arbiter told clients nodes asks status (no_room wants) = at_once status (by_wanting failed before after status wants)
 
   pub is_caused : (shelf : Option Files) (status : Status) → ServesWords words shelf failed before after status → IsCaused words failed before after status

@@ -1,6 +1,5 @@
 -- What is done for a specification and a file, from what was done for its parts.
-use Rattle.std.proofs.Common.{◌≡◌, ◌<◌, ◌≤◌, ◌⊎◌, ℕ, List, [], ◌∷◌, ◌++◌, length, min, take, get_or, slice_get, Option, Some, inl, inr, refl, ap, sym, subst, ◌∙◌, arith}
-use Rattle.std.proofs.KnownBytes.{Appends-nil}
+use Rattle.std.proofs.Common.{◌≡◌, ◌<◌, ◌≤◌, ◌⊎◌, ℕ, List, [], ◌∷◌, ◌++◌, length, min, take, get_or, slice_get, Option, Some, inl, inr, ap, sym, subst, ◌∙◌, arith}
 use Rattle.std.proofs.lemmas.Bool.{cases_lt}
 use Rattle.std.proofs.lemmas.List.{get_or_past}
 use Rattle.sp_outside.specs.Files.{Files}
@@ -15,26 +14,23 @@ use Rattle.hidden_game.specs.GameOf.{game_of}
 use Rattle.solve.specs.Crowded.{Crowded}
 use Rattle.solve.specs.Budgets.{MayHalt, MayHaltInTurn}
 use Rattle.solve.specs.Winners.{IsWonBySystem, IsWonByEnvironment}
-use Rattle.spectra_words.specs.declared.words.Command.{Command}
-use Rattle.spectra_words.specs.declared.words.Command.TheVariants.{Synth, Run, Core, Separate, Counter, Audit}
-use Rattle.spectra_words.specs.Commands.{AskNothing}
+use Rattle.command_words.specs.declared.words.Command.{Command}
+use Rattle.command_words.specs.declared.words.Command.TheVariants.{Synth, Run, Core, Separate, Counter, Audit}
+use Rattle.command_words.specs.Commands.{AskNothing}
 use Rattle.spec_gen.specs.Arbiter.{arbiter_text}
-use Rattle.spectra_top.specs.declared.reading.NoTree.{NoTree}
-use Rattle.spectra_top.specs.declared.reading.NoTree.TheVariants as files
-use Rattle.spectra_top.specs.declared.reading.Stop.{Stop}
-use Rattle.spectra_top.specs.declared.status.Status.{Status}
-use Rattle.spectra_top.specs.declared.status.Status.TheVariants.{Memory}
-use Rattle.spectra_top.specs.Endings.{Ending, usage, no_file, shelf_fault, refused, realizable, unrealizable, realizable_instead, with_core, separated, not_separated, arbiter_line}
-use Rattle.spectra_top.specs.Streams.{Moment, Ends, WantsMemory, SaysNoVerdict, Heads}
-use Rattle.spectra_top.specs.Sessions.{Holds, Counters, Audits}
-use Rattle.spectra_top.specs.Reading.{Told, import_names, IsRefusedAt, FilesReadAs, ComesNext}
-use Rattle.spectra_top.specs.Refusals.{HasNoTree, StopsAt}
-use Rattle.spectra_top.specs.Top.{solved_for, AreFilled, won, held, lost, won_instead, countered, has_core, separates, separates_not, audits, Stops, SaysStop, Decides, ServesTrees, ServesTree, ServesText, ServesFile, ServesWords, ServesArbiter, arbiter_name}
+use Rattle.spectra_files.specs.declared.reading.NoTree.{NoTree}
+use Rattle.spectra_files.specs.declared.reading.NoTree.TheVariants as files
+use Rattle.spectra_files.specs.declared.reading.Stop.{Stop}
+use Rattle.spectra_talks.specs.declared.status.Status.{Status}
+use Rattle.spectra_talks.specs.declared.status.Status.TheVariants.{Memory}
+use Rattle.spectra_talks.specs.Endings.{Ending, usage, no_file, shelf_fault, refused, realizable, unrealizable, realizable_instead, with_core, separated, not_separated, arbiter_line}
+use Rattle.spectra_talks.specs.Streams.{Moment, Ends, WantsMemory}
+use Rattle.spectra_top.specs.Top.{Heads, solved_for, AreFilled, won, held, lost, won_instead, countered, has_core, separates, separates_not, audits, Stops, Decides, ServesTrees, ServesTree, ServesText, ServesFile, ServesWords, ServesArbiter, arbiter_name}
+use Rattle.spectra_top.specs.Saying.{SaysNoVerdict, SaysStop}
+use Rattle.spectra_talks.specs.Sessions.{Holds, Counters, Audits}
+use Rattle.spectra_files.specs.Reading.{Told, import_names, IsRefusedAt, FilesReadAs, ComesNext}
+use Rattle.spectra_files.specs.Refusals.{HasNoTree, StopsAt}
 use Rattle.spectra_top.specs.Top as top
-
--- nothing was done: no memory was given
-pub nothing_done : (m : Moment) → WantsMemory m m Memory
-nothing_done m = record { is = refl; nothing_written = Appends-nil m.written; unread = record { left = refl; faults = refl } }
 
 -- what is said where there is no verdict
 pub no_verdict_said : (halt is : Halt) → halt ≡ is → (nodes : ℕ) (before after : Moment) (status : Status) → SaysNoVerdict is nodes before after status → SaysNoVerdict halt nodes before after status

@@ -1,52 +1,25 @@
 -- Files that mean a specification have no fault, so that they get the decision of that specification.
-use Rattle.std.proofs.Common.{◌≡◌, ℕ, List, [], ◌∷◌, ◌++◌, map, slice_get, Option, Some, None, refl, ap, sym, subst, arith, ◌∙◌}
+use Rattle.std.proofs.Common.{◌≡◌, ℕ, List, [], ◌∷◌, ◌++◌, map, slice_get, Option, Some, None, refl, ap, sym, subst, ◌∙◌}
 use Rattle.std.specs.FinMap.{get}
 use Rattle.sp_outside.specs.Files.{Files, told_file, HasFile}
 use Rattle.spec_model.specs.Syntax.{Specification}
-use Rattle.spectra_lexer.specs.declared.token.Token.{Token}
-use Rattle.spectra_lexer.specs.Faults.{IsTooLong}
-use Rattle.spectra_lexer.proofs.Unique.{one_list_of_tokens, reads_or_fails}
-use Rattle.spectra_lexer.proofs.Outcomes.{broken_is_no_utf8}
 use Rattle.spectra_trees.specs.Data.{NameData, TreeData}
-use Rattle.spectra_trees.specs.Lexemes.{lexemes}
-use Rattle.spectra_exprs.specs.declared.fault.SyntaxFault.{SyntaxFault}
-use Rattle.spectra_exprs.specs.declared.fault.SyntaxFault.TheVariants as syntax
-use Rattle.spectra_parser.specs.Texts.{HasTree}
-use Rattle.spectra_parser.proofs.OneFault.{no_fault}
 use Rattle.spectra_resolved.specs.Findings.{first_of_faults}
 use Rattle.spectra_types.specs.Meanings.{faults_of, meaning_of}
 use Rattle.spectra_types.specs.Resolved.{Means}
-use Rattle.spectra_words.specs.declared.words.Command.{Command}
-use Rattle.spectra_words.specs.declared.words.Command.TheVariants.{Synth}
+use Rattle.command_words.specs.declared.words.Command.{Command}
+use Rattle.command_words.specs.declared.words.Command.TheVariants.{Synth}
 use Rattle.spec_gen.specs.Arbiter.{arbiter_text}
-use Rattle.spectra_top.specs.declared.status.Status.{Status}
-use Rattle.spectra_top.specs.Endings.{Ending, shelf_fault}
-use Rattle.spectra_top.specs.Streams.{Moment, headed, cut_at_once, no_room}
-use Rattle.spectra_top.specs.Reading.{ReadsAs, named_by, IsUngrammaticalAt, IsRefusedAt, not_utf8, bad_character, too_long, ungrammatical, import_name, import_names, Told, FilesReadAs, Reads, ReadsAlone}
-use Rattle.spectra_top.specs.Top.{Stops, Decides, ServesTrees, ServesTree, ServesText, ServesFile, ServesWords, ServesArbiter, DecidesArbiter, DecidesWhatReads, DecidesArbiters, arbiter_name}
+use Rattle.spectra_talks.specs.declared.status.Status.{Status}
+use Rattle.spectra_talks.specs.Endings.{Ending, shelf_fault}
+use Rattle.spectra_talks.specs.Streams.{Moment}
+use Rattle.spectra_top.specs.Top.{headed, cut_at_once, no_room, Stops, Decides, ServesTrees, ServesTree, ServesText, ServesFile, ServesWords, ServesArbiter, DecidesArbiter, DecidesWhatReads, DecidesArbiters, arbiter_name}
+use Rattle.spectra_files.specs.Reading.{ReadsAs, IsRefusedAt, import_name, import_names, Told, FilesReadAs}
+use Rattle.spectra_top.specs.Meanings.{Reads, ReadsAlone}
 use Rattle.spectra_top.specs.Top as top
-use Rattle.spectra_top.proofs.Readings.{one_reading, files_read_once, HasSomeTree, read_among}
+use Rattle.spectra_files.proofs.Unrefused.{never_refused}
+use Rattle.spectra_files.proofs.Readings.{one_reading, files_read_once, HasSomeTree, read_among}
 use Rattle.spectra_top.proofs.Requests.{one_file, one_command, one_budget, one_arbiter, file_or_arbiter}
-
--- ---- a text with a tree isn't refused
-
-module _ (text : List ℕ) (tree : TreeData) (reads : ReadsAs text tree) where
-  is_long_not : IsTooLong text → ⊥
-  is_long_not long = absurd (let short = reads.lexed.short in omega (arith, short, long))
-
-  is_ungrammatical_not : (number line column : ℕ) → IsUngrammaticalAt text number line column → ⊥
-  is_ungrammatical_not number line column is =
-      let same = one_list_of_tokens text reads.tokens is.tokens reads.lexed is.lexed in
-      let parsed = subst (λ (ts : List Token). HasTree (lexemes text ts) tree) same reads.parsed in
-      let memory = no_fault (lexemes text is.tokens) tree is.fault parsed is.explains in
-      let named : named_by syntax.Memory ≡ Some (is.at, number) = subst (λ (f : SyntaxFault). named_by f ≡ Some (is.at, number)) memory is.named in
-      absurd (cc)
-
-  never_refused : (number line column : ℕ) → IsRefusedAt text line column number → ⊥
-  never_refused _ line column (not_utf8 is) = broken_is_no_utf8 text line column is reads.lexed.utf8
-  never_refused _ line column (bad_character is) = reads_or_fails reads.lexed.lexed is.fails
-  never_refused _ line column (too_long is first begin) = is_long_not is
-  never_refused number line column (ungrammatical is) = is_ungrammatical_not number line column is
 
 -- the run ends at a told file with a tree only where the shelf failed
 pub only_fails : (file : Option (List ℕ)) (failed : Type 0) → HasSomeTree (Some file) → (name : List ℕ) (e : Ending) → Stops (Some file) failed name e → failed × (e ≡ shelf_fault name)

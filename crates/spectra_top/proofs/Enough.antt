@@ -1,21 +1,58 @@
--- With enough nodes the node budget is never reached.
-use Rattle.std.proofs.Common.{◌≤◌, ℕ, List, Option, arith, sym, subst}
+-- With enough nodes no named sets fill them, so that the node budget is never reached.
+use Rattle.std.proofs.Common.{◌<◌, ◌≤◌, ℕ, List, [], ◌∷◌, Option, inl, inr, arith, sym, subst}
 use Rattle.sp_outside.specs.Causes.{Rose}
 use Rattle.spec_model.specs.Syntax.{Specification}
-use Rattle.spec_model.specs.Needs.{need_of}
+use Rattle.spec_model.specs.Cores.{less, guarantees_of}
+use Rattle.spec_model.specs.Needs.{need_of, AskedFrom, Tried}
+use Rattle.hidden_game.specs.GameOf.{game_of}
+use Rattle.hidden_game.proofs.FewBits.{part_needs}
+use Rattle.solve.specs.Crowded.{Crowded}
 use Rattle.session.specs.declared.talking.End.{End}
 use Rattle.session.specs.declared.talking.End.TheVariants as ends
 use Rattle.session.specs.declared.auditing.AuditEnd.{AuditEnd}
 use Rattle.session.specs.declared.auditing.AuditEnd.TheVariants as audits
-use Rattle.spectra_words.specs.declared.words.Command.{Command}
-use Rattle.spectra_top.specs.declared.status.Status.{Status}
-use Rattle.spectra_top.specs.declared.status.Status.TheVariants.{Budget}
-use Rattle.spectra_top.specs.Endings.{Ending, status_of}
-use Rattle.spectra_top.specs.Streams.{Moment, Writes, whole, cut, WantsMemory}
-use Rattle.spectra_top.specs.Sessions as sessions
-use Rattle.spectra_top.specs.Sessions.{Talk, Closes, HoldsSession, session, cut_at_once, ending_after, counter_ending_after, audit_ending_after}
-use Rattle.spectra_top.specs.Top.{Decides, solved_for, NeverRunsOut}
+use Rattle.command_words.specs.declared.words.Command.{Command}
+use Rattle.command_words.specs.declared.words.Command.TheVariants.{Synth, Run, Core, Separate, Counter, Audit}
+use Rattle.spectra_talks.specs.declared.status.Status.{Status}
+use Rattle.spectra_talks.specs.declared.status.Status.TheVariants.{Budget}
+use Rattle.spectra_talks.specs.Endings.{Ending, status_of}
+use Rattle.spectra_talks.specs.Streams.{Moment, Writes, whole, cut, WantsMemory}
+use Rattle.spectra_talks.specs.Sessions as sessions
+use Rattle.spectra_talks.specs.Sessions.{Talk, Closes, HoldsSession, session, cut_at_once, ending_after, counter_ending_after, audit_ending_after}
+use Rattle.spectra_top.specs.Top.{Decides, solved_for, AreFilled}
+use Rattle.spectra_top.specs.Budgets.{NeverFilled, NeverRunsOut}
 use Rattle.spectra_top.specs.Top as top
+
+-- ---- nodes that are filled are too few
+
+-- what trying for a core asks about has fewer guarantees, so that it needs no more nodes
+asked_needs : (s t : Specification) (kept tries : List ℕ) → AskedFrom s kept tries t → need_of t ≤ need_of s
+asked_needs s t kept [] asked = absurd asked
+asked_needs s t kept (n ∷ ns) (inl is) = subst (λ (u : Specification). need_of u ≤ need_of s) (sym is) (part_needs s (less kept n))
+asked_needs s t kept (n ∷ ns) (inr (inl later)) = asked_needs s t (less kept n) ns later.1
+asked_needs s t kept (n ∷ ns) (inr (inr later)) = asked_needs s t kept ns later.1
+
+tried_needs : (s t : Specification) → Tried s t → need_of t ≤ need_of s
+tried_needs s t (inl is) = subst (λ (u : Specification). need_of u ≤ need_of s) (sym is) (omega arith)
+tried_needs s t (inr asked) = asked_needs s t (guarantees_of s) (guarantees_of s) asked
+
+-- crowded nodes are fewer than are needed
+abbrev CrowdedIsFew : Type 0
+CrowdedIsFew = (s : Specification) (n : ℕ) → Crowded (game_of s) n → n < need_of s
+
+module _ (crowded_few : CrowdedIsFew) where
+  never : (nodes : ℕ) (s : Specification) → need_of s ≤ nodes → ¬ Crowded (game_of s) nodes
+  never nodes s enough_nodes crowded = absurd (let few = crowded_few s nodes crowded in omega (arith, few, enough_nodes))
+
+  pub never_filled : (command : Command) (nodes : ℕ) (s : Specification) → NeverFilled command nodes s
+  never_filled Core nodes s enough_nodes filled = never nodes filled.0 (let more = tried_needs s filled.0 filled.1 in omega (arith, more, enough_nodes)) filled.2
+  never_filled Synth nodes s enough_nodes filled = never nodes s enough_nodes filled
+  never_filled Run nodes s enough_nodes filled = never nodes s enough_nodes filled
+  never_filled Separate nodes s enough_nodes filled = never nodes (solved_for Separate s) enough_nodes filled
+  never_filled Counter nodes s enough_nodes filled = never nodes s enough_nodes filled
+  never_filled Audit nodes s enough_nodes filled = never nodes s enough_nodes filled
+
+-- ---- so they don't run out
 
 abbrev IsOther : Status → Type 0
 IsOther Budget = ⊥
@@ -60,7 +97,7 @@ module _ (before after : Moment) where
   by_audit audits.StateLimit = tt
   by_audit audits.ReadFault = tt
 
-  module _ (command : Command) (nodes : ℕ) (s : Specification) (enough_nodes : need_of (solved_for command s) ≤ nodes) where
+  module _ (command : Command) (nodes : ℕ) (s : Specification) (not_filled : ¬ AreFilled command nodes s) where
     decided : (status : Status) → Decides command nodes s before after status → IsOther status
     decided status (top.won k is by ends) = by_writing _ _ status tt ends
     decided status (top.held k is by holds) = by_session _ _ ending_after status by_run holds
@@ -71,8 +108,8 @@ module _ (before after : Moment) where
     decided status (top.separates n m is by ends) = by_writing _ _ status tt ends
     decided status (top.separates_not k is by ends) = by_writing _ _ status tt ends
     decided status (top.audits is log) = by_closing (audit_ending_after log.end) before.written after.written (Rose before.write_faults after.write_faults) status (by_audit log.end) log.closes
-    decided status (top.budget other few filled ends) = absurd (omega (arith, few, enough_nodes))
+    decided status (top.budget other few filled ends) = absurd (not_filled filled)
     decided status (top.no_memory wants) = by_wanting status wants
 
-pub enough : (command : Command) (nodes : ℕ) (s : Specification) (before after : Moment) → NeverRunsOut command nodes s before after
-enough command nodes s before after enough_nodes decides = decided before after command nodes s enough_nodes Budget decides
+pub enough : ((command : Command) (nodes : ℕ) (s : Specification) → NeverFilled command nodes s) → (command : Command) (nodes : ℕ) (s : Specification) (before after : Moment) → NeverRunsOut command nodes s before after
+enough unfilled command nodes s before after enough_nodes decides = decided before after command nodes s (unfilled command nodes s enough_nodes) Budget decides

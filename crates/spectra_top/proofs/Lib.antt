@@ -1,12 +1,6 @@
-mod Placed
-mod Readings
-mod ShapedReadings
+mod Meant
 mod Requests
 mod Decisive
-mod Fronts
-mod Folders
-mod InOrder
-mod Exchanges
 mod Decided
 mod Causes
 mod Statuses

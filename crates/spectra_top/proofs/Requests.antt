@@ -1,9 +1,9 @@
 -- Words ask for one thing alone.
 use Rattle.std.proofs.Common.{◌≡◌, ◌≤◌, ℕ, List, Option, Some, None, sum, refl, sym, ap, arith, ◌∙◌}
 use Rattle.std.specs.Str.Parse.{digits_value}
-use Rattle.spectra_words.specs.declared.words.Command.{Command}
-use Rattle.spectra_words.specs.declared.words.Command.TheVariants.{Synth, Run, Core, Separate, Counter, Audit}
-use Rattle.spectra_words.specs.Commands.{Asks, AsksArbiter, IsBudget, word_of, arbiter_word}
+use Rattle.command_words.specs.declared.words.Command.{Command}
+use Rattle.command_words.specs.declared.words.Command.TheVariants.{Synth, Run, Core, Separate, Counter, Audit}
+use Rattle.command_words.specs.Commands.{Asks, AsksArbiter, IsBudget, word_of, arbiter_word}
 
 -- the codes of each word have another sum
 abbrev sum_of : Command → ℕ

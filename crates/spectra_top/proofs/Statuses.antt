@@ -3,16 +3,17 @@ use Rattle.std.proofs.Common.{◌≡◌, ◌⊎◌, ◌<◌, ℕ, zero, suc, Lis
 use Rattle.std.specs.FinMap.{get}
 use Rattle.sp_outside.specs.Files.{Files, told_file, HasFile}
 use Rattle.spectra_trees.specs.Data.{TreeData}
-use Rattle.spectra_words.specs.declared.words.Command.{Command}
-use Rattle.spectra_top.specs.declared.status.Status.{Status}
-use Rattle.spectra_top.specs.declared.status.Status.TheVariants.{Words, Refused, ShelfFault, NoFile}
-use Rattle.spectra_top.specs.Endings.{Ending, IsCutShort, IsUnlessCut, IsUnlessFault}
-use Rattle.spectra_words.specs.Commands.{Asks, AskNothing}
-use Rattle.spectra_top.specs.Streams.{Moment, Writes, whole, cut, Ends, WantsMemory}
+use Rattle.command_words.specs.declared.words.Command.{Command}
+use Rattle.spectra_talks.specs.declared.status.Status.{Status}
+use Rattle.spectra_talks.specs.declared.status.Status.TheVariants.{Words, Refused, ShelfFault, NoFile}
+use Rattle.spectra_talks.specs.Endings.{Ending, IsCutShort, IsUnlessCut, IsUnlessFault}
+use Rattle.command_words.specs.Commands.{Asks, AskNothing}
+use Rattle.spectra_talks.specs.Streams.{Moment, Writes, whole, cut, Ends, WantsMemory}
 use Rattle.spectra_top.proofs.Requests.{one_file, file_or_arbiter}
-use Rattle.spectra_top.proofs.Readings.{one_reading, HasSomeTree, read_among}
+use Rattle.spectra_files.proofs.Readings.{one_reading, HasSomeTree, read_among}
 use Rattle.spectra_top.proofs.Decisive.{only_fails}
-use Rattle.spectra_top.specs.Reading.{ReadsAs, import_names, Told, FileReadsAs, FilesReadAs, ComesNext, MeansNothing, ImportsAreThere, MissesImport}
+use Rattle.spectra_files.specs.Reading.{ReadsAs, import_names, Told, FileReadsAs, FilesReadAs, ComesNext, ImportsAreThere, MissesImport}
+use Rattle.spectra_top.specs.Meanings.{MeansNothing}
 use Rattle.spectra_top.specs.Top.{Stops, ServesTrees, ServesTree, ServesFile, ServesWords, Refuses}
 use Rattle.spectra_top.specs.Top as top
 

@@ -1,6 +1,4 @@
-pub mod Endings
-pub mod Streams
-pub mod Reading
-pub mod Refusals
-pub mod Sessions
+pub mod Meanings
 pub mod Top
+pub mod Budgets
+pub mod Saying

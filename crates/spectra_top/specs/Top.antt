@@ -1,29 +1,30 @@
 -- What the program does for words and files.
 use Rattle.std.specs.Prelude.{◌≡◌, ◌⊎◌, ◌<◌, ◌≤◌, ℕ, List, [], ◌∷◌, ◌++◌, get_or, codes, Option, Some, None}
+use Rattle.std.specs.Io.KnownBytes.{Appends}
 use Rattle.sp_outside.specs.Causes.{Rose}
+use Rattle.sp_outside.specs.Written.{AppendsFront}
 use Rattle.sp_outside.specs.Files.{Files, told_file, HasNoFile, HasFile}
 use Rattle.spec_model.specs.Syntax.{Specification}
 use Rattle.spec_model.specs.Cores.{forced, IsLeft, IsCore}
 use Rattle.spec_model.specs.Needs.{need_of, Tried}
 use Rattle.spectra_trees.specs.Data.{TreeData}
 use Rattle.spectra_resolved.specs.Findings.{fault, first_of_faults}
-use Rattle.spectra_types.specs.Meanings.{faults_of}
-use Rattle.spectra_types.specs.Resolved.{Means}
+use Rattle.spectra_types.specs.Meanings.{faults_of, Means}
 use Rattle.hidden_game.specs.GameOf.{game_of}
 use Rattle.solve.specs.Winners.{IsWonBySystem, IsWonByEnvironment}
 use Rattle.solve.specs.Crowded.{Crowded}
 use Rattle.spec_gen.specs.Arbiter.{arbiter_text}
-use Rattle.spectra_words.specs.declared.words.Command.{Command}
-use Rattle.spectra_words.specs.declared.words.Command.TheVariants.{Synth, Run, Core, Separate, Counter, Audit}
-use Rattle.spectra_words.specs.Commands.{Asks, AsksArbiter, AskNothing}
-use Rattle.spectra_top.specs.declared.reading.NoTree.{NoTree}
-use Rattle.spectra_top.specs.declared.reading.NoTree.TheVariants as files
-use Rattle.spectra_top.specs.declared.status.Status.{Status}
-use Rattle.spectra_top.specs.declared.status.Status.TheVariants.{Budget, Words, Refused, ShelfFault, InputFault, OutputFault, Memory, NoFile}
-use Rattle.spectra_top.specs.Endings.{Ending, IsUnlessCut, IsUnlessFault, usage, no_file, shelf_fault, refused, realizable, unrealizable, realizable_instead, with_core, separated, not_separated, node_budget, arbiter_line}
-use Rattle.spectra_top.specs.Streams.{Moment, Ends, WantsMemory, IsHeaded, Heads}
-use Rattle.spectra_top.specs.Sessions.{Holds, Counters, Audits}
-use Rattle.spectra_top.specs.Reading.{ReadsAs, IsRefusedAt, import_names, Told, FileReadsAs, FilesReadAs, ComesNext, Reads, MeansNothing, ImportsAreThere, MissesImport, ReadsAlone}
+use Rattle.command_words.specs.declared.words.Command.{Command}
+use Rattle.command_words.specs.declared.words.Command.TheVariants.{Synth, Run, Core, Separate, Counter, Audit}
+use Rattle.command_words.specs.Commands.{Asks, AsksArbiter, AskNothing}
+use Rattle.spectra_files.specs.declared.reading.NoTree.TheVariants as files
+use Rattle.spectra_talks.specs.declared.status.Status.{Status}
+use Rattle.spectra_talks.specs.declared.status.Status.TheVariants.{Words, Refused, ShelfFault, InputFault, OutputFault, Memory, NoFile}
+use Rattle.spectra_talks.specs.Endings.{Ending, IsUnlessCut, IsUnlessFault, usage, no_file, shelf_fault, refused, realizable, unrealizable, realizable_instead, with_core, separated, not_separated, node_budget, arbiter_line}
+use Rattle.spectra_talks.specs.Streams.{Moment, IsUnread, Ends, WantsMemory}
+use Rattle.spectra_talks.specs.Sessions.{Holds, Counters, Audits}
+use Rattle.spectra_files.specs.Reading.{ReadsAs, IsRefusedAt, import_names, Told, FileReadsAs, FilesReadAs, ComesNext, ImportsAreThere, MissesImport}
+use Rattle.spectra_top.specs.Meanings.{Reads, MeansNothing, ReadsAlone}
 
 -- ---- one file
 
@@ -33,12 +34,21 @@ pub data Stops (file : Option (Option (List ℕ))) (shelf_failed : Type 0) (name
   failed : shelf_failed → Stops file shelf_failed name (shelf_fault name)
   is_refused : (text : List ℕ) (number line column : ℕ) → HasFile file (λ bytes. bytes ≡ text) → IsRefusedAt text line column number → Stops file shelf_failed name (refused name line column number)
 
--- what is said of a file of this name that has no tree: a line that is written last, unless no memory was given
-abbrev pub SaysStop : (name : List ℕ) → NoTree → (before after : Moment) → Status → Type 0
-SaysStop name files.Missing before after status = Ends (no_file name) before after status ⊎ WantsMemory before after status
-SaysStop name files.Shelf before after status = Ends (shelf_fault name) before after status ⊎ WantsMemory before after status
-SaysStop name (files.Refused number line column) before after status = Ends (refused name line column number) before after status ⊎ WantsMemory before after status
-SaysStop name files.Memory before after status = WantsMemory before after status
+-- ---- below a line
+
+-- the line was written, and nothing else was done
+pub record IsHeaded (line : List ℕ) (before after : Moment) : Type 0 where
+  pub unread : IsUnread before after
+  pub written : Appends before.written after.written line
+  pub later : before.write_faults ≤ after.write_faults
+
+module _ (line : List ℕ) (Does : (before after : Moment) → Status → Type 0) (before after : Moment) where
+  -- Below the line something was done; or the output failed at the line, or no memory was given for it. Then the input was not
+  -- read.
+  pub data Heads : Status → Type 0 where
+    headed : {status : Status} (between : Moment) → IsHeaded line before between → Does between after status → Heads status
+    cut_at_once : IsUnread before after → AppendsFront before.written after.written line → Rose before.write_faults after.write_faults → Heads OutputFault
+    no_room : {status : Status} → WantsMemory before after status → Heads status
 
 -- ---- what is done for a command, with so many nodes
 
@@ -71,10 +81,6 @@ module _ (command : Command) (nodes : ℕ) where
       audits : {status : Status} → command ≡ Audit → Audits s before after status → Decides status
       budget : {status : Status} → ¬ (command ≡ Audit) → nodes < need_of (solved_for command s) → AreFilled command nodes s → Ends (node_budget nodes) before after status → Decides status
       no_memory : {status : Status} → WantsMemory before after status → Decides status
-
-    -- with as many nodes as the specification that is solved needs, they don't run out
-    abbrev pub NeverRunsOut : Type 0
-    NeverRunsOut = need_of (solved_for command s) ≤ nodes → ¬ Decides Budget
 
   -- with the main file of this name
   module _ (name : List ℕ) (before after : Moment) where

@@ -3,25 +3,27 @@
 ghost use Rattle.std.specs.Prelude.{◌≤◌};
 ghost use Rattle.spec_model.specs.Views.{spec_data};
 ghost use Rattle.spec_model.specs.WellTyped.{WellTyped};
-ghost use Rattle.spec_model.specs.Cores.{HasRoomForOne};
+ghost use Rattle.spec_model.specs.Room.{HasRoomForOne};
 ghost use Rattle.solve.specs.Winners.{IsWonByEnvironment};
-ghost use Rattle.spectra_words.specs.declared.words.Command.TheVariants as commands;
-ghost use Rattle.spectra_top.specs.Streams.{moments, OverOutput, SaysNoVerdict};
+ghost use Rattle.command_words.specs.declared.words.Command.TheVariants as commands;
+ghost use Rattle.spectra_talks.specs.Streams.{moments};
+ghost use Rattle.spectra_talks.specs.Offered.{OverOutput};
 ghost use Rattle.spectra_top.specs.Top.{Decides};
+ghost use Rattle.spectra_top.specs.Saying.{SaysNoVerdict};
 
-use crate::auditing::audit;
-use crate::countering::counter;
-use crate::holding::hold;
-use crate::saying::{
-    say_core, say_node_budget, say_not_separated, say_realizable, say_realizable_instead,
-    say_separated, say_unrealizable,
-};
-use crate::status::Status;
+use command_words::{Command, Request};
 use regions::Halt;
 use solve::{Numbers, Separation, Verdict, core_of_lost, separated, whole_numbers, whole_verdict};
 use sp_outside::{Sink, Source};
 use spec_model::spec::Spec;
-use spectra_words::{Command, Request};
+use spectra_talks::auditing::audit;
+use spectra_talks::countering::counter;
+use spectra_talks::holding::hold;
+use spectra_talks::saying::{
+    say_core, say_node_budget, say_not_separated, say_realizable, say_realizable_instead,
+    say_separated, say_unrealizable,
+};
+use spectra_talks::status::Status;
 use std::alloc::Global;
 
 // Says why there is no verdict, where that is a line.

@@ -4,16 +4,16 @@ ghost use Rattle.std.specs.Prelude.{◌≡◌, ◌≤◌};
 ghost use Rattle.sp_outside.specs.Causes.{Rose};
 ghost use Rattle.sp_outside.specs.Files.{told_file};
 ghost use Rattle.spec_gen.specs.Arbiter.{arbiter_text};
-ghost use Rattle.spectra_words.specs.declared.words.Command.TheVariants as commands;
-ghost use Rattle.spectra_top.specs.Streams.{moments, Heads};
-ghost use Rattle.spectra_top.specs.Top.{ServesText, ServesArbiter, arbiter_name};
+ghost use Rattle.command_words.specs.declared.words.Command.TheVariants as commands;
+ghost use Rattle.spectra_talks.specs.Streams.{moments};
+ghost use Rattle.spectra_top.specs.Top.{Heads, ServesText, ServesArbiter, arbiter_name};
 
-use crate::saying::arbiter_line;
 use crate::serving::serve_text;
-use crate::status::Status;
+use command_words::{Command, Request};
 use sp_outside::{Shelf, Sink, Source, write_line};
 use spec_gen::arbiter;
-use spectra_words::{Command, Request};
+use spectra_talks::saying::arbiter_line;
+use spectra_talks::status::Status;
 use std::alloc::Global;
 
 // Writes a line, and below it what `synth` writes for the text of an arbiter.

@@ -12,17 +12,8 @@
 //! Contract: `top::spectra`. Path: words and bytes → tokens → trees → specification → verdict → **lines and status**.
 #![tactic(auto)]
 
-mod auditing;
-mod closing;
-pub mod countering;
 mod deciding;
 mod generating;
-pub mod holding;
-mod importing;
 pub mod laws;
-mod placing;
-pub mod reading;
-mod saying;
 mod serving;
-pub mod status;
 pub mod top;

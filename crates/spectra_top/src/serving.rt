@@ -5,19 +5,21 @@ ghost use Rattle.sp_outside.specs.Causes.{Rose};
 ghost use Rattle.sp_outside.specs.Files.{told_file};
 ghost use Rattle.spectra_trees.specs.Views.{tree_data};
 ghost use Rattle.spectra_parser.specs.Shapes.{IsShaped};
-ghost use Rattle.spectra_top.specs.Streams.{moments, OverOutput};
-ghost use Rattle.spectra_top.specs.Top.{SaysStop, ServesTrees, ServesTree, ServesText, ServesFile};
+ghost use Rattle.spectra_talks.specs.Streams.{moments};
+ghost use Rattle.spectra_talks.specs.Offered.{OverOutput};
+ghost use Rattle.spectra_top.specs.Top.{ServesTrees, ServesTree, ServesText, ServesFile};
+ghost use Rattle.spectra_top.specs.Saying.{SaysStop};
 
 use crate::deciding::serve_specification;
-use crate::importing::import_names;
-use crate::placing::TextFault;
-use crate::reading::{NoTree, read_tree, read_trees, tree_of};
-use crate::saying::{say_fault, say_no_file, say_shelf_fault};
-use crate::status::Status;
+use command_words::Request;
 use sp_outside::{Shelf, Sink, Source};
+use spectra_files::importing::import_names;
+use spectra_files::placing::TextFault;
+use spectra_files::reading::{NoTree, read_tree, read_trees, tree_of};
 use spectra_parser::Tree;
+use spectra_talks::saying::{say_fault, say_no_file, say_shelf_fault};
+use spectra_talks::status::Status;
 use spectra_types::{TypeFault, resolve};
-use spectra_words::Request;
 use std::alloc::Global;
 
 // Says why the file of this name has no tree.

@@ -2,15 +2,15 @@
 
 ghost use Rattle.std.specs.Prelude.{◌≡◌, map, string_bytes};
 ghost use Rattle.sp_outside.specs.Causes.{Rose};
-ghost use Rattle.spectra_top.specs.Streams.{moments};
+ghost use Rattle.spectra_talks.specs.Streams.{moments};
 ghost use Rattle.spectra_top.specs.Top.{ServesWords, DecidesWhatReads, DecidesArbiters, Refuses, IsCaused};
 
 use crate::generating::serve_arbiter;
-use crate::saying::say_usage;
 use crate::serving::serve_file;
-use crate::status::Status;
+use command_words::{Task, asked};
 use sp_outside::{Shelf, Sink, Source};
-use spectra_words::{Task, asked};
+use spectra_talks::saying::say_usage;
+use spectra_talks::status::Status;
 use std::alloc::Global;
 
 /// All that the program does. The words are those of the command line, the program's own name first.

@@ -1,2 +1,3 @@
 mod Spelling
 pub mod Folded
+pub mod Shown

@@ -1,8 +1,7 @@
 -- Tokens with their texts and classes: what the grammar is over.
-use Rattle.std.specs.Prelude.{ℕ, ◌-◌, ◌+◌, List, [], ◌∷◌, map, take, drop}
+use Rattle.std.specs.Prelude.{ℕ, ◌-◌, ◌+◌, List, [], ◌∷◌, take, drop}
 use Rattle.spectra_lexer.specs.declared.token.Token.{Token}
 use Rattle.spectra_trees.specs.declared.class.Class.{Class}
-use Rattle.spectra_trees.specs.declared.lexeme.Spelled.{Spelled}
 use Rattle.spectra_trees.specs.declared.tree.Place.{Place}
 use Rattle.spectra_trees.specs.Classes.{class_of}
 use Rattle.spectra_trees.specs.Data.{NameData}
@@ -31,10 +30,3 @@ lexemes text tokens = lexemes_from text 0 tokens
 -- the name that a token is
 abbrev pub name_of : Lexeme → NameData
 name_of t = record { text = t.text; line = t.at.line; column = t.at.column }
-
--- what the program's tokens stand for
-abbrev pub lexeme_of : Spelled → Lexeme
-lexeme_of t = record { class = t.class; text = t.text.now; at = t.at; number = t.number }
-
-abbrev pub lexemes_of : List Spelled → List Lexeme
-lexemes_of ts = map lexeme_of ts

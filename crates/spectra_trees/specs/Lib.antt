@@ -5,3 +5,4 @@ pub mod Lexemes
 pub mod Chains
 pub mod ChainViews
 pub mod Faults
+pub mod Laws

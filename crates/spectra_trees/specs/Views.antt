@@ -1,5 +1,5 @@
 -- The plain data that the program's trees stand for.
-use Rattle.std.specs.Prelude.{map, string_bytes, option_map}
+use Rattle.std.specs.Prelude.{map, string_bytes, option_map, List}
 use Rattle.spectra_trees.specs.declared.tree.Name.{Name}
 use Rattle.spectra_trees.specs.declared.tree.ExprTree.{ExprTree}
 use Rattle.spectra_trees.specs.declared.tree.ExprForm.{ExprForm, fold-ExprForm}
@@ -20,6 +20,8 @@ use Rattle.spectra_trees.specs.declared.tree.Item.{Item}
 use Rattle.spectra_trees.specs.declared.tree.Item.TheVariants as items
 use Rattle.spectra_trees.specs.declared.tree.Tree.{Tree}
 use Rattle.spectra_trees.specs.Data.{NameData, Expression, Form, expression, expressions, TypeData, TypeShape, RegexData, regexes, RepeatData, PartData, PartShape, BodyData, ItemData, TreeData}
+use Rattle.spectra_trees.specs.declared.lexeme.Spelled.{Spelled}
+use Rattle.spectra_trees.specs.Lexemes.{Lexeme}
 
 abbrev pub name_data : Name → NameData
 name_data n = record { text = string_bytes n.text; line = n.line; column = n.column }
@@ -100,3 +102,12 @@ item_data (items.Statement l) = ItemData.Statement (record { at = l.at; role = l
 
 abbrev pub tree_data : Tree → TreeData
 tree_data t = record { header = name_data t.header; imports = map name_data t.imports.items; items = map item_data t.items.items }
+
+-- ---- tokens
+
+-- what the program's tokens stand for
+abbrev pub lexeme_of : Spelled → Lexeme
+lexeme_of t = record { class = t.class; text = t.text.now; at = t.at; number = t.number }
+
+abbrev pub lexemes_of : List Spelled → List Lexeme
+lexemes_of ts = map lexeme_of ts

@@ -10,7 +10,7 @@ use crate::tree::{BinaryWord, ExprForm, ExprTree, Place};
 use std::alloc::{AllocError, Global};
 
 /// An operator between two operands, with the second one. `first` is the place of the first token of both.
-#[derive(Clone, Copy, Debug)]
+#[derive(Clone, Copy)]
 pub struct Link<'t> {
     pub first: Place,
     pub at: Place,
@@ -19,7 +19,7 @@ pub struct Link<'t> {
 }
 
 /// An expression with operators behind it in text order, each of which has all before it as its first operand.
-#[derive(Debug, Drop)]
+#[derive(Drop)]
 pub struct Chain<'t> {
     pub head: &'t ExprTree,
     pub links: Vec<Link<'t>>,

@@ -7,7 +7,7 @@ use crate::spellings::{sign_class, word_class};
 use spectra_lexer::Kind;
 
 /// What a token is for the grammar. Words and signs of one meaning are one class, as the tables of `spellings` have them.
-#[derive(Clone, Copy, Debug, PartialEq, Eq)]
+#[derive(Clone, Copy, PartialEq, Eq)]
 pub enum Class {
     Head,
     Import,

@@ -49,7 +49,6 @@ pub const PATTERN_WIDE: u8 = 21;
 pub const TRIGGER_WIDE: u8 = 22;
 
 /// The number and the word of a fault, as an answer shows them.
-#[tactic(auto, unfolding(crate::specs::Faults::fault_text))]
 pub fn fault_text(number: u8) -> &'static str
     ensures { result.now ≡ fault_text_lem number }
 {

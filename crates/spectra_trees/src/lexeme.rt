@@ -3,9 +3,9 @@
 ghost use Rattle.std.specs.Prelude.{◌≡◌, ◌≤◌, ◌<◌, ◌^◌, ◌-◌, IfOk, take, drop, length};
 ghost use Rattle.std.specs.Str.{IsUtf8};
 ghost use Rattle.spectra_lexer.specs.Slices.{AreSlices};
-ghost use Rattle.spectra_trees.specs.Lexemes.{lexeme as lexeme_lem, lexemes_from, name_of, lexeme_of, lexemes_of};
+ghost use Rattle.spectra_trees.specs.Lexemes.{lexeme as lexeme_lem, lexemes_from, name_of};
 ghost use Rattle.spectra_trees.specs.Classes.{same_class};
-ghost use Rattle.spectra_trees.specs.Views.{name_data};
+ghost use Rattle.spectra_trees.specs.Views.{name_data, lexeme_of, lexemes_of};
 
 use crate::class::{Class, class_of, is_same};
 use crate::tree::{Name, Place};
@@ -13,7 +13,7 @@ use spectra_lexer::Token;
 use std::alloc::{AllocError, Global};
 
 /// A token with its text: what it is for the grammar, where it stands, and its number in the list, from 0.
-#[derive(Clone, Copy, Debug)]
+#[derive(Clone, Copy)]
 pub struct Spelled<'a> {
     pub class: Class,
     pub text: &'a str,

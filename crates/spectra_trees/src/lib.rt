@@ -8,6 +8,7 @@
 pub mod chain;
 pub mod class;
 pub mod faults;
+pub mod laws;
 pub mod lexeme;
 mod spellings;
 pub mod tree;

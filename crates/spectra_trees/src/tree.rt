@@ -5,14 +5,14 @@
 use spec_model::spec::Role;
 
 /// The place of a character, its line and column from 1.
-#[derive(Clone, Copy, Debug, PartialEq, Eq)]
+#[derive(Clone, Copy, PartialEq, Eq)]
 pub struct Place {
     pub line: u32,
     pub column: u32,
 }
 
 /// A name as it is written, and where. An import's name is its quoted text, at the place of the word `import`.
-#[derive(Debug, Drop)]
+#[derive(Drop)]
 pub struct Name {
     pub text: String,
     pub line: u32,
@@ -20,7 +20,7 @@ pub struct Name {
 }
 
 /// A whole text: the name behind `spec` or `module`, the imports and the items in text order.
-#[derive(Debug, Drop)]
+#[derive(Drop)]
 pub struct Tree {
     pub header: Name,
     pub imports: Vec<Name>,
@@ -28,7 +28,7 @@ pub struct Tree {
 }
 
 /// One production of `item`.
-#[derive(Debug, Drop)]
+#[derive(Drop)]
 pub enum Item {
     Variable(VarItem),
     Alias(TypeItem),
@@ -40,7 +40,7 @@ pub enum Item {
 }
 
 /// The first word of a declaration of a variable.
-#[derive(Clone, Copy, Debug, PartialEq, Eq)]
+#[derive(Clone, Copy, PartialEq, Eq)]
 pub enum OwnerWord {
     Env,
     Sys,
@@ -48,7 +48,7 @@ pub enum OwnerWord {
 }
 
 /// The declaration of a variable.
-#[derive(Debug, Drop)]
+#[derive(Drop)]
 pub struct VarItem {
     pub at: Place,
     pub owner: OwnerWord,
@@ -57,7 +57,7 @@ pub struct VarItem {
 }
 
 /// A name for a type.
-#[derive(Debug, Drop)]
+#[derive(Drop)]
 pub struct TypeItem {
     pub at: Place,
     pub name: Name,
@@ -65,14 +65,14 @@ pub struct TypeItem {
 }
 
 /// The names behind one `define`, with what they stand for.
-#[derive(Debug, Drop)]
+#[derive(Drop)]
 pub struct DefineItem {
     pub at: Place,
     pub bodies: Vec<(Name, ExprTree)>,
 }
 
 /// A predicate with its parameters.
-#[derive(Debug, Drop)]
+#[derive(Drop)]
 pub struct PredicateItem {
     pub at: Place,
     pub name: Name,
@@ -81,7 +81,7 @@ pub struct PredicateItem {
 }
 
 /// A pattern with its parameters, own variables and lines.
-#[derive(Debug, Drop)]
+#[derive(Drop)]
 pub struct PatternItem {
     pub at: Place,
     pub name: Name,
@@ -90,7 +90,7 @@ pub struct PatternItem {
 }
 
 /// A monitor: a variable with lines of its own.
-#[derive(Debug, Drop)]
+#[derive(Drop)]
 pub struct MonitorItem {
     pub at: Place,
     pub domain: TypeTree,
@@ -99,14 +99,14 @@ pub struct MonitorItem {
 }
 
 /// One line between the braces of a pattern or a monitor.
-#[derive(Debug, Drop)]
+#[derive(Drop)]
 pub struct Part {
     pub at: Place,
     pub form: PartForm,
 }
 
 /// An own variable, or a line by its word.
-#[derive(Debug, Drop)]
+#[derive(Drop)]
 pub enum PartForm {
     Own(TypeTree, Name),
     Initial(ExprTree),
@@ -115,7 +115,7 @@ pub enum PartForm {
 }
 
 /// An assumption or a guarantee, with its name where it has one.
-#[derive(Debug, Drop)]
+#[derive(Drop)]
 pub struct LineItem {
     pub at: Place,
     pub role: Role,
@@ -124,7 +124,7 @@ pub struct LineItem {
 }
 
 /// What a line says. The place in `Trigger` is that of the word `trig`.
-#[derive(Debug, Drop)]
+#[derive(Drop)]
 pub enum BodyTree {
     Initial(ExprTree),
     Always(ExprTree),
@@ -134,14 +134,14 @@ pub enum BodyTree {
 }
 
 /// A type.
-#[derive(Debug, Drop)]
+#[derive(Drop)]
 pub struct TypeTree {
     pub at: Place,
     pub form: TypeForm,
 }
 
 /// Whole numbers between two bounds, a list of names, or a name for a type.
-#[derive(Debug, Drop)]
+#[derive(Drop)]
 pub enum TypeForm {
     Boolean,
     Range(ExprTree, ExprTree),
@@ -152,7 +152,7 @@ pub enum TypeForm {
 /// An expression. `first` is the place of its first token, opening parentheses included. `at` is the place of its
 /// operator (of `And` and `Or` the first one), or of the name, word or number that it is. Parentheses make no node.
 #[cycle(tree)]
-#[derive(Debug, Drop)]
+#[derive(Drop)]
 pub struct ExprTree {
     pub first: Place,
     pub at: Place,
@@ -160,7 +160,7 @@ pub struct ExprTree {
 }
 
 /// An operator before its operand.
-#[derive(Clone, Copy, Debug, PartialEq, Eq)]
+#[derive(Clone, Copy, PartialEq, Eq)]
 pub enum PrefixWord {
     Not,
     Prev,
@@ -169,7 +169,7 @@ pub enum PrefixWord {
 }
 
 /// An operator between two operands.
-#[derive(Clone, Copy, Debug, PartialEq, Eq)]
+#[derive(Clone, Copy, PartialEq, Eq)]
 pub enum BinaryWord {
     Implies,
     Iff,
@@ -189,7 +189,6 @@ pub enum BinaryWord {
 /// What an expression is made of. A number is whether `-` stands before it, and its digits as written. The place in
 /// `Mod` is that of its number. `And` and `Or` have all their operands, and the places of the operators between them.
 #[cycle(tree)]
-#[derive(Debug)]
 pub enum ExprForm {
     True,
     False,
@@ -227,7 +226,6 @@ impl Drop for ExprForm {
 }
 
 /// A regular expression over positions. `Cat` and `Alt` have all their parts.
-#[derive(Debug)]
 pub enum RegexTree {
     Atom(Box<ExprTree>),
     Cat(Vec<RegexTree>),
@@ -251,7 +249,7 @@ impl Drop for RegexTree {
 }
 
 /// How often a part is repeated, with numbers as written.
-#[derive(Debug, Drop)]
+#[derive(Drop)]
 pub enum RepeatTree {
     Star,
     Plus,

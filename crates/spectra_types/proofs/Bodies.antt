@@ -8,7 +8,7 @@ use Rattle.spectra_resolved.specs.declared.stand.Stand.{Stand}
 use Rattle.spectra_resolved.specs.Resolved.{ResolvedTree}
 use Rattle.spectra_resolved.specs.Texts.{ResolvedDefinition, ResolvedText}
 use Rattle.spectra_judge.specs.Judged.{faults_of}
-use Rattle.spectra_judge.specs.Erased.{is_put_in}
+use Rattle.spectra_judge.specs.PutIn.{is_put_in}
 use Rattle.spectra_holes.specs.Holed.{holed}
 use Rattle.spectra_uses.specs.Uses.{uses_in, all_uses}
 use Rattle.spectra_uses.specs.Orders.{IsOrderOf}
@@ -25,7 +25,7 @@ use Rattle.spectra_bodies.specs.Laws.{NoneIsDoubled}
 use Rattle.spectra_bodies.proofs.Meaning.{none_goes_round}
 use Rattle.spectra_bodies.proofs.ParametersMeant.{kinds_of, counts_of}
 use Rattle.spectra_bodies.proofs.AsWritten.{lines_are_put_in}
-use Rattle.spectra_patterns.specs.Patterns.{is_type_kind}
+use Rattle.spectra_patterns.specs.SoundPatterns.{is_type_kind}
 use Rattle.spectra_sound.specs.Sound.{sizes_of, is_type, is_part, is_sound_tree, is_sound_definition, IsSound}
 use Rattle.spectra_types.proofs.Domains.{not_anything, params_meant}
 

@@ -8,7 +8,7 @@ use Rattle.spec_model.specs.WellMade.{is_domain}
 use Rattle.spec_model.specs.WellTyped.{is_domain_of}
 use Rattle.spectra_resolved.specs.Texts.{ResolvedType, Booleans, RangeOf, EnumOf, TypeNumber, NoType, ResolvedVariable, ResolvedAlias, ResolvedDefinition, ResolvedPattern, ResolvedText}
 use Rattle.spectra_judge.specs.Kinds.{Kind, Truth, Whole, SomeWhole, NameOf, OneName, Anything}
-use Rattle.spectra_judge.specs.Erased.{domain_kind}
+use Rattle.spectra_judge.specs.PutIn.{domain_kind, in_pattern}
 use Rattle.spectra_judge.proofs.Empty.{empty_parts, no_fault}
 use Rattle.spectra_holes.specs.Holed as holes
 use Rattle.spectra_bounds.specs.Numbers.{Constants, constants}
@@ -18,12 +18,12 @@ use Rattle.spectra_meant.specs.Laws.{is_declared_type, is_domain_kind}
 use Rattle.spectra_meant.specs.Laws as meant
 use Rattle.spectra_meant.proofs.Chains.{types_meant}
 use Rattle.spectra_sound.specs.Sound.{sizes_of, is_type, is_sound_tree, is_sound_definition, is_sound_pattern, is_sound_pattern_line, IsSound}
-use Rattle.spectra_judge.specs.Erased.{in_pattern}
 use Rattle.spectra_notes.specs.TypeKinds.{kind_in}
 use Rattle.spectra_bodies.specs.Unmeant.{unmeant, each_unmeant, all_unmeant}
 use Rattle.spectra_bodies.proofs.Meaning.{nothing_wrong, ranges_have_numbers}
 use Rattle.spectra_bodies.specs.Faults.{basis_of, typed_faults, own_faults, faults_of_types, faults_of_definitions, wrong_in, declared_faults}
-use Rattle.spectra_patterns.specs.Patterns.{domain_of, is_type_kind}
+use Rattle.spectra_patterns.specs.Patterns.{domain_of}
+use Rattle.spectra_patterns.specs.SoundPatterns.{is_type_kind}
 
 -- ---- kinds of domains
 

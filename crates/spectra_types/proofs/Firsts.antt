@@ -18,7 +18,7 @@ use Rattle.spectra_judge.proofs.Empty.{empty_parts}
 use Rattle.spectra_notes.specs.TypeKinds.{kind_in, type_kinds}
 use Rattle.spectra_brought.proofs.Found.{no_faults}
 use Rattle.spectra_bodies.specs.Faults.{declared_faults}
-use Rattle.spectra_patterns.specs.Patterns.{is_type_kind}
+use Rattle.spectra_patterns.specs.SoundPatterns.{is_type_kind}
 use Rattle.spectra_sound.proofs.Whole.{faultless_sound}
 use Rattle.spectra_types.specs.Meanings.{text_faults, faults_of, specification_of}
 use Rattle.spectra_types.specs.Resolved.{Means}

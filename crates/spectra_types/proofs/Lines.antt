@@ -20,17 +20,19 @@ use Rattle.spectra_resolved.specs.declared.text.PatternUse as code
 use Rattle.spectra_resolved.specs.declared.text.PatternUse.TheVariants as uses
 use Rattle.spectra_resolved.specs.Resolved.{ResolvedTree}
 use Rattle.spectra_resolved.specs.Texts.{ResolvedVariable, ResolvedBody, Initial, Safety, Recurring, Trigger, Pattern, ResolvedLine, ResolvedText}
-use Rattle.spectra_judge.specs.Standings.{bans_of, wants_truth}
+use Rattle.spectra_judge.specs.Standings.{bans_of}
+use Rattle.spectra_judge.specs.Wanting.{wants_truth}
 use Rattle.spectra_judge.specs.Known.{is_system}
 use Rattle.spectra_judge.specs.Judged.{faults_of}
-use Rattle.spectra_judge.specs.Erased.{erased, is_put_in, in_line, domain_kind, has_room}
+use Rattle.spectra_judge.specs.Erased.{erased, has_room}
+use Rattle.spectra_judge.specs.PutIn.{is_put_in, in_line, domain_kind}
 use Rattle.spectra_judge.proofs.Empty.{empty_parts}
 use Rattle.spectra_judge.proofs.Lines.{line_is_typed}
 use Rattle.spectra_judge.proofs.Bans.{line_keeps_bans}
 use Rattle.spectra_elaboration.specs.Written.{is_use}
 use Rattle.spectra_notes.specs.TypeKinds.{is_of_system, kind_in}
 use Rattle.spectra_bodies.specs.Faults.{declared_faults}
-use Rattle.spectra_patterns.specs.Patterns.{is_type_kind}
+use Rattle.spectra_patterns.specs.SoundPatterns.{is_type_kind}
 use Rattle.spectra_patterns.proofs.Shaped.{all_room}
 use Rattle.spectra_lines.specs.Contents.{initial_stand, safety_stand, is_asm, Facts, tree_put, line_put}
 use Rattle.spectra_lines.specs.Lines.{as_written, known_with, as_put}

@@ -27,7 +27,7 @@ use Rattle.spectra_bounds.specs.Types.{range_kind, meant_within, own_kind, type_
 use Rattle.spectra_meant.specs.Laws.{is_anything, is_domain_kind}
 use Rattle.spectra_meant.proofs.Chains.{range_domain}
 use Rattle.spectra_meant.proofs.Numbers.{bound_near}
-use Rattle.spectra_patterns.specs.Patterns.{is_type_kind}
+use Rattle.spectra_patterns.specs.SoundPatterns.{is_type_kind}
 use Rattle.spectra_sound.proofs.Numbers.{IsThere, number_in, IsNumbered, numbered, numbers_differ, numbers_below}
 use Rattle.spectra_sound.proofs.Types.{plain_differ}
 

@@ -1,22 +1,28 @@
--- The patterns of a text without faults are typed, and so many nodes as their lines have.
-use Rattle.std.proofs.Common.{◌≡◌, ℕ, ◌+◌, ◌≤◌, true, not, List, [], ◌∷◌, ◌++◌, length, map, flat_map, refl, ap, ◌∙◌, arith}
+-- The patterns of a text without faults are typed, with as many nodes and levels as their lines have.
+use Rattle.std.proofs.Common.{◌≡◌, ℕ, ◌+◌, ◌≤◌, nat_le, Bool, true, not, List, [], ◌∷◌, ◌++◌, length, map, flat_map, refl, ap, ◌∙◌, arith}
 use Rattle.std.proofs.lemmas.List.{length-map}
 use Rattle.std.specs.List.{list_all, sum_by}
 use Rattle.std.proofs.lemmas.Bool.{and_parts, and_from}
+use Rattle.std.proofs.lemmas.List.Folds.{list_all-append}
 use Rattle.std.proofs.lemmas.List.Sums.{sum_by-cons, sum_by-append}
 use Rattle.spec_model.specs.Syntax.{Formula, PatternData}
-use Rattle.spec_model.specs.FormulaSizes.{nodes_in}
-use Rattle.spec_model.specs.WellTyped.{is_typed_pattern, pattern_formulas}
+use Rattle.spec_model.specs.FormulaSizes.{nodes_in, levels_in}
+use Rattle.spec_model.specs.WellTyped.{is_typed_pattern, have_few_levels, pattern_formulas}
+use Rattle.spectra_resolved.specs.Resolved.{ResolvedTree}
 use Rattle.spectra_resolved.specs.Texts.{ResolvedType, ResolvedPatternLine, Initial, Safety, Recurring, ResolvedPattern, ResolvedText}
 use Rattle.spectra_judge.specs.Kinds.{Kind}
-use Rattle.spectra_judge.specs.Erased.{erased, is_put_in, in_pattern}
-use Rattle.spectra_elaboration.specs.Laws.{NodesAreThoseOfTheFormula}
+use Rattle.spectra_judge.specs.Erased.{erased}
+use Rattle.spectra_judge.specs.PutIn.{is_put_in, in_pattern}
+use Rattle.spectra_elaboration.specs.Laws.{NodesAreThoseOfTheFormula, LevelsAreThoseOfTheFormula}
+use Rattle.spectra_elaboration.specs.Levels.{tree_levels}
 use Rattle.spectra_notes.specs.TypeKinds.{kind_in}
-use Rattle.spectra_patterns.specs.Patterns as patterns
-use Rattle.spectra_patterns.specs.Patterns.{first_in, step_in, goals_in, pattern_of, is_type_kind, line_tree}
+use Rattle.spectra_patterns.specs.SoundPatterns as patterns
+use Rattle.spectra_patterns.specs.Patterns.{first_in, step_in, goals_in, pattern_of, line_tree}
+use Rattle.spectra_patterns.specs.SoundPatterns.{is_type_kind}
 use Rattle.spectra_patterns.proofs.Shaped.{all_room, pattern_typed}
+use Rattle.spectra_lines.specs.Limits.{are_flat}
 use Rattle.spectra_lines.specs.Parts.{TypedPattern}
-use Rattle.spectra_lines.specs.Laws.{nodes_of_pattern, nodes_of_patterns, are_all_sound, PatternsHaveNoFault}
+use Rattle.spectra_lines.specs.Laws.{nodes_of_pattern, nodes_of_patterns, are_flat_lines, are_all_sound, PatternsHaveNoFault}
 use Rattle.spectra_sound.specs.Sound.{Sizes, sizes_of, is_type, is_sound_pattern_line, is_sound_pattern}
 use Rattle.spectra_types.specs.Meanings.{own_kinds, is_sound, typed_pattern}
 use Rattle.spectra_types.proofs.Domains.{type_most}
@@ -106,3 +112,32 @@ pattern_nodes law (p ∷ ps) =
     let here = one_pattern law p.own p.pattern in
     let rest = pattern_nodes law ps in
     let one = sum_by-cons (λ (p : PatternData). nodes (pattern_formulas p)) (pattern_of p.own p.pattern) (map (λ (p : TypedPattern). pattern_of p.own p.pattern) ps) in omega (arith, here, rest, one)
+
+-- ---- levels
+
+abbrev is_shallow : ResolvedTree → Bool
+is_shallow t = are_flat (t ∷ [])
+
+erased_shallow : LevelsAreThoseOfTheFormula → (params : ℕ) (t : ResolvedTree) → is_shallow t ≡ true → nat_le (levels_in (erased params t)) 512 ≡ true
+erased_shallow law params t flat = ap (λ n. nat_le n 512) (law params t) ∙ (and_parts (nat_le (tree_levels t) 512) true flat).0
+
+lines_flat : LevelsAreThoseOfTheFormula → (params : ℕ) (ls : List ResolvedPatternLine) → are_flat_lines ls ≡ true →
+    (have_few_levels (flat_map (first_in params) ls) ≡ true) × (have_few_levels (flat_map (step_in params) ls) ≡ true) × (have_few_levels (flat_map (goals_in params) ls) ≡ true)
+lines_flat law params [] flat = (refl, refl, refl)
+lines_flat law params (Initial at t ∷ ls) flat = let parts = and_parts (is_shallow t) _ flat in let rest = lines_flat law params ls parts.1 in (and_from _ _ (erased_shallow law params t parts.0) rest.0, rest.1, rest.2)
+lines_flat law params (Safety at t ∷ ls) flat = let parts = and_parts (is_shallow t) _ flat in let rest = lines_flat law params ls parts.1 in (rest.0, and_from _ _ (erased_shallow law params t parts.0) rest.1, rest.2)
+lines_flat law params (Recurring at t ∷ ls) flat = let parts = and_parts (is_shallow t) _ flat in let rest = lines_flat law params ls parts.1 in (rest.0, rest.1, and_from _ _ (erased_shallow law params t parts.0) rest.2)
+
+flat_pattern : LevelsAreThoseOfTheFormula → (own : List Kind) (p : ResolvedPattern) → are_flat_lines p.lines ≡ true → have_few_levels (pattern_formulas (pattern_of own p)) ≡ true
+flat_pattern law own p flat =
+    let test : Formula → Bool = λ e. nat_le (levels_in e) 512 in
+    let first = flat_map (first_in p.params) p.lines in
+    let step = flat_map (step_in p.params) p.lines in
+    let goals = flat_map (goals_in p.params) p.lines in
+    let all = lines_flat law p.params p.lines flat in
+    list_all-append test first (step ++ goals) ∙ and_from _ _ all.0 (list_all-append test step goals ∙ and_from _ _ all.1 all.2)
+
+pub pattern_levels : LevelsAreThoseOfTheFormula → (ps : List TypedPattern) → list_all (λ (p : TypedPattern). are_flat_lines p.pattern.lines) ps ≡ true →
+    list_all (λ (p : PatternData). have_few_levels (pattern_formulas p)) (map (λ (p : TypedPattern). pattern_of p.own p.pattern) ps) ≡ true
+pattern_levels law [] flat = refl
+pattern_levels law (p ∷ ps) flat = let parts = and_parts (are_flat_lines p.pattern.lines) _ flat in and_from _ _ (flat_pattern law p.own p.pattern parts.0) (pattern_levels law ps parts.1)

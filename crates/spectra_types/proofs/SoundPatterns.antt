@@ -21,14 +21,14 @@ use Rattle.spectra_declared.specs.Items.{FiledItem, items_from, part_enum_names,
 use Rattle.spectra_declared.specs.Declarations.{names_of}
 use Rattle.spectra_declared.specs.Wholes.{text_of_items, text_of}
 use Rattle.spectra_parser.specs.Shapes.{IsShapedType, IsShapedItem, IsShaped, part_types}
-use Rattle.spectra_judge.specs.Erased as judged
-use Rattle.spectra_judge.specs.Erased.{is_put_in}
+use Rattle.spectra_judge.specs.PutIn as judged
+use Rattle.spectra_judge.specs.PutIn.{is_put_in}
 use Rattle.spectra_judge.specs.Known.{Known}
 use Rattle.spectra_judge.specs.Judged.{faults_of}
 use Rattle.spectra_judge.proofs.Empty.{empty_parts}
 use Rattle.spectra_patterns.specs.Patterns.{pattern_known, line_tree, line_faults}
 use Rattle.spectra_patterns.proofs.Named.{resolved_put}
-use Rattle.spectra_lines.specs.Parts.{IsSoundTyped, AreSound}
+use Rattle.spectra_lines.specs.SoundParts.{IsSoundTyped, AreSound}
 use Rattle.spectra_sound.specs.Sound.{Sizes}
 use Rattle.spectra_sound.proofs.Empty.{every_parts}
 use Rattle.spectra_sound.proofs.Sizes.{sizes_in}

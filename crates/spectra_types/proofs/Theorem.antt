@@ -11,7 +11,7 @@ use Rattle.spec_model.specs.Typing.{same_names}
 use Rattle.spec_model.specs.WellMade.{all_differ}
 use Rattle.spec_model.specs.Sizes.{formulas_of}
 use Rattle.spec_model.specs.FormulaSizes.{nodes_in, levels_in}
-use Rattle.spec_model.specs.WellTyped.{is_domain_of, is_typed_pattern, is_typed_trigger, is_typed_line, fits_role, are_rising, pattern_formulas, all_nodes, all_hidden, WellTyped}
+use Rattle.spec_model.specs.WellTyped.{is_domain_of, is_typed_pattern, is_typed_trigger, is_typed_line, fits_role, are_rising, have_few_levels, pattern_formulas, all_nodes, all_hidden, WellTyped}
 use Rattle.spec_model.proofs.SameNames.{differ-bytes}
 use Rattle.spectra_resolved.specs.Texts.{ResolvedVariable, ResolvedLine, ResolvedText}
 use Rattle.spectra_declared.specs.Wholes.{text_of}
@@ -23,7 +23,8 @@ use Rattle.spectra_elaboration.proofs.FormulaNodes as counted
 use Rattle.spectra_elaboration.proofs.FormulaLevels as deep
 use Rattle.spectra_notes.specs.TypeKinds.{kind_in}
 use Rattle.spectra_bodies.specs.Faults.{declared_faults}
-use Rattle.spectra_patterns.specs.Patterns.{is_type_kind, pattern_of}
+use Rattle.spectra_patterns.specs.Patterns.{pattern_of}
+use Rattle.spectra_patterns.specs.SoundPatterns.{is_type_kind}
 use Rattle.spectra_lines.specs.Contents.{Facts, trees_in, line_put}
 use Rattle.spectra_lines.specs.Limits.{are_flat}
 use Rattle.spectra_lines.specs.Lines.{put_trees}
@@ -40,7 +41,7 @@ use Rattle.spectra_types.proofs.Domains.{domain_fits, variables_meant, own_meant
 use Rattle.spectra_types.proofs.Formulas.{AreBefore, each_line, all_line_nodes, nodes_are, levels_are, hidden_alone}
 use Rattle.spectra_types.proofs.Lines.{lines_right, roles_fit}
 use Rattle.spectra_types.proofs.Triggers.{triggers_right}
-use Rattle.spectra_types.proofs.Patterned.{patterns_said, patterns_right, params_are, pattern_nodes}
+use Rattle.spectra_types.proofs.Patterned.{patterns_said, patterns_right, params_are, pattern_nodes, pattern_levels}
 use Rattle.spectra_types.proofs.Numbered.{rising, numbers_within, as_many}
 
 -- ---- variables
@@ -150,6 +151,9 @@ module _ (text : ResolvedText) (sound : IsSound text) (none : text_faults text �
       ap (list_all (λ (l : Statement). list_all (λ e. nat_le (levels_in e) 512) (formulas_of s l.content))) lines_are
       ∙ each_line s (list_all (λ e. nat_le (levels_in e) 512)) 1 0 [] put before (flat_lines f text.lines meant.levels)
 
+  pub few_pattern_levels : list_all (λ (p : PatternData). have_few_levels (pattern_formulas p)) s.patterns ≡ true
+  few_pattern_levels = ap (list_all (λ (p : PatternData). have_few_levels (pattern_formulas p))) patterns_are ∙ pattern_levels levels_law ps meant.pattern_levels
+
   pub few_hidden : all_hidden s ≤ 1024
   few_hidden = subst (λ n. n ≤ 1024) (sym (hidden_alone s)) meant.hidden
 
@@ -172,6 +176,7 @@ text_well_typed text sound none =
       rising = rises text sound none;
       few_nodes = (let few = few_nodes text sound none in omega (arith, few));
       few_levels = few_levels text sound none;
+      few_pattern_levels = few_pattern_levels text sound none;
       few_hidden = few_hidden text sound none;
     }
 

@@ -13,10 +13,11 @@ use Rattle.spectra_resolved.specs.Resolved.{ResolvedTree, ResolvedRegex, Resolve
 use Rattle.spectra_resolved.specs.Texts.{ResolvedBody, Initial, Safety, Recurring, Trigger, Pattern, ResolvedLine, ResolvedText}
 use Rattle.spectra_judge.specs.Known.{Known}
 use Rattle.spectra_judge.specs.Judged.{faults_of}
-use Rattle.spectra_judge.specs.Erased.{in_line, domain_kind}
+use Rattle.spectra_judge.specs.PutIn.{in_line, domain_kind}
 use Rattle.spectra_judge.proofs.Empty.{empty_parts, no_fault}
 use Rattle.spectra_bodies.specs.Faults.{declared_faults}
-use Rattle.spectra_patterns.specs.Triggers.{atom_faults, each_atom_faults, regex_put_in, each_regex_put_in, trigger_of, trigger_faults}
+use Rattle.spectra_patterns.specs.Triggers.{trigger_of, trigger_faults}
+use Rattle.spectra_patterns.specs.TriggerParts.{atom_faults, each_atom_faults, regex_put_in, each_regex_put_in}
 use Rattle.spectra_patterns.specs.Laws.{has_choices, each_has_choices, has_some, IsFaultless}
 use Rattle.spectra_patterns.proofs.Regexes.{trigger_typed}
 use Rattle.spectra_lines.specs.Contents.{brackets_in, brackets_of_each, Facts, regex_put, each_regex_put, line_put}

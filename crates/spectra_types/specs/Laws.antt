@@ -1,7 +1,7 @@
 -- What holds of all files without a fault.
 use Rattle.std.specs.Prelude.{◌≡◌, List, [], All}
 use Rattle.spec_model.specs.WellTyped.{WellTyped}
-use Rattle.spec_model.specs.Cores.{HasRoomForOne}
+use Rattle.spec_model.specs.Room.{HasRoomForOne}
 use Rattle.spectra_trees.specs.Data.{TreeData}
 use Rattle.spectra_parser.specs.Shapes.{IsShaped}
 use Rattle.spectra_types.specs.Meanings.{faults_of, meaning_of}

@@ -1,5 +1,5 @@
 -- All faults of several files, and the specification that files without one mean. The main file is the last.
-use Rattle.std.specs.Prelude.{Bool, not, ◌&&◌, List, ◌++◌, map}
+use Rattle.std.specs.Prelude.{Bool, not, ◌&&◌, List, ◌++◌, map, ◌≡◌, []}
 use Rattle.std.specs.List.{list_all}
 use Rattle.spec_model.specs.Syntax.{VariableData, Specification}
 use Rattle.spectra_trees.specs.Data.{TreeData}
@@ -65,3 +65,10 @@ specification_of text =
 -- what several files without a fault mean
 abbrev pub meaning_of : List TreeData → Specification
 meaning_of trees = specification_of (text_of trees)
+
+-- ---- what files mean
+
+-- the files have no fault, and mean this
+pub record Means (trees : List TreeData) (s : Specification) : Type 0 where
+  pub faultless : faults_of trees ≡ []
+  pub meaning : s ≡ meaning_of trees

@@ -1,16 +1,11 @@
 -- What an answer of the program says of several files.
-use Rattle.std.specs.Prelude.{◌≡◌, ℕ, min, List, [], Some}
-use Rattle.spec_model.specs.Syntax.{Specification}
+use Rattle.std.specs.Prelude.{◌≡◌, ℕ, min, List, Some}
 use Rattle.spectra_trees.specs.Data.{TreeData}
 use Rattle.spectra_resolved.specs.Findings.{fault, first_of_faults}
 use Rattle.spectra_types.specs.declared.fault.TypeFault.{TypeFault}
 use Rattle.spectra_types.specs.declared.fault.TypeFault.TheVariants as faults
-use Rattle.spectra_types.specs.Meanings.{faults_of, meaning_of}
-
--- the files have no fault, and mean this
-pub record Means (trees : List TreeData) (s : Specification) : Type 0 where
-  pub faultless : faults_of trees ≡ []
-  pub meaning : s ≡ meaning_of trees
+use Rattle.spectra_types.specs.Meanings.{faults_of}
+pub use Rattle.spectra_types.specs.Meanings.{Means}
 
 -- the first fault of the files is this one, in the file of this number
 pub record IsFirstIn (trees : List TreeData) (file number line column : ℕ) : Type 0 where

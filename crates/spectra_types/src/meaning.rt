@@ -4,7 +4,8 @@ ghost use Rattle.std.specs.Prelude.{◌≡◌, true, map, string_bytes, All, IfO
 ghost use Rattle.spec_model.specs.Views.{variable_data};
 ghost use Rattle.spectra_resolved.specs.TextViews.{text_data, variable_data as resolved_variable};
 ghost use Rattle.spectra_judge.specs.KindViews.{kind_data};
-ghost use Rattle.spectra_patterns.specs.Patterns.{is_type_kind, domain_of as domain_of_lem};
+ghost use Rattle.spectra_patterns.specs.Patterns.{domain_of as domain_of_lem};
+ghost use Rattle.spectra_patterns.specs.SoundPatterns.{is_type_kind};
 ghost use Rattle.spectra_notes.specs.TypeKinds.{type_kinds as type_kinds_lem};
 ghost use Rattle.spectra_notes.specs.NoteViews.{type_kinds_data};
 ghost use Rattle.spectra_types.specs.Meanings.{variable_of};

@@ -2,9 +2,11 @@
 use Rattle.std.proofs.Common.{◌≡◌, ℕ, ◌+◌, ◌<◌, List, [], ◌∷◌, ◌++◌, length, map, drop, get_or, sym, ap, ◌∙◌, append_assoc, append-nil}
 use Rattle.spectra_resolved.specs.declared.tree.Resolved.{Resolved}
 use Rattle.spectra_resolved.specs.declared.tree.Link.{Link}
-use Rattle.spectra_resolved.specs.Resolved.{ResolvedTree, LinkData, trees, joined, chained}
+use Rattle.spectra_resolved.specs.Resolved.{ResolvedTree}
+use Rattle.spectra_resolved.specs.Chained.{LinkData, trees, joined, chained}
 use Rattle.spectra_resolved.specs.Views.{resolved_data, link_data}
-use Rattle.spectra_uses.specs.Uses.{uses_in, each_uses, link_uses}
+use Rattle.spectra_uses.specs.Uses.{uses_in, each_uses}
+use Rattle.spectra_uses.specs.Links.{link_uses}
 use Rattle.spectra_uses.proofs.Lists.{mapped_left}
 
 pub chained_uses : (t : ResolvedTree) (ls : List LinkData) → uses_in (chained t ls) ≡ uses_in t ++ link_uses ls

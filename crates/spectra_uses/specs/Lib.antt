@@ -1,4 +1,5 @@
 pub mod Uses
+pub mod Links
 pub mod Cycles
 pub mod Searching
 pub mod Orders

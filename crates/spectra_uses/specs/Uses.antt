@@ -4,7 +4,7 @@ use Rattle.spectra_resolved.specs.declared.tree.Leaf.{Leaf}
 use Rattle.spectra_resolved.specs.declared.tree.Leaf.TheVariants as leaf
 use Rattle.spectra_resolved.specs.declared.tree.Misuse.{Misuse}
 use Rattle.spectra_resolved.specs.declared.tree.Misuse.TheVariants as misuse
-use Rattle.spectra_resolved.specs.Resolved.{ResolvedTree, tree, Form, LinkData, ResolvedTrees}
+use Rattle.spectra_resolved.specs.Resolved.{ResolvedTree, tree, Form, ResolvedTrees}
 use Rattle.spectra_resolved.specs.Texts.{ResolvedDefinition}
 
 abbrev pub leaf_uses : Leaf → List ℕ
@@ -37,11 +37,6 @@ abbrev mutual
   pub each_uses : ResolvedTrees → List ℕ
   each_uses ResolvedTrees.none = []
   each_uses (ResolvedTrees.one_more t ts) = uses_in t ++ each_uses ts
-
--- those in the second operands of operators
-abbrev pub link_uses : List LinkData → List ℕ
-link_uses [] = []
-link_uses (l ∷ ls) = uses_in l.second ++ link_uses ls
 
 -- each definition's uses, in the order of definitions; the types of a predicate's parameters are no use
 abbrev pub all_uses : List ResolvedDefinition → List (List ℕ)

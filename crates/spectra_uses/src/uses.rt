@@ -1,10 +1,11 @@
 //! Which definitions use which.
 
 ghost use Rattle.std.specs.Prelude.{◌≡◌, ◌++◌, map, IfOk, OnOk};
-ghost use Rattle.spectra_resolved.specs.Resolved.{chained, trees};
+ghost use Rattle.spectra_resolved.specs.Chained.{chained, trees};
 ghost use Rattle.spectra_resolved.specs.Views.{resolved_data, link_data, form_data};
 ghost use Rattle.spectra_resolved.specs.TextViews.{definition_data};
-ghost use Rattle.spectra_uses.specs.Uses.{leaf_uses, misuse_uses, uses_in, form_uses, each_uses, link_uses, all_uses as all_uses_lem};
+ghost use Rattle.spectra_uses.specs.Uses.{leaf_uses, misuse_uses, uses_in, form_uses, each_uses, all_uses as all_uses_lem};
+ghost use Rattle.spectra_uses.specs.Links.{link_uses};
 
 use spectra_resolved::text::Definition;
 use spectra_resolved::tree::{Leaf, Link, Misuse, Resolved, Shape};

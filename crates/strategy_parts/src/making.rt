@@ -15,7 +15,7 @@ use spec_model::value::Owner;
 use std::alloc::Global;
 
 /// Which sets of the game: the states of each recurring assumption, or of each recurring guarantee.
-#[derive(Clone, Copy, Debug, PartialEq, Eq)]
+#[derive(Clone, Copy, PartialEq, Eq)]
 pub enum Wanted {
     Assumptions,
     Guarantees,

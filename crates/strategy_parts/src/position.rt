@@ -15,7 +15,7 @@ use spec_model::variables::{count_inputs, count_outputs};
 use std::alloc::{AllocError, Global};
 
 /// The last state of a play, the cells of the hidden tables there, and the hidden values of the next state.
-#[derive(Debug, Drop)]
+#[derive(Drop)]
 pub struct Position {
     pub started: bool,
     /// The values of the last state; before the first they say nothing.

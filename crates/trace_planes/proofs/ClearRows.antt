@@ -17,7 +17,8 @@ use Rattle.game_play.proofs.FirstBroken as inputs
 use Rattle.game_play.proofs.FirstAnswer as outputs
 use Rattle.column_planes.specs.Columns.{ColumnData, AreRead, value_in, entry_in}
 use Rattle.trace_planes.specs.Moves.{IsMove, are_kept}
-use Rattle.trace_planes.specs.Findings.{or_else, broken_after, broken_in_game}
+use Rattle.trace_planes.specs.Findings.{or_else}
+use Rattle.trace_planes.specs.GameFindings.{broken_after, broken_in_game}
 use Rattle.trace_planes.specs.Rows.{AreWhole, HasColumns, HasCells, AreClear, state_among}
 use Rattle.trace_planes.proofs.Found.{none_of, IsWholeBefore, reached_whole, whole_after}
 use Rattle.trace_planes.proofs.InColumns.{whole_at}

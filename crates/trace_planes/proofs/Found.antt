@@ -19,7 +19,8 @@ use Rattle.game_play.proofs.FirstAnswer as outputs
 use Rattle.trace_planes.specs.declared.finding.Finding.{Finding}
 use Rattle.trace_planes.specs.declared.judge.Judge.{Judge}
 use Rattle.trace_planes.specs.declared.plain.Plain.{Plain}
-use Rattle.trace_planes.specs.Findings.{or_else, broken_after, broken_in_game, found_after, first_from, first_finding}
+use Rattle.trace_planes.specs.Findings.{or_else, found_after, first_from}
+use Rattle.trace_planes.specs.GameFindings.{broken_after, broken_in_game, first_finding}
 use Rattle.trace_planes.specs.Rows.{AreWhole}
 use Rattle.trace_planes.specs.Audits.{JudgesAfter, IsJudged, HasJudged}
 

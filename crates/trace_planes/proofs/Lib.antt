@@ -1,6 +1,5 @@
 mod Placing
 mod Found
-mod ExampleMoves
 mod Kept
 mod InColumns
 mod Walking

@@ -14,7 +14,7 @@ use Rattle.spec_model.specs.Games.{GameData, listed}
 use Rattle.spec_model.specs.Steps.{Before, reached, is_state, is_input, is_output}
 use Rattle.spec_model.specs.WellMade.{WellMade}
 use Rattle.spec_model.proofs.Closed.{closed}
-use Rattle.trace_planes.specs.declared.place.Place.{Place}
+use Rattle.trace_planes.specs.declared.run_state.RunState.{RunState}
 use Rattle.trace_planes.specs.Audits.{IsReadAfter, IsAt, IsPosition}
 
 -- an assignment has a value for each domain
@@ -35,11 +35,11 @@ length-domains_of test (v ∷ vs) = at (test v.owner) (length-domains_of test vs
     at false rest = rest
 
 -- the hidden values of the state that is reached
-next_values : (g : GameData) (b : Before) (x y : Assignment) (p : Place) → IsReadAfter g b p → p.next.items ≡ map (λ v. value.Int (pos v)) (reached g b x y).hidden
+next_values : (g : GameData) (b : Before) (x y : Assignment) (p : RunState) → IsReadAfter g b p → p.next.items ≡ map (λ v. value.Int (pos v)) (reached g b x y).hidden
 next_values g None x y p read = read.1
 next_values g (Some s) x y p read = read.2.next
 
-module _ (g : GameData) (made : WellMade g) (b : Before) (p : Place) (here : IsAt g b p) (x y : Assignment) (input : IsTrue (is_input g x)) (output : IsTrue (is_output g y)) where
+module _ (g : GameData) (made : WellMade g) (b : Before) (p : RunState) (here : IsAt g b p) (x y : Assignment) (input : IsTrue (is_input g x)) (output : IsTrue (is_output g y)) where
   pub inside : IsTrue (is_state g (reached g b x y))
   inside = at b here.read
     where

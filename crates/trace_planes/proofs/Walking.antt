@@ -11,13 +11,13 @@ use Rattle.spec_model.specs.Steps.{Before}
 use Rattle.spec_model.proofs.Running.{last_state-after}
 use Rattle.game_play.specs.Sights.{AreCells, cell_in, entries_at}
 use Rattle.column_planes.specs.Columns.{entry_in}
-use Rattle.trace_planes.specs.declared.place.Place.{Place}
+use Rattle.trace_planes.specs.declared.run_state.RunState.{RunState}
 use Rattle.trace_planes.specs.Audits.{IsReadAfter, IsAt, IsCopy}
 use Rattle.trace_planes.specs.Rows.{HasCells, KeepsOthers, state_among}
 use Rattle.trace_planes.proofs.InColumns.{below_or_from}
 
 -- a place with the same values is after the same state
-pub at_copy : (g : GameData) (b : Before) (p q : Place) → IsCopy p q → IsAt g b p → IsAt g b q
+pub at_copy : (g : GameData) (b : Before) (p q : RunState) → IsCopy p q → IsAt g b p → IsAt g b q
 at_copy g b p q same at =
     record {
       read = reads b at.read;
@@ -60,7 +60,7 @@ module _ (g : GameData) (h ps : Run) (i : ℕ) where
   AreThere cells n = (table part : ℕ) → 4096 * table + 4096 ≤ length cells → entry_in g.hidden cells table part n ≡ entry_at g (state_among g h ps n) table part
 
   -- the cells of a place are those of its state
-  pub cells_there : (cells : List ℕ) (p : Place) → IsAt g (Some (state_among g h ps i)) p → length cells ≡ 4096 * length g.hidden →
+  pub cells_there : (cells : List ℕ) (p : RunState) → IsAt g (Some (state_among g h ps i)) p → length cells ≡ 4096 * length g.hidden →
       ((k : ℕ) → k < length p.cells.items → get_or cells (4096 * k + i) 0 ≡ cell_in (get_or p.cells.items k (value.Bool false))) → AreThere cells i
   cells_there cells p at sized written = λ table part room.
       let many = at.sized.cells in

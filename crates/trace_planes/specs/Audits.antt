@@ -10,37 +10,37 @@ use Rattle.spec_model.specs.Steps.{Before, is_state, is_input, is_output}
 use Rattle.spec_model.specs.WellMade.{WellMade}
 use Rattle.game_play.specs.Judged.{IsJudgeOf, IsOutputJudgeOf}
 use Rattle.game_play.specs.Sights.{as_values, IsReadAt}
-use Rattle.trace_planes.specs.declared.place.Place.{Place}
+use Rattle.trace_planes.specs.declared.run_state.RunState.{RunState}
 use Rattle.trace_planes.specs.declared.judge.Judge.{Judge}
 use Rattle.trace_planes.specs.declared.plain.Plain.{Plain}
 use Rattle.trace_planes.specs.declared.workspace.Workspace.{Workspace}
 use Rattle.trace_planes.specs.declared.audit.Audit.{Audit}
 use Rattle.trace_planes.specs.declared.finding.Finding.{Finding}
-use Rattle.trace_planes.specs.Findings.{first_finding}
+use Rattle.trace_planes.specs.GameFindings.{first_finding}
 use Rattle.trace_planes.specs.Rows.{AreWhole, AreRows}
 
 -- ---- where a run is
 
 -- it is before the first position, or at a state of the game
-abbrev pub IsReadAfter : GameData → Before → Place → Type 0
+abbrev pub IsReadAfter : GameData → Before → RunState → Type 0
 IsReadAfter g None p = (p.started ≡ false) × (p.next.items ≡ as_values (first_hidden g))
 IsReadAfter g (Some s) p = (p.started ≡ true) × IsTrue (is_state g s) × IsReadAt g s p.state.items p.cells.items p.next.items
 
 -- it has room for a state of the game
-pub record IsSized (g : GameData) (p : Place) : Type 0 where
+pub record IsSized (g : GameData) (p : RunState) : Type 0 where
   pub state : length p.state.items ≡ length g.hidden + (length (domains_of is_env g.variables) + length (domains_of (λ o. not (is_env o)) g.variables))
   pub cells : length p.cells.items ≡ length g.hidden
   pub next : length p.next.items ≡ length g.hidden
 
 -- the places have the same values
-pub record IsCopy (p q : Place) : Type 0 where
+pub record IsCopy (p q : RunState) : Type 0 where
   pub started : q.started ≡ p.started
   pub state : q.state.items ≡ p.state.items
   pub cells : q.cells.items ≡ p.cells.items
   pub next : q.next.items ≡ p.next.items
 
 -- The place is after this state.
-pub record IsAt (g : GameData) (b : Before) (p : Place) : Type 0 where
+pub record IsAt (g : GameData) (b : Before) (p : RunState) : Type 0 where
   pub read : IsReadAfter g b p
   pub sized : IsSized g p
 

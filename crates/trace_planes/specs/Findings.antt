@@ -2,12 +2,8 @@
 use Rattle.std.specs.Prelude.{suc, [], ◌∷◌, ◌++◌, length, Option, Some, None, option_map}
 use Rattle.spec_model.specs.declared.game.Label.{Label}
 use Rattle.spec_model.specs.Syntax.{Specification}
-use Rattle.spec_model.specs.Rules.{Position, Run}
+use Rattle.spec_model.specs.Rules.{Position, Run, line_label}
 use Rattle.spec_model.specs.Moves.{broken_assumption, broken_guarantee}
-use Rattle.spec_model.specs.Games.{GameData}
-use Rattle.spec_model.specs.GameRules.{last_state}
-use Rattle.spec_model.specs.Steps.{Before}
-use Rattle.spec_model.specs.FirstBroken.{line_label, first_broken, first_broken_output}
 use Rattle.trace_planes.specs.declared.finding.Finding.{Finding}
 
 -- the first, if there is one, or else the second
@@ -16,14 +12,6 @@ or_else None b = b
 or_else (Some a) b = Some a
 
 -- ---- at one position
-
--- the first line of a game that a position breaks after a state: an assumption by its input, or else a guarantee or monitor's
--- line by its output
-abbrev pub broken_after : GameData → Before → Position → Option Label
-broken_after g b p = or_else (first_broken g b p.input) (first_broken_output g b p.input p.output)
-
-abbrev pub broken_in_game : GameData → Run → Position → Option Label
-broken_in_game g h p = broken_after g (last_state g h) p
 
 -- the first line of a specification that a position breaks after a run, in the same order
 abbrev pub broken_in : Specification → Run → Position → Option Label
@@ -39,9 +27,6 @@ found_after h broken = option_map (λ l. record { label = l; position = suc (len
 abbrev pub first_from : (Run → Position → Option Label) → Run → Run → Option Finding
 first_from broken h [] = None
 first_from broken h (p ∷ ps) = or_else (found_after h (broken h p)) (first_from broken (h ++ p ∷ []) ps)
-
-abbrev pub first_finding : GameData → Run → Option Finding
-first_finding g h = first_from (broken_in_game g) [] h
 
 abbrev pub first_finding_in : Specification → Run → Option Finding
 first_finding_in s h = first_from (broken_in s) [] h

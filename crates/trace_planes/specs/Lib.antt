@@ -1,5 +1,5 @@
 pub mod Findings
+pub mod GameFindings
 pub mod Rows
 pub mod Audits
 pub mod Moves
-pub mod Examples

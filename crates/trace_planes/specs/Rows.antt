@@ -7,7 +7,7 @@ use Rattle.spec_model.specs.Moves.{nothing, value_among}
 use Rattle.spec_model.specs.GameRules.{last_state}
 use Rattle.spec_model.specs.Games.{GameData, State, entry_at}
 use Rattle.column_planes.specs.Columns.{value_in, entry_in}
-use Rattle.trace_planes.specs.Findings.{broken_in_game}
+use Rattle.trace_planes.specs.GameFindings.{broken_in_game}
 use Rattle.spec_model.specs.Steps.{is_input, is_output, reached}
 
 -- each position has a value for each variable

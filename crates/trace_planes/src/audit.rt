@@ -12,7 +12,7 @@ ghost use Rattle.spec_model.specs.Plays.{IsPlay};
 ghost use Rattle.spec_model.specs.Games.{GameData};
 ghost use Rattle.spec_model.specs.WellMade.{WellMade};
 ghost use Rattle.trace_planes.specs.Audits.{Stands, IsPosition, OfEachRun, game_of, room_of};
-ghost use Rattle.trace_planes.specs.Findings.{first_finding};
+ghost use Rattle.trace_planes.specs.GameFindings.{first_finding};
 
 use crate::finding::Finding;
 use crate::passing::{clear_rows, judge_rows};
@@ -26,7 +26,7 @@ use std::alloc::{AllocError, Global};
 const ROOM: usize = 4_096;
 
 /// Judges the positions of a run.
-#[derive(Debug, Drop)]
+#[derive(Drop)]
 pub struct Audit {
     plain: Plain,
     /// The values of the positions that wait, one behind the other.

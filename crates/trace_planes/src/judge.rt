@@ -7,9 +7,9 @@ ghost use Rattle.spec_model.specs.Steps.{Before, is_input, is_output, reached};
 ghost use Rattle.spec_model.specs.FirstBroken.{first_broken, first_broken_output};
 ghost use Rattle.spec_model.specs.WellMade.{WellMade};
 ghost use Rattle.trace_planes.specs.Audits.{JudgesAfter, IsPosition};
-ghost use Rattle.trace_planes.specs.Findings.{broken_after};
+ghost use Rattle.trace_planes.specs.GameFindings.{broken_after};
 
-use crate::place::Place;
+use crate::run_state::RunState;
 use game_play::{InputJudge, OutputJudge};
 use spec_model::game::{Game, Label};
 use spec_model::value::Value;
@@ -17,12 +17,12 @@ use spec_model::variables::count_inputs;
 use std::alloc::{AllocError, Global};
 
 /// A game, its judges, and where the run is.
-#[derive(Debug, Drop)]
+#[derive(Drop)]
 pub struct Judge {
     pub game: Game,
     pub inputs: InputJudge,
     pub outputs: OutputJudge,
-    pub place: Place,
+    pub place: RunState,
 }
 
 /// The input and the output of a position.
@@ -41,7 +41,7 @@ impl Judge {
     {
         let inputs = InputJudge::make(alloc, &game)?;
         let outputs = OutputJudge::make(alloc, &game)?;
-        let place = Place::make(alloc, &game)?;
+        let place = RunState::make(alloc, &game)?;
         Ok(Judge {
             game,
             inputs,

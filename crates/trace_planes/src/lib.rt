@@ -20,8 +20,10 @@ mod finding;
 mod judge;
 mod laws;
 mod passing;
-mod place;
 mod plain;
+mod run_state;
+#[cfg(test)]
+mod tests;
 mod walk;
 mod workspace;
 
@@ -29,6 +31,3 @@ pub use audit::Audit;
 pub use column_planes::{and_planes, equal_codes, first_zero, not_plane, or_planes};
 pub use finding::Finding;
 pub use laws::findings_agree;
-
-#[cfg(test)]
-mod tests;

@@ -6,7 +6,7 @@ ghost use Rattle.spec_model.specs.GameRules.{last_state};
 ghost use Rattle.spec_model.specs.Rules.{Position, Run};
 ghost use Rattle.spec_model.specs.Games.{GameData};
 ghost use Rattle.trace_planes.specs.Audits.{HasJudged, IsPosition, IsWorkspaceOf, JudgesAfter, OfEachJudged};
-ghost use Rattle.trace_planes.specs.Findings.{broken_in_game};
+ghost use Rattle.trace_planes.specs.GameFindings.{broken_in_game};
 ghost use Rattle.trace_planes.specs.Rows.{AreWhole, AreRows, AreClear, HasColumns, HasCells};
 
 use crate::clear::clear_moves;

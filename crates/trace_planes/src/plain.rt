@@ -7,7 +7,7 @@ ghost use Rattle.spec_model.specs.Rules.{Position, Run};
 ghost use Rattle.spec_model.specs.Games.{GameData};
 ghost use Rattle.spec_model.specs.WellMade.{WellMade};
 ghost use Rattle.trace_planes.specs.Audits.{HasJudged, IsJudged, IsPosition, OfEachJudged};
-ghost use Rattle.trace_planes.specs.Findings.{broken_in_game};
+ghost use Rattle.trace_planes.specs.GameFindings.{broken_in_game};
 
 use crate::finding::Finding;
 use crate::judge::Judge;
@@ -16,7 +16,7 @@ use spec_model::value::Value;
 use std::alloc::{AllocError, Global};
 
 /// Judges the positions of a run as they come.
-#[derive(Debug, Drop)]
+#[derive(Drop)]
 pub struct Plain {
     pub judge: Judge,
     /// How many positions were pushed.

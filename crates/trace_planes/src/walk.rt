@@ -9,7 +9,7 @@ ghost use Rattle.trace_planes.specs.Audits.{IsSized, JudgesAfter};
 ghost use Rattle.trace_planes.specs.Rows.{AreRows, HasCells, KeepsOthers};
 
 use crate::judge::{Judge, moves};
-use crate::place::Place;
+use crate::run_state::RunState;
 use game_values::values::value_or;
 use spec_model::value::Value;
 
@@ -39,7 +39,7 @@ fn write_cells(here: &[Value], i: usize, cells: &mut [usize])
 /// Writes the cells of the hidden tables at some positions; their values are given one behind the other.
 pub fn write_all_cells(
     judge: &Judge,
-    ahead: &mut Place,
+    ahead: &mut RunState,
     rows: &[Value],
     width: usize,
     count: usize,

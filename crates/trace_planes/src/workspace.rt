@@ -5,7 +5,7 @@ ghost use Rattle.spec_model.specs.GameViews.{game_data};
 ghost use Rattle.spec_model.specs.WellMade.{WellMade};
 ghost use Rattle.trace_planes.specs.Audits.{IsWorkspaceOf};
 
-use crate::place::Place;
+use crate::run_state::RunState;
 use spec_model::game::Game;
 use std::alloc::{AllocError, Global};
 
@@ -13,14 +13,14 @@ use std::alloc::{AllocError, Global};
 const SCRATCH: usize = 64 * 3 * 512;
 
 /// Columns and planes for 4,096 positions.
-#[derive(Debug, Drop)]
+#[derive(Drop)]
 pub struct Workspace {
     /// The codes of the variables.
     pub columns: Vec<u16>,
     /// The cells of the hidden tables.
     pub cells: Vec<usize>,
     /// Where the run is, ahead of the judge.
-    pub ahead: Place,
+    pub ahead: RunState,
     pub scratch: Vec<u64>,
     /// At which moves all lines hold.
     pub clear: Vec<u64>,
@@ -47,7 +47,7 @@ impl Workspace {
         Ok(Workspace {
             columns: vec![in alloc; 0_u16; codes]?,
             cells: vec![in alloc; 0_usize; cells]?,
-            ahead: Place::make(alloc, game)?,
+            ahead: RunState::make(alloc, game)?,
             scratch: vec![in alloc; 0_u64; SCRATCH]?,
             clear: vec![in alloc; 0_u64; 64]?,
         })

@@ -10,7 +10,8 @@ use Rattle.spec_model.specs.Triggers.{is_pending}
 use Rattle.spec_model.specs.TriggerStates.{Positions, letters, said_by, has_last, side_states, trigger_atoms, trigger_states}
 use Rattle.spec_model.specs.WellTyped.{has_some, repeats_well, each_repeats_well, positions_in, is_typed_state, scope_of_specification, is_typed_side, is_typed_trigger}
 use Rattle.spec_model.specs.Sizes.{atoms_of}
-use Rattle.trigger_dfa.specs.Standings.{Standing, at_set, side_of, standing_after, all_sets, value_sets, side_standings, standings, value_of, by_standing, table_of, entry_along}
+use Rattle.trigger_dfa.specs.Standings.{Standing, at_set, side_of, standing_after, all_sets, value_sets, side_standings, standings, value_of, by_standing, table_of}
+use Rattle.trigger_dfa.specs.Along.{entry_along}
 use Rattle.trigger_dfa.specs.Laws.{is_readable, are_readable}
 use Rattle.trigger_dfa.proofs.Letters.{length_blocks, length-letters}
 use Rattle.trigger_dfa.proofs.Tables.{placed, goal_is_not_pending}

@@ -7,7 +7,8 @@ use Rattle.spec_model.specs.Triggers.{Phase, matches, phase_after, phase_at}
 use Rattle.spec_model.specs.TriggerStates.{Written, Positions, brackets, firsts, has, followers, members, read_of, has_last}
 use Rattle.trigger_dfa.specs.Reads.{Reads}
 use Rattle.trigger_dfa.specs.Laws.{is_readable}
-use Rattle.trigger_dfa.specs.Standings.{Standing, at_start, at_set, side_of, next_positions, standing_after, standing_along}
+use Rattle.trigger_dfa.specs.Standings.{Standing, at_start, at_set, side_of, next_positions, standing_after}
+use Rattle.trigger_dfa.specs.Along.{standing_along}
 use Rattle.trigger_dfa.proofs.Sets.{has_flat, flat_has, read_members, members_read, last_of, of_last}
 use Rattle.trigger_dfa.proofs.Paths.{Path, begin, move, true_at, path_later, path_reads, read_has_path}
 use Rattle.trigger_dfa.proofs.Stretches.{written_out_reads}

@@ -10,7 +10,8 @@ use Rattle.spec_model.specs.Syntax.{TriggerData}
 use Rattle.spec_model.specs.Meaning.{Reading, holds_at}
 use Rattle.spec_model.specs.Games.{letter_of}
 use Rattle.spec_model.specs.TriggerStates.{Positions, brackets, firsts, followers, members, read_of, letters, said_by, sets_from, has_last, sets_after, trigger_atoms}
-use Rattle.trigger_dfa.specs.Standings.{Standing, at_start, at_set, side_of, next_positions, settled, standing_after, standing_along, all_sets, value_sets, side_standings, standings, same_read, same_standing, first_place, value_of, by_standing, table_of, value_along, entry_along}
+use Rattle.trigger_dfa.specs.Standings.{Standing, at_start, at_set, side_of, next_positions, settled, standing_after, all_sets, value_sets, side_standings, standings, same_read, same_standing, first_place, value_of, by_standing, table_of}
+use Rattle.trigger_dfa.specs.Along.{standing_along, value_along, entry_along}
 use Rattle.trigger_dfa.specs.Laws.{GoalIsNotPending}
 use Rattle.trigger_dfa.proofs.Different.{among, same, same-true, same-refl, among_filter, filter_among, among_left, different_among, flat_among}
 use Rattle.trigger_dfa.proofs.Letters.{block_at, length-letters, letter_among, letter_below, letter_at}

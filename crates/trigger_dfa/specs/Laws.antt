@@ -6,7 +6,8 @@ use Rattle.spec_model.specs.Triggers.{matches, splits_into, is_pending}
 use Rattle.spec_model.specs.TriggerStates.{written}
 use Rattle.spec_model.specs.WellTyped.{has_some}
 use Rattle.trigger_dfa.specs.Reads.{Reads}
-use Rattle.trigger_dfa.specs.Standings.{table_of, entry_along}
+use Rattle.trigger_dfa.specs.Standings.{table_of}
+use Rattle.trigger_dfa.specs.Along.{entry_along}
 
 abbrev mutual
   -- no repeat has an upper number below its lower one, and there is an alternative wherever one is to be taken

@@ -1,6 +1,7 @@
 pub mod Reads
 pub mod Words
 pub mod Standings
+pub mod Along
 pub mod Sides
 pub mod Walks
 pub mod Atoms

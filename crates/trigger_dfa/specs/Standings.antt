@@ -1,10 +1,9 @@
 -- The hidden table of a trigger.
-use Rattle.std.specs.Prelude.{ℕ, zero, suc, ◌+◌, ◌*◌, ◌^◌, Bool, true, false, not, ◌&&◌, if◌then◌else◌, List, [], ◌∷◌, ◌++◌, Option, Some, None, length, map, flat_map, filter, slice_index, get_or}
+use Rattle.std.specs.Prelude.{ℕ, suc, ◌^◌, Bool, true, false, not, ◌&&◌, if◌then◌else◌, List, [], ◌∷◌, ◌++◌, Option, Some, None, length, map, flat_map, filter}
 use Rattle.std.specs.Bool.{beq}
 use Rattle.std.specs.Cmp.Lexicographic.{pointwise}
 use Rattle.spec_model.specs.Syntax.{Formula, TriggerData}
-use Rattle.spec_model.specs.Meaning.{Reading, holds_at}
-use Rattle.spec_model.specs.Games.{HiddenData, letter_of}
+use Rattle.spec_model.specs.Games.{HiddenData}
 use Rattle.spec_model.specs.TriggerStates.{Written, Positions, written, brackets, firsts, followers, members, read_of, letters, said_by, has_last, reached_sets, trigger_atoms}
 
 -- ---- where a trigger stands
@@ -36,11 +35,6 @@ settled waits w set = if has_last w set then at_start (not waits) else at_set wa
 abbrev pub standing_after : TriggerData → (Formula → Bool) → Standing → Standing
 standing_after tr test s =
     settled s.waits (side_of tr s.waits) (read_of test (next_positions (side_of tr s.waits) s.read) 0 (brackets (side_of tr s.waits)))
-
--- the standing at each position of a run
-abbrev pub standing_along : Reading → TriggerData → ℕ → Standing
-standing_along r tr zero = at_start false
-standing_along r tr (suc t) = standing_after tr (λ e. holds_at r e t) (standing_along r tr t)
 
 -- ---- values
 
@@ -94,16 +88,3 @@ table_of tr =
       next = by_standing tr (value_of tr);
       tables = by_standing tr (λ s. not s.waits) ∷ [];
     }
-
--- ---- along a run
-
-abbrev pub cell_along : HiddenData → Reading → (v t : ℕ) → ℕ
-cell_along h r v t = v * 2 ^ length h.atoms + letter_of (map (λ e. holds_at r e t) h.atoms)
-
--- the value at each position, which the table gives from the first one on
-abbrev pub value_along : HiddenData → Reading → ℕ → ℕ
-value_along h r zero = h.first
-value_along h r (suc t) = slice_index h.next (cell_along h r (value_along h r t) t)
-
-abbrev pub entry_along : HiddenData → Reading → (part t : ℕ) → Bool
-entry_along h r part t = get_or (get_or h.tables part []) (cell_along h r (value_along h r t) t) false

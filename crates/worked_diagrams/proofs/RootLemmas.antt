@@ -5,7 +5,7 @@ use Rattle.std.proofs.lemmas.List.Elements.{All-nil, All-push}
 use Rattle.spec_model.specs.Diagrams.{Function}
 use Rattle.std.proofs.lemmas.Bool.{eq-eqb}
 use Rattle.bdd_store.specs.State.{State, IsRoot, AddsRoot}
-use Rattle.bdd_ops.specs.Functions.{Ignores, DependsOn}
+use Rattle.bdd_ops.specs.Reading.{Ignores, DependsOn}
 use Rattle.bdd_ops.specs.Calls.{RisesOver}
 
 pub rises_but_last : (levels : ℕ) (f : Function) → levels ≡ 3 → Ignores 2 f → RisesOver levels (1 ∷ 2 ∷ 0 ∷ []) f

@@ -6,21 +6,21 @@ ghost use Rattle.spec_model.specs.Views.{formula};
 ghost use Rattle.spec_model.specs.GameViews.{game_data};
 ghost use Rattle.bdd_ops.specs.Contents.{Contents};
 ghost use Rattle.bit_compile.specs.Domains.{state_domains};
-ghost use Rattle.state_diagrams.specs.Members.{AreRoots};
-ghost use Rattle.state_diagrams.specs.Forcing.{AreLevelsOf};
-ghost use Rattle.state_diagrams.specs.MadeMembers.{MakesMembers};
+ghost use Rattle.bdd_sets.specs.Members.{AreRoots};
+ghost use Rattle.bdd_sets.specs.Forcing.{AreLevelsOf};
+ghost use Rattle.bdd_sets.specs.MadeMembers.{MakesMembers};
 ghost use Rattle.worked_diagrams.specs.JudgedGame.{some_holds, g_repeats_x, x_follows_g, example};
 
 use bdd_ops::{Diagrams, Root};
+use bdd_sets::levels::next_levels;
+use bdd_sets::lists::release_list;
+use bdd_sets::members::{first_members, later_members};
+use bdd_sets::moves::{Members, NextLevels};
 use bit_compile::Codes;
 use regions::{Halt, When};
 use spec_model::expr::Expr;
 use spec_model::game::Game;
 use spec_model::value::{Domain, Owner, Var};
-use state_diagrams::levels::next_levels;
-use state_diagrams::lists::release_list;
-use state_diagrams::members::{first_members, later_members};
-use state_diagrams::moves::{Members, NextLevels};
 use std::alloc::{AllocError, Global};
 use std::test::Fail;
 

@@ -6,11 +6,11 @@ ghost use Rattle.spec_model.specs.GameViews.{game_data};
 ghost use Rattle.bit_compile.specs.Domains.{state_domains};
 ghost use Rattle.worked_diagrams.specs.CodedGames.{example};
 
+use bdd_search::{fit, fix, loosen, read};
 use bit_compile::Codes;
 use game_values::seen::At;
 use spec_model::game::Game;
 use spec_model::value::{Domain, Owner, Value, Var};
-use state_search::{fit, fix, loosen, read};
 use std::alloc::{AllocError, Global};
 use std::process::Abort;
 use std::test::Fail;

@@ -1,15 +1,22 @@
-//! Hidden tables, worked out by hand or along all short runs: those of past operators, of patterns and of triggers, and the
-//! game of a specification that needs each kind.
+//! What no row of `worked_rows` shows: the hidden tables of past operators and triggers beside plain programs, along all short
+//! runs; planes of many lengths, and of expressions of each kind; the texts of arbiters; and the adapters over the system's files and streams.
 //!
-//! It has tests alone: they show of `past_bits`, `pattern_rows`, `trigger_dfa` and `hidden_game` what no clause says, that
-//! the calls succeed, and that the definitions say what is meant. Path: specification → **tables** → game.
+//! It has tests alone: they show of `past_bits`, `trigger_dfa`, `column_planes`, `spec_gen` and `sp_outside` what no clause says,
+//! that the calls succeed, and that the definitions say what is meant. Path: specification → **tables** → game; game → **planes** →
+//! findings.
 #![tactic(auto)]
 
 #[cfg(test)]
-mod mixed_game;
+mod adapters;
+#[cfg(test)]
+mod arbiters;
+#[cfg(test)]
+mod expressions;
 #[cfg(test)]
 mod past_operators;
 #[cfg(test)]
-mod pattern_tables;
+mod planes;
+#[cfg(test)]
+mod regexes;
 #[cfg(test)]
 mod triggers;

@@ -1,10 +1,9 @@
 //! Tables of past operators, run over all short runs of two truth values.
 
 use past_bits::bits;
-use spec_model::expr::{Compare, Expr, Past};
+use spec_model::expr::{Expr, Past};
 use spec_model::game::Hidden;
 use spec_model::spec::{Body, Line, Role, Spec};
-use spec_model::value::Value;
 use std::alloc::{AllocError, Global};
 use std::test::Fail;
 
@@ -127,55 +126,10 @@ fn each_entry_is_its_operator_at_three_positions(rt: HostRuntime) -> Result<(), 
                 let found = entry(&pair.1, &a, &b, now);
                 assert!(rt;
                     found == Some(expected(op, &a, &b, now)),
-                    "{op:?} of {run} at {now}"
+                    "operator {k} of {run} at {now}"
                 );
             }
         }
     }
-    Ok(())
-}
-
-fn equation(alloc: Global, a: Value, b: Value) -> Result<Expr, AllocError> {
-    let left = Box::new(alloc, Expr::Const(a))?;
-    Ok(Expr::Cmp(Compare::Eq, left, Box::new(alloc, Expr::Const(b))?))
-}
-
-#[test]
-fn equal_trees_share_a_table_and_inner_ones_come_first(rt: HostRuntime) -> Result<(), Fail> {
-    let alloc = rt.alloc();
-    let a = || Expr::Var(0);
-    let inner = one(alloc, Past::Once, a())?;
-    let nested = one(alloc, Past::Prev, inner)?;
-    let again = one(alloc, Past::Once, a())?;
-    let both = Expr::Or(vec![in alloc; nested, again]?);
-    let equal = two(alloc, Past::Since, a(), a())?;
-    let ones = one(
-        alloc,
-        Past::Once,
-        equation(alloc, Value::Int(1), Value::Int(1))?,
-    )?;
-    let truths = one(
-        alloc,
-        Past::Once,
-        equation(alloc, Value::Bool(true), Value::Bool(true))?,
-    )?;
-    let bodies = vec![in alloc;
-        Body::Safety(both),
-        Body::Recurring(equal),
-        Body::Initial(ones),
-        Body::Initial(truths),
-    ]?;
-    let mut shown = String::new(alloc);
-    for pair in &bits(alloc, &spec(alloc, bodies)?)? {
-        write!(shown, "{:?} {:?}\n", pair.0, pair.1.atoms)?;
-    }
-    assert_eq!(rt;
-        shown.as_str(),
-        "Past(Once, [Var(0)]) [Var(0)]\n\
-        Past(Prev, [Past(Once, [Var(0)])]) [Table(0, 0)]\n\
-        Past(Since, [Var(0), Var(0)]) [Var(0), Var(0)]\n\
-        Past(Once, [Cmp(Eq, Const(Int(1)), Const(Int(1)))]) [Cmp(Eq, Const(Int(1)), Const(Int(1)))]\n\
-        Past(Once, [Cmp(Eq, Const(Bool(true)), Const(Bool(true)))]) [Cmp(Eq, Const(Bool(true)), Const(Bool(true)))]\n"
-    );
     Ok(())
 }

@@ -1,5 +1,5 @@
 " Vim syntax file for Spectra, the language of docs/LANGUAGE.md.
-" Put it into ~/.vim/syntax/, and ftdetect/spectra.vim into ~/.vim/ftdetect/.
+" How to install it: editors/README.md.
 if exists("b:current_syntax")
   finish
 endif

@@ -1,10 +1,9 @@
 use Rattle.std.proofs.Common.{map, arith}
 use Rattle.std.proofs.lemmas.Result.{err_from_is_err_and}
 use Rattle.spectra_trees.specs.declared.class.Class.TheVariants as Class
-use Rattle.spectra_trees.specs.Views.{expr_data}
-use Rattle.spectra_trees.specs.Lexemes.{lexeme_of, lexemes_of}
+use Rattle.spectra_trees.specs.Views.{expr_data, lexeme_of, lexemes_of}
 use Rattle.spectra_exprs.specs.Read.{starts}
-use Rattle.spectra_exprs.specs.Operators.{starts_sum, starts_or}
+use Rattle.spectra_exprs.specs.OperatorReaders.{starts_sum, starts_or}
 use Rattle.spectra_exprs.specs.ExprViews.{term_data, chain_data}
 use Rattle.spectra_exprs.specs.Expressions.{inside, times_of, plus_of, conjunct_of, disjunct_of, argument_of}
 use Rattle.spectra_exprs.proofs.Levels.{whole_deep, operand_deep, arguments_deep, whole_open, operand_open, arguments_open}

@@ -1,9 +1,8 @@
 use Rattle.std.proofs.Common.{◌+◌, ◌*◌, length, map}
 use Rattle.spectra_trees.specs.declared.class.Class.TheVariants as Class
-use Rattle.spectra_trees.specs.Views.{expr_data}
-use Rattle.spectra_trees.specs.Lexemes.{lexemes_of}
+use Rattle.spectra_trees.specs.Views.{expr_data, lexemes_of}
 use Rattle.spectra_exprs.specs.Read.{starts, all_of}
-use Rattle.spectra_exprs.specs.Operators.{starts_sum, starts_or}
+use Rattle.spectra_exprs.specs.OperatorReaders.{starts_sum, starts_or}
 use Rattle.spectra_exprs.specs.ExprViews.{term_data, chain_data}
 use Rattle.spectra_exprs.specs.Expressions.{inside, times_of, plus_of, conjunct_of, disjunct_of, argument_of}
 use Rattle.spectra_exprs.proofs.Loops.{Grown}

@@ -1,4 +1,4 @@
-use Rattle.spec_model.specs.Diagrams.{bits_of}
+use Rattle.spec_model.specs.DiagramReads.{bits_of}
 use Rattle.bdd_ops.specs.Together.{AreFirst}
 use Rattle.bdd_ops.proofs.rows.write_first.Given as goal
 

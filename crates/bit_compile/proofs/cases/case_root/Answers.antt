@@ -6,7 +6,8 @@ use Rattle.bit_compile.specs.declared.cases.Source.{Source}
 use Rattle.bit_compile.specs.Making.{Makes}
 use Rattle.bit_compile.specs.CaseRoots.{had_by}
 use Rattle.bit_compile.specs.Crowding.{HasCause}
-use Rattle.bit_compile.specs.Named.{IsOfLetter, IsOfSource}
+use Rattle.bit_compile.specs.Named.{IsOfLetter}
+use Rattle.bit_compile.specs.NamedScenes.{IsOfSource}
 use Rattle.bit_compile.proofs.cases.case_root.Goals as goal
 
 pub returns-in-Pairs-clause-made : goal.returns-in-Pairs-clause-made

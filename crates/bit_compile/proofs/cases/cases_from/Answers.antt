@@ -14,7 +14,8 @@ use Rattle.bit_compile.proofs.CyclesLemmas.{take_next, take_all, got}
 use Rattle.bit_compile.proofs.Causes.{cause_among, cause_handed, cause_ok}
 use Rattle.bit_compile.proofs.NamedCases.{source_named}
 use Rattle.bit_compile.proofs.NamedSteps.{first_named}
-use Rattle.bit_compile.specs.Named.{IsOfEach, IsOfSource}
+use Rattle.bit_compile.specs.Named.{IsOfEach}
+use Rattle.bit_compile.specs.NamedScenes.{IsOfSource}
 use Rattle.std.proofs.lemmas.List.Elements.{Contains-get_or}
 use Rattle.bit_compile.proofs.cases.cases_from.Goals as goal
 

@@ -4,7 +4,8 @@ use Rattle.spec_model.specs.Diagrams.{Function}
 use Rattle.bdd_ops.specs.Contents.{function_at}
 use Rattle.bit_compile.specs.declared.cases.Source.TheVariants as source
 use Rattle.bit_compile.specs.CaseRoots.{had_by}
-use Rattle.bit_compile.specs.Named.{IsOfEach, IsOfSource, IsTruth}
+use Rattle.bit_compile.specs.Named.{IsOfEach, IsTruth}
+use Rattle.bit_compile.specs.NamedScenes.{IsOfSource}
 use Rattle.bit_compile.specs.Compiled.{both_truths}
 use Rattle.bit_compile.proofs.Outcomes.{cases_wider}
 use Rattle.bit_compile.proofs.NamedSteps.{truth_named}

@@ -17,7 +17,8 @@ use Rattle.bit_compile.proofs.Causes.{cause_wider}
 use Rattle.bit_compile.proofs.Outcomes.{cases_handed, makes_leaves, named_handed}
 use Rattle.bit_compile.proofs.CompilingSteps.{negated_made, implied_made, or_made, equivalent_made, same_made, both_made_with, joined_made, compared_made, compared_with_made}
 use Rattle.bit_compile.proofs.NamedFormulas.{either, part_named}
-use Rattle.bit_compile.specs.Named.{AreNamedIn, IsFirstOf, IsNamedIn, IsNamedOr, IsOfPairs, IsOfSame}
+use Rattle.bit_compile.specs.Named.{IsFirstOf, IsOfPairs, IsOfSame}
+use Rattle.bit_compile.specs.NamedScenes.{AreNamedIn, IsNamedIn, IsNamedOr}
 use Rattle.bit_compile.proofs.compiling.+compile.Answers.Arms as arms
 use Rattle.bit_compile.proofs.compiling.+compile.Answers.Entries as entries
 use Rattle.bit_compile.proofs.compiling.+compile.Answers.Numbers as numbers

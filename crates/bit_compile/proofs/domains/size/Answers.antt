@@ -2,7 +2,7 @@ use Rattle.std.proofs.Common.{◌≡◌, ◌+◌, ◌-ℤ◌, nat_abs, sym, ap, 
 use Rattle.std.proofs.lemmas.Int.{to_z-of_z}
 use Rattle.spec_model.specs.Views.{domain_data}
 use Rattle.spec_model.specs.Sizes.{domain_size}
-use Rattle.bit_compile.specs.Domains.{IsCountable}
+use Rattle.bit_compile.specs.Laid.{IsCountable}
 use Rattle.bit_compile.proofs.DomainLemmas.{size-whole}
 use Rattle.bit_compile.proofs.domains.size.Goals as goal
 

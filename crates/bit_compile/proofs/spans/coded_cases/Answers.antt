@@ -4,11 +4,13 @@ use Rattle.spec_model.specs.declared.value.Value.{Value}
 use Rattle.spec_model.specs.Views.{domain_data}
 use Rattle.spec_model.specs.Values.{same_value, values_of}
 use Rattle.bit_compile.specs.declared.cases.Source.TheVariants as source
-use Rattle.bit_compile.specs.Domains.{IsCountable, level_count}
+use Rattle.bit_compile.specs.Domains.{level_count}
+use Rattle.bit_compile.specs.Laid.{IsCountable}
 use Rattle.bit_compile.specs.CaseRoots.{IsReady, MakesCases, cases_by, had_by}
 use Rattle.bit_compile.proofs.Describing.{all_among}
 use Rattle.bit_compile.proofs.Readiness.{each_ready}
-use Rattle.bit_compile.specs.Named.{IsOfEach, IsOfSource}
+use Rattle.bit_compile.specs.Named.{IsOfEach}
+use Rattle.bit_compile.specs.NamedScenes.{IsOfSource}
 use Rattle.bit_compile.proofs.spans.coded_cases.Goals as goal
 
 pub cases_from-requires : goal.cases_from-requires

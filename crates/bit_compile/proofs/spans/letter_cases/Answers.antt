@@ -9,7 +9,8 @@ use Rattle.bit_compile.specs.declared.cases.Source.TheVariants as source
 use Rattle.bit_compile.specs.Compiled.{numbers_below}
 use Rattle.bit_compile.specs.CaseRoots.{AreKept, MakesCases, cases_by, had_by}
 use Rattle.bit_compile.proofs.Readiness.{always}
-use Rattle.bit_compile.specs.Named.{IsOfEach, IsOfSource}
+use Rattle.bit_compile.specs.Named.{IsOfEach}
+use Rattle.bit_compile.specs.NamedScenes.{IsOfSource}
 use Rattle.bit_compile.proofs.spans.letter_cases.Goals as goal
 
 pub cases_from-requires : goal.cases_from-requires

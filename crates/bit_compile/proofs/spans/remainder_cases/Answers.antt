@@ -5,12 +5,13 @@ use Rattle.spec_model.specs.declared.value.Value.TheVariants as value
 use Rattle.bit_compile.specs.declared.operation.Operation.TheVariants.{Mod}
 use Rattle.bit_compile.specs.declared.cases.CaseRoot.{CaseRoot}
 use Rattle.bit_compile.specs.CaseRoots.{AddsCases, cases_at, had_by}
-use Rattle.bit_compile.specs.Domains.{IsCountable}
+use Rattle.bit_compile.specs.Laid.{IsCountable}
 use Rattle.bit_compile.specs.Compiled.{Case, only, results, span_of}
 use Rattle.bit_compile.proofs.Pairing.{made_left, others_kept, seen_kept, seen_values}
 use Rattle.bit_compile.proofs.Causes.{cause_wider}
 use Rattle.bit_compile.proofs.Outcomes.{cases_among, cases_handed, results_made}
-use Rattle.bit_compile.specs.Named.{IsOfEach, IsOfResults, IsOfRemainders, IsOfSource}
+use Rattle.bit_compile.specs.Named.{IsOfEach, IsOfResults, IsOfRemainders}
+use Rattle.bit_compile.specs.NamedScenes.{IsOfSource}
 use Rattle.bit_compile.specs.Crowding.{HasCause}
 use Rattle.spec_model.specs.Diagrams.{Function}
 use Rattle.spec_model.specs.Values.{values_of}

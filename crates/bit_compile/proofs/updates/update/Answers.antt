@@ -21,7 +21,8 @@ use Rattle.bit_compile.proofs.NamedCases.{named_wider}
 use Rattle.bit_compile.proofs.Outcomes.{named_among, named_handed}
 use Rattle.bit_compile.proofs.NamedFormulas.{before_named, members_named, update_named}
 use Rattle.bit_compile.specs.Crowding.{HasCause, MakesNamed}
-use Rattle.bit_compile.specs.Named.{AreNamedIn, AreOfFormulas, IsNamedUpdate, IsOfTables, IsOfTablesIn, IsOfUpdate}
+use Rattle.bit_compile.specs.Named.{AreOfFormulas, IsNamedUpdate, IsOfTables, IsOfUpdate}
+use Rattle.bit_compile.specs.NamedScenes.{AreNamedIn, IsOfTablesIn}
 use Rattle.spec_model.specs.Diagrams.{Function}
 use Rattle.bit_compile.specs.declared.cases.CaseRoot.{CaseRoot}
 use Rattle.bdd_ops.specs.Contents.{function_at}

@@ -5,7 +5,7 @@ use Rattle.gr1_sys.proofs.Holdings.{on_err, same_then}
 use Rattle.gr1_sys.proofs.Lists.{region_stays, set_kept, together_as, made_and_taken_all}
 use Rattle.gr1_env.proofs.Climbing.{climbs_first, climbs_next, climbs_fewer, climbed, grows_at}
 use Rattle.gr1_env.specs.Solution.{delay_sets}
-use Rattle.gr1_env.specs.Moment.{AreOfDelay, TellsHalt}
+use Rattle.gr1_env.specs.Told.{AreOfDelay, TellsHalt}
 use Rattle.gr1_env.proofs.Told.{handed_on, past_many}
 use Rattle.gr1_env.proofs.Naming.{delay_stands, delays_named}
 use Rattle.gr1_env.proofs.delays.delays.Goals as goal

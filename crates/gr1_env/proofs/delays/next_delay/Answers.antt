@@ -3,7 +3,8 @@ use Rattle.std.proofs.lemmas.Result.{IfOk-weaker, IfErr-weaker, on_err_weaker}
 use Rattle.spec_model.specs.Sets.{both, either, pre_env}
 use Rattle.gr1_sys.proofs.Holdings.{on_err, dropped, replaced_as}
 use Rattle.regions.specs.Kept.{And, Or, PreEnv, States}
-use Rattle.gr1_env.specs.Moment.{IsIterate, delay_at, TellsHalt, iterated, delayed, assumption, forced, covered, met}
+use Rattle.gr1_env.specs.Moment.{IsIterate, delay_at, iterated, delayed, assumption, forced, covered, met}
+use Rattle.gr1_env.specs.Told.{TellsHalt}
 use Rattle.gr1_env.proofs.Told.{handed_on, told, joined_told}
 use Rattle.gr1_env.proofs.delays.next_delay.Goals as goal
 

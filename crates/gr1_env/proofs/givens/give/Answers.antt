@@ -1,10 +1,10 @@
 use Rattle.std.proofs.Common.{◌∷◌, subst, arith, sym, ◌∙◌}
 use Rattle.spec_model.specs.Sets.{no_states}
-use Rattle.gr1_env.specs.declared.givens.Wanted.TheVariants.{Misses, Assumptions}
+use Rattle.gr1_env.specs.declared.givens.EnvSets.TheVariants.{Misses, Assumptions}
 use Rattle.gr1_sys.specs.Held.{MakesRegions}
 use Rattle.gr1_env.specs.Givens.{wanted}
 use Rattle.gr1_sys.proofs.Lists.{together_as, made_and_spent_all, makes_both}
-use Rattle.gr1_env.specs.Moment.{TellsHalt}
+use Rattle.gr1_env.specs.Told.{TellsHalt}
 use Rattle.gr1_env.proofs.Told.{handed_on, AreNamed, past_many}
 use Rattle.gr1_env.proofs.Naming.{wanted_named}
 use Rattle.gr1_env.proofs.givens.give.Goals as goal

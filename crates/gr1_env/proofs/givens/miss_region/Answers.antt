@@ -11,7 +11,8 @@ use Rattle.gr1_env.proofs.Givings.{miss_alone, miss_there, miss_counted}
 use Rattle.regions.specs.Kept.{Not, Holding, States}
 use Rattle.gr1_law.specs.Layers.{goal_set}
 use Rattle.gr1_sys.specs.Moment.{IsGoal}
-use Rattle.gr1_env.specs.Moment.{IsNamed, TellsHalt, goal as goal_named}
+use Rattle.gr1_env.specs.Moment.{IsNamed, goal as goal_named}
+use Rattle.gr1_env.specs.Told.{TellsHalt}
 use Rattle.gr1_env.proofs.Told.{handed_on, told, told_none, past_one}
 use Rattle.gr1_env.proofs.givens.miss_region.Goals as goal
 

@@ -3,9 +3,9 @@ use Rattle.gr1_sys.proofs.Lists.{together_as, made_and_spent_all}
 use Rattle.gr1_sys.proofs.Givings.{one_before}
 use Rattle.regions.specs.Kept.{NoStates}
 use Rattle.gr1_env.specs.Givens.{wanted}
-use Rattle.gr1_env.specs.declared.givens.Wanted.TheVariants.{Assumptions}
+use Rattle.gr1_env.specs.declared.givens.EnvSets.TheVariants.{Assumptions}
 use Rattle.regions.specs.Kept.{NoStates}
-use Rattle.gr1_env.specs.Moment.{TellsHalt}
+use Rattle.gr1_env.specs.Told.{TellsHalt}
 use Rattle.gr1_env.proofs.Told.{handed_on, AreNamed, told, past_many}
 use Rattle.gr1_env.proofs.Naming.{wanted_named}
 use Rattle.gr1_env.proofs.givens.with_misses.Goals as goal

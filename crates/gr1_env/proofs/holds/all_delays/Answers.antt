@@ -6,7 +6,7 @@ use Rattle.gr1_sys.proofs.Holdings.{same_then}
 use Rattle.gr1_sys.proofs.Lists.{one_of, set_at_is, region_stays, set_kept, together_as, made_and_spent_all, length_map}
 use Rattle.gr1_sys.proofs.Parted.{nothing_made}
 use Rattle.gr1_env.proofs.Holding.{delays_at, more_made, more_least}
-use Rattle.gr1_env.specs.Moment.{AreOfDelay}
+use Rattle.gr1_env.specs.Told.{AreOfDelay}
 use Rattle.gr1_env.proofs.Told.{past_many}
 use Rattle.gr1_env.proofs.Naming.{of_one, lists_named}
 use Rattle.gr1_env.proofs.holds.all_delays.Goals as goal

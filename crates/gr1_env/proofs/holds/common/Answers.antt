@@ -10,7 +10,8 @@ use Rattle.gr1_sys.proofs.Lists.{region_stays}
 use Rattle.gr1_env.proofs.Gathered.{each_gathered, last_held}
 use Rattle.regions.specs.Kept.{All, And}
 use Rattle.gr1_sys.specs.Moment.{IsAssumption}
-use Rattle.gr1_env.specs.Moment.{IsNamed, TellsHalt, iterated, delayed}
+use Rattle.gr1_env.specs.Moment.{IsNamed, iterated, delayed}
+use Rattle.gr1_env.specs.Told.{TellsHalt}
 use Rattle.spec_model.specs.Steps.{states_of}
 use Rattle.gr1_env.proofs.Told.{handed_on, told, joined_told}
 use Rattle.gr1_env.proofs.Naming.{common_named}

@@ -9,7 +9,8 @@ use Rattle.gr1_sys.proofs.Parted.{made_above, halted_above}
 use Rattle.gr1_sys.proofs.Turned.{above_held}
 use Rattle.gr1_env.proofs.Holding.{have_at}
 use Rattle.regions.specs.Kept.{And, PreEnv, States}
-use Rattle.gr1_env.specs.Moment.{IsIterate, TellsHalt, iterated, value, forced, based, covered}
+use Rattle.gr1_env.specs.Moment.{IsIterate, iterated, value, forced, based, covered}
+use Rattle.gr1_env.specs.Told.{TellsHalt}
 use Rattle.gr1_env.proofs.Told.{handed_on, told, past_one, joined_told}
 use Rattle.gr1_env.proofs.Naming.{cover_stands}
 use Rattle.gr1_env.proofs.holds.delays_for.Goals as goal

@@ -7,7 +7,8 @@ use Rattle.gr1_sys.proofs.Holdings.{same_then}
 use Rattle.gr1_sys.proofs.Lists.{region_stays, set_kept, each_stays, sets_stay}
 use Rattle.gr1_env.proofs.Holding.{hold_value_on-grows, hold_value_on-inside, hold_made, steps_at}
 use Rattle.spec_model.specs.Sets.{all_states}
-use Rattle.gr1_env.specs.Moment.{AreOfHold, TellsHold, iterated, value as value_named, layer_number, moment_at}
+use Rattle.gr1_env.specs.Moment.{iterated, value as value_named}
+use Rattle.gr1_env.specs.Told.{AreOfHold, TellsHold, layer_number, moment_at}
 use Rattle.gr1_env.proofs.Told.{handed_on, told, past_one, at_hold}
 use Rattle.gr1_env.proofs.Naming.{value_here, value_stands}
 use Rattle.regions.specs.Kept.{All}

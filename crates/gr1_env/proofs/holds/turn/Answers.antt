@@ -7,7 +7,8 @@ use Rattle.gr1_sys.proofs.Lists.{region_stays, set_kept, held_each, together_as,
 use Rattle.gr1_env.proofs.Holding.{turns_to}
 use Rattle.spec_model.specs.Steps.{states_of}
 use Rattle.gr1_env.specs.Solution.{at, cover_of}
-use Rattle.gr1_env.specs.Moment.{TellsHalt, delay_at}
+use Rattle.gr1_env.specs.Moment.{delay_at}
+use Rattle.gr1_env.specs.Told.{TellsHalt}
 use Rattle.gr1_env.proofs.Told.{handed_on, past_many}
 use Rattle.gr1_env.proofs.Holding.{last_sets_stand, cover_of-inside}
 use Rattle.gr1_env.proofs.Naming.{of_one, last_stands, lists_named, cover_stands}

@@ -6,7 +6,7 @@ use Rattle.gr1_sys.proofs.Lists.{sets_stay, together_as, made_and_taken_all}
 use Rattle.gr1_env.proofs.Givings.{given_stays}
 use Rattle.gr1_env.proofs.Growing.{climbs_first, climbs_next, climbs_fewer, climbed, last_stays, grows_at}
 use Rattle.gr1_env.specs.Held.{all_sets}
-use Rattle.gr1_env.specs.Moment.{AreGiven, TellsLayers, moment_at}
+use Rattle.gr1_env.specs.Told.{AreGiven, TellsLayers, moment_at}
 use Rattle.gr1_env.proofs.Told.{handed_on, at_layers, layer_past}
 use Rattle.gr1_env.proofs.Naming.{value_other, layer_is, layers_named}
 use Rattle.gr1_env.proofs.layering.all_layers.Goals as goal

@@ -1,6 +1,6 @@
 use Rattle.std.proofs.Common.{◌-◌, length, map}
 use Rattle.spec_model.specs.Steps.{states_of}
-use Rattle.spec_model.specs.Sets.{count_in}
+use Rattle.spec_model.specs.Counts.{count_in}
 use Rattle.regions.specs.Kept.{IsSameGame}
 use Rattle.gr1_env.specs.Held.{last_z}
 use Rattle.gr1_env.proofs.Growing.{ClimbsLayers}

@@ -10,7 +10,8 @@ use Rattle.gr1_env.proofs.Joining.{hold_at}
 use Rattle.spec_model.specs.Sets.{all_states, rest}
 use Rattle.regions.specs.Kept.{Or, States}
 use Rattle.gr1_law.specs.Layers.{goal_set}
-use Rattle.gr1_env.specs.Moment.{TellsHold, base_for, layer_number, moment_at, layer, miss, forced, based}
+use Rattle.gr1_env.specs.Moment.{layer, miss, forced, based}
+use Rattle.gr1_env.specs.Told.{TellsHold, base_for, layer_number, moment_at}
 use Rattle.gr1_env.proofs.Told.{handed_on, told, at_hold, hold_past_one}
 use Rattle.gr1_env.proofs.layering.hold_above.Goals as goal
 

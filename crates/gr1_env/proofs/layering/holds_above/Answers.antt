@@ -11,7 +11,7 @@ use Rattle.gr1_env.proofs.Joining.{hold_at, more_holds, more_whole, miss_is}
 use Rattle.spec_model.specs.Sets.{rest}
 use Rattle.gr1_law.specs.Layers.{goal_set}
 use Rattle.gr1_sys.specs.Moment.{IsGoal}
-use Rattle.gr1_env.specs.Moment.{moment_at}
+use Rattle.gr1_env.specs.Told.{moment_at}
 use Rattle.gr1_env.proofs.Exact.{misses_counted, miss_at}
 use Rattle.gr1_env.proofs.Told.{at_layer, hold_past}
 use Rattle.gr1_env.proofs.Naming.{value_other, goals_named}

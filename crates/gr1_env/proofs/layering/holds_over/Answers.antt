@@ -9,7 +9,8 @@ use Rattle.gr1_env.proofs.Givings.{given_stays}
 use Rattle.gr1_env.proofs.Joining.{holds_at}
 use Rattle.spec_model.specs.Sets.{all_states}
 use Rattle.regions.specs.Kept.{PreEnv, States}
-use Rattle.gr1_env.specs.Moment.{IsIterate, AreGiven, TellsLayer, layer_number, moment_at, iterated, layer, forced}
+use Rattle.gr1_env.specs.Moment.{IsIterate, iterated, layer, forced}
+use Rattle.gr1_env.specs.Told.{AreGiven, TellsLayer, layer_number, moment_at}
 use Rattle.gr1_env.proofs.Told.{handed_on, told, at_hold, at_layer, layer_past_one}
 use Rattle.gr1_env.proofs.Naming.{some_goal}
 use Rattle.gr1_env.proofs.layering.holds_over.Goals as goal

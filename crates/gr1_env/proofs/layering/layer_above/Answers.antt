@@ -7,7 +7,7 @@ use Rattle.gr1_sys.proofs.Lists.{held_each, together_as, made_and_spent_all}
 use Rattle.gr1_env.proofs.Joining.{layer_made}
 use Rattle.spec_model.specs.Sets.{pre_env}
 use Rattle.gr1_law.specs.Layers.{goal_sets}
-use Rattle.gr1_env.specs.Moment.{TellsLayer, layer_number, hold_number, moment_at}
+use Rattle.gr1_env.specs.Told.{TellsLayer, layer_number, hold_number, moment_at}
 use Rattle.gr1_env.proofs.Exact.{misses_counted}
 use Rattle.gr1_env.proofs.Joining.{holds_stand}
 use Rattle.gr1_env.proofs.Told.{handed_on, past_many, at_hold, at_layer}

@@ -10,7 +10,8 @@ use Rattle.gr1_sys.proofs.Lists.{region_stays}
 use Rattle.gr1_env.proofs.Gathered.{each_gathered}
 use Rattle.regions.specs.Kept.{NoStates, Or}
 use Rattle.gr1_sys.specs.Moment.{IsGoal}
-use Rattle.gr1_env.specs.Moment.{IsNamed, TellsHalt, iterated, value}
+use Rattle.gr1_env.specs.Moment.{IsNamed, iterated, value}
+use Rattle.gr1_env.specs.Told.{TellsHalt}
 use Rattle.gr1_env.proofs.Told.{handed_on, told, joined_told}
 use Rattle.gr1_env.proofs.Naming.{union_named}
 use Rattle.gr1_env.proofs.layering.union_of.Goals as goal

@@ -7,7 +7,8 @@ use Rattle.gr1_sys.proofs.Walked.{together_still}
 use Rattle.gr1_env.specs.Held.{all_regions, last_z}
 use Rattle.gr1_env.proofs.Growing.{last_z_held}
 use Rattle.regions.specs.Kept.{StartEnv, States}
-use Rattle.gr1_env.specs.Moment.{TellsHalt, iterated, layer}
+use Rattle.gr1_env.specs.Moment.{iterated, layer}
+use Rattle.gr1_env.specs.Told.{TellsHalt}
 use Rattle.gr1_env.proofs.Told.{told, still_told}
 use Rattle.gr1_env.proofs.solving.decide.Goals as goal
 

@@ -3,11 +3,10 @@ use Rattle.gr1_sys.proofs.Lists.{together_as, made_and_spent_all}
 use Rattle.gr1_sys.proofs.Won.{match_weaker}
 use Rattle.gr1_env.specs.Givens.{given_regions, given_sets}
 use Rattle.gr1_env.proofs.Givings.{given_as}
-use Rattle.gr1_env.specs.Moment.{layers_for}
+use Rattle.gr1_env.specs.Told.{layers_for, TellsOneMoment, moment_at}
 use Rattle.gr1_env.proofs.Deciding.{still_held}
 use Rattle.gr1_env.proofs.Shown.{won_is, lost_is}
 use Rattle.spec_model.specs.Sets.{all_states}
-use Rattle.gr1_env.specs.Moment.{TellsOneMoment, moment_at}
 use Rattle.gr1_env.proofs.Told.{handed_on, layers_past}
 use Rattle.gr1_env.proofs.Settled.{of_one_moment, some_each}
 use Rattle.gr1_env.proofs.Naming.{given_named, at_moment, of_layers}

@@ -5,7 +5,7 @@ use Rattle.gr1_sys.proofs.Won.{match_weaker}
 use Rattle.gr1_env.specs.Held.{all_regions}
 use Rattle.gr1_env.proofs.Givings.{given_stays}
 use Rattle.gr1_env.proofs.Deciding.{lost, won}
-use Rattle.gr1_env.specs.Moment.{TellsLayers, hold_number, moment_at}
+use Rattle.gr1_env.specs.Told.{TellsLayers, hold_number, moment_at}
 use Rattle.gr1_env.proofs.Told.{handed_on, past_many, at_hold, at_layer, at_layers}
 use Rattle.gr1_env.proofs.Naming.{some_goal, hold_is_value, value_settled, layer_is, last_number, layers_named}
 use Rattle.gr1_env.proofs.solving.winning.Goals as goal

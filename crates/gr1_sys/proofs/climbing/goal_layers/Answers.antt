@@ -7,7 +7,8 @@ use Rattle.gr1_sys.proofs.Climbed.{climbs_first, climbs_next, climbs_fewer, clim
 use Rattle.spec_model.specs.Sets.{both, pre_sys}
 use Rattle.gr1_law.specs.Layers.{goal_set}
 use Rattle.gr1_sys.specs.Solution.{layer_of}
-use Rattle.gr1_sys.specs.Moment.{IsGoal, TellsHalt}
+use Rattle.gr1_sys.specs.Moment.{IsGoal}
+use Rattle.gr1_sys.specs.Told.{TellsHalt}
 use Rattle.gr1_sys.proofs.Told.{handed_on, past_many}
 use Rattle.gr1_sys.proofs.Naming.{rank_named, flatten_named}
 use Rattle.gr1_sys.proofs.climbing.goal_layers.Goals as goal

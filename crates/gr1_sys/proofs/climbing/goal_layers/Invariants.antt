@@ -1,6 +1,7 @@
 use Rattle.std.proofs.Common.{◌≡◌, ◌-◌, length}
 use Rattle.spec_model.specs.Steps.{states_of}
-use Rattle.spec_model.specs.Sets.{StateSet, both, pre_sys, count_in}
+use Rattle.spec_model.specs.Sets.{StateSet, both, pre_sys}
+use Rattle.spec_model.specs.Counts.{count_in}
 use Rattle.regions.specs.Kept.{IsSameGame}
 use Rattle.gr1_law.specs.Layers.{goal_set}
 use Rattle.gr1_sys.specs.Held.{Climbs, last_region}

@@ -1,10 +1,10 @@
 use Rattle.std.proofs.Common.{◌∷◌, subst, arith}
 use Rattle.spec_model.specs.Sets.{no_states}
-use Rattle.gr1_sys.specs.declared.givens.Wanted.TheVariants.{Goals, Lapses}
+use Rattle.gr1_sys.specs.declared.givens.SysSets.TheVariants.{Goals, Lapses}
 use Rattle.gr1_sys.specs.Held.{MakesRegions}
 use Rattle.gr1_sys.specs.Givens.{wanted}
 use Rattle.gr1_sys.proofs.Lists.{together_as, made_and_spent_all, makes_both}
-use Rattle.gr1_sys.specs.Moment.{TellsHalt}
+use Rattle.gr1_sys.specs.Told.{TellsHalt}
 use Rattle.gr1_sys.proofs.Told.{handed_on, past_many}
 use Rattle.gr1_sys.proofs.Naming.{wanted_named}
 use Rattle.gr1_sys.proofs.givens.give.Goals as goal

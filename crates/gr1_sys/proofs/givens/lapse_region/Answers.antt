@@ -9,7 +9,8 @@ use Rattle.regions.proofs.Holding.{set_is}
 use Rattle.gr1_sys.proofs.Parted.{halted_above}
 use Rattle.gr1_sys.proofs.Givings.{assumption_alone, assumption_there, lapse_alone, lapse_there, lapse_counted, one_above}
 use Rattle.regions.specs.Kept.{Not, Holding, States}
-use Rattle.gr1_sys.specs.Moment.{IsAssumption, IsNamed, TellsHalt, assumption}
+use Rattle.gr1_sys.specs.Moment.{IsAssumption, IsNamed, assumption}
+use Rattle.gr1_sys.specs.Told.{TellsHalt}
 use Rattle.gr1_sys.proofs.Told.{handed_on, told, told_none, past_one}
 use Rattle.gr1_sys.proofs.givens.lapse_region.Goals as goal
 

@@ -3,8 +3,8 @@ use Rattle.gr1_sys.proofs.Lists.{together_as, made_and_spent_all}
 use Rattle.gr1_sys.proofs.Givings.{one_before}
 use Rattle.regions.specs.Kept.{NoStates}
 use Rattle.gr1_sys.specs.Givens.{wanted}
-use Rattle.gr1_sys.specs.declared.givens.Wanted.TheVariants.{Lapses}
-use Rattle.gr1_sys.specs.Moment.{TellsHalt}
+use Rattle.gr1_sys.specs.declared.givens.SysSets.TheVariants.{Lapses}
+use Rattle.gr1_sys.specs.Told.{TellsHalt}
 use Rattle.gr1_sys.proofs.Told.{handed_on, told, past_many}
 use Rattle.gr1_sys.proofs.Naming.{wanted_named}
 use Rattle.gr1_sys.proofs.givens.with_goals.Goals as goal

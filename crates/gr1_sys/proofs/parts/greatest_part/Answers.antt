@@ -6,7 +6,8 @@ use Rattle.regions.proofs.Holding.{made_is}
 use Rattle.gr1_sys.specs.Held.{waiting}
 use Rattle.gr1_sys.proofs.Holdings.{same_then}
 use Rattle.gr1_sys.proofs.Waits.{waiting-first, waiting-next, waiting-fewer, waiting-last, turned, still}
-use Rattle.gr1_sys.specs.Moment.{TellsHalt, iterated, part, part_iterate}
+use Rattle.gr1_sys.specs.Moment.{iterated, part, part_iterate}
+use Rattle.gr1_sys.specs.Told.{TellsHalt}
 use Rattle.gr1_sys.proofs.Told.{handed_on, past_one}
 use Rattle.gr1_sys.proofs.Naming.{part_iterated, part_still}
 use Rattle.gr1_sys.proofs.parts.greatest_part.Goals as goal

@@ -3,7 +3,8 @@ use Rattle.std.proofs.lemmas.Result.{IfOk-weaker, IfErr-weaker, on_err_weaker}
 use Rattle.spec_model.specs.Sets.{both, either, pre_sys}
 use Rattle.gr1_sys.proofs.Holdings.{on_err, same_then, dropped, replaced_as}
 use Rattle.regions.specs.Kept.{And, Or, PreSys, States}
-use Rattle.gr1_sys.specs.Moment.{TellsHalt, part_iterate, iterated, part, forced, lapse, waited, based}
+use Rattle.gr1_sys.specs.Moment.{part_iterate, iterated, part, forced, lapse, waited, based}
+use Rattle.gr1_sys.specs.Told.{TellsHalt}
 use Rattle.gr1_sys.proofs.Told.{handed_on, told, joined_told}
 use Rattle.gr1_sys.proofs.parts.part_step.Goals as goal
 

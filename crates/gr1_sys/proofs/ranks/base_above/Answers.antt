@@ -3,7 +3,8 @@ use Rattle.std.proofs.lemmas.Result.{IfOk-weaker, IfErr-weaker, on_err_weaker}
 use Rattle.spec_model.specs.Sets.{either, pre_sys}
 use Rattle.gr1_sys.proofs.Holdings.{dropped, replaced_as}
 use Rattle.regions.specs.Kept.{Or, PreSys, States}
-use Rattle.gr1_sys.specs.Moment.{TellsHalt, iterated, layer, forced, reached}
+use Rattle.gr1_sys.specs.Moment.{iterated, layer, forced, reached}
+use Rattle.gr1_sys.specs.Told.{TellsHalt}
 use Rattle.gr1_sys.proofs.Told.{handed_on, told, joined_told}
 use Rattle.gr1_sys.proofs.ranks.base_above.Goals as goal
 

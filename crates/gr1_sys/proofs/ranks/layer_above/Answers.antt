@@ -5,7 +5,8 @@ use Rattle.gr1_sys.proofs.Parted.{rank_made, made_above, halted_above, given_cou
 use Rattle.spec_model.specs.Sets.{either, pre_sys}
 use Rattle.regions.proofs.Holding.{set_is}
 use Rattle.gr1_sys.specs.Solution.{layer_of}
-use Rattle.gr1_sys.specs.Moment.{IsGoal, AreLapses, TellsHalt, base_of, based}
+use Rattle.gr1_sys.specs.Moment.{IsGoal, base_of, based}
+use Rattle.gr1_sys.specs.Told.{AreLapses, TellsHalt}
 use Rattle.gr1_sys.proofs.Told.{handed_on, past_one}
 use Rattle.gr1_sys.proofs.ranks.layer_above.Goals as goal
 

@@ -6,7 +6,8 @@ use Rattle.gr1_sys.specs.Held.{HasEach, part_at, set_at}
 use Rattle.gr1_sys.proofs.Lists.{as_held, held_each, together_as, made_and_spent_all, length_map, length_below}
 use Rattle.gr1_sys.proofs.Parted.{layer_made, map_below-same}
 use Rattle.gr1_sys.specs.Solution.{part_of, layer_of}
-use Rattle.gr1_sys.specs.Moment.{IsGoal, TellsHalt}
+use Rattle.gr1_sys.specs.Moment.{IsGoal}
+use Rattle.gr1_sys.specs.Told.{TellsHalt}
 use Rattle.gr1_sys.proofs.Told.{handed_on, past_many}
 use Rattle.gr1_sys.proofs.Naming.{parts_are, parts_named, lapse_count}
 use Rattle.gr1_sys.proofs.ranks.layer_on.Goals as goal

@@ -7,7 +7,8 @@ use Rattle.gr1_sys.proofs.Holdings.{on_err, same_then, dropped, replaced_as}
 use Rattle.gr1_sys.proofs.Lists.{one_of, set_at_is, region_stays}
 use Rattle.regions.specs.Kept.{NoStates, Or}
 use Rattle.gr1_sys.specs.Solution.{part_of, layer_of}
-use Rattle.gr1_sys.specs.Moment.{IsNamed, TellsHalt}
+use Rattle.gr1_sys.specs.Moment.{IsNamed}
+use Rattle.gr1_sys.specs.Told.{TellsHalt}
 use Rattle.gr1_sys.proofs.Told.{handed_on, told, joined_told}
 use Rattle.gr1_sys.proofs.Naming.{set_of_list, part_named, union_named}
 use Rattle.gr1_sys.proofs.ranks.union_of.Goals as goal

@@ -4,7 +4,8 @@ use Rattle.gr1_sys.proofs.Lists.{together_stays, takes_all}
 use Rattle.gr1_sys.proofs.Popped.{first_together, rest_together, first_and_rest}
 use Rattle.gr1_sys.proofs.Rounds.{without_later, spent_later}
 use Rattle.regions.specs.Kept.{StartSys, States}
-use Rattle.gr1_sys.specs.Moment.{TellsHalt, iterated, this_value}
+use Rattle.gr1_sys.specs.Moment.{iterated, this_value}
+use Rattle.gr1_sys.specs.Told.{TellsHalt}
 use Rattle.gr1_sys.proofs.Told.{told, still_told}
 use Rattle.gr1_sys.proofs.solving.decide.Goals as goal
 

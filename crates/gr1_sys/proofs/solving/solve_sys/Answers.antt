@@ -6,7 +6,8 @@ use Rattle.gr1_sys.proofs.Lists.{together_as, made_and_spent_all, made_and_taken
 use Rattle.gr1_sys.proofs.Givings.{is_given}
 use Rattle.gr1_sys.proofs.Won.{layers_left, lost, won, match_weaker}
 use Rattle.spec_model.specs.Sets.{all_states}
-use Rattle.gr1_sys.specs.Moment.{IsValueOfZ, TellsHalt, TellsOneMoment, iterated, this_value}
+use Rattle.gr1_sys.specs.Moment.{IsValueOfZ, iterated, this_value}
+use Rattle.gr1_sys.specs.Told.{TellsHalt, TellsOneMoment}
 use Rattle.gr1_sys.proofs.Rounds.{first_is}
 use Rattle.gr1_sys.proofs.Told.{handed_on, past_many, of_value, moment_past}
 use Rattle.gr1_sys.proofs.Naming.{layers_named, given_named}

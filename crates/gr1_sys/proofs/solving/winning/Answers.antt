@@ -9,7 +9,8 @@ use Rattle.gr1_sys.proofs.Parted.{given_stays}
 use Rattle.gr1_sys.proofs.Winning.{following-grows, following-inside}
 use Rattle.gr1_sys.proofs.Won.{won_is}
 use Rattle.spec_model.specs.Sets.{all_states}
-use Rattle.gr1_sys.specs.Moment.{IsValueOfZ, TellsOneMoment, iterated, this_value}
+use Rattle.gr1_sys.specs.Moment.{IsValueOfZ, iterated, this_value}
+use Rattle.gr1_sys.specs.Told.{TellsOneMoment}
 use Rattle.gr1_sys.proofs.Told.{handed_on, past_one, of_value}
 use Rattle.gr1_sys.proofs.solving.winning.Goals as goal
 

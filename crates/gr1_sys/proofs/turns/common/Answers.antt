@@ -9,7 +9,8 @@ use Rattle.gr1_sys.proofs.Climbed.{last_region_held}
 use Rattle.gr1_sys.proofs.Turned.{each_goal, last_set_is}
 use Rattle.spec_model.specs.Steps.{states_of}
 use Rattle.regions.specs.Kept.{All, And}
-use Rattle.gr1_sys.specs.Moment.{TellsHalt, iterated, layer}
+use Rattle.gr1_sys.specs.Moment.{iterated, layer}
+use Rattle.gr1_sys.specs.Told.{TellsHalt}
 use Rattle.gr1_sys.proofs.Told.{handed_on, told, joined_told}
 use Rattle.gr1_sys.proofs.Naming.{meet_named}
 use Rattle.gr1_sys.proofs.turns.common.Goals as goal

@@ -3,7 +3,8 @@ use Rattle.gr1_sys.proofs.Parted.{given_stays, halted_above}
 use Rattle.gr1_sys.proofs.Turned.{above_held, ready_is, all_climbed_above}
 use Rattle.spec_model.specs.Sets.{pre_sys}
 use Rattle.regions.specs.Kept.{PreSys, States}
-use Rattle.gr1_sys.specs.Moment.{TellsHalt, iterated, this_value, forced}
+use Rattle.gr1_sys.specs.Moment.{iterated, this_value, forced}
+use Rattle.gr1_sys.specs.Told.{TellsHalt}
 use Rattle.gr1_sys.proofs.Told.{handed_on, told, past_one}
 use Rattle.gr1_sys.proofs.turns.layers_for.Goals as goal
 

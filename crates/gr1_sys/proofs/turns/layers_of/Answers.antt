@@ -4,7 +4,8 @@ use Rattle.gr1_sys.proofs.Turned.{above_held, reach_is, climbed_above}
 use Rattle.spec_model.specs.Sets.{both}
 use Rattle.regions.specs.Kept.{And, States}
 use Rattle.gr1_law.specs.Layers.{goal_set}
-use Rattle.gr1_sys.specs.Moment.{TellsHalt, this_value, forced, reached}
+use Rattle.gr1_sys.specs.Moment.{this_value, forced, reached}
+use Rattle.gr1_sys.specs.Told.{TellsHalt}
 use Rattle.gr1_sys.specs.Moment as Moment
 use Rattle.gr1_sys.proofs.Told.{handed_on, told, past_one}
 use Rattle.gr1_sys.proofs.turns.layers_of.Goals as goal

@@ -5,7 +5,7 @@ use Rattle.gr1_sys.specs.Held.{HasEach, rank_sets, sets_of, all_regions, last_se
 use Rattle.gr1_sys.proofs.Lists.{region_stays, set_kept, held_each, together_as, made_and_spent_all, length_map}
 use Rattle.gr1_sys.proofs.Turned.{turns_to, last_sets_stand}
 use Rattle.spec_model.specs.Steps.{states_of}
-use Rattle.gr1_sys.specs.Moment.{TellsHalt}
+use Rattle.gr1_sys.specs.Told.{TellsHalt}
 use Rattle.gr1_sys.proofs.Told.{handed_on, past_many}
 use Rattle.gr1_sys.proofs.Naming.{layers_named}
 use Rattle.gr1_law.specs.Layers.{goal_sets}

@@ -1,7 +1,8 @@
 use Rattle.std.proofs.Common.{◌==◌, length, map, sym, ap, ◌∙◌}
 use Rattle.std.specs.List.{position_or_len}
 use Rattle.spec_model.specs.Views.{pattern_data}
-use Rattle.pattern_rows.specs.Rows.{may_follow, is_told}
+use Rattle.pattern_rows.specs.Rows.{may_follow}
+use Rattle.pattern_rows.specs.ToldRows.{is_told}
 use Rattle.pattern_rows.proofs.Steps.{rest_passes, added_last, rest_tells, one_fails}
 use Rattle.pattern_rows.proofs.filling.add_next.Goals as goal
 

@@ -1,7 +1,7 @@
 use Rattle.std.proofs.Common.{◌≡◌, ◌==◌, ◌++◌, map, drop, true, length}
 use Rattle.std.specs.List.{list_all}
 use Rattle.spec_model.specs.Views.{pattern_data}
-use Rattle.pattern_rows.specs.Rows.{next_after, are_told_after}
+use Rattle.pattern_rows.specs.ToldRows.{next_after, are_told_after}
 use Rattle.pattern_rows.proofs.filling.add_next.Given as goal
 
 -- what is left decides

@@ -2,7 +2,7 @@ use Rattle.std.proofs.Common.{◌≡◌, ◌++◌, map, flat_map, drop, true}
 use Rattle.std.specs.List.{list_all}
 use Rattle.spec_model.specs.Values.{is_assignment}
 use Rattle.spec_model.specs.Views.{pattern_data}
-use Rattle.pattern_rows.specs.Rows.{next_after, are_told_after}
+use Rattle.pattern_rows.specs.ToldRows.{next_after, are_told_after}
 use Rattle.pattern_rows.proofs.filling.next_values.Given as goal
 
 -- what is left decides

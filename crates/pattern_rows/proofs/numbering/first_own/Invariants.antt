@@ -2,7 +2,8 @@ use Rattle.std.proofs.Common.{◌≡◌, map, drop, true, None}
 use Rattle.std.specs.List.{list_all}
 use Rattle.spec_model.specs.Values.{is_assignment}
 use Rattle.spec_model.specs.Views.{pattern_data}
-use Rattle.pattern_rows.specs.Rows.{may_begin, scan}
+use Rattle.pattern_rows.specs.Rows.{may_begin}
+use Rattle.pattern_rows.specs.ToldRows.{scan}
 use Rattle.pattern_rows.proofs.numbering.first_own.Given as goal
 
 -- what is left leads to the answer

@@ -7,11 +7,11 @@ use Rattle.bit_compile.specs.Crowding.{HasCause}
 use Rattle.bit_compile.specs.NamedCodes.{NoFunction}
 use Rattle.bit_compile.proofs.MakingLemmas.{is_root}
 use Rattle.bit_compile.proofs.Causes.{cause_wider, no_name}
-use Rattle.state_diagrams.specs.Members.{move_functions, avoiding}
-use Rattle.state_diagrams.specs.NamedMoves.{IsThis, IsOfAvoiding, lists_at}
-use Rattle.state_diagrams.specs.NamedGame.{IsOfRest}
-use Rattle.state_diagrams.proofs.CauseLemmas.{cause_by, cause_moved}
-use Rattle.state_diagrams.proofs.SpentLemmas.{refused_by}
+use Rattle.bdd_sets.specs.Members.{move_functions, avoiding, lists_at, IsThis}
+use Rattle.bdd_sets.specs.NamedMoves.{IsOfAvoiding}
+use Rattle.bdd_sets.specs.NamedGame.{IsOfRest}
+use Rattle.bdd_sets.proofs.CauseLemmas.{cause_by, cause_moved}
+use Rattle.bdd_sets.proofs.SpentLemmas.{refused_by}
 use Rattle.region_bdd.proofs.asking.avoiding_rest.Goals as goal
 
 pub shift-requires-clause-rising : goal.shift-requires-clause-rising

@@ -1,5 +1,5 @@
 use Rattle.std.proofs.Common.{arith}
-use Rattle.state_diagrams.proofs.ListLemmas.{one_itself}
+use Rattle.bdd_sets.proofs.ListLemmas.{one_itself}
 use Rattle.region_bdd.proofs.ending.release_own.Goals as goal
 
 pub release-requires-2 : goal.release-requires-2

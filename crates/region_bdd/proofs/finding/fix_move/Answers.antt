@@ -1,5 +1,5 @@
 use Rattle.game_values.specs.declared.seen.At.TheVariants.{Now, Next}
-use Rattle.state_search.proofs.PartLemmas.{agrees_have}
+use Rattle.bdd_search.proofs.PartLemmas.{agrees_have}
 use Rattle.region_bdd.proofs.FindCalls.{state_still, state_have}
 use Rattle.region_bdd.proofs.finding.fix_move.Goals as goal
 

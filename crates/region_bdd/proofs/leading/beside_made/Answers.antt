@@ -1,6 +1,6 @@
 use Rattle.std.proofs.Common.{Err, refl}
 use Rattle.bit_compile.proofs.MakingLemmas.{given_back}
-use Rattle.state_diagrams.proofs.SpentLemmas.{still_root}
+use Rattle.bdd_sets.proofs.SpentLemmas.{still_root}
 use Rattle.region_bdd.proofs.LeadingLaws.{two_kept, refused_two}
 use Rattle.region_bdd.proofs.NeedLaws.{same_halt}
 use Rattle.region_bdd.proofs.leading.beside_made.Goals as goal

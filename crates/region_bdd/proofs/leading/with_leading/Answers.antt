@@ -3,10 +3,9 @@ use Rattle.spec_model.specs.Diagrams.{Function, shifted}
 use Rattle.bdd_ops.specs.Contents.{function_at}
 use Rattle.bit_compile.proofs.MakingLemmas.{is_root, root_added}
 use Rattle.bit_compile.proofs.Causes.{cause_never}
-use Rattle.state_diagrams.specs.Members.{move_functions}
-use Rattle.state_diagrams.specs.NamedMoves.{lists_at}
-use Rattle.state_diagrams.specs.NamedGame.{IsOfRest}
-use Rattle.state_diagrams.proofs.CauseLemmas.{cause_by}
+use Rattle.bdd_sets.specs.Members.{move_functions, lists_at}
+use Rattle.bdd_sets.specs.NamedGame.{IsOfRest}
+use Rattle.bdd_sets.proofs.CauseLemmas.{cause_by}
 use Rattle.region_bdd.specs.Leading.{leading_in}
 use Rattle.region_bdd.proofs.LeadingLaws.{refused_two}
 use Rattle.region_bdd.proofs.leading.with_leading.Goals as goal

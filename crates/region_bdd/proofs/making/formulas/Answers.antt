@@ -1,6 +1,6 @@
 use Rattle.std.proofs.Common.{Err, ◌∙◌, arith}
 use Rattle.spec_model.specs.GameViews.{game_data}
-use Rattle.state_diagrams.specs.NamedGame.{IsOfGame}
+use Rattle.bdd_sets.specs.NamedGame.{IsOfGame}
 use Rattle.region_bdd.specs.Making.{listed_times, FitGoals, times_in_goals, FitAllGoals, times_in_lines, FitAllLines, times_in_formulas, FitFormulas}
 use Rattle.region_bdd.proofs.MakingLaws.{both_made, both_stay, goals_stay, part_refused, handed_part, all_goals_named}
 use Rattle.region_bdd.proofs.making.formulas.Goals as goal

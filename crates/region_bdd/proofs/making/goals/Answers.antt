@@ -5,10 +5,10 @@ use Rattle.spec_model.specs.GameViews.{game_data, goal_data}
 use Rattle.bit_compile.specs.Compiled.{compiled}
 use Rattle.bit_compile.specs.Crowding.{HasCause}
 use Rattle.bit_compile.proofs.Causes.{cause_ok, cause_wider}
-use Rattle.state_diagrams.specs.Members.{functions_at}
-use Rattle.state_diagrams.specs.Lists.{MakesList}
-use Rattle.state_diagrams.specs.Goals.{TellGoals, IsOfGoals}
-use Rattle.state_diagrams.specs.NamedGame.{IsOfGame}
+use Rattle.bdd_sets.specs.Members.{functions_at}
+use Rattle.bdd_sets.specs.Lists.{MakesList}
+use Rattle.bdd_sets.specs.Goals.{TellGoals, IsOfGoals}
+use Rattle.bdd_sets.specs.NamedGame.{IsOfGame}
 use Rattle.region_bdd.specs.Making.{listed_times, FitGoals, times_in_goals, FitAllGoals}
 use Rattle.region_bdd.proofs.MakingLaws.{list_part, goals_stay, both_made, part_refused, handed_part, goals_named, assume_among, goals_among, of_goals}
 use Rattle.region_bdd.proofs.making.goals.Goals as goal

@@ -1,8 +1,8 @@
 use Rattle.std.proofs.Common.{Ok, Err}
 use Rattle.regions.specs.declared.types.When.TheVariants.{First, Later}
 use Rattle.spec_model.specs.GameViews.{game_data}
-use Rattle.state_diagrams.specs.Lines.{roots_of_members}
-use Rattle.state_diagrams.specs.NamedGame.{IsOfGame}
+use Rattle.bdd_sets.specs.LineScenes.{roots_of_members}
+use Rattle.bdd_sets.specs.NamedGame.{IsOfGame}
 use Rattle.region_bdd.specs.Making.{FitLines, times_in_lines, FitAllLines}
 use Rattle.region_bdd.proofs.JamLaws.{member_named}
 use Rattle.region_bdd.proofs.MakingLaws.{members_part, lines_stay, both_made, part_refused, handed_part}

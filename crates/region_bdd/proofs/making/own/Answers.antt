@@ -4,7 +4,7 @@ use Rattle.spec_model.specs.Values.{DomainData}
 use Rattle.spec_model.specs.GameViews.{game_data}
 use Rattle.game_values.specs.declared.seen.At.TheVariants.{Now}
 use Rattle.bit_compile.specs.Named.{IsOfProper}
-use Rattle.state_diagrams.specs.NamedGame.{IsOfGame, values}
+use Rattle.bdd_sets.specs.NamedGame.{IsOfGame, values}
 use Rattle.region_bdd.specs.Object.{roots_of_own}
 use Rattle.region_bdd.specs.Making.{times_in_sets, FitSets, times_in_formulas, FitFormulas, FitOwn}
 use Rattle.region_bdd.proofs.MakingLaws.{own_made, later_members, early_after, part_refused, handed_part, part_wider, sets_named, proper_named}

@@ -5,7 +5,7 @@ use Rattle.bdd_ops.specs.Contents.{function_at}
 use Rattle.bit_compile.specs.Proper.{proper}
 use Rattle.bit_compile.specs.Named.{IsOfProper}
 use Rattle.bit_compile.proofs.Causes.{cause_ok, cause_never}
-use Rattle.state_diagrams.specs.Lists.{one_at}
+use Rattle.bdd_sets.specs.Lists.{one_at}
 use Rattle.region_bdd.specs.Making.{FitNothing, FitProper, times_in_sets, FitSets}
 use Rattle.region_bdd.proofs.MakingLaws.{root_part, root_stays, both_made, part_refused, handed_part, root_named}
 use Rattle.region_bdd.proofs.making.sets.Goals as goal

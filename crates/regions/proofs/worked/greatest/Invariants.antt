@@ -1,5 +1,6 @@
 use Rattle.spec_model.specs.Steps.{states_of}
-use Rattle.spec_model.specs.Sets.{pre_sys, count_in}
+use Rattle.spec_model.specs.Sets.{pre_sys}
+use Rattle.spec_model.specs.Counts.{count_in}
 use Rattle.spec_model.proofs.Fixpoints.{IsFalling}
 use Rattle.regions.specs.Kept.{MakesRegion, IsSameGame}
 use Rattle.regions.proofs.worked.greatest.Given as goal

@@ -11,14 +11,14 @@ returns-in_ok-k-in-BySystem c =
     let game = c.in_ok-layers.ensures.keeps.game ∙ c.in_ok-g.ensures.made.game in
     let s = spec_data c.args.spec.now in
     let p = c.in_ok-k-in-BySystem.ensures in
-    record { verdict = (won_by s c.requires.typed _ game _ p.won, p.plays s (agrees_with s c.requires.typed _ game)); cause = tt }
+    record { verdict = (won_by s c.requires.typed _ game _ p.won, p.plays s game (agrees_with s c.requires.typed _ game)); cause = tt }
 
 pub returns-in_ok-n-in-ByEnvironment : goal.returns-in_ok-n-in-ByEnvironment
 returns-in_ok-n-in-ByEnvironment c =
     let game = c.in_ok-layers.ensures.keeps.game ∙ c.in_ok-g.ensures.made.game in
     let s = spec_data c.args.spec.now in
     let p = c.in_ok-n-in-ByEnvironment.ensures in
-    record { verdict = (lost_by s c.requires.typed _ game _ _ p.lost, p.plays s (agrees_with s c.requires.typed _ game) (lines_rise s c.requires.typed)); cause = tt }
+    record { verdict = (lost_by s c.requires.typed _ game _ _ p.lost, p.plays s game (agrees_with s c.requires.typed _ game) (lines_rise s c.requires.typed)); cause = tt }
 
 pub returns-in_err-layers-clause-cause : goal.returns-in_err-layers-clause-cause
 returns-in_err-layers-clause-cause c =

@@ -22,10 +22,11 @@ returns-in-Ok-clause-lost g c = lost_game _ _ c.requires.lost.0 _ _ c.requires.l
 pub returns-in-Ok-clause-plays : goal.returns-in-Ok-clause-plays
 returns-in-Ok-clause-plays g c =
     let begins = c.in-Ok.ensures.begins c.requires.lost.0 c.requires.lost.1.are in
-    λ s agrees rise. record {
+    λ s is agrees rise. record {
       fresh = begins.fresh;
       empty = λ e h notes b k stands. (begins.empty e h notes b k stands).0;
       stands = (_, _, _, _, _, begins.stands);
+      game = begins.game.game ∙ is;
       agrees = subst (Agrees s) (sym begins.game.game) agrees;
       rise = rise;
       shifts = c.n-n.ensures ∙ ap (λ layers. length layers) (sym begins.same_layers);

@@ -12,9 +12,10 @@ use Rattle.solve.proofs.playing.system_play.Goals as goal
 pub returns-in-Ok-clause-plays : goal.returns-in-Ok-clause-plays
 returns-in-Ok-clause-plays g c =
     let begins = c.in-Ok.ensures.begins c.requires.won.0 c.requires.won.1 in
-    λ s agrees. record {
+    λ s is agrees. record {
       fresh = begins.not_started;
       stands = (_, _, _, _, _, begins.stands);
+      game = begins.game.game ∙ is;
       agrees = subst (Agrees s) (sym begins.game.game) agrees;
       rounds = c.k-k.ensures ∙ ap (λ layers. round_count (ranks_of layers)) (sym begins.same_layers);
     }

@@ -1,5 +1,6 @@
 use Rattle.std.proofs.Common.{◌≡◌, ◌-◌, ◌≤◌, length, take}
-use Rattle.sp_outside.specs.Files.{told_file, IsFrontOf}
+use Rattle.sp_outside.specs.Files.{told_file}
+use Rattle.sp_outside.specs.Parts.{IsFrontOf}
 use Rattle.sp_outside.proofs.file.fill.Given as goal
 
 -- the front of `buf` has that of the file, the files are the same, and the count of faults has not fallen

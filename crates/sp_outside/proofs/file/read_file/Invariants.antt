@@ -1,5 +1,6 @@
 use Rattle.std.proofs.Common.{◌≡◌, ◌-◌, ◌≤◌, vec_len}
-use Rattle.sp_outside.specs.Files.{told_file, IsFrontOf}
+use Rattle.sp_outside.specs.Files.{told_file}
+use Rattle.sp_outside.specs.Parts.{IsFrontOf}
 use Rattle.sp_outside.proofs.file.read_file.Given as goal
 
 -- all of `bytes` is the front of the file, the files are the same, and the count of faults has not fallen

@@ -1,4 +1,4 @@
-use Rattle.spectra_resolved.specs.Findings.{found_in}
+use Rattle.spectra_resolved.specs.Reports.{found_in}
 use Rattle.spectra_resolved.specs.TextViews.{type_data}
 use Rattle.spectra_bodies.specs.Faults.{type_faults}
 use Rattle.spectra_bodies.specs.BasisViews.{basis_data}

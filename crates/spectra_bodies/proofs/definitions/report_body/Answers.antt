@@ -1,8 +1,9 @@
 use Rattle.std.proofs.Common.{◌≡◌, sym, ◌∙◌}
 use Rattle.std.proofs.lemmas.Option.{same_Some}
-use Rattle.spectra_resolved.specs.Findings.{found_in, with_faults}
+use Rattle.spectra_resolved.specs.Findings.{with_faults}
+use Rattle.spectra_resolved.specs.Reports.{found_in}
 use Rattle.spectra_resolved.specs.TextViews.{definition_data, text_data}
-use Rattle.spectra_judge.specs.Known.{known_data}
+use Rattle.spectra_judge.specs.KindViews.{known_data}
 use Rattle.spectra_judge.specs.Judged.{faults_of}
 use Rattle.spectra_bounds.proofs.Made.{read_data}
 use Rattle.spectra_notes.specs.Notes.{stand_of, noted, known_inside}

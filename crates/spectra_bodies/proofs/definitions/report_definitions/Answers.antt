@@ -1,6 +1,7 @@
 use Rattle.std.proofs.Common.{length, map, flat_map, sym, ap, ◌∙◌}
 use Rattle.std.proofs.lemmas.List.{length-map}
-use Rattle.spectra_resolved.specs.Findings.{found_in, with_faults}
+use Rattle.spectra_resolved.specs.Findings.{with_faults}
+use Rattle.spectra_resolved.specs.Reports.{found_in}
 use Rattle.spectra_resolved.specs.Texts.{ResolvedDefinition}
 use Rattle.spectra_resolved.specs.TextViews.{definition_data, text_data}
 use Rattle.spectra_resolved.proofs.First.{with_faults_append}

@@ -1,6 +1,6 @@
 use Rattle.std.proofs.Common.{◌≡◌, true, Some, get_or, sym, ap, ◌∙◌}
 use Rattle.spectra_resolved.specs.TextViews.{definition_data, text_data}
-use Rattle.spectra_judge.specs.Known.{known_data}
+use Rattle.spectra_judge.specs.KindViews.{known_data}
 use Rattle.spectra_holes.specs.Holed.{holed}
 use Rattle.spectra_bounds.proofs.Made.{read_data}
 use Rattle.spectra_notes.specs.Notes.{Noted, noted, known_inside}

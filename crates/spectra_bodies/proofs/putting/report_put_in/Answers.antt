@@ -1,9 +1,10 @@
 use Rattle.std.proofs.Common.{◌≡◌, ap, ◌∙◌}
 use Rattle.std.specs.Prelude.{option_map}
-use Rattle.spectra_resolved.specs.Findings.{found_in, with_faults}
+use Rattle.spectra_resolved.specs.Findings.{with_faults}
+use Rattle.spectra_resolved.specs.Reports.{found_in}
 use Rattle.spectra_resolved.specs.Views.{resolved_data}
 use Rattle.spectra_judge.specs.Around.{is_brought}
-use Rattle.spectra_judge.specs.Known.{known_data}
+use Rattle.spectra_judge.specs.KindViews.{known_data}
 use Rattle.spectra_holes.specs.Holed.{holed}
 use Rattle.spectra_brought.specs.Names.{names_in}
 use Rattle.spectra_elaboration.specs.Putting.{put_in}

@@ -1,7 +1,8 @@
 use Rattle.std.proofs.Common.{◌≡◌, ap, ◌∙◌}
-use Rattle.spectra_resolved.specs.Findings.{found_in, with_faults}
+use Rattle.spectra_resolved.specs.Findings.{with_faults}
+use Rattle.spectra_resolved.specs.Reports.{found_in}
 use Rattle.spectra_resolved.specs.TextViews.{text_data}
-use Rattle.spectra_judge.specs.Known.{known_data}
+use Rattle.spectra_judge.specs.KindViews.{known_data}
 use Rattle.spectra_notes.specs.Notes.{Noted, noted, known_in_line}
 use Rattle.spectra_bodies.specs.Faults.{typed_faults}
 use Rattle.spectra_bodies.proofs.types.report_outside.Goals as goal

@@ -1,5 +1,6 @@
 use Rattle.std.proofs.Common.{map, ◌∙◌}
-use Rattle.spectra_resolved.specs.Findings.{found_in, with_faults}
+use Rattle.spectra_resolved.specs.Findings.{with_faults}
+use Rattle.spectra_resolved.specs.Reports.{found_in}
 use Rattle.spectra_resolved.specs.Texts.{ResolvedDefinition}
 use Rattle.spectra_resolved.specs.TextViews.{type_data, definition_data}
 use Rattle.spectra_bodies.specs.Faults.{each_type_faults}

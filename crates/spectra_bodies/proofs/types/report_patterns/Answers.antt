@@ -1,4 +1,4 @@
-use Rattle.spectra_resolved.specs.Findings.{found_in}
+use Rattle.spectra_resolved.specs.Reports.{found_in}
 use Rattle.spectra_resolved.specs.TextViews.{pattern_data, text_data}
 use Rattle.spectra_bodies.specs.Faults.{own_faults}
 use Rattle.spectra_bodies.proofs.Loops.{found_step}

@@ -1,5 +1,6 @@
 use Rattle.std.proofs.Common.{map, flat_map, sym, ap, ◌∙◌}
-use Rattle.spectra_resolved.specs.Findings.{found_in, with_faults}
+use Rattle.spectra_resolved.specs.Findings.{with_faults}
+use Rattle.spectra_resolved.specs.Reports.{found_in}
 use Rattle.spectra_resolved.specs.Texts.{ResolvedVariable, ResolvedAlias, ResolvedDefinition}
 use Rattle.spectra_resolved.specs.TextViews.{variable_data, alias_data, definition_data, text_data}
 use Rattle.spectra_resolved.proofs.First.{three_lists}

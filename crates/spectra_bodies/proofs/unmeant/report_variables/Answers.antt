@@ -1,4 +1,4 @@
-use Rattle.spectra_resolved.specs.Findings.{found_in}
+use Rattle.spectra_resolved.specs.Reports.{found_in}
 use Rattle.spectra_resolved.specs.Texts.{ResolvedVariable}
 use Rattle.spectra_resolved.specs.TextViews.{variable_data}
 use Rattle.spectra_bounds.specs.TypeViews.{constants_data}

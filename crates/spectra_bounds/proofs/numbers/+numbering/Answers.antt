@@ -1,8 +1,9 @@
 use Rattle.std.proofs.Common.{map, sym, ap, ◌∙◌}
-use Rattle.spectra_resolved.specs.Resolved.{chained}
+use Rattle.spectra_resolved.specs.Chained.{chained}
 use Rattle.spectra_resolved.specs.Views.{resolved_data, link_data}
 use Rattle.spectra_resolved.proofs.Trees.{chain_data}
-use Rattle.spectra_bounds.specs.Numbers.{number_in, chain_number}
+use Rattle.spectra_bounds.specs.Numbers.{number_in}
+use Rattle.spectra_bounds.specs.Links.{chain_number}
 use Rattle.spectra_bounds.proofs.Chained.{chain_number_is}
 use Rattle.spectra_bounds.proofs.numbers.+numbering.Goals as goal
 

@@ -4,7 +4,7 @@ use Rattle.spectra_resolved.specs.declared.tree.Resolved.{size-Resolved}
 use Rattle.spectra_resolved.specs.declared.tree.Shape.{size-Shape}
 use Rattle.spectra_resolved.specs.declared.tree.Link.{size-Link}
 use Rattle.spectra_resolved.specs.Views.{link_data}
-use Rattle.spectra_bounds.specs.Numbers.{chain_number}
+use Rattle.spectra_bounds.specs.Links.{chain_number}
 use Rattle.spectra_bounds.proofs.numbers.+numbering.Given as goal
 
 abbrev pub decreases-number_in : goal.decreases-number_in

@@ -1,8 +1,9 @@
 use Rattle.std.proofs.Common.{◌≡◌, ◌+◌, ◌++◌, map, drop, OnOk, sym, ap, subst, ◌∙◌}
-use Rattle.spectra_resolved.specs.Resolved.{chained, trees}
+use Rattle.spectra_resolved.specs.Chained.{chained, trees}
 use Rattle.spectra_resolved.specs.Views.{resolved_data, link_data}
 use Rattle.spectra_resolved.proofs.Trees.{chain_data}
-use Rattle.spectra_brought.specs.Names.{names_in, each_names, link_names}
+use Rattle.spectra_brought.specs.Names.{names_in, each_names}
+use Rattle.spectra_brought.specs.Links.{link_names}
 use Rattle.spectra_brought.proofs.Named.{each_left, link_left}
 use Rattle.spectra_brought.proofs.names.+naming.Goals as goal
 

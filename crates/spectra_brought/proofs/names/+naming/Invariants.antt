@@ -3,9 +3,10 @@ use denote.Param.Weighed.{most}
 use Rattle.spectra_resolved.specs.declared.tree.Resolved.{size-Resolved}
 use Rattle.spectra_resolved.specs.declared.tree.Shape.{size-Shape}
 use Rattle.spectra_resolved.specs.declared.tree.Link.{size-Link}
-use Rattle.spectra_resolved.specs.Resolved.{trees}
+use Rattle.spectra_resolved.specs.Chained.{trees}
 use Rattle.spectra_resolved.specs.Views.{resolved_data, link_data}
-use Rattle.spectra_brought.specs.Names.{each_names, link_names}
+use Rattle.spectra_brought.specs.Names.{each_names}
+use Rattle.spectra_brought.specs.Links.{link_names}
 use Rattle.spectra_brought.proofs.names.+naming.Given as goal
 
 abbrev pub decreases-add_names : goal.decreases-add_names

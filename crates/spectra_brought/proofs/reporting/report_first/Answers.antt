@@ -1,5 +1,5 @@
 use Rattle.std.proofs.Common.{sym, ◌∙◌}
-use Rattle.spectra_resolved.specs.Findings.{found_in}
+use Rattle.spectra_resolved.specs.Reports.{found_in}
 use Rattle.spectra_brought.proofs.Found.{some_first, none_first}
 use Rattle.spectra_brought.proofs.reporting.report_first.Goals as goal
 

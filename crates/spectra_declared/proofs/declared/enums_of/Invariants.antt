@@ -1,7 +1,8 @@
 use Rattle.std.proofs.Common.{◌≡◌, [], drop, map, if◌then◌else◌}
-use Rattle.spectra_resolved.specs.Findings.{found_in, with_faults}
+use Rattle.spectra_resolved.specs.Findings.{with_faults}
+use Rattle.spectra_resolved.specs.Reports.{found_in}
 use Rattle.spectra_resolved.specs.EnumViews.{names_in}
-use Rattle.spectra_declared.specs.Items.{filed_data}
+use Rattle.spectra_declared.specs.ItemViews.{filed_data}
 use Rattle.spectra_declared.specs.Declarations.{enums_with, enums_in, names_past}
 use Rattle.spectra_declared.proofs.declared.enums_of.Given as goal
 

@@ -1,6 +1,7 @@
 use Rattle.std.proofs.Common.{map, ap, ◌∙◌}
-use Rattle.spectra_resolved.specs.Findings.{found_in, with_faults}
-use Rattle.spectra_declared.specs.Items.{filed_data}
+use Rattle.spectra_resolved.specs.Findings.{with_faults}
+use Rattle.spectra_resolved.specs.Reports.{found_in}
+use Rattle.spectra_declared.specs.ItemViews.{filed_data}
 use Rattle.spectra_resolved.specs.Spaces.{clashes}
 use Rattle.spectra_declared.specs.Declarations.{enums_in, entries}
 use Rattle.spectra_declared.specs.declared.declaring.Space.TheVariants as spaces

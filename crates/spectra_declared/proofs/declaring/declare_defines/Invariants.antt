@@ -1,6 +1,6 @@
 use Rattle.std.proofs.Common.{◌≡◌, drop, map}
 use Rattle.spectra_trees.specs.Views.{name_data, expr_data}
-use Rattle.spectra_resolved.specs.Spaces.{with_entries}
+use Rattle.spectra_resolved.specs.SpaceViews.{with_entries}
 use Rattle.spectra_resolved.specs.Tables.{told}
 use Rattle.spectra_declared.specs.Declarations.{define_entries}
 use Rattle.spectra_declared.proofs.declaring.declare_defines.Given as goal

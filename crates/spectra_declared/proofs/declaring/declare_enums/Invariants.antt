@@ -1,5 +1,5 @@
 use Rattle.std.proofs.Common.{◌≡◌, drop, map}
-use Rattle.spectra_resolved.specs.Spaces.{with_entries}
+use Rattle.spectra_resolved.specs.SpaceViews.{with_entries}
 use Rattle.spectra_resolved.specs.Tables.{told}
 use Rattle.spectra_resolved.specs.EnumViews.{names_in}
 use Rattle.spectra_declared.specs.MentionViews.{names_data}

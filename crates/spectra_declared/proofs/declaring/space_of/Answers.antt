@@ -1,9 +1,9 @@
 use Rattle.std.proofs.Common.{◌≡◌, ◌+◌, ◌∷◌, map, drop, sym, ap, ◌∙◌, add-one, drop-cons}
 use Rattle.spectra_trees.specs.Views.{item_data}
-use Rattle.spectra_resolved.specs.Spaces.{with_entries}
+use Rattle.spectra_resolved.specs.SpaceViews.{with_entries}
 use Rattle.spectra_resolved.specs.Tables.{told}
 use Rattle.spectra_resolved.specs.EnumViews.{names_in}
-use Rattle.spectra_declared.specs.Items.{filed_data}
+use Rattle.spectra_declared.specs.ItemViews.{filed_data}
 use Rattle.spectra_declared.specs.Declarations.{counted, entries_of, entries_from}
 use Rattle.spectra_items.proofs.Told.{with_entries_append}
 use Rattle.spectra_declared.proofs.declaring.space_of.Goals as goal

@@ -1,9 +1,10 @@
 use Rattle.std.proofs.Common.{◌≡◌, drop, map}
-use Rattle.spectra_resolved.specs.Findings.{found_in}
-use Rattle.spectra_resolved.specs.Spaces.{with_entries, no_names}
+use Rattle.spectra_resolved.specs.Reports.{found_in}
+use Rattle.spectra_resolved.specs.Spaces.{no_names}
+use Rattle.spectra_resolved.specs.SpaceViews.{with_entries}
 use Rattle.spectra_resolved.specs.Tables.{told}
 use Rattle.spectra_resolved.specs.EnumViews.{names_in}
-use Rattle.spectra_declared.specs.Items.{filed_data}
+use Rattle.spectra_declared.specs.ItemViews.{filed_data}
 use Rattle.spectra_declared.specs.Declarations.{entries_from, entries}
 use Rattle.spectra_declared.proofs.declaring.space_of.Given as goal
 

@@ -1,6 +1,6 @@
 use Rattle.std.proofs.Common.{◌≡◌, ◌++◌, drop, map}
 use Rattle.spectra_trees.specs.Views.{item_data}
-use Rattle.spectra_declared.specs.Items.{filed_data}
+use Rattle.spectra_declared.specs.ItemViews.{filed_data}
 use Rattle.spectra_declared.proofs.items.add_items.Given as goal
 
 -- those so far and those that are left are all

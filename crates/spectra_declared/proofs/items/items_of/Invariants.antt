@@ -1,6 +1,7 @@
 use Rattle.std.proofs.Common.{◌≡◌, ◌++◌, drop, map}
 use Rattle.spectra_trees.specs.Views.{tree_data}
-use Rattle.spectra_declared.specs.Items.{items_from, filed_data}
+use Rattle.spectra_declared.specs.Items.{items_from}
+use Rattle.spectra_declared.specs.ItemViews.{filed_data}
 use Rattle.spectra_declared.proofs.items.items_of.Given as goal
 
 -- those so far and those of the files that are left are all

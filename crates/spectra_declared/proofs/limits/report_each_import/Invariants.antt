@@ -1,6 +1,7 @@
 use Rattle.std.proofs.Common.{◌≡◌, true, drop, map}
 use Rattle.spectra_trees.specs.Views.{name_data}
-use Rattle.spectra_resolved.specs.Findings.{found_in, with_faults}
+use Rattle.spectra_resolved.specs.Findings.{with_faults}
+use Rattle.spectra_resolved.specs.Reports.{found_in}
 use Rattle.spectra_declared.specs.Declarations.{import_faults}
 use Rattle.spectra_declared.proofs.limits.report_each_import.Given as goal
 

@@ -1,6 +1,7 @@
 use Rattle.std.proofs.Common.{◌≡◌, drop, map, flat_map}
-use Rattle.spectra_resolved.specs.Findings.{found_in, with_faults}
-use Rattle.spectra_declared.specs.Items.{filed_data}
+use Rattle.spectra_resolved.specs.Findings.{with_faults}
+use Rattle.spectra_resolved.specs.Reports.{found_in}
+use Rattle.spectra_declared.specs.ItemViews.{filed_data}
 use Rattle.spectra_declared.specs.Declarations.{imported_faults}
 use Rattle.spectra_declared.proofs.limits.report_imported.Given as goal
 

@@ -1,7 +1,8 @@
 use Rattle.std.proofs.Common.{◌≡◌, ◌+◌, suc, nat_lt, List, ◌∷◌, map, drop, sym, ap, ◌∙◌, add-one, drop-cons}
 use Rattle.spectra_trees.specs.declared.tree.Name.{Name}
 use Rattle.spectra_trees.specs.Views.{name_data, tree_data}
-use Rattle.spectra_resolved.specs.Findings.{found_in, with_faults}
+use Rattle.spectra_resolved.specs.Findings.{with_faults}
+use Rattle.spectra_resolved.specs.Reports.{found_in}
 use Rattle.spectra_declared.specs.Declarations.{import_faults, imports_faults}
 use Rattle.spectra_resolved.proofs.First.{with_faults_append}
 use Rattle.spectra_declared.proofs.limits.report_imports.Goals as goal

@@ -1,6 +1,6 @@
 use Rattle.std.proofs.Common.{◌≡◌, drop, map}
-use Rattle.spectra_resolved.specs.Findings.{found_in}
-use Rattle.spectra_declared.specs.Items.{filed_data}
+use Rattle.spectra_resolved.specs.Reports.{found_in}
+use Rattle.spectra_declared.specs.ItemViews.{filed_data}
 use Rattle.spectra_declared.specs.Declarations.{past}
 use Rattle.spectra_declared.specs.LimitViews.{weight_of}
 use Rattle.spectra_declared.proofs.limits.report_past.Given as goal

@@ -1,8 +1,10 @@
 use Rattle.std.proofs.Common.{map, sym, ap, ◌∙◌}
 use Rattle.spectra_trees.specs.Views.{tree_data}
-use Rattle.spectra_resolved.specs.Findings.{found_in, with_faults}
+use Rattle.spectra_resolved.specs.Findings.{with_faults}
+use Rattle.spectra_resolved.specs.Reports.{found_in}
 use Rattle.spectra_resolved.proofs.First.{with_faults_append}
-use Rattle.spectra_declared.specs.Items.{filed_data, items_from}
+use Rattle.spectra_declared.specs.Items.{items_from}
+use Rattle.spectra_declared.specs.ItemViews.{filed_data}
 use Rattle.spectra_declared.specs.Declarations.{names_of, declaration_faults}
 use Rattle.spectra_declared.specs.Wholes.{text_of_items, item_faults}
 use Rattle.spectra_declared.proofs.text.resolved_text.Goals as goal

@@ -1,9 +1,9 @@
 use Rattle.std.proofs.lemmas.List.{drop_all}
 use Rattle.std.proofs.Common.{◌≡◌, ◌+◌, [], ◌∷◌, map, drop, sym, ap, ◌∙◌, add-one, drop-cons}
-use Rattle.spectra_resolved.specs.Findings.{found_in}
+use Rattle.spectra_resolved.specs.Reports.{found_in}
 use Rattle.spectra_resolved.specs.LookViews.{scope_data}
 use Rattle.spectra_resolved.specs.TextViews.{variable_data, alias_data, definition_data, pattern_data, line_data}
-use Rattle.spectra_declared.specs.Items.{filed_data}
+use Rattle.spectra_declared.specs.ItemViews.{filed_data}
 use Rattle.spectra_items.specs.Meanings.{variables_in, aliases_in, definitions_in, patterns_in, lines_in, faults_in}
 use Rattle.spectra_items.proofs.Loops.{list_step, found_step}
 use Rattle.spectra_declared.proofs.Ends.{list_end, found_end}

@@ -1,5 +1,5 @@
 use Rattle.std.proofs.Common.{◌≡◌, map, IfOk, sym, ap, subst, ◌∙◌}
-use Rattle.spectra_resolved.specs.Resolved.{chained}
+use Rattle.spectra_resolved.specs.Chained.{chained}
 use Rattle.spectra_resolved.specs.Views.{resolved_data, link_data}
 use Rattle.spectra_resolved.proofs.Trees.{chain_data}
 use Rattle.spectra_elaboration.proofs.copying.+copies.Goals as goal

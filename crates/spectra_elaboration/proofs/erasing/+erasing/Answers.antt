@@ -2,7 +2,7 @@ use Rattle.std.proofs.Common.{◌≡◌, [], ◌++◌, map, drop, IfOk, sym, ap,
 use Rattle.std.proofs.lemmas.List.{drop_all}
 use Rattle.spec_model.specs.Syntax.{formulas, listed}
 use Rattle.spec_model.specs.Views.{formula}
-use Rattle.spectra_resolved.specs.Resolved.{chained, trees}
+use Rattle.spectra_resolved.specs.Chained.{chained, trees}
 use Rattle.spectra_resolved.specs.Views.{resolved_data, link_data}
 use Rattle.spectra_resolved.proofs.Trees.{chain_data}
 use Rattle.spectra_judge.specs.Erased.{erased, each_erased}

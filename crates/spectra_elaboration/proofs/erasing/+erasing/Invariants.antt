@@ -5,7 +5,7 @@ use Rattle.spectra_resolved.specs.declared.tree.Shape.{size-Shape}
 use Rattle.spectra_resolved.specs.declared.tree.Link.{size-Link}
 use Rattle.spec_model.specs.Syntax.{listed}
 use Rattle.spec_model.specs.Views.{formula}
-use Rattle.spectra_resolved.specs.Resolved.{trees}
+use Rattle.spectra_resolved.specs.Chained.{trees}
 use Rattle.spectra_resolved.specs.Views.{resolved_data, link_data}
 use Rattle.spectra_judge.specs.Erased.{erased, each_erased}
 use Rattle.spectra_elaboration.proofs.Formulas.{links_erased}

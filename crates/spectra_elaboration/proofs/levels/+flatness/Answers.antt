@@ -1,9 +1,10 @@
 use Rattle.std.proofs.Common.{◌-◌, nat_le, true, false, length, map, refl, sym, ap, ◌∙◌, arith}
 use Rattle.std.proofs.lemmas.List.{length-map}
-use Rattle.spectra_resolved.specs.Resolved.{chained}
+use Rattle.spectra_resolved.specs.Chained.{chained}
 use Rattle.spectra_resolved.specs.Views.{resolved_data, link_data}
 use Rattle.spectra_resolved.proofs.Trees.{chain_data}
-use Rattle.spectra_elaboration.specs.Levels.{tree_levels, are_flat_above}
+use Rattle.spectra_elaboration.specs.Levels.{tree_levels}
+use Rattle.spectra_elaboration.specs.Links.{are_flat_above}
 use Rattle.spectra_elaboration.proofs.Flat.{chained_deep, chain_levels}
 use Rattle.spectra_elaboration.proofs.levels.+flatness.Goals as goal
 

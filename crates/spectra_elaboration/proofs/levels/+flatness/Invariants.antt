@@ -3,9 +3,10 @@ use denote.Param.Weighed.{most}
 use Rattle.spectra_resolved.specs.declared.tree.Resolved.{size-Resolved}
 use Rattle.spectra_resolved.specs.declared.tree.Shape.{size-Shape}
 use Rattle.spectra_resolved.specs.declared.tree.Link.{size-Link}
-use Rattle.spectra_resolved.specs.Resolved.{trees}
+use Rattle.spectra_resolved.specs.Chained.{trees}
 use Rattle.spectra_resolved.specs.Views.{resolved_data, link_data}
-use Rattle.spectra_elaboration.specs.Levels.{each_levels, are_flat_above}
+use Rattle.spectra_elaboration.specs.Levels.{each_levels}
+use Rattle.spectra_elaboration.specs.Links.{are_flat_above}
 use Rattle.spectra_elaboration.proofs.levels.+flatness.Given as goal
 
 -- those that are left decide

@@ -1,7 +1,8 @@
 use Rattle.std.proofs.Common.{◌+◌, map, sym, ap, ◌∙◌}
-use Rattle.spectra_resolved.specs.Resolved.{tree, Form, trees}
+use Rattle.spectra_resolved.specs.Resolved.{tree, Form}
+use Rattle.spectra_resolved.specs.Chained.{trees}
 use Rattle.spectra_resolved.specs.Views.{resolved_data}
-use Rattle.spectra_elaboration.specs.declared.halt.Halt.TheVariants.{Memory}
+use Rattle.spectra_elaboration.specs.declared.refusal.Refusal.TheVariants.{Memory}
 use Rattle.spectra_elaboration.specs.Putting.{placed}
 use Rattle.spectra_elaboration.specs.Nodes.{form_nodes}
 use Rattle.spectra_elaboration.proofs.Folded.{and_data}

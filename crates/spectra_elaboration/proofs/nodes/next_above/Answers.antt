@@ -1,7 +1,7 @@
 use Rattle.std.proofs.Common.{◌+◌, sym, ap, ◌∙◌}
 use Rattle.spectra_resolved.specs.Resolved.{tree, Form}
 use Rattle.spectra_resolved.specs.Views.{resolved_data}
-use Rattle.spectra_elaboration.specs.declared.halt.Halt.TheVariants.{Memory}
+use Rattle.spectra_elaboration.specs.declared.refusal.Refusal.TheVariants.{Memory}
 use Rattle.spectra_elaboration.specs.Nodes.{tree_nodes, form_nodes}
 use Rattle.spectra_elaboration.proofs.Folded.{next_data}
 use Rattle.spectra_elaboration.proofs.Made.{no_room, same, stop}

@@ -1,12 +1,15 @@
 use Rattle.std.proofs.Common.{◌≡◌, ◌+◌, ◌++◌, ◌-◌, suc, map, drop, sym, ap, subst, ◌∙◌, arith, rules, w64, to_z, of_z}
 use Rattle.spectra_resolved.specs.declared.tree.Hole.TheVariants as Hole
 use Rattle.spectra_resolved.specs.declared.tree.Leaf.TheVariants as leaves
-use Rattle.spectra_resolved.specs.Resolved.{tree, Form, chained, trees, listed}
+use Rattle.spectra_resolved.specs.Resolved.{tree, Form, listed}
+use Rattle.spectra_resolved.specs.Chained.{chained, trees}
 use Rattle.spectra_resolved.specs.Views.{resolved_data, link_data, form_data}
 use Rattle.spectra_resolved.proofs.Trees.{chain_data}
-use Rattle.spectra_elaboration.specs.declared.halt.Halt.TheVariants.{Memory}
-use Rattle.spectra_elaboration.specs.Putting.{placed, placed_link, hole_at, body_put, put_deep}
-use Rattle.spectra_elaboration.specs.Nodes.{each_nodes, clipped}
+use Rattle.spectra_elaboration.specs.declared.refusal.Refusal.TheVariants.{Memory}
+use Rattle.spectra_elaboration.specs.Putting.{placed, hole_at, body_put, put_deep}
+use Rattle.spectra_elaboration.specs.Links.{placed_link}
+use Rattle.spectra_elaboration.specs.Nodes.{each_nodes}
+use Rattle.spectra_elaboration.specs.Clipped.{clipped}
 use Rattle.spectra_elaboration.specs.Making.{Makes, MakesEach, MakesLinks}
 use Rattle.spectra_elaboration.specs.PuttingViews.{bodies_data, argument_data, put_within, arguments_within, leaf_within, filled_within, form_within, each_within, link_within}
 use Rattle.spectra_elaboration.proofs.Chained.{chained_filled, nodes_filled}

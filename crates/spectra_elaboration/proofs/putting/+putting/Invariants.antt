@@ -3,9 +3,12 @@ use denote.Param.Weighed.{most}
 use Rattle.spectra_resolved.specs.declared.tree.Resolved.{size-Resolved}
 use Rattle.spectra_resolved.specs.declared.tree.Shape.{size-Shape}
 use Rattle.spectra_resolved.specs.declared.tree.Link.{size-Link}
-use Rattle.spectra_resolved.specs.Resolved.{trees, listed}
+use Rattle.spectra_resolved.specs.Resolved.{listed}
+use Rattle.spectra_resolved.specs.Chained.{trees}
 use Rattle.spectra_resolved.specs.Views.{resolved_data, link_data}
-use Rattle.spectra_elaboration.specs.Nodes.{each_nodes, link_nodes, clipped}
+use Rattle.spectra_elaboration.specs.Nodes.{each_nodes}
+use Rattle.spectra_elaboration.specs.Clipped.{clipped}
+use Rattle.spectra_elaboration.specs.Links.{link_nodes}
 use Rattle.spectra_elaboration.specs.PuttingViews.{argument_data, each_within, link_within}
 use Rattle.spectra_elaboration.proofs.Depths.{depth_below}
 use Rattle.spectra_elaboration.proofs.putting.+putting.Given as goal

@@ -1,12 +1,14 @@
 use Rattle.std.proofs.Common.{◌≡◌, ◌+◌, ◌++◌, [], ◌∷◌, Some, length, map, drop, get_or, sym, ap, ◌∙◌, append-nil, arith}
 use Rattle.std.proofs.lemmas.List.{drop_all, length_push, map-append}
-use Rattle.spectra_resolved.specs.Resolved.{trees, listed, chained}
+use Rattle.spectra_resolved.specs.Resolved.{listed}
+use Rattle.spectra_resolved.specs.Chained.{trees, chained}
 use Rattle.spectra_resolved.specs.Views.{resolved_data, link_data}
 use Rattle.spectra_resolved.proofs.Trees.{chain_data, trees-listed}
 use Rattle.spectra_judge.specs.Kinds.{Anything}
-use Rattle.spectra_judge.specs.KindViews.{kind_data}
-use Rattle.spectra_judge.specs.Known.{setting_data, wanted}
-use Rattle.spectra_holes.specs.Holed.{part_holed, each_holed, argument_holed, arguments_holed, links_holed}
+use Rattle.spectra_judge.specs.KindViews.{kind_data, setting_data}
+use Rattle.spectra_judge.specs.Known.{wanted}
+use Rattle.spectra_holes.specs.Holed.{part_holed, each_holed, arguments_holed}
+use Rattle.spectra_holes.specs.HoleViews.{argument_holed, links_holed}
 use Rattle.spectra_judge.specs.Chains.{opened}
 use Rattle.spectra_holes.proofs.Holes.{chained_holed, argument_pushed}
 use Rattle.spectra_holes.proofs.holing.+holing.Goals as goal

@@ -1,8 +1,11 @@
 use Rattle.std.proofs.Common.{◌≡◌, ◌++◌, Some, length, map, drop}
-use Rattle.spectra_resolved.specs.Resolved.{trees, listed}
+use Rattle.spectra_resolved.specs.Resolved.{listed}
+use Rattle.spectra_resolved.specs.Chained.{trees}
 use Rattle.spectra_resolved.specs.Views.{resolved_data, link_data}
-use Rattle.spectra_judge.specs.Known.{setting_data, wanted}
-use Rattle.spectra_holes.specs.Holed.{each_holed, arguments_holed, links_holed}
+use Rattle.spectra_judge.specs.Known.{wanted}
+use Rattle.spectra_judge.specs.KindViews.{setting_data}
+use Rattle.spectra_holes.specs.Holed.{each_holed, arguments_holed}
+use Rattle.spectra_holes.specs.HoleViews.{links_holed}
 use Rattle.spectra_holes.proofs.holing.+holing.Given as goal
 
 -- those so far and those of what is left are all

@@ -1,5 +1,5 @@
 use Rattle.std.proofs.Common.{◌≡◌, ◌+◌, [], ◌∷◌, ◌++◌, map, drop, sym, ap, ◌∙◌, add-one, drop-cons}
-use Rattle.spectra_resolved.specs.Findings.{found_in}
+use Rattle.spectra_resolved.specs.Reports.{found_in}
 use Rattle.spectra_resolved.specs.TextViews.{definition_data}
 use Rattle.spectra_resolved.proofs.Mapped.{map_push}
 use Rattle.spectra_items.specs.Meanings.{define_of, define_faults}

@@ -1,7 +1,7 @@
 use Rattle.std.proofs.Common.{◌≡◌, ◌+◌, [], ◌∷◌, ◌++◌, map, drop, sym, ap, ◌∙◌, add-one, drop-cons}
 use Rattle.spectra_trees.specs.Data.{TypeData, NameData}
 use Rattle.spectra_trees.specs.Views.{name_data, type_data as tree_type}
-use Rattle.spectra_resolved.specs.Findings.{found_in}
+use Rattle.spectra_resolved.specs.Reports.{found_in}
 use Rattle.spectra_resolved.specs.TextViews.{type_data}
 use Rattle.spectra_resolved.proofs.Mapped.{map_push}
 use Rattle.spectra_items.specs.Types.{type_of, type_faults}

@@ -2,7 +2,8 @@ use Rattle.std.proofs.Common.{List, flat_map, sym, ap, ◌∙◌}
 use Rattle.spectra_trees.specs.declared.tree.Name.{Name}
 use Rattle.spectra_trees.specs.declared.tree.TypeTree.{TypeTree}
 use Rattle.spectra_trees.specs.Data.{TypeData, NameData}
-use Rattle.spectra_resolved.specs.Findings.{found_in, with_faults}
+use Rattle.spectra_resolved.specs.Findings.{with_faults}
+use Rattle.spectra_resolved.specs.Reports.{found_in}
 use Rattle.spectra_resolved.specs.Spaces.{clashes}
 use Rattle.spectra_resolved.specs.Resolving.{resolved, misuses}
 use Rattle.spectra_resolved.proofs.First.{three_lists}

@@ -1,7 +1,8 @@
 use Rattle.std.proofs.Common.{ap, ◌∙◌}
 use Rattle.spectra_trees.specs.Views.{expr_data}
 use Rattle.spectra_resolved.specs.declared.look.Sight.TheVariants as sights
-use Rattle.spectra_resolved.specs.Findings.{found_in, with_faults}
+use Rattle.spectra_resolved.specs.Findings.{with_faults}
+use Rattle.spectra_resolved.specs.Reports.{found_in}
 use Rattle.spectra_resolved.specs.Looks.{looked_up}
 use Rattle.spectra_resolved.specs.Spaces.{declared, clashes}
 use Rattle.spectra_resolved.specs.Resolving.{resolved, misuses}

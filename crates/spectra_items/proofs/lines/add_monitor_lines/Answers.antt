@@ -1,6 +1,6 @@
 use Rattle.std.proofs.Common.{◌≡◌, ◌+◌, ◌∷◌, map, drop, sym, ap, ◌∙◌, add-one, drop-cons}
 use Rattle.spectra_trees.specs.Views.{part_data}
-use Rattle.spectra_resolved.specs.Findings.{found_in}
+use Rattle.spectra_resolved.specs.Reports.{found_in}
 use Rattle.spectra_resolved.specs.TextViews.{line_data}
 use Rattle.spectra_items.specs.Meanings.{monitor_lines, monitor_faults}
 use Rattle.spectra_items.specs.Steps.{look_by}

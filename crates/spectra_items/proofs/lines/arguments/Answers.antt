@@ -1,6 +1,7 @@
 use Rattle.std.proofs.Common.{map, sym, ap, ◌∙◌}
 use Rattle.spectra_trees.specs.Views.{expr_data}
-use Rattle.spectra_resolved.specs.Findings.{found_in, with_faults}
+use Rattle.spectra_resolved.specs.Findings.{with_faults}
+use Rattle.spectra_resolved.specs.Reports.{found_in}
 use Rattle.spectra_resolved.specs.Resolved.{listed}
 use Rattle.spectra_resolved.specs.Views.{resolved_data}
 use Rattle.spectra_items.specs.Steps.{look_by}

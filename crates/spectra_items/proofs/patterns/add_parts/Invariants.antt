@@ -1,6 +1,7 @@
 use Rattle.std.proofs.Common.{◌≡◌, ◌++◌, drop, map, flat_map}
 use Rattle.spectra_trees.specs.Views.{part_data}
-use Rattle.spectra_resolved.specs.Findings.{found_in, with_faults}
+use Rattle.spectra_resolved.specs.Findings.{with_faults}
+use Rattle.spectra_resolved.specs.Reports.{found_in}
 use Rattle.spectra_resolved.specs.TextViews.{type_data, pattern_line_data}
 use Rattle.spectra_items.specs.Meanings.{own_types, pattern_lines, part_faults}
 use Rattle.spectra_items.specs.Steps.{names_by, look_by}

@@ -2,7 +2,8 @@ use Rattle.std.proofs.Common.{◌≡◌, ◌++◌, length, map, flat_map, sym, a
 use Rattle.std.proofs.lemmas.List.{length-map}
 use Rattle.spectra_trees.specs.Views.{name_data, part_data}
 use Rattle.spectra_resolved.specs.declared.look.Sight.TheVariants as sights
-use Rattle.spectra_resolved.specs.Findings.{found_in, with_faults}
+use Rattle.spectra_resolved.specs.Findings.{with_faults}
+use Rattle.spectra_resolved.specs.Reports.{found_in}
 use Rattle.spectra_resolved.specs.Looks.{looked_up}
 use Rattle.spectra_resolved.specs.Spaces.{declared, clashes, is_doubled}
 use Rattle.spectra_resolved.specs.TextViews.{type_data, pattern_line_data}

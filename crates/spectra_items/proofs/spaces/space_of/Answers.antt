@@ -1,6 +1,6 @@
 use Rattle.std.proofs.Common.{map, ap, ◌∙◌}
-use Rattle.spectra_resolved.specs.Findings.{found_in}
-use Rattle.spectra_resolved.specs.Spaces.{Told}
+use Rattle.spectra_resolved.specs.Reports.{found_in}
+use Rattle.spectra_resolved.specs.SpaceViews.{Told}
 use Rattle.spectra_items.proofs.Told.{first_look, first_found}
 use Rattle.spectra_items.specs.ItemViews.{entry_data}
 use Rattle.spectra_items.proofs.spaces.space_of.Goals as goal

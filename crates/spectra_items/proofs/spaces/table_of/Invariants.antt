@@ -1,6 +1,7 @@
 use Rattle.std.proofs.Common.{◌≡◌, drop, map}
-use Rattle.spectra_resolved.specs.Findings.{found_in}
-use Rattle.spectra_resolved.specs.Spaces.{with_entries, no_names}
+use Rattle.spectra_resolved.specs.Reports.{found_in}
+use Rattle.spectra_resolved.specs.Spaces.{no_names}
+use Rattle.spectra_resolved.specs.SpaceViews.{with_entries}
 use Rattle.spectra_resolved.specs.Tables.{told}
 use Rattle.spectra_items.specs.ItemViews.{entry_data}
 use Rattle.spectra_items.proofs.spaces.table_of.Given as goal

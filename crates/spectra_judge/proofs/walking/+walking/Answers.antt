@@ -2,11 +2,12 @@ use Rattle.std.proofs.Common.{◌≡◌, ◌+◌, ◌∷◌, ◌++◌, drop, map
 use Rattle.std.proofs.Common.{w64}
 use Rattle.std.proofs.lemmas.Int.{to_z-of_z}
 use Rattle.spectra_resolved.specs.Views.{resolved_data, link_data}
-use Rattle.spectra_resolved.specs.Findings.{found_in, with_faults}
+use Rattle.spectra_resolved.specs.Findings.{with_faults}
+use Rattle.spectra_resolved.specs.Reports.{found_in}
 use Rattle.spectra_judge.specs.Kinds.{Anything, is_truth, can_equal}
-use Rattle.spectra_judge.specs.KindViews.{kind_data}
+use Rattle.spectra_judge.specs.KindViews.{kind_data, setting_data}
 use Rattle.spectra_judge.specs.Operators.{is_past}
-use Rattle.spectra_judge.specs.Known.{setting_data, wanted}
+use Rattle.spectra_judge.specs.Known.{wanted}
 use Rattle.spectra_judge.specs.Judged.{kind_of, wrong, first_of, binary_faults, remainder_faults, operator_faults, faults, operand_faults, argument_faults}
 use Rattle.spectra_judge.specs.Chains.{opened, chain_kind, chain_faults}
 use Rattle.spectra_resolved.proofs.First.{with_faults_append}

@@ -1,9 +1,10 @@
 use Rattle.std.proofs.Common.{◌≡◌, ◌∷◌, drop, map}
-use Rattle.spectra_resolved.specs.Resolved.{trees}
+use Rattle.spectra_resolved.specs.Chained.{trees}
 use Rattle.spectra_resolved.specs.Views.{resolved_data, link_data}
-use Rattle.spectra_resolved.specs.Findings.{found_in, with_faults}
-use Rattle.spectra_judge.specs.KindViews.{kind_data}
-use Rattle.spectra_judge.specs.Known.{setting_data, wanted}
+use Rattle.spectra_resolved.specs.Findings.{with_faults}
+use Rattle.spectra_resolved.specs.Reports.{found_in}
+use Rattle.spectra_judge.specs.KindViews.{kind_data, setting_data}
+use Rattle.spectra_judge.specs.Known.{wanted}
 use Rattle.spectra_judge.specs.Judged.{operand_faults, argument_faults}
 use Rattle.spectra_judge.specs.Chains.{chain_kind, chain_faults}
 use Rattle.spectra_judge.proofs.walking.+walking.Given as goal

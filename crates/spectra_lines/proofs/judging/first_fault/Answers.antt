@@ -1,7 +1,8 @@
 use Rattle.std.proofs.Common.{◌+◌, drop, flat_map, ap, ◌∙◌}
 use Rattle.spectra_resolved.specs.Views.{resolved_data}
-use Rattle.spectra_resolved.specs.Findings.{found_in, with_faults}
-use Rattle.spectra_judge.specs.Known.{known_data}
+use Rattle.spectra_resolved.specs.Findings.{with_faults}
+use Rattle.spectra_resolved.specs.Reports.{found_in}
+use Rattle.spectra_judge.specs.KindViews.{known_data}
 use Rattle.spectra_judge.specs.Judged.{faults_of}
 use Rattle.spectra_lines.specs.Views.{trees_data}
 use Rattle.spectra_lines.proofs.Loops.{found_more}

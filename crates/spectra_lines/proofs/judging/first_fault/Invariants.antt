@@ -1,6 +1,7 @@
 use Rattle.std.proofs.Common.{◌≡◌, drop, None}
-use Rattle.spectra_resolved.specs.Findings.{found_in, with_faults}
-use Rattle.spectra_judge.specs.Known.{known_data}
+use Rattle.spectra_resolved.specs.Findings.{with_faults}
+use Rattle.spectra_resolved.specs.Reports.{found_in}
+use Rattle.spectra_judge.specs.KindViews.{known_data}
 use Rattle.spectra_lines.specs.Lines.{trees_faults}
 use Rattle.spectra_lines.specs.Views.{trees_data}
 use Rattle.spectra_lines.proofs.judging.first_fault.Given as goal

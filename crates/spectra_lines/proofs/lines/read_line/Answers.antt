@@ -1,7 +1,8 @@
 use Rattle.std.proofs.Common.{◌≡◌, ◌&&◌, ◌++◌, is_some, option_map, if◌then◌else◌, [], sym, ap, ◌∙◌}
-use Rattle.spectra_resolved.specs.Findings.{found_in, with_faults, first_of_faults}
+use Rattle.spectra_resolved.specs.Findings.{with_faults, first_of_faults}
+use Rattle.spectra_resolved.specs.Reports.{found_in}
 use Rattle.spectra_resolved.specs.TextViews.{body_data, line_data}
-use Rattle.spectra_trees.specs.declared.faults.TheConstants.{TOO_LARGE}
+use Rattle.spectra_trees.specs.Faults.{TooLarge, number_of}
 use Rattle.spectra_judge.specs.Findings.{fault_if}
 use Rattle.spectra_patterns.specs.Patterns.{is_empty}
 use Rattle.spectra_lines.specs.Contents.{trees_in, stand_in, line_put}
@@ -41,7 +42,7 @@ returns-clause-found c =
     let stand : c.stand_in-stand.result ≡ line_stand l = c.stand_in-stand.ensures ∙ ap (λ b. stand_in b l.body) c.is_assumption.ensures in
     let trees : trees_data c.deref.result.now ≡ trees_in l.body = ap trees_data c.deref.ensures.value ∙ c.in_ok-trees.ensures in
     let first : c.first_fault-first.result ≡ first_of_faults written = c.first_fault-first.ensures ∙ (λ i. first_of_faults (trees_faults f.known (stand i) (trees i))) in
-    let put = c.report_if.ensures ∙ ap (λ b. with_faults old (fault_if b TOO_LARGE l.at)) c.is_some-had_room.ensures in
+    let put = c.report_if.ensures ∙ ap (λ b. with_faults old (fault_if b (number_of TooLarge) l.at)) c.is_some-had_room.ensures in
     let made = sym (ap (option_map line_data) c.in-None.is) ∙ c.in_ok-put.ensures.made in
     all_found f room l (found_in c.args.findings.now) _ old _ (c.report_first.ensures written first) c.report_own.ensures
     (none_sized l.at (faults_as f l) (is_some room) (is_small room (put_trees f l)) (line_put f l) _ old made put)

@@ -1,8 +1,9 @@
 use Rattle.std.proofs.Common.{◌≡◌, ◌&&◌, if◌then◌else◌, [], OnOk, sym, ap, subst, ◌∙◌}
-use Rattle.spectra_resolved.specs.Findings.{found_in, with_faults}
+use Rattle.spectra_resolved.specs.Findings.{with_faults}
+use Rattle.spectra_resolved.specs.Reports.{found_in}
 use Rattle.spectra_resolved.specs.TextViews.{body_data}
 use Rattle.spectra_resolved.proofs.First.{with_faults_append}
-use Rattle.spectra_judge.specs.Known.{known_data}
+use Rattle.spectra_judge.specs.KindViews.{known_data}
 use Rattle.spectra_patterns.specs.Patterns.{is_empty}
 use Rattle.spectra_lines.specs.Contents.{trees_in}
 use Rattle.spectra_lines.specs.Lines.{trees_faults, known_with, whole_faults}

@@ -1,9 +1,10 @@
 use Rattle.std.proofs.Common.{◌≡◌, ◌+◌, [], map, drop, sym, ap, ◌∙◌}
 use Rattle.std.proofs.lemmas.List.{drop_all}
-use Rattle.spectra_resolved.specs.Resolved.{chained, trees}
+use Rattle.spectra_resolved.specs.Chained.{chained, trees}
 use Rattle.spectra_resolved.specs.Views.{resolved_data, link_data}
 use Rattle.spectra_resolved.proofs.Trees.{chain_data}
-use Rattle.spectra_elaboration.specs.Nodes.{tree_nodes, each_nodes, link_nodes}
+use Rattle.spectra_elaboration.specs.Nodes.{tree_nodes, each_nodes}
+use Rattle.spectra_elaboration.specs.Links.{link_nodes}
 use Rattle.spectra_elaboration.proofs.Chained.{tree_nodes-chained}
 use Rattle.spectra_lines.specs.Limits.{room_behind}
 use Rattle.spectra_lines.proofs.Rooms.{room_twice, room_none, each_left, links_left}

@@ -3,9 +3,10 @@ use denote.Param.Weighed.{most}
 use Rattle.spectra_resolved.specs.declared.tree.Resolved.{size-Resolved}
 use Rattle.spectra_resolved.specs.declared.tree.Shape.{size-Shape}
 use Rattle.spectra_resolved.specs.declared.tree.Link.{size-Link}
-use Rattle.spectra_resolved.specs.Resolved.{trees}
+use Rattle.spectra_resolved.specs.Chained.{trees}
 use Rattle.spectra_resolved.specs.Views.{resolved_data, link_data}
-use Rattle.spectra_elaboration.specs.Nodes.{each_nodes, link_nodes}
+use Rattle.spectra_elaboration.specs.Nodes.{each_nodes}
+use Rattle.spectra_elaboration.specs.Links.{link_nodes}
 use Rattle.spectra_lines.specs.Limits.{room_behind}
 use Rattle.spectra_lines.proofs.nodes.+counting.Given as goal
 

@@ -1,7 +1,7 @@
 use Rattle.std.proofs.Common.{◌≡◌, ◌+◌, ◌++◌, ◌<◌, [], map, drop, sym, ap, subst, append-nil, ◌∙◌, rules, arith}
 use Rattle.std.proofs.lemmas.Grind.{common_steps}
 use Rattle.std.proofs.lemmas.List.{drop_all}
-use Rattle.spectra_resolved.specs.Resolved.{regexes, repeated}
+use Rattle.spectra_resolved.specs.Chained.{regexes, repeated}
 use Rattle.spectra_resolved.specs.Views.{regex_data}
 use Rattle.spectra_resolved.proofs.Mapped.{map_push}
 use Rattle.spectra_resolved.proofs.Trees.{repeat_data}

@@ -1,5 +1,5 @@
 use Rattle.std.proofs.Common.{◌≡◌, ◌+◌, ◌++◌, map, drop}
-use Rattle.spectra_resolved.specs.Resolved.{regexes}
+use Rattle.spectra_resolved.specs.Chained.{regexes}
 use Rattle.spectra_resolved.specs.Views.{regex_data}
 use Rattle.spectra_lines.specs.Contents.{brackets_of_each, each_regex_put}
 use Rattle.spectra_lines.specs.Limits.{nodes_of}

@@ -1,5 +1,6 @@
 use Rattle.std.proofs.Common.{◌+◌, map, drop, sym, ap, ◌∙◌}
-use Rattle.spectra_resolved.specs.Findings.{found_in, with_faults}
+use Rattle.spectra_resolved.specs.Findings.{with_faults}
+use Rattle.spectra_resolved.specs.Reports.{found_in}
 use Rattle.spectra_resolved.specs.TextViews.{pattern_line_data}
 use Rattle.spectra_resolved.proofs.First.{with_faults_append}
 use Rattle.spectra_judge.proofs.Lists.{mapped_left}

@@ -1,5 +1,6 @@
 use Rattle.std.proofs.Common.{◌≡◌, map, drop}
-use Rattle.spectra_resolved.specs.Findings.{found_in, with_faults}
+use Rattle.spectra_resolved.specs.Findings.{with_faults}
+use Rattle.spectra_resolved.specs.Reports.{found_in}
 use Rattle.spectra_resolved.specs.TextViews.{pattern_line_data}
 use Rattle.spectra_lines.specs.Parts.{large_lines, room_behind_lines}
 use Rattle.spectra_lines.proofs.reading.count_lines.Given as goal

@@ -1,6 +1,6 @@
 use Rattle.std.proofs.Common.{map}
 use Rattle.spec_model.specs.Views.{pattern_data as model_pattern}
-use Rattle.spectra_resolved.specs.Findings.{found_in}
+use Rattle.spectra_resolved.specs.Reports.{found_in}
 use Rattle.spectra_resolved.specs.TextViews.{line_data}
 use Rattle.spectra_judge.proofs.Lists.{mapped_left}
 use Rattle.spectra_lines.specs.Parts.{part_lines, part_patterns}

@@ -1,6 +1,7 @@
 use Rattle.std.proofs.Common.{◌≡◌, ◌++◌, map, drop}
 use Rattle.spec_model.specs.Views.{pattern_data as model_pattern}
-use Rattle.spectra_resolved.specs.Findings.{found_in, with_faults}
+use Rattle.spectra_resolved.specs.Findings.{with_faults}
+use Rattle.spectra_resolved.specs.Reports.{found_in}
 use Rattle.spectra_resolved.specs.TextViews.{line_data}
 use Rattle.spectra_lines.specs.Parts.{parts_faults, parts_lines, parts_patterns}
 use Rattle.spectra_lines.specs.Said.{all_room}

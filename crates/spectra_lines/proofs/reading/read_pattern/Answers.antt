@@ -1,6 +1,7 @@
 use Rattle.std.proofs.Common.{◌≡◌, ◌&&◌, ◌++◌, map, option_to_list, sym, ap, append-nil, ◌∙◌}
 use Rattle.spec_model.specs.Views.{pattern_data as model_pattern}
-use Rattle.spectra_resolved.specs.Findings.{found_in, with_faults, first_of_faults}
+use Rattle.spectra_resolved.specs.Findings.{with_faults, first_of_faults}
+use Rattle.spectra_resolved.specs.Reports.{found_in}
 use Rattle.spectra_resolved.specs.TextViews.{line_data, pattern_line_data}
 use Rattle.spectra_resolved.proofs.First.{with_faults_append}
 use Rattle.spectra_judge.specs.KindViews.{kind_data}

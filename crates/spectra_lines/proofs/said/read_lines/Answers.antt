@@ -1,7 +1,8 @@
 use Rattle.std.proofs.Common.{◌≡◌, [], length, map, sym, ap, subst, ◌∙◌}
 use Rattle.std.proofs.lemmas.List.{length-map}
 use Rattle.spec_model.specs.Views.{line_data as model_line, trigger_data}
-use Rattle.spectra_resolved.specs.Findings.{found_in, with_faults}
+use Rattle.spectra_resolved.specs.Findings.{with_faults}
+use Rattle.spectra_resolved.specs.Reports.{found_in}
 use Rattle.spectra_resolved.specs.Texts.{ResolvedLine}
 use Rattle.spectra_resolved.specs.TextViews.{line_data}
 use Rattle.spectra_resolved.proofs.First.{with_faults_append}

@@ -3,8 +3,7 @@ use Rattle.std.proofs.lemmas.List.{length-map}
 use Rattle.std.proofs.lemmas.Option.{same_Some}
 use Rattle.spectra_resolved.specs.Texts.{ResolvedDefinition}
 use Rattle.spectra_resolved.specs.TextViews.{definition_data, text_data}
-use Rattle.spectra_judge.specs.KindViews.{kind_data}
-use Rattle.spectra_judge.specs.Known.{known_data}
+use Rattle.spectra_judge.specs.KindViews.{kind_data, known_data}
 use Rattle.spectra_uses.specs.Uses.{uses_in, all_uses}
 use Rattle.spectra_bounds.proofs.Made.{marked_at, read_data}
 use Rattle.spectra_notes.specs.TypeKinds.{TypeKinds, known_by}

@@ -1,7 +1,6 @@
 use Rattle.std.proofs.Common.{map}
 use Rattle.std.proofs.lemmas.Result.{err_from_is_err_and}
-use Rattle.spectra_trees.specs.Views.{part_data}
-use Rattle.spectra_trees.specs.Lexemes.{lexemes_of}
+use Rattle.spectra_trees.specs.Views.{part_data, lexemes_of}
 use Rattle.spectra_parser.specs.Items.{inside_braces, pitem_after}
 use Rattle.spectra_exprs.proofs.Loops.{grown_first}
 use Rattle.spectra_exprs.proofs.Turns.{fewer, turned, failed, ended}

@@ -1,7 +1,7 @@
 use Rattle.std.proofs.Common.{map}
 use Rattle.std.proofs.lemmas.Result.{err_from_is_err_and}
 use Rattle.spectra_trees.specs.declared.class.Class.TheVariants as Class
-use Rattle.spectra_trees.specs.Lexemes.{lexemes_of}
+use Rattle.spectra_trees.specs.Views.{lexemes_of}
 use Rattle.spectra_exprs.specs.Read.{starts}
 use Rattle.spectra_parser.specs.Items.{parameter_after}
 use Rattle.spectra_parser.specs.ItemViews.{parameter_pair}

@@ -1,6 +1,6 @@
 use Rattle.std.proofs.Common.{length, map}
 use Rattle.spectra_trees.specs.declared.class.Class.TheVariants as Class
-use Rattle.spectra_trees.specs.Lexemes.{lexemes_of}
+use Rattle.spectra_trees.specs.Views.{lexemes_of}
 use Rattle.spectra_exprs.specs.Read.{starts, all_of}
 use Rattle.spectra_parser.specs.Items.{parameter_after}
 use Rattle.spectra_parser.specs.ItemViews.{parameter_pair}

@@ -1,6 +1,5 @@
 use Rattle.std.proofs.Common.{length, map}
-use Rattle.spectra_trees.specs.Views.{item_data}
-use Rattle.spectra_trees.specs.Lexemes.{lexemes_of}
+use Rattle.spectra_trees.specs.Views.{item_data, lexemes_of}
 use Rattle.spectra_exprs.specs.Read.{all_of}
 use Rattle.spectra_parser.specs.Items.{before_end, item_after}
 use Rattle.spectra_exprs.proofs.Loops.{Grown}

@@ -6,9 +6,10 @@ use Rattle.spectra_lexer.specs.declared.token.Token.{Token}
 use Rattle.spectra_lexer.specs.Tokens.{AreTokens}
 use Rattle.spectra_trees.specs.declared.tree.Tree.{Tree}
 use Rattle.spectra_trees.specs.Data.{TreeData}
-use Rattle.spectra_trees.specs.Views.{tree_data}
-use Rattle.spectra_trees.specs.Lexemes.{Lexeme, lexemes, lexemes_of}
-use Rattle.spectra_parser.specs.Texts.{HasTree, IsWholeFrom, Explains}
+use Rattle.spectra_trees.specs.Views.{tree_data, lexemes_of}
+use Rattle.spectra_trees.specs.Lexemes.{Lexeme, lexemes}
+use Rattle.spectra_parser.specs.Texts.{HasTree, Explains}
+use Rattle.spectra_parser.specs.Wholes.{IsWholeFrom}
 use Rattle.spectra_parser.proofs.WholeText.{one_tree}
 use Rattle.spectra_parser.specs.Shapes.{IsShaped}
 use Rattle.spectra_parser.proofs.OneFault.{no_fault}

@@ -4,11 +4,12 @@ use Rattle.spectra_exprs.specs.declared.fault.SyntaxFault.{SyntaxFault}
 use Rattle.spectra_exprs.specs.declared.fault.SyntaxFault.TheVariants as faults
 use Rattle.spectra_trees.specs.declared.tree.Tree.{Tree}
 use Rattle.spectra_trees.specs.Data.{TreeData}
-use Rattle.spectra_trees.specs.Views.{tree_data}
-use Rattle.spectra_trees.specs.Lexemes.{Lexeme, lexemes_of}
+use Rattle.spectra_trees.specs.Views.{tree_data, lexemes_of}
+use Rattle.spectra_trees.specs.Lexemes.{Lexeme}
 use Rattle.spectra_exprs.specs.Read.{Fails}
 use Rattle.spectra_parser.specs.Items.{text_of}
-use Rattle.spectra_parser.specs.Texts.{HasTree, IsWholeFrom, BeginText, IsShallow, IsRefused, IsTooDeep, Explains}
+use Rattle.spectra_parser.specs.Texts.{HasTree, BeginText, IsShallow, IsRefused, IsTooDeep, Explains}
+use Rattle.spectra_parser.specs.Wholes.{IsWholeFrom}
 use Rattle.spectra_parser.proofs.WholeText.{text_got}
 use Rattle.spectra_parser.proofs.Places.{Refused, unexpected_refused, deep_refused, parentheses_refused}
 use Rattle.spectra_parser.proofs.OpeningItems.{wide}

@@ -1,8 +1,7 @@
 use Rattle.std.proofs.Common.{map}
 use Rattle.std.proofs.lemmas.Result.{err_from_is_err_and}
 use Rattle.spectra_trees.specs.declared.class.Class.TheVariants as Class
-use Rattle.spectra_trees.specs.Views.{name_data}
-use Rattle.spectra_trees.specs.Lexemes.{lexemes_of}
+use Rattle.spectra_trees.specs.Views.{name_data, lexemes_of}
 use Rattle.spectra_exprs.specs.Read.{starts}
 use Rattle.spectra_parser.specs.Items.{name_after}
 use Rattle.spectra_exprs.proofs.Loops.{grown_first}

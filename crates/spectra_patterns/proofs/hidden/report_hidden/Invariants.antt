@@ -1,6 +1,6 @@
 use Rattle.std.proofs.Common.{◌≡◌, [], map, take, drop}
 use Rattle.spec_model.specs.Views.{line_data as model_line, trigger_data}
-use Rattle.spectra_resolved.specs.Findings.{found_in}
+use Rattle.spectra_resolved.specs.Reports.{found_in}
 use Rattle.spectra_patterns.specs.Hidden.{hidden_faults}
 use Rattle.spectra_patterns.specs.Gathering.{IsCount}
 use Rattle.spectra_patterns.proofs.hidden.report_hidden.Given as goal

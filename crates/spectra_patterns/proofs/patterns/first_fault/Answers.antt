@@ -1,7 +1,8 @@
 use Rattle.std.proofs.Common.{◌+◌, map, drop, flat_map, ap, ◌∙◌}
 use Rattle.spectra_resolved.specs.TextViews.{pattern_line_data}
-use Rattle.spectra_resolved.specs.Findings.{found_in, with_faults}
-use Rattle.spectra_judge.specs.Known.{known_data}
+use Rattle.spectra_resolved.specs.Findings.{with_faults}
+use Rattle.spectra_resolved.specs.Reports.{found_in}
+use Rattle.spectra_judge.specs.KindViews.{known_data}
 use Rattle.spectra_patterns.specs.Patterns.{line_faults}
 use Rattle.spectra_patterns.proofs.Found.{line_left}
 use Rattle.spectra_patterns.proofs.patterns.first_fault.Goals as goal

@@ -1,6 +1,7 @@
 use Rattle.std.proofs.Common.{◌≡◌, [], map, option_map, IfOk, OnOk, sym, ap, subst, ◌∙◌}
 use Rattle.spec_model.specs.Views.{pattern_data as model_data}
-use Rattle.spectra_resolved.specs.Findings.{found_in, with_faults}
+use Rattle.spectra_resolved.specs.Findings.{with_faults}
+use Rattle.spectra_resolved.specs.Reports.{found_in}
 use Rattle.spectra_resolved.specs.TextViews.{pattern_data}
 use Rattle.spectra_judge.specs.KindViews.{kind_data}
 use Rattle.spectra_patterns.specs.Patterns.{lines_faults, pattern_faults, meant}

@@ -1,9 +1,11 @@
 use Rattle.std.proofs.Common.{◌≡◌, Some, None, map, option_map, option_to_list, sym, ap, subst, ◌∙◌}
 use Rattle.pattern_rows.specs.Patterns.{IsPattern}
-use Rattle.spectra_resolved.specs.Findings.{fault, found_in, with_faults}
+use Rattle.spectra_resolved.specs.Findings.{fault, with_faults}
+use Rattle.spectra_resolved.specs.Reports.{found_in}
 use Rattle.spectra_resolved.specs.TextViews.{pattern_data}
 use Rattle.spectra_judge.specs.KindViews.{kind_data}
-use Rattle.spectra_patterns.specs.Patterns.{pattern_of, table_fault, unless}
+use Rattle.spectra_patterns.specs.Patterns.{pattern_of, table_fault}
+use Rattle.spectra_patterns.specs.SoundPatterns.{unless}
 use Rattle.spectra_patterns.proofs.Shaped.{shaped}
 use Rattle.spectra_patterns.proofs.Whole.{sound_types}
 use Rattle.spectra_patterns.proofs.patterns.whole.Goals as goal

@@ -1,10 +1,11 @@
 use Rattle.std.proofs.Common.{◌+◌, map, drop, sym, ap, ◌∙◌}
-use Rattle.spectra_resolved.specs.Resolved.{regexes}
+use Rattle.spectra_resolved.specs.Chained.{regexes}
 use Rattle.spectra_resolved.specs.Views.{regex_data}
-use Rattle.spectra_resolved.specs.Findings.{found_in, with_faults}
+use Rattle.spectra_resolved.specs.Findings.{with_faults}
+use Rattle.spectra_resolved.specs.Reports.{found_in}
 use Rattle.spectra_resolved.proofs.Trees.{repeat_data}
-use Rattle.spectra_judge.specs.Known.{known_data}
-use Rattle.spectra_patterns.specs.Triggers.{atom_faults, each_atom_faults}
+use Rattle.spectra_judge.specs.KindViews.{known_data}
+use Rattle.spectra_patterns.specs.TriggerParts.{atom_faults, each_atom_faults}
 use Rattle.spectra_patterns.proofs.Regexes.{faults_repeated, atoms_left}
 use Rattle.spectra_patterns.proofs.triggers.+judging.Goals as goal
 

@@ -1,9 +1,10 @@
 use Rattle.std.proofs.Common.{◌≡◌, map, drop}
-use Rattle.spectra_resolved.specs.Findings.{found_in, with_faults}
-use Rattle.spectra_resolved.specs.Resolved.{regexes}
+use Rattle.spectra_resolved.specs.Findings.{with_faults}
+use Rattle.spectra_resolved.specs.Reports.{found_in}
+use Rattle.spectra_resolved.specs.Chained.{regexes}
 use Rattle.spectra_resolved.specs.Views.{regex_data}
-use Rattle.spectra_judge.specs.Known.{known_data}
-use Rattle.spectra_patterns.specs.Triggers.{each_atom_faults}
+use Rattle.spectra_judge.specs.KindViews.{known_data}
+use Rattle.spectra_patterns.specs.TriggerParts.{each_atom_faults}
 use Rattle.spectra_patterns.proofs.triggers.+judging.Given as goal
 
 -- what is left is found beside what was found

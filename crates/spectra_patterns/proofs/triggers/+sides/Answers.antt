@@ -2,10 +2,11 @@ use Rattle.std.proofs.Common.{◌≡◌, ◌++◌, [], map, drop, IfOk, sym, ap,
 use Rattle.std.proofs.lemmas.List.{drop_all}
 use Rattle.spec_model.specs.Syntax.{regulars}
 use Rattle.spec_model.specs.Views.{regular}
-use Rattle.spectra_resolved.specs.Resolved.{regexes}
+use Rattle.spectra_resolved.specs.Chained.{regexes}
 use Rattle.spectra_resolved.specs.Views.{regex_data}
 use Rattle.spectra_resolved.proofs.Trees.{repeat_data}
-use Rattle.spectra_patterns.specs.Triggers.{regular_of, regulars_of, with_repeats}
+use Rattle.spectra_patterns.specs.Triggers.{regular_of, regulars_of}
+use Rattle.spectra_patterns.specs.TriggerParts.{with_repeats}
 use Rattle.spectra_patterns.proofs.Regexes.{regular_repeated, regular_list, regulars_listed}
 use Rattle.spectra_patterns.proofs.triggers.+sides.Goals as goal
 

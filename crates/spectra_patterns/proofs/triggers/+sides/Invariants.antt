@@ -1,6 +1,6 @@
 use Rattle.std.proofs.Common.{◌≡◌, ◌++◌, map, drop}
 use Rattle.spec_model.specs.Views.{regular}
-use Rattle.spectra_resolved.specs.Resolved.{regexes}
+use Rattle.spectra_resolved.specs.Chained.{regexes}
 use Rattle.spectra_resolved.specs.Views.{regex_data}
 use Rattle.spectra_patterns.specs.Triggers.{regulars_of}
 use Rattle.spectra_patterns.proofs.Regexes.{regular_list}

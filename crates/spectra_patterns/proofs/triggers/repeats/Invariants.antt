@@ -1,6 +1,6 @@
 use Rattle.std.proofs.Common.{◌≡◌, drop}
 use Rattle.spec_model.specs.Views.{regular}
-use Rattle.spectra_patterns.specs.Triggers.{with_repeats}
+use Rattle.spectra_patterns.specs.TriggerParts.{with_repeats}
 use Rattle.spectra_patterns.proofs.triggers.repeats.Given as goal
 
 -- what is left is the answer

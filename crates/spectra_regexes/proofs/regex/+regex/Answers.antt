@@ -1,8 +1,7 @@
 use Rattle.std.proofs.Common.{map, arith}
 use Rattle.std.proofs.lemmas.Result.{err_from_is_err_and}
 use Rattle.spectra_trees.specs.declared.class.Class.TheVariants as Class
-use Rattle.spectra_trees.specs.Views.{regex_data}
-use Rattle.spectra_trees.specs.Lexemes.{lexeme_of, lexemes_of}
+use Rattle.spectra_trees.specs.Views.{regex_data, lexeme_of, lexemes_of}
 use Rattle.spectra_exprs.specs.Read.{starts}
 use Rattle.spectra_regexes.specs.Regexes.{starts_ratom, follower_of, branch_of, inside_regex}
 use Rattle.spectra_regexes.proofs.RegexLevels.{regex_deep, regex_open}

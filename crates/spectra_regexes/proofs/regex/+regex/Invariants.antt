@@ -1,7 +1,6 @@
 use Rattle.std.proofs.Common.{◌+◌, ◌*◌, length, map}
 use Rattle.spectra_trees.specs.declared.class.Class.TheVariants as Class
-use Rattle.spectra_trees.specs.Views.{regex_data}
-use Rattle.spectra_trees.specs.Lexemes.{lexemes_of}
+use Rattle.spectra_trees.specs.Views.{regex_data, lexemes_of}
 use Rattle.spectra_exprs.specs.Read.{starts, all_of}
 use Rattle.spectra_regexes.specs.Regexes.{starts_ratom, follower_of, branch_of, inside_regex}
 use Rattle.spectra_exprs.proofs.Loops.{Grown}

@@ -1,5 +1,5 @@
 use Rattle.std.proofs.Common.{arith}
-use Rattle.spectra_trees.specs.Lexemes.{lexeme_of, lexemes_of}
+use Rattle.spectra_trees.specs.Views.{lexeme_of, lexemes_of}
 use Rattle.spectra_regexes.proofs.RegexLevels.{atom_deep, atom_open}
 use Rattle.spectra_regexes.proofs.regex.deeper_atom.Goals as goal
 

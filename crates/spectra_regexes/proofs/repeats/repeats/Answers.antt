@@ -1,6 +1,5 @@
 use Rattle.std.proofs.lemmas.Result.{err_from_is_err_and}
-use Rattle.spectra_trees.specs.Views.{regex_data}
-use Rattle.spectra_trees.specs.Lexemes.{lexemes_of}
+use Rattle.spectra_trees.specs.Views.{regex_data, lexemes_of}
 use Rattle.spectra_regexes.specs.Regexes.{starts_repeat, repeated}
 use Rattle.spectra_exprs.proofs.Loops.{grown_first}
 use Rattle.spectra_exprs.proofs.Turns.{fewer, turned, failed, ended}

@@ -2,8 +2,9 @@ use Rattle.std.proofs.Common.{◌≡◌, ◌+◌, ◌++◌, [], ◌∷◌, map, 
 use Rattle.std.proofs.lemmas.List.{drop_all}
 use Rattle.spectra_trees.specs.Data as written
 use Rattle.spectra_trees.specs.Views.{regex_data as tree_regex}
-use Rattle.spectra_resolved.specs.Findings.{found_in, with_faults}
-use Rattle.spectra_resolved.specs.Resolved.{regexes}
+use Rattle.spectra_resolved.specs.Findings.{with_faults}
+use Rattle.spectra_resolved.specs.Reports.{found_in}
+use Rattle.spectra_resolved.specs.Chained.{regexes}
 use Rattle.spectra_resolved.specs.Views.{regex_data}
 use Rattle.spectra_resolved.specs.ResolverViews.{regexes_by}
 use Rattle.spectra_resolved.proofs.RegexSteps.{regexes-listed, parts_by, misuses_by, regex_step, regex_found}

@@ -3,8 +3,9 @@ use denote.Param.Weighed.{most}
 use Rattle.spectra_trees.specs.declared.tree.RegexTree.{size-RegexTree}
 use Rattle.spectra_trees.specs.Data as written
 use Rattle.spectra_trees.specs.Views.{regex_data as tree_regex}
-use Rattle.spectra_resolved.specs.Findings.{found_in, with_faults}
-use Rattle.spectra_resolved.specs.Resolved.{repeated, regex_list}
+use Rattle.spectra_resolved.specs.Findings.{with_faults}
+use Rattle.spectra_resolved.specs.Reports.{found_in}
+use Rattle.spectra_resolved.specs.Chained.{repeated, regex_list}
 use Rattle.spectra_resolved.specs.Views.{regex_data}
 use Rattle.spectra_resolved.specs.Regexes.{regex_misuses, misuses_of_regexes}
 use Rattle.spectra_resolved.specs.ResolverViews.{regex_by, regexes_by}

@@ -6,11 +6,14 @@ use Rattle.spectra_trees.specs.Data.{expressions}
 use Rattle.spectra_trees.specs.Views.{name_data, form_data, expr_data}
 use Rattle.spectra_trees.proofs.Folded.{call_folded, and_folded, or_folded, binary_folded, read_folded}
 use Rattle.spectra_resolved.specs.Spots.{spot_at, spot_of}
-use Rattle.spectra_resolved.specs.Findings.{found_in, with_faults}
-use Rattle.spectra_resolved.specs.Resolved.{tree, Form, trees, listed, chained}
+use Rattle.spectra_resolved.specs.Findings.{with_faults}
+use Rattle.spectra_resolved.specs.Reports.{found_in}
+use Rattle.spectra_resolved.specs.Resolved.{tree, Form, listed}
+use Rattle.spectra_resolved.specs.Chained.{trees, chained}
 use Rattle.spectra_resolved.specs.Views.{resolved_data, link_data}
 use Rattle.spectra_resolved.specs.LookViews.{look_data}
-use Rattle.spectra_resolved.specs.Resolving.{call_form, resolved_form, resolved_each, misuses, own_misuse, misuses_of_each}
+use Rattle.spectra_resolved.specs.Resolving.{call_form, resolved_form, resolved_each, misuses, misuses_of_each}
+use Rattle.spectra_resolved.specs.Misused.{own_misuse}
 use Rattle.spectra_resolved.specs.ResolverViews.{resolved_by, resolved_each_by}
 use Rattle.spectra_resolved.proofs.First.{found_later, with_faults_append}
 use Rattle.spectra_resolved.proofs.Steps.{chain_step, chain_found, first_smaller, each_step, each_found}

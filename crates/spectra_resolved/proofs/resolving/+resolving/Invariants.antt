@@ -3,8 +3,10 @@ use denote.Param.Weighed.{most}
 use Rattle.spectra_trees.specs.declared.tree.ExprTree.{size-ExprTree}
 use Rattle.spectra_trees.specs.Data.{expressions}
 use Rattle.spectra_trees.specs.Views.{expr_data}
-use Rattle.spectra_resolved.specs.Findings.{found_in, with_faults}
-use Rattle.spectra_resolved.specs.Resolved.{chained, listed}
+use Rattle.spectra_resolved.specs.Findings.{with_faults}
+use Rattle.spectra_resolved.specs.Reports.{found_in}
+use Rattle.spectra_resolved.specs.Resolved.{listed}
+use Rattle.spectra_resolved.specs.Chained.{chained}
 use Rattle.spectra_resolved.specs.Views.{resolved_data, link_data}
 use Rattle.spectra_resolved.specs.Resolving.{misuses, misuses_of_each}
 use Rattle.spectra_resolved.specs.ResolverViews.{resolved_by, resolved_each_by}

@@ -1,4 +1,5 @@
-use Rattle.spectra_top.proofs.Decided.{nothing_done, no_verdict_said}
+use Rattle.spectra_talks.proofs.Exchanges.{nothing_done}
+use Rattle.spectra_top.proofs.Decided.{no_verdict_said}
 use Rattle.spectra_top.proofs.deciding.say_no_verdict.Goals as goal
 
 pub returns-in-Budget : goal.returns-in-Budget

@@ -1,5 +1,5 @@
 use Rattle.std.proofs.Common.{inr, refl}
-use Rattle.spectra_words.specs.declared.words.Command.TheVariants.{Counter}
+use Rattle.command_words.specs.declared.words.Command.TheVariants.{Counter}
 use Rattle.spectra_top.proofs.Decided.{is_kept, is_countered, by_solving, not_decided, counter_decides}
 use Rattle.spectra_top.proofs.deciding.serve_counter.Goals as goal
 
@@ -7,6 +7,12 @@ pub returns-in-Ok-Realizable : goal.returns-in-Ok-Realizable
 returns-in-Ok-Realizable g c =
     let h = rw c.in-Ok-Realizable.field-0-is at c.in-Ok-Realizable.ensures in
     is_kept _ _ _ _ _ _ _ (inr refl) h.verdict.0 (c.say_realizable_instead.ensures _ _)
+
+pub counter-requires : goal.counter-requires
+counter-requires g c =
+    let h = rw c.in-Ok-Unrealizable.field-0-is at c.in-Ok-Unrealizable.ensures in
+    let play = h.verdict.1 in
+    record { fresh = (play.fresh, play.empty); stands = play.stands; plays = record { agrees = play.agrees; rise = play.rise }; shifts = play.shifts; denials = play.denials }
 
 pub returns-in-Ok-Unrealizable : goal.returns-in-Ok-Unrealizable
 returns-in-Ok-Unrealizable g c =

@@ -1,7 +1,13 @@
 use Rattle.std.proofs.Common.{inr, refl}
-use Rattle.spectra_words.specs.declared.words.Command.TheVariants.{Run}
+use Rattle.command_words.specs.declared.words.Command.TheVariants.{Run}
 use Rattle.spectra_top.proofs.Decided.{run_held, is_lost, by_solving, not_decided, run_decides}
 use Rattle.spectra_top.proofs.deciding.serve_run.Goals as goal
+
+pub hold-requires : goal.hold-requires
+hold-requires g c =
+    let h = rw c.in-Ok-Realizable.field-0-is at c.in-Ok-Realizable.ensures in
+    let play = h.verdict.1 in
+    record { fresh = play.fresh; stands = play.stands; plays = play.agrees; rounds = play.rounds }
 
 pub returns-in-Ok-Realizable : goal.returns-in-Ok-Realizable
 returns-in-Ok-Realizable g c =

@@ -1,6 +1,6 @@
 use Rattle.std.proofs.Common.{refl}
 use Rattle.spec_model.specs.Views.{spec_data}
-use Rattle.spectra_words.specs.declared.words.Command.TheVariants.{Separate}
+use Rattle.command_words.specs.declared.words.Command.TheVariants.{Separate}
 use Rattle.spectra_top.proofs.Decided.{is_separated, is_not_separated, by_solving, not_decided, separate_decides}
 use Rattle.spectra_top.proofs.deciding.serve_separate.Goals as goal
 

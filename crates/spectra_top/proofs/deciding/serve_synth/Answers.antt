@@ -1,5 +1,5 @@
 use Rattle.std.proofs.Common.{inl, refl}
-use Rattle.spectra_words.specs.declared.words.Command.TheVariants.{Synth}
+use Rattle.command_words.specs.declared.words.Command.TheVariants.{Synth}
 use Rattle.spectra_top.proofs.Decided.{synth_won, is_lost, by_solving, not_decided, synth_decides}
 use Rattle.spectra_top.proofs.deciding.serve_synth.Goals as goal
 

@@ -1,5 +1,5 @@
-use Rattle.spectra_top.specs.Streams.{no_room}
-use Rattle.spectra_top.proofs.Decided.{nothing_done}
+use Rattle.spectra_top.specs.Top.{no_room}
+use Rattle.spectra_talks.proofs.Exchanges.{nothing_done}
 use Rattle.spectra_top.proofs.generating.serve_arbiter.Goals as goal
 
 pub returns-in-Err-clause-serves : goal.returns-in-Err-clause-serves

@@ -1,6 +1,7 @@
 use Rattle.std.proofs.Common.{◌∙◌}
-use Rattle.spectra_top.specs.Streams.{no_room}
-use Rattle.spectra_top.proofs.Decided.{nothing_done, below_its_line}
+use Rattle.spectra_top.specs.Top.{no_room}
+use Rattle.spectra_talks.proofs.Exchanges.{nothing_done}
+use Rattle.spectra_top.proofs.Decided.{below_its_line}
 use Rattle.spectra_top.proofs.generating.serve_arbiter_text.Goals as goal
 
 pub returns-in-Ok-clause-serves : goal.returns-in-Ok-clause-serves

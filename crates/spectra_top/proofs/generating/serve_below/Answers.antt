@@ -1,5 +1,5 @@
 use Rattle.std.proofs.Common.{refl}
-use Rattle.spectra_top.specs.Streams.{headed, cut_at_once}
+use Rattle.spectra_top.specs.Top.{headed, cut_at_once}
 use Rattle.spectra_top.proofs.generating.serve_below.Goals as goal
 
 pub returns-in-Ok-clause-serves : goal.returns-in-Ok-clause-serves

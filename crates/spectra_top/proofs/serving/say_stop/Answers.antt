@@ -1,4 +1,5 @@
-use Rattle.spectra_top.proofs.Decided.{nothing_done, said_as}
+use Rattle.spectra_talks.proofs.Exchanges.{nothing_done}
+use Rattle.spectra_top.proofs.Decided.{said_as}
 use Rattle.spectra_top.proofs.serving.say_stop.Goals as goal
 
 pub returns-in-Missing : goal.returns-in-Missing

@@ -1,7 +1,7 @@
 use Rattle.sp_outside.specs.Files.{told_file}
 use Rattle.spectra_top.specs.Top as top
 use Rattle.spectra_top.proofs.Decided.{stop_said, file_stopped, failed_before}
-use Rattle.spectra_top.proofs.InOrder.{rose_before}
+use Rattle.spectra_files.proofs.InOrder.{rose_before}
 use Rattle.spectra_top.proofs.serving.serve_file.Goals as goal
 
 pub returns-in-Ok-clause-serves : goal.returns-in-Ok-clause-serves

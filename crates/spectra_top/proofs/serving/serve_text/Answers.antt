@@ -1,5 +1,6 @@
 use Rattle.spectra_top.specs.Top as top
-use Rattle.spectra_top.proofs.Decided.{nothing_done, text_refused}
+use Rattle.spectra_talks.proofs.Exchanges.{nothing_done}
+use Rattle.spectra_top.proofs.Decided.{text_refused}
 use Rattle.spectra_top.proofs.serving.serve_text.Goals as goal
 
 pub returns-in-Ok-clause-serves : goal.returns-in-Ok-clause-serves

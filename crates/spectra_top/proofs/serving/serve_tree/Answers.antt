@@ -5,11 +5,12 @@ use Rattle.sp_outside.specs.Causes.{Rose}
 use Rattle.sp_outside.specs.Files.{told_file}
 use Rattle.spectra_trees.specs.Views.{tree_data}
 use Rattle.spectra_parser.specs.Shapes.{IsShaped}
-use Rattle.spectra_top.specs.Reading.{FilesReadAs}
-use Rattle.spectra_top.specs.Refusals.{StopsAt}
+use Rattle.spectra_files.specs.Reading.{FilesReadAs}
+use Rattle.spectra_files.specs.Refusals.{StopsAt}
 use Rattle.spectra_top.specs.Top as top
-use Rattle.spectra_top.proofs.Decided.{nothing_done, tree_together, tree_stops}
-use Rattle.spectra_top.proofs.InOrder.{named_at, stop_within}
+use Rattle.spectra_talks.proofs.Exchanges.{nothing_done}
+use Rattle.spectra_top.proofs.Decided.{tree_together, tree_stops}
+use Rattle.spectra_files.proofs.InOrder.{named_at, stop_within}
 use Rattle.spectra_top.proofs.serving.serve_tree.Goals as goal
 
 pub returns-in_default-clause-serves : goal.returns-in_default-clause-serves

@@ -1,7 +1,8 @@
 use Rattle.std.proofs.Common.{◌≤◌, map, length, string_bytes, arith}
 use Rattle.std.proofs.lemmas.List.{length-map}
 use Rattle.spectra_top.specs.Top as top
-use Rattle.spectra_top.proofs.Decided.{nothing_done, trees_mistyped}
+use Rattle.spectra_talks.proofs.Exchanges.{nothing_done}
+use Rattle.spectra_top.proofs.Decided.{trees_mistyped}
 use Rattle.spectra_top.proofs.serving.serve_trees.Goals as goal
 
 pub returns-in-Ok : goal.returns-in-Ok

@@ -1,6 +1,7 @@
 use Rattle.spectra_top.specs.Top as top
 use Rattle.spectra_top.proofs.Requests.{two_nodes}
-use Rattle.spectra_top.proofs.Decided.{nothing_done, usage_said}
+use Rattle.spectra_talks.proofs.Exchanges.{nothing_done}
+use Rattle.spectra_top.proofs.Decided.{usage_said}
 use Rattle.spectra_top.proofs.Decisive.{decides_what_reads, decides_arbiters}
 use Rattle.spectra_top.proofs.Statuses.{refuses}
 use Rattle.spectra_top.proofs.Causes.{is_caused}

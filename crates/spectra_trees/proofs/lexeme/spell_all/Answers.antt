@@ -1,6 +1,6 @@
 use Rattle.std.proofs.Common.{◌≡◌, ◌+◌, refl, sym, arith}
 use Rattle.std.proofs.lemmas.List.{map_push}
-use Rattle.spectra_trees.specs.Lexemes.{lexeme_of}
+use Rattle.spectra_trees.specs.Views.{lexeme_of}
 use Rattle.spectra_trees.proofs.Spelling.{slice_at, lexemes_from-take}
 use Rattle.spectra_trees.proofs.lexeme.spell_all.Goals as goal
 

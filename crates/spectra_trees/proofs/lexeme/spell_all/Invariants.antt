@@ -1,5 +1,6 @@
 use Rattle.std.proofs.Common.{◌≡◌, take}
-use Rattle.spectra_trees.specs.Lexemes.{lexemes_from, lexemes_of}
+use Rattle.spectra_trees.specs.Lexemes.{lexemes_from}
+use Rattle.spectra_trees.specs.Views.{lexemes_of}
 use Rattle.spectra_trees.proofs.lexeme.spell_all.Given as goal
 
 -- the tokens so far

@@ -1,11 +1,11 @@
 use Rattle.std.proofs.Common.{map, sym, ap, subst, ◌∙◌}
 use Rattle.spec_model.specs.WellTyped.{WellTyped}
-use Rattle.spec_model.specs.Cores.{HasRoomForOne}
+use Rattle.spec_model.specs.Room.{HasRoomForOne}
 use Rattle.spectra_trees.specs.Views.{tree_data}
 use Rattle.spectra_resolved.specs.TextViews.{text_data}
 use Rattle.spectra_judge.specs.KindViews.{kind_data}
 use Rattle.spectra_notes.specs.TypeKinds.{type_kinds}
-use Rattle.spectra_lines.specs.Parts.{AreSound}
+use Rattle.spectra_lines.specs.SoundParts.{AreSound}
 use Rattle.spectra_types.specs.Meanings.{typed_patterns}
 use Rattle.spectra_types.proofs.SoundPatterns.{all_sound}
 use Rattle.spectra_types.proofs.Firsts.{found_all, means, kinds_room}

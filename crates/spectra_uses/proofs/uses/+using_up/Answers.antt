@@ -1,8 +1,9 @@
 use Rattle.std.proofs.Common.{◌≡◌, ◌+◌, ◌++◌, map, drop, OnOk, sym, ap, subst, ◌∙◌}
-use Rattle.spectra_resolved.specs.Resolved.{chained, trees}
+use Rattle.spectra_resolved.specs.Chained.{chained, trees}
 use Rattle.spectra_resolved.specs.Views.{resolved_data, link_data}
 use Rattle.spectra_resolved.proofs.Trees.{chain_data}
-use Rattle.spectra_uses.specs.Uses.{uses_in, each_uses, link_uses}
+use Rattle.spectra_uses.specs.Uses.{uses_in, each_uses}
+use Rattle.spectra_uses.specs.Links.{link_uses}
 use Rattle.spectra_uses.proofs.Used.{each_left, link_left}
 use Rattle.spectra_uses.proofs.uses.+using_up.Goals as goal
 

@@ -3,9 +3,10 @@ use denote.Param.Weighed.{most}
 use Rattle.spectra_resolved.specs.declared.tree.Resolved.{size-Resolved}
 use Rattle.spectra_resolved.specs.declared.tree.Shape.{size-Shape}
 use Rattle.spectra_resolved.specs.declared.tree.Link.{size-Link}
-use Rattle.spectra_resolved.specs.Resolved.{trees}
+use Rattle.spectra_resolved.specs.Chained.{trees}
 use Rattle.spectra_resolved.specs.Views.{resolved_data, link_data}
-use Rattle.spectra_uses.specs.Uses.{each_uses, link_uses}
+use Rattle.spectra_uses.specs.Uses.{each_uses}
+use Rattle.spectra_uses.specs.Links.{link_uses}
 use Rattle.spectra_uses.proofs.uses.+using_up.Given as goal
 
 abbrev pub decreases-add : goal.decreases-add

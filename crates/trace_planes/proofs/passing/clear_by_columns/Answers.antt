@@ -7,7 +7,7 @@ use Rattle.spec_model.specs.Syntax.{VariableData}
 use Rattle.spec_model.specs.Views.{variable_data}
 use Rattle.spec_model.specs.declared.game.Hidden.{Hidden}
 use Rattle.spec_model.specs.declared.value.Var.{Var}
-use Rattle.trace_planes.specs.declared.place.Place.{Place}
+use Rattle.trace_planes.specs.declared.run_state.RunState.{RunState}
 use Rattle.trace_planes.specs.Audits.{IsReadAfter}
 use Rattle.trace_planes.specs.Moves.{IsMove}
 use Rattle.trace_planes.specs.Rows.{HasColumns, HasCells}
@@ -15,7 +15,7 @@ use Rattle.trace_planes.proofs.Found.{IsWholeBefore}
 use Rattle.trace_planes.proofs.ClearRows.{all_clear}
 use Rattle.trace_planes.proofs.passing.clear_by_columns.Goals as goal
 
-whole_there : (g : GameData) (b : Before) (p : Place) → IsReadAfter g b p → IsWholeBefore g b
+whole_there : (g : GameData) (b : Before) (p : RunState) → IsReadAfter g b p → IsWholeBefore g b
 whole_there g None p read = tt
 whole_there g (Some s) p read = read.1
 

@@ -1,10 +1,10 @@
 use Rattle.std.proofs.Common.{ℕ, Result, List, sym, subst}
 use Rattle.regions.specs.declared.types.Halt.{Halt}
-use Rattle.state_diagrams.specs.declared.moves.Members.{Members}
-use Rattle.state_diagrams.specs.Members.{AreRoots}
-use Rattle.state_diagrams.specs.MadeMembers.{MakesMembers}
+use Rattle.bdd_sets.specs.declared.moves.Members.{Members}
+use Rattle.bdd_sets.specs.Members.{AreRoots}
+use Rattle.bdd_sets.specs.MadeMembers.{MakesMembers}
 use Rattle.worked_diagrams.specs.JudgedGame.{example}
-use Rattle.state_diagrams.proofs.MadeLemmas.{members_kept}
+use Rattle.bdd_sets.proofs.MadeLemmas.{members_kept}
 use Rattle.worked_diagrams.proofs.lines.judged.Goals as goal
 
 pub all_are-inputs_are-requires-clause-roots : goal.all_are-inputs_are-requires-clause-roots

@@ -1,7 +1,8 @@
 use Rattle.std.proofs.Common.{◌≡◌, ◌<◌, ◌≤◌, ◌+◌, ◌-◌, ◌*◌, ℕ, Bool, true, false, ◌∙◌, sym, length, set, get_or-set_same, get_or-set_other, arith}
 use Rattle.std.proofs.lemmas.Bool.{false≢true}
 use Rattle.std.proofs.lemmas.List.{length-set}
-use Rattle.spec_model.specs.Diagrams.{Bits, bits_of}
+use Rattle.spec_model.specs.Diagrams.{Bits}
+use Rattle.spec_model.specs.DiagramReads.{bits_of}
 use Rattle.bdd_ops.specs.Paths.{Agrees}
 use Rattle.bdd_ops.specs.Together.{all_in, AreFirst, SettlesRow}
 use Rattle.bdd_ops.proofs.RowLemmas.{agrees_above}

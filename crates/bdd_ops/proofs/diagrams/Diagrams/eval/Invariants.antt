@@ -1,5 +1,5 @@
 use Rattle.std.proofs.Common.{◌≡◌, ◌-◌}
-use Rattle.spec_model.specs.Diagrams.{bits_of}
+use Rattle.spec_model.specs.DiagramReads.{bits_of}
 use Rattle.bdd_store.specs.State.{IsEdge}
 use Rattle.bdd_ops.specs.Contents.{function_at}
 use Rattle.bdd_ops.specs.Steps.{level_at}

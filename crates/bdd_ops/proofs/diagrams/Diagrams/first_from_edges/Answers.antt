@@ -1,6 +1,6 @@
 use Rattle.std.proofs.Common.{◌≡◌, ◌-◌, ℕ, true, false, ◌∙◌, sym, ap, subst, List, arith}
 use Rattle.std.proofs.lemmas.Bool.{false≢true}
-use Rattle.spec_model.specs.Diagrams.{bits_of}
+use Rattle.spec_model.specs.DiagramReads.{bits_of}
 use Rattle.bdd_store.specs.declared.edge.Edge.{Edge}
 use Rattle.bdd_ops.specs.Paths.{IsFirst}
 use Rattle.bdd_ops.specs.Together.{all_in, IsRow, SettlesRow}

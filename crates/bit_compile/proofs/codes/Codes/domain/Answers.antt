@@ -3,7 +3,7 @@ use Rattle.std.proofs.lemmas.List.{length-map}
 use Rattle.spec_model.specs.Views.{domain_data}
 use Rattle.spec_model.specs.Values.{DomainData}
 use Rattle.bit_compile.specs.Codes.{domain_in}
-use Rattle.bit_compile.specs.Domains.{IsCountable}
+use Rattle.bit_compile.specs.Laid.{IsCountable}
 use Rattle.bit_compile.proofs.SlotLemmas.{domain_is}
 use Rattle.bit_compile.proofs.codes.Codes.domain.Goals as goal
 

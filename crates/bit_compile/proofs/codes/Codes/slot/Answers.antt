@@ -1,6 +1,7 @@
 use Rattle.std.proofs.Common.{ℕ, ◌<◌, ap, ◌∙◌, ◌≤◌, subst, arith, length, get_or, map}
 use Rattle.spec_model.specs.Views.{domain_data}
-use Rattle.bit_compile.specs.Codes.{slots_from, width_at}
+use Rattle.bit_compile.specs.Codes.{width_at}
+use Rattle.bit_compile.specs.Laid.{slots_from}
 use Rattle.bit_compile.specs.Domains.{level_count}
 use Rattle.bit_compile.proofs.SlotLemmas.{length-slots, slot_at, slot_within}
 use Rattle.bit_compile.proofs.codes.Codes.slot.Goals as goal

@@ -1,7 +1,8 @@
 use Rattle.std.proofs.Common.{◌≡◌, ℕ, ◌<◌, length, true, false, get_or}
-use Rattle.spec_model.specs.Diagrams.{bits_of}
+use Rattle.spec_model.specs.DiagramReads.{bits_of}
 use Rattle.bit_compile.specs.Domains.{level_count}
-use Rattle.bit_compile.specs.Codes.{has_number, level_at, width_at, code_at, IsOutside}
+use Rattle.bit_compile.specs.Codes.{has_number, level_at, width_at, code_at}
+use Rattle.bit_compile.specs.Laid.{IsOutside}
 use Rattle.bit_compile.proofs.codes.Codes.write.Given as goal
 
 abbrev pub invariant-loop-k : goal.invariant-loop-k

@@ -17,7 +17,8 @@ use Rattle.bit_compile.proofs.Causes.{cause_never}
 use Rattle.bit_compile.proofs.Outcomes.{cases_wider, made_wider}
 use Rattle.bit_compile.proofs.CompilingSteps.{truth_as, cases_as, both_made, constant_as, members_as, two_read}
 use Rattle.bit_compile.proofs.NamedFormulas.{part_named, operated_named}
-use Rattle.bit_compile.specs.Named.{IsNamedIn, IsOfOperated, IsOfTablesIn, IsOfVariable, IsOfEach, IsOfSource}
+use Rattle.bit_compile.specs.Named.{IsOfVariable, IsOfEach}
+use Rattle.bit_compile.specs.NamedScenes.{IsNamedIn, IsOfOperated, IsOfTablesIn, IsOfSource}
 use Rattle.bit_compile.specs.declared.cases.Source.TheVariants as source
 use Rattle.bit_compile.specs.declared.folds.Fold.TheVariants as fold
 use Rattle.bit_compile.proofs.compiling.+compile.Goals as goal

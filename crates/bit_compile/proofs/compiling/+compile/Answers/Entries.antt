@@ -31,7 +31,8 @@ use Rattle.bit_compile.proofs.NamedCases.{named_wider}
 use Rattle.bit_compile.proofs.Outcomes.{named_among, named_handed}
 use Rattle.bit_compile.proofs.NamedFormulas.{before_named, first_named, members_named, one_named, part_named, table_named}
 use Rattle.bit_compile.specs.Crowding.{HasCause, MakesNamed}
-use Rattle.bit_compile.specs.Named.{AreNamedIn, AreOfFormulas, IsNamedIn, IsOfTable, IsOfTablesIn}
+use Rattle.bit_compile.specs.Named.{AreOfFormulas, IsOfTable}
+use Rattle.bit_compile.specs.NamedScenes.{AreNamedIn, IsNamedIn, IsOfTablesIn}
 use Rattle.std.specs.List.{Contains}
 use Rattle.bit_compile.proofs.compiling.+compile.Goals as goal
 

@@ -7,7 +7,8 @@ use Rattle.spec_model.specs.Values.{values_of}
 use Rattle.spec_model.specs.Syntax.{Remainder}
 use Rattle.bit_compile.specs.declared.cases.CaseRoot.{CaseRoot}
 use Rattle.bit_compile.specs.declared.operation.Operation.TheVariants.{Mod}
-use Rattle.bit_compile.specs.Domains.{IsCountable, level_count}
+use Rattle.bit_compile.specs.Domains.{level_count}
+use Rattle.bit_compile.specs.Laid.{IsCountable}
 use Rattle.bit_compile.specs.Compiled.{values_in, span_of}
 use Rattle.bit_compile.specs.CaseRoots.{cases_at}
 use Rattle.bit_compile.specs.Scenes.{cases_seen, codes_seen, entries_seen, game_seen}
@@ -18,7 +19,8 @@ use Rattle.bit_compile.proofs.Causes.{cause_wider}
 use Rattle.bit_compile.proofs.Outcomes.{cases_handed}
 use Rattle.bit_compile.proofs.CompilingSteps.{operated_made, operated_with_made, remainders_made}
 use Rattle.bit_compile.proofs.NamedFormulas.{part_named}
-use Rattle.bit_compile.specs.Named.{IsNamedIn, IsNamedOr, IsOfOperated, IsOfResults}
+use Rattle.bit_compile.specs.Named.{IsOfResults}
+use Rattle.bit_compile.specs.NamedScenes.{IsNamedIn, IsNamedOr, IsOfOperated}
 use Rattle.bit_compile.proofs.compiling.+compile.Goals as goal
 
 pub operated-release_all-requires : goal.operated-release_all-requires

@@ -11,7 +11,7 @@ use Rattle.gr1_env.specs.Solved.{counts_of}
 use Rattle.gr1_law.proofs.Denied.{goal_there}
 use Rattle.strategy_parts.specs.Positions.{IsAfter, IsWholeBefore}
 use Rattle.strategy_parts.proofs.Owning.{all_stay}
-use Rattle.counterstrategy.specs.declared.place.Place.{Place}
+use Rattle.counterstrategy.specs.declared.remembered.Remembered.{Remembered}
 use Rattle.counterstrategy.specs.Places.{memory_at}
 use Rattle.counterstrategy.specs.Turns.{ServesReply}
 use Rattle.counterstrategy.specs.Objects.{items_of}
@@ -52,7 +52,7 @@ note_position-requires g c =
     let legal = c.requires.legal e some.1 some.2 b m st in
     let closed = moves_closed k.game e (length ls) (counts_of ls) st.sound.lost some.1 some.2 b m st.play st.whole (g.met.G.Regions.closed _) given.0 x given.1 y c.requires.output legal in
     let reply = reply_exists k.game e (length ls) (counts_of ls) st.sound.lost some.1 some.2 b m st.play st.whole (g.met.G.Regions.closed _) given.0 x given.1 y c.requires.output legal in
-    let p : Place = record { position = c.go_on.new.self; denying = self.place.denying; layer = self.place.layer; goal = self.place.goal; before = self.place.before; index = self.place.index } in
+    let p : Remembered = record { position = c.go_on.new.self; denying = self.place.denying; layer = self.place.layer; goal = self.place.goal; before = self.place.before; index = self.place.index } in
     let here = back k.game _ c.game.ensures b x y c.deref.result.now c.deref.ensures.value c.go_on.new.self
     (c.go_on.ensures b (there k.game _ c.game.ensures b x y c.deref.result.now c.deref.ensures.value self.place.position st.place.position) (closed_there k.game _ c.game.ensures b x y c.deref.result.now c.deref.ensures.value closed)) in (
       e,
@@ -81,7 +81,7 @@ note-requires g c = λ on.
     let k1 = kept c.note_position.new.g in
     let closed = moves_closed k.game e (length ls) (counts_of ls) st.sound.lost some.1 some.2 b m st.play st.whole (g.met.G.Regions.closed _) given.0 x given.1 y c.requires.output legal in
     let reply = reply_exists k.game e (length ls) (counts_of ls) st.sound.lost some.1 some.2 b m st.play st.whole (g.met.G.Regions.closed _) given.0 x given.1 y c.requires.output legal in
-    let p : Place = record { position = c.go_on.new.self; denying = self.place.denying; layer = self.place.layer; goal = self.place.goal; before = self.place.before; index = self.place.index } in
+    let p : Remembered = record { position = c.go_on.new.self; denying = self.place.denying; layer = self.place.layer; goal = self.place.goal; before = self.place.before; index = self.place.index } in
     let here = back k.game _ c.game.ensures b x y c.deref.result.now c.deref.ensures.value c.go_on.new.self
     (c.go_on.ensures b (there k.game _ c.game.ensures b x y c.deref.result.now c.deref.ensures.value self.place.position st.place.position) (closed_there k.game _ c.game.ensures b x y c.deref.result.now c.deref.ensures.value closed)) in
     let serves = subst (λ (list : List _). ServesReply k list self.kit p e m (reached k.game b x y) reply.0) (sym c.deref-2.ensures.value)
@@ -109,7 +109,7 @@ returns-clause-completed g c = λ e h notes b m st.
     let closed = moves_closed k.game e (length ls) (counts_of ls) st.sound.lost h notes b m st.play st.whole (g.met.G.Regions.closed _) given.0 x given.1 y c.requires.output legal in
     let reply = reply_exists k.game e (length ls) (counts_of ls) st.sound.lost h notes b m st.play st.whole (g.met.G.Regions.closed _) given.0 x given.1 y c.requires.output legal in
     let s = reached k.game b x y in
-    let p : Place = record { position = c.go_on.new.self; denying = self.place.denying; layer = self.place.layer; goal = self.place.goal; before = self.place.before; index = self.place.index } in
+    let p : Remembered = record { position = c.go_on.new.self; denying = self.place.denying; layer = self.place.layer; goal = self.place.goal; before = self.place.before; index = self.place.index } in
     let here = back k.game _ c.game.ensures b x y c.deref.result.now c.deref.ensures.value c.go_on.new.self
     (c.go_on.ensures b (there k.game _ c.game.ensures b x y c.deref.result.now c.deref.ensures.value self.place.position st.place.position) (closed_there k.game _ c.game.ensures b x y c.deref.result.now c.deref.ensures.value closed)) in
     let serves = subst (λ (list : List _). ServesReply k list self.kit p e m s reply.0) (sym c.deref-2.ensures.value)

@@ -4,7 +4,8 @@ use Rattle.std.proofs.lemmas.List.{length-map}
 use Rattle.std.specs.List.{All}
 use Rattle.spec_model.specs.declared.value.Value.{Value}
 use Rattle.spec_model.specs.GameViews.{game_data, hidden_data}
-use Rattle.spec_model.specs.Diagrams.{Function, bits_of}
+use Rattle.spec_model.specs.Diagrams.{Function}
+use Rattle.spec_model.specs.DiagramReads.{bits_of}
 use Rattle.spec_model.specs.Games.{inputs_of}
 use Rattle.regions.specs.Rules.{AreBefore, inputs_into}
 use Rattle.game_values.specs.declared.seen.At.TheVariants.{Now, Next}
@@ -13,17 +14,17 @@ use Rattle.bdd_ops.specs.Contents.{function_at}
 use Rattle.bdd_ops.specs.Paths.{IsFirst, HasNone}
 use Rattle.bdd_ops.specs.Together.{Together, all_of}
 use Rattle.bit_compile.specs.Domains.{state_domains, level_count}
-use Rattle.state_diagrams.specs.declared.moves.Members.{Members}
-use Rattle.state_diagrams.specs.StateBits.{set_at}
-use Rattle.state_diagrams.specs.Members.{AreMembers}
-use Rattle.state_search.specs.Parts.{AreOf, HaveValues}
+use Rattle.bdd_sets.specs.declared.moves.Members.{Members}
+use Rattle.bdd_sets.specs.StateBits.{set_at}
+use Rattle.bdd_sets.specs.Members.{AreMembers}
+use Rattle.bdd_search.specs.Parts.{AreOf, HaveValues}
 use Rattle.region_bdd.specs.declared.slots.Content.{Content}
 use Rattle.region_bdd.specs.declared.slots.Content.TheVariants.{Inputs}
 use Rattle.region_bdd.specs.Slots.{HasContent}
 use Rattle.region_bdd.specs.Leading.{members_at}
 use Rattle.region_bdd.specs.Finding.{inputs_asked}
 use Rattle.region_bdd.proofs.SlotLaws.{fit_here}
-use Rattle.state_diagrams.proofs.ListLemmas.{one_itself}
+use Rattle.bdd_sets.proofs.ListLemmas.{one_itself}
 use Rattle.region_bdd.proofs.ObjectLaws.{within_root}
 use Rattle.region_bdd.proofs.MoveLaws.{moves_held}
 use Rattle.region_bdd.proofs.LeadingLaws.{members_kept}

@@ -4,15 +4,15 @@ use Rattle.spec_model.specs.GameViews.{game_data}
 use Rattle.spec_model.specs.declared.value.Value.{Value}
 use Rattle.spec_model.specs.Values.{DomainData, is_assignment}
 use Rattle.spec_model.specs.Games.{listed}
-use Rattle.spec_model.specs.Diagrams.{bits_of}
+use Rattle.spec_model.specs.DiagramReads.{bits_of}
 use Rattle.game_values.specs.declared.seen.At.TheVariants.{Now}
 use Rattle.bdd_ops.specs.Contents.{function_at}
 use Rattle.bit_compile.specs.Domains.{state_domains}
 use Rattle.bit_compile.specs.Codes.{HasValues}
 use Rattle.bit_compile.proofs.LawLemmas.{state_listed}
-use Rattle.state_diagrams.proofs.SetLemmas.{told_at}
-use Rattle.state_search.specs.Parts.{ArePart}
-use Rattle.state_search.proofs.PartLemmas.{whole_of, whole_assignment}
+use Rattle.bdd_sets.proofs.SetLemmas.{told_at}
+use Rattle.bdd_search.specs.Parts.{ArePart}
+use Rattle.bdd_search.proofs.PartLemmas.{whole_of, whole_assignment}
 use Rattle.region_bdd.specs.Object.{kept_of}
 use Rattle.region_bdd.proofs.ObjectLaws.{region_root}
 use Rattle.region_bdd.proofs.SetCalls.{held_root, region_tells}

@@ -5,7 +5,7 @@ use Rattle.bdd_store.specs.State.{IsRoot}
 use Rattle.bdd_ops.specs.Contents.{function_at}
 use Rattle.bdd_ops.specs.Functions.{joined, join_of}
 use Rattle.regions.specs.Rules.{states_holding}
-use Rattle.state_diagrams.specs.StateBits.{Tells}
+use Rattle.bdd_sets.specs.StateBits.{Tells}
 use Rattle.region_bdd.proofs.GoalLaws.{goal_there, goal_root, tells_goal}
 use Rattle.region_bdd.specs.declared.own.Refused.{Refused}
 use Rattle.region_bdd.specs.declared.own.Asked.TheVariants as asked

@@ -2,9 +2,9 @@ use Rattle.std.proofs.Common.{inr, List, [], ◌∷◌, Some, None, sym, subst}
 use Rattle.spec_model.specs.GameViews.{game_data}
 use Rattle.regions.specs.Kept.{States}
 use Rattle.bdd_ops.specs.Contents.{function_at}
-use Rattle.state_diagrams.specs.declared.moves.Members.{Members}
-use Rattle.state_diagrams.specs.Members.{AreMembers, move_functions}
-use Rattle.state_diagrams.proofs.ShiftLemmas.{rises_to_next}
+use Rattle.bdd_sets.specs.declared.moves.Members.{Members}
+use Rattle.bdd_sets.specs.Members.{AreMembers, move_functions, lists_at}
+use Rattle.bdd_sets.proofs.ShiftLemmas.{rises_to_next}
 use Rattle.region_bdd.specs.declared.slots.Content.TheVariants.{Region}
 use Rattle.region_bdd.specs.declared.slots.Slot.{Slot}
 use Rattle.region_bdd.specs.declared.own.Refused.{Refused}
@@ -17,8 +17,7 @@ use Rattle.region_bdd.proofs.MoveOutcomes.{inputs_answered}
 use Rattle.region_bdd.proofs.SetCalls.{held_root, region_tells, one_argument}
 use Rattle.region_bdd.proofs.LeadingLaws.{members_kept, leading_tells}
 use Rattle.bit_compile.specs.Crowding.{HasCause}
-use Rattle.state_diagrams.specs.NamedMoves.{lists_at}
-use Rattle.state_diagrams.specs.NamedGame.{IsOfRest}
+use Rattle.bdd_sets.specs.NamedGame.{IsOfRest}
 use Rattle.spec_model.specs.Diagrams.{shifted}
 use Rattle.region_bdd.proofs.CallNames.{leads_into, rest_of}
 use Rattle.region_bdd.proofs.object.RegionBdd.in_moves.Goals as goal

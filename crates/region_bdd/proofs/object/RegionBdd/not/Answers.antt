@@ -14,7 +14,7 @@ use Rattle.region_bdd.proofs.ObjectLaws.{region_root}
 use Rattle.region_bdd.proofs.OutcomeLaws.{answered}
 use Rattle.region_bdd.proofs.SetCalls.{nothing_root, proper_root, held_root, one_argument, tells_not}
 use Rattle.bit_compile.specs.NamedCodes.{NoFunction}
-use Rattle.state_diagrams.proofs.CauseLemmas.{cause_choice}
+use Rattle.bdd_sets.proofs.CauseLemmas.{cause_choice}
 use Rattle.region_bdd.proofs.object.RegionBdd.not.Goals as goal
 
 pub region-requires : goal.region-requires

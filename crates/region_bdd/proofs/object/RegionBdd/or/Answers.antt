@@ -5,7 +5,7 @@ use Rattle.game_values.specs.declared.seen.At.TheVariants.{Now}
 use Rattle.regions.specs.Kept.{States}
 use Rattle.bdd_ops.specs.Contents.{function_at}
 use Rattle.bdd_ops.specs.Functions.{joined, join_of}
-use Rattle.state_diagrams.proofs.SetLemmas.{tells_either}
+use Rattle.bdd_sets.proofs.SetLemmas.{tells_either}
 use Rattle.region_bdd.specs.declared.slots.Content.TheVariants.{Region}
 use Rattle.region_bdd.specs.declared.slots.Slot.{Slot}
 use Rattle.region_bdd.specs.declared.own.Refused.{Refused}

@@ -5,7 +5,7 @@ use Rattle.regions.specs.Kept.{States}
 use Rattle.bdd_ops.specs.Contents.{function_at}
 use Rattle.bdd_ops.specs.Calls.{RisesOver}
 use Rattle.bit_compile.specs.Making.{Makes}
-use Rattle.state_diagrams.proofs.ShiftLemmas.{rises_to_next, tells_next}
+use Rattle.bdd_sets.proofs.ShiftLemmas.{rises_to_next, tells_next}
 use Rattle.region_bdd.specs.declared.slots.Content.TheVariants.{Region}
 use Rattle.region_bdd.specs.declared.slots.Slot.{Slot}
 use Rattle.region_bdd.specs.declared.own.Refused.{Refused}
@@ -16,7 +16,7 @@ use Rattle.region_bdd.proofs.ObjectLaws.{region_root}
 use Rattle.region_bdd.proofs.MoveOutcomes.{outputs_answered}
 use Rattle.region_bdd.proofs.SetCalls.{held_root, region_tells, one_argument}
 use Rattle.bit_compile.specs.NamedCodes.{NoFunction}
-use Rattle.state_diagrams.proofs.CauseLemmas.{cause_moved}
+use Rattle.bdd_sets.proofs.CauseLemmas.{cause_moved}
 use Rattle.region_bdd.proofs.object.RegionBdd.out_moves.Goals as goal
 
 pub region-requires : goal.region-requires

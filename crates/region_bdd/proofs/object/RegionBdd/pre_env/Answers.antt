@@ -6,21 +6,20 @@ use Rattle.regions.specs.Kept.{States}
 use Rattle.bdd_ops.specs.Contents.{function_at}
 use Rattle.bdd_ops.specs.Functions.{joined, join_of}
 use Rattle.bdd_ops.specs.Calls.{negated}
-use Rattle.state_diagrams.specs.Members.{move_functions, avoiding}
-use Rattle.state_diagrams.proofs.ShiftLemmas.{rises_to_next}
+use Rattle.bdd_sets.specs.Members.{move_functions, avoiding, lists_at}
+use Rattle.bdd_sets.proofs.ShiftLemmas.{rises_to_next}
 use Rattle.region_bdd.specs.declared.slots.Content.TheVariants.{Region}
 use Rattle.region_bdd.specs.declared.slots.Slot.{Slot}
 use Rattle.region_bdd.specs.declared.own.Refused.{Refused}
 use Rattle.region_bdd.specs.declared.own.Asked.TheVariants as asked
 use Rattle.region_bdd.specs.Slots.{HasContent, HasRegionRoot}
 use Rattle.region_bdd.specs.Object.{kept_of}
-use Rattle.early_products.proofs.KeepingLemmas.{keeps_itself}
+use Rattle.bdd_products.proofs.KeepingLemmas.{keeps_itself}
 use Rattle.region_bdd.proofs.ObjectLaws.{region_root, early_roots}
 use Rattle.region_bdd.proofs.OutcomeLaws.{answered}
 use Rattle.region_bdd.proofs.SetCalls.{later_roots, held_root, region_tells, one_argument, tells_kept_in}
 use Rattle.regions.specs.declared.types.When.TheVariants.{Later}
-use Rattle.state_diagrams.specs.NamedMoves.{lists_at}
-use Rattle.state_diagrams.specs.NamedGame.{IsOfRest}
+use Rattle.bdd_sets.specs.NamedGame.{IsOfRest}
 use Rattle.region_bdd.proofs.CallNames.{rest_of}
 use Rattle.region_bdd.proofs.object.RegionBdd.pre_env.Goals as goal
 

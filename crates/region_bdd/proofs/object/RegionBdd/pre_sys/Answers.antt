@@ -4,21 +4,20 @@ use Rattle.spec_model.specs.GameViews.{game_data}
 use Rattle.spec_model.specs.Sets.{pre_sys as system_forces_set}
 use Rattle.regions.specs.Kept.{States}
 use Rattle.bdd_ops.specs.Contents.{function_at}
-use Rattle.state_diagrams.specs.Members.{move_functions, avoiding}
-use Rattle.state_diagrams.proofs.ShiftLemmas.{rises_to_next}
+use Rattle.bdd_sets.specs.Members.{move_functions, avoiding, lists_at}
+use Rattle.bdd_sets.proofs.ShiftLemmas.{rises_to_next}
 use Rattle.region_bdd.specs.declared.slots.Content.TheVariants.{Region}
 use Rattle.region_bdd.specs.declared.slots.Slot.{Slot}
 use Rattle.region_bdd.specs.declared.own.Refused.{Refused}
 use Rattle.region_bdd.specs.declared.own.Asked.TheVariants as asked
 use Rattle.region_bdd.specs.Slots.{HasContent, HasRegionRoot}
 use Rattle.region_bdd.specs.Object.{kept_of}
-use Rattle.early_products.proofs.KeepingLemmas.{keeps_itself}
+use Rattle.bdd_products.proofs.KeepingLemmas.{keeps_itself}
 use Rattle.region_bdd.proofs.ObjectLaws.{region_root, early_roots}
 use Rattle.region_bdd.proofs.OutcomeLaws.{answered}
 use Rattle.region_bdd.proofs.SetCalls.{later_roots, held_root, region_tells, one_argument, tells_forced}
 use Rattle.regions.specs.declared.types.When.TheVariants.{Later}
-use Rattle.state_diagrams.specs.NamedMoves.{lists_at}
-use Rattle.state_diagrams.specs.NamedGame.{IsOfStep}
+use Rattle.bdd_sets.specs.NamedGame.{IsOfStep}
 use Rattle.region_bdd.proofs.CallNames.{step_of}
 use Rattle.region_bdd.proofs.object.RegionBdd.pre_sys.Goals as goal
 

@@ -3,8 +3,8 @@ use Rattle.spec_model.specs.GameViews.{game_data}
 use Rattle.spec_model.specs.Sets.{StateSet}
 use Rattle.game_values.specs.declared.seen.At.TheVariants.{Now}
 use Rattle.bdd_ops.specs.Contents.{function_at}
-use Rattle.state_diagrams.specs.StateBits.{Tells}
-use Rattle.state_diagrams.proofs.SetLemmas.{one_function, same_set}
+use Rattle.bdd_sets.specs.StateBits.{Tells}
+use Rattle.bdd_sets.proofs.SetLemmas.{one_function, same_set}
 use Rattle.region_bdd.proofs.ObjectLaws.{region_root}
 use Rattle.region_bdd.proofs.SetCalls.{held_root, region_tells}
 use Rattle.region_bdd.proofs.object.RegionBdd.same.Goals as goal

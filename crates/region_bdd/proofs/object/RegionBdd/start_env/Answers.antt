@@ -3,8 +3,8 @@ use Rattle.spec_model.specs.GameViews.{game_data}
 use Rattle.spec_model.specs.Sets.{environment_forces}
 use Rattle.regions.specs.Kept.{States}
 use Rattle.bdd_ops.specs.Contents.{function_at}
-use Rattle.state_diagrams.proofs.ShiftLemmas.{rises_to_next}
-use Rattle.state_diagrams.proofs.SpentLemmas.{still_root}
+use Rattle.bdd_sets.proofs.ShiftLemmas.{rises_to_next}
+use Rattle.bdd_sets.proofs.SpentLemmas.{still_root}
 use Rattle.region_bdd.specs.declared.own.Refused.{Refused}
 use Rattle.region_bdd.specs.declared.own.Asked.TheVariants as asked
 use Rattle.region_bdd.specs.Object.{kept_of}
@@ -13,8 +13,8 @@ use Rattle.region_bdd.proofs.AskLaws.{told, answers_by, roots_made}
 use Rattle.region_bdd.proofs.SetCalls.{held_root, nothing_root, region_tells, one_argument}
 use Rattle.region_bdd.proofs.StartLaws.{first_roots, rest_function, environment_answer}
 use Rattle.regions.specs.declared.types.When.TheVariants.{First}
-use Rattle.state_diagrams.specs.NamedMoves.{lists_at}
-use Rattle.state_diagrams.specs.NamedGame.{IsOfRest}
+use Rattle.bdd_sets.specs.Members.{lists_at}
+use Rattle.bdd_sets.specs.NamedGame.{IsOfRest}
 use Rattle.spec_model.specs.Diagrams.{shifted}
 use Rattle.region_bdd.proofs.CallNames.{asked_cause, rest_of}
 use Rattle.region_bdd.proofs.object.RegionBdd.start_env.Goals as goal

@@ -5,7 +5,8 @@ use Rattle.spec_model.specs.GameRules.{last_state}
 use Rattle.spec_model.specs.Games.{GameData}
 use Rattle.spec_model.specs.Steps.{reached}
 use Rattle.trace_planes.specs.Audits.{JudgesAfter, IsPosition}
-use Rattle.trace_planes.specs.Findings.{broken_after, found_after}
+use Rattle.trace_planes.specs.Findings.{found_after}
+use Rattle.trace_planes.specs.GameFindings.{broken_after}
 use Rattle.trace_planes.proofs.Found.{none_of, judged_of, judged_first, judged_before}
 use Rattle.trace_planes.proofs.plain.Plain.judge_next.Goals as goal
 

@@ -1,0 +1,53 @@
+-- Products that are made of lines and levels, and lines that are given back.
+use Rattle.std.proofs.Common.{◌≡◌, ℕ, ◌+◌, ◌≤◌, true, Vec, Result, Ok, Err, is_ok, List, [], slice_index, sym, ◌∙◌, ap, subst, arith}
+use Rattle.std.proofs.lemmas.Bool.{false≢true}
+use Rattle.std.specs.declared.alloc.Global.{Global}
+use Rattle.spec_model.specs.Diagrams.{Function}
+use Rattle.bdd_store.specs.State.{IsRoot, roots_at}
+use Rattle.bdd_ops.specs.Contents.{Contents}
+use Rattle.bdd_ops.specs.Functions.{joined, join_of}
+use Rattle.regions.specs.declared.types.Halt.{Halt}
+use Rattle.bit_compile.specs.Making.{Makes}
+use Rattle.bit_compile.proofs.Between.{makes_between}
+use Rattle.bdd_sets.specs.Members.{AreRoots, all_true, functions_at}
+use Rattle.bdd_sets.specs.Lists.{times_in}
+use Rattle.bdd_sets.proofs.SpentLemmas.{functions_kept}
+use Rattle.bdd_sets.proofs.ListLemmas.{times_here}
+use Rattle.bdd_products.specs.Products.{IsProductOf, IsSpread, levels_of, AreOfMembers, MakesLines, MakesProduct, LeavesRoots}
+use Rattle.bdd_products.proofs.KeepingLemmas.{halt_or}
+use Rattle.bdd_products.proofs.SpreadLemmas.{spread_product}
+
+module _ (old mid : Contents) (v : Vec ℕ Global) (first second : List Function) (lines : MakesLines old mid (Ok v) first second) where
+  abbrev whole : Function
+  whole = joined (join_of true) (all_true first) (all_true second)
+
+  pub lines_roots : AreRoots mid v.items
+  lines_roots i below = let here = times_here v.items i below in let all = lines.added (slice_index v.items i) in omega (arith, here, all)
+
+  lines_before : (n : ℕ) → IsRoot old.state n → IsRoot mid.state n
+  lines_before n root = let more = lines.added n in omega (arith, more, root)
+
+  pub product_made : {V : Type 0} (new : Contents) (outs : Vec (Vec ℕ Global) Global) (out : List ℕ) (r : Result V Halt) → IsSpread out [] (functions_at mid v.items) (levels_of outs.items) → LeavesRoots mid new r → MakesProduct old new (Ok (record { lines = v; outs = outs })) first second out
+  product_made new outs out r spread leaves =
+      let same = functions_kept mid new leaves.keeps v.items lines_roots in
+      record {
+        is_product = subst (λ (fs : List Function). IsProductOf whole out fs (levels_of outs.items)) (sym same) (spread_product whole out (functions_at mid v.items) (levels_of outs.items) spread lines.conjunction);
+        members = subst (λ (fs : List Function). AreOfMembers first second fs) (sym same) lines.members;
+        added = λ n. leaves.roots n ∙ lines.added n;
+        refused = tt;
+        keeps = record {
+          levels = leaves.keeps.levels ∙ lines.keeps.levels;
+          budget = leaves.keeps.budget ∙ lines.keeps.budget;
+          meaning = λ n root. leaves.keeps.meaning n (lines_before n root) ∙ lines.keeps.meaning n root;
+        };
+        full = λ e. absurd (false≢true (sym (ap is_ok e)));
+      }
+
+  pub lines_counted : {V : Type 0} (tried : Contents) (r : Result V Halt) → LeavesRoots mid tried r → (n : ℕ) → times_in n v.items ≤ roots_at tried.state n
+  lines_counted tried r leaves n = let same = leaves.roots n in let all = lines.added n in omega (arith, same, all)
+
+  pub lines_back : {V : Type 0} (tried new : Contents) (h : Halt) (r : Result V Halt) (out : List ℕ) → r ≡ Err h → LeavesRoots mid tried r → ((n : ℕ) → roots_at tried.state n ≡ roots_at new.state n + times_in n v.items) → new.state.table ≡ tried.state.table → MakesProduct old new (Err h) first second out
+  lines_back {V} tried new h r out is leaves back table =
+      let refused : Makes mid tried (Err h) (λ s. true) = record { meaning = tt; added = tt; refused = leaves.roots; keeps = leaves.keeps; full = λ e. leaves.full (is ∙ ap (λ (k : Halt). Err k) (ap (halt_or h) e)) } in
+      let back_there = makes_between old mid tried new (λ n. times_in n v.items) (record { keeps = lines.keeps; added = lines.added }) back table (Err h) (λ s. true) refused in
+      record { is_product = tt; members = tt; added = tt; refused = back_there.refused; keeps = back_there.keeps; full = λ e. back_there.full (ap (λ (k : Halt). Err k) (ap (halt_or h) e)) }

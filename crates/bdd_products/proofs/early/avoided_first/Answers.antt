@@ -1,0 +1,66 @@
+use Rattle.std.proofs.Common.{Ok, Err, subst}
+use Rattle.bdd_ops.specs.Contents.{function_at}
+use Rattle.regions.specs.declared.types.Halt.{Halt}
+use Rattle.regions.specs.declared.types.Halt.TheVariants as halt
+use Rattle.bit_compile.specs.Making.{Makes}
+use Rattle.bit_compile.proofs.MakingLemmas.{is_root}
+use Rattle.bdd_sets.specs.Members.{move_functions, avoiding, lists_at}
+use Rattle.bit_compile.proofs.Causes.{cause_ok}
+use Rattle.bdd_sets.specs.NamedMoves.{IsOfAvoiding}
+use Rattle.bdd_sets.proofs.CauseLemmas.{cause_memory}
+use Rattle.bdd_sets.proofs.SpentLemmas.{still_root}
+use Rattle.bdd_products.proofs.EarlyLemmas.{early_made, still_target}
+use Rattle.bdd_products.proofs.early.avoided_first.Goals as goal
+
+pub avoided_early-requires-clause-target : goal.avoided_early-requires-clause-target
+avoided_early-requires-clause-target c = let r = c.requires.target in is_root r.0 c.args.diagrams.now c.args.target r.1 r.2
+
+pub avoided_early-requires-clause-fits : goal.avoided_early-requires-clause-fits
+avoided_early-requires-clause-fits c = (move_functions c.args.diagrams.now c.args.members.now, c.args.levels.now, c.requires.fits)
+
+pub release-requires : goal.release-requires
+release-requires c =
+    let r = c.requires.target in
+    let old = c.args.diagrams.now in
+    still_root old c.avoided_early.new.diagrams (Ok c.in-Ok.made) _ (c.in-Ok.ensures (move_functions old c.args.members.now) c.args.levels.now c.requires.fits) c.args.target (is_root r.0 old c.args.target r.1 r.2)
+
+pub returns-in-Ok-clause-made : goal.returns-in-Ok-clause-made
+returns-in-Ok-clause-made c = λ base f first are.
+    let old = c.args.diagrams.now in
+    early_made base old c.avoided_early.new.diagrams c.release.new.self c.args.target f c.args.members.now c.args.levels.now (Ok c.in-Ok.made) first are (c.in-Ok.ensures (move_functions old c.args.members.now) c.args.levels.now c.requires.fits) c.release.ensures.released c.release.ensures.table
+
+pub release-requires-in-Err-Memory : goal.release-requires-in-Err-Memory
+release-requires-in-Err-Memory c =
+    let r = c.requires.target in
+    let old = c.args.diagrams.now in
+    still_root old c.avoided_early.new.diagrams (Err halt.Memory) _ (subst (λ (h : Halt). Makes old c.avoided_early.new.diagrams (Err h) (avoiding (move_functions old c.args.members.now) c.args.levels.now.reply.items c.args.levels.now.all.items (function_at old c.args.target))) c.in-Err-Memory.field-0-is (c.in-Err-Memory.ensures (move_functions old c.args.members.now) c.args.levels.now c.requires.fits)) c.args.target (is_root r.0 old c.args.target r.1 r.2)
+
+pub returns-in-Err-Memory-clause-made : goal.returns-in-Err-Memory-clause-made
+returns-in-Err-Memory-clause-made c = λ base f first are.
+    let old = c.args.diagrams.now in
+    early_made base old c.avoided_early.new.diagrams c.release-in-Err-Memory.new.self c.args.target f c.args.members.now c.args.levels.now (Err halt.Memory) first are (subst (λ (h : Halt). Makes old c.avoided_early.new.diagrams (Err h) (avoiding (move_functions old c.args.members.now) c.args.levels.now.reply.items c.args.levels.now.all.items (function_at old c.args.target))) c.in-Err-Memory.field-0-is (c.in-Err-Memory.ensures (move_functions old c.args.members.now) c.args.levels.now c.requires.fits)) c.release-in-Err-Memory.ensures.released c.release-in-Err-Memory.ensures.table
+
+pub avoided-requires : goal.avoided-requires
+avoided-requires c =
+    let r = c.requires.target in
+    let old = c.args.diagrams.now in
+    let refused = (subst (λ (h : Halt). Makes old c.avoided_early.new.diagrams (Err h) (avoiding (move_functions old c.args.members.now) c.args.levels.now.reply.items c.args.levels.now.all.items (function_at old c.args.target))) c.in-Err-Budget.field-0-is (c.in-Err-Budget.ensures (move_functions old c.args.members.now) c.args.levels.now c.requires.fits)) in
+    (r.0, r.1, still_target r.0 old c.avoided_early.new.diagrams c.reclaim.new.self c.args.target r.1 _ r.2 refused c.reclaim.ensures.roots c.reclaim.ensures.keeps, r.3)
+
+pub returns-in-Err-Budget-clause-made : goal.returns-in-Err-Budget-clause-made
+returns-in-Err-Budget-clause-made c = λ base f first are.
+    let old = c.args.diagrams.now in
+    let refused = (subst (λ (h : Halt). Makes old c.avoided_early.new.diagrams (Err h) (avoiding (move_functions old c.args.members.now) c.args.levels.now.reply.items c.args.levels.now.all.items (function_at old c.args.target))) c.in-Err-Budget.field-0-is (c.in-Err-Budget.ensures (move_functions old c.args.members.now) c.args.levels.now c.requires.fits)) in
+    c.avoided.ensures.made base f (still_target base old c.avoided_early.new.diagrams c.reclaim.new.self c.args.target f _ first refused c.reclaim.ensures.roots c.reclaim.ensures.keeps) are
+
+pub returns-in-Ok-clause-cause : goal.returns-in-Ok-clause-cause
+returns-in-Ok-clause-cause c = λ base f first are. cause_ok base c.release.new.self c.in-Ok.made (IsOfAvoiding (lists_at base c.args.members.now) c.args.levels.now.reply.items f)
+
+pub returns-in-Err-Memory-clause-cause : goal.returns-in-Err-Memory-clause-cause
+returns-in-Err-Memory-clause-cause c = λ base f first are. cause_memory base c.release-in-Err-Memory.new.self (IsOfAvoiding (lists_at base c.args.members.now) c.args.levels.now.reply.items f)
+
+pub returns-in-Err-Budget-clause-cause : goal.returns-in-Err-Budget-clause-cause
+returns-in-Err-Budget-clause-cause c = λ base f first are.
+    let old = c.args.diagrams.now in
+    let refused = (subst (λ (h : Halt). Makes old c.avoided_early.new.diagrams (Err h) (avoiding (move_functions old c.args.members.now) c.args.levels.now.reply.items c.args.levels.now.all.items (function_at old c.args.target))) c.in-Err-Budget.field-0-is (c.in-Err-Budget.ensures (move_functions old c.args.members.now) c.args.levels.now c.requires.fits)) in
+    c.avoided.ensures.cause base f (still_target base old c.avoided_early.new.diagrams c.reclaim.new.self c.args.target f _ first refused c.reclaim.ensures.roots c.reclaim.ensures.keeps) are

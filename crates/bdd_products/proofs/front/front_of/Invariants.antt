@@ -1,0 +1,11 @@
+use Rattle.std.proofs.Common.{◌≡◌, Ok, take}
+use Rattle.bit_compile.specs.Making.{Makes}
+use Rattle.bdd_sets.specs.Members.{all_true, functions_at}
+use Rattle.bdd_products.proofs.front.front_of.Given as goal
+
+abbrev pub invariant-loop-member : goal.invariant-loop-member
+invariant-loop-member l =
+    record {
+      made : Makes l.fn.diagrams l.diagrams (Ok l.lines) (all_true (functions_at l.fn.diagrams (take l.count l.members)));
+      counted : l.count ≡ l.member-index;
+    }

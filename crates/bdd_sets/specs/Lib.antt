@@ -1,0 +1,16 @@
+pub mod Laws
+pub mod StateBits
+pub mod MoveBits
+pub mod ToldMoves
+pub mod MoveFunctions
+pub mod Members
+pub mod NamedMoves
+pub mod Forcing
+pub mod Lists
+pub mod Lines
+pub mod LineScenes
+pub mod Levels
+pub mod Goals
+pub mod Updates
+pub mod NamedGame
+pub mod MadeMembers

@@ -1,0 +1,64 @@
+//! Where a play is, and what is remembered of it.
+
+ghost use Rattle.std.specs.Prelude.{◌≡◌, None, Some, IfOk};
+ghost use Rattle.spec_model.specs.GameViews.{game_data};
+ghost use Rattle.spec_model.specs.Steps.{Before, reached};
+ghost use Rattle.spec_model.specs.WellMade.{WellMade};
+ghost use Rattle.gr1_law.specs.Choice.{Memory, first_memory};
+ghost use Rattle.strategy_parts.specs.Positions.{IsClosedAt, values_at};
+ghost use Rattle.controller.specs.Places.{IsAt};
+
+use spec_model::game::Game;
+use spec_model::value::Value;
+use std::alloc::{AllocError, Global};
+use strategy_parts::Position;
+
+/// The last position of a play, and the goal, the rank and the index that are remembered after it.
+#[derive(Drop)]
+pub struct Remembered {
+    pub position: Position,
+    pub goal: usize,
+    pub rank: usize,
+    pub index: usize,
+}
+
+impl Remembered {
+    /// Before the first position. `AllocError`: no memory was given.
+    pub fn make(alloc: Global, game: &Game) -> Result<Remembered, AllocError>
+        requires { WellMade (game_data game.now) }
+        ensures { IfOk result (λ p. IsAt (game_data game.now) p None first_memory) }
+    {
+        Ok(Remembered {
+            position: Position::make(alloc, game)?,
+            goal: 0,
+            rank: 0,
+            index: 0,
+        })
+    }
+
+    /// The values of the last state. There are none before the first.
+    pub fn values(&self) -> &[Value]
+        ensures { result.now ≡ values_at self.now.position }
+    {
+        self.position.values()
+    }
+
+    /// Goes on to the state that an input and an output lead to.
+    pub fn go_on(&mut self, game: &Game, input: &[Value], output: &[Value])
+        requires made { WellMade (game_data game.now) }
+        requires here { (b : Before) × (m : Memory) × IsAt (game_data game.now) self.old b m × IsClosedAt (game_data game.now) b input.now output.now }
+        ensures { (b : Before) (m : Memory) → IsAt (game_data game.now) self.old b m → IsClosedAt (game_data game.now) b input.now output.now →
+            IsAt (game_data game.now) self.new (Some (reached (game_data game.now) b input.now output.now)) m }
+    {
+        self.position.go_on(game, input, output);
+    }
+
+    /// Remembers a goal, a rank and an index.
+    pub fn remember(&mut self, goal: usize, rank: usize, index: usize)
+        ensures { self.new ≡ record self.old { goal = goal; rank = rank; index = index } }
+    {
+        self.goal = goal;
+        self.rank = rank;
+        self.index = index;
+    }
+}

@@ -1,0 +1,22 @@
+-- What those who ask a shelf for a part of a file learn of it.
+use Rattle.std.specs.Prelude.{◌≡◌, ℕ, ◌-◌, ◌<◌, ◌≤◌, List, [], length, take, drop, Option, None, Some, Result, Ok, Err}
+
+-- the bytes are the first of the file, as many as the limit lets; where there is no file, it lets none
+abbrev pub IsFrontOf : Option (Option (List ℕ)) → ℕ → List ℕ → Type 0
+IsFrontOf None limit bytes = Unit {0}
+IsFrontOf (Some None) limit bytes = (limit ≡ 0) × (bytes ≡ [])
+IsFrontOf (Some (Some file)) limit bytes = bytes ≡ take limit file
+
+-- the front of buf has the n bytes of the file from that place on, and none only where there is none
+pub record IsPart (bytes : List ℕ) (from n : ℕ) (buf : List ℕ) : Type 0 where
+  pub within : n ≤ length bytes - from
+  pub same : take n buf ≡ take n (drop from bytes)
+  pub at_end : n ≡ 0 → 0 < length buf → length bytes ≤ from
+
+-- a part comes only of a file that is there, `None` only where it isn't, and a fault tells nothing
+abbrev pub GivesPart : {E : Type 0} → Option (Option (List ℕ)) → ℕ → Result (Option ℕ) E → List ℕ → Type 0
+GivesPart None from r buf = Unit {0}
+GivesPart (Some file) from (Err e) buf = Unit {0}
+GivesPart (Some file) from (Ok None) buf = file ≡ None
+GivesPart (Some None) from (Ok (Some n)) buf = ⊥
+GivesPart (Some (Some bytes)) from (Ok (Some n)) buf = IsPart bytes from n buf

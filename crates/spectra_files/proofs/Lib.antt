@@ -1,0 +1,6 @@
+mod Placed
+pub mod Readings
+pub mod Unrefused
+mod Fronts
+mod Folders
+pub mod InOrder

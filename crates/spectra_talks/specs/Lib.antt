@@ -1,0 +1,5 @@
+pub mod Endings
+pub mod Numbers
+pub mod Streams
+pub mod Offered
+pub mod Sessions

@@ -1,0 +1,16 @@
+//! What the program writes and reads once it is known what is due: last lines with their statuses, sessions and audits.
+//!
+//! A session writes the verdict, answers each line of the input by the strategy of the side that wins, and says how that
+//! ended. An audit reads a log, and says which line of the specification is broken first, and where. All room for these is
+//! taken before anything is written or read.
+//!
+//! Contract: `holding::hold` and `countering::counter`, over any regions; `auditing::audit`; in `saying` a function for each
+//! last line; `status::Status`, how a run ends. Path: strategy → verdict → **lines and status**.
+#![tactic(auto)]
+
+pub mod auditing;
+mod closing;
+pub mod countering;
+pub mod holding;
+pub mod saying;
+pub mod status;

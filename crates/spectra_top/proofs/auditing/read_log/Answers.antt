@@ -1,4 +1,0 @@
-use Rattle.spectra_top.proofs.auditing.read_log.Goals as goal
-
-pub returns : goal.returns
-returns g c = λ s for_spec is_of. record { end = c.audit_lines-end.result; talk = c.audit_lines-end.ensures.talk s for_spec is_of; closes = c.close_audit.ensures }

@@ -1,7 +1,0 @@
-use Rattle.std.proofs.Common.{rules}
-use Rattle.spectra_top.specs.Endings.{unrealizable}
-use Rattle.spectra_top.proofs.Exchanges.{is_said}
-use Rattle.spectra_top.proofs.saying.say_unrealizable.Goals as goal
-
-pub returns-in-Ok : goal.returns-in-Ok
-returns-in-Ok g c = is_said g.O.Sink.written g.O.Sink.faults (unrealizable c.args.n c.args.m) c.as_bytes.result.now c.say.result c.args.output.now c.say.new.output (search rules) c.say.ensures

@@ -1,4 +1,0 @@
-use Rattle.spectra_top.proofs.saying.say_usage.Goals as goal
-
-pub returns : goal.returns
-returns g c = λ left faults. c.say.ensures left faults

@@ -1,9 +1,0 @@
-use Rattle.std.proofs.Common.{Ok, take}
-use Rattle.spec_model.specs.GameViews.{game_data}
-use Rattle.state_diagrams.specs.Lists.{MakesList}
-use Rattle.state_diagrams.specs.Updates.{update_functions}
-use Rattle.state_diagrams.proofs.updates.update_members.Given as goal
-
--- the diagrams of the tables so far
-abbrev pub invariant-loop-k : goal.invariant-loop-k
-invariant-loop-k l = MakesList l.fn.diagrams l.diagrams (Ok l.roots) (take l.k (update_functions (game_data l.game) l.when))

@@ -1,4 +1,0 @@
-use Rattle.state_search.proofs.fixing.+fix_number.Given as goal
-
-abbrev pub decreases-fix_number : goal.decreases-fix_number
-decreases-fix_number l = l.width

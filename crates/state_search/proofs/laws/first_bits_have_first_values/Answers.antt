@@ -1,5 +1,0 @@
-use Rattle.state_search.proofs.OrderLemmas.{first_values}
-use Rattle.state_search.proofs.laws.first_bits_have_first_values.Goals as goal
-
-pub returns : goal.returns
-returns c = λ ds us vs u v. first_values ds us vs u v

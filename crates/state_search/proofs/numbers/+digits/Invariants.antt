@@ -1,4 +1,0 @@
-use Rattle.state_search.proofs.numbers.+digits.Given as goal
-
-abbrev pub decreases-digits : goal.decreases-digits
-decreases-digits l = l.width

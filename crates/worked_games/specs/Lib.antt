@@ -1,2 +1,0 @@
-pub mod CoreSamples
-pub mod SmallGame

@@ -1,2 +1,0 @@
-pub mod FormedPatterns
-pub mod MixedTyped

@@ -1,2 +1,0 @@
-pub mod TriedPatterns
-pub mod MixedLines
