@@ -15,7 +15,7 @@ sys.path.insert(0, str(TOP))
 
 from plain import COMMANDS, deep  # noqa: E402
 from reference.game import Game  # noqa: E402
-from reference.talks import answer, lines_of  # noqa: E402
+from reference.talks import answer, input_of  # noqa: E402
 from reference.text import NoText, Shelf, Text  # noqa: E402
 from rows import rows  # noqa: E402
 
@@ -34,7 +34,7 @@ def state_count(game):
 
 def plain(row):
     """What the plain program writes for a row, and its status."""
-    if len(row.words) != 2 or row.words[0] not in COMMANDS:
+    if len(row.words) != 2 or row.words[0] not in COMMANDS or row.words[1].startswith("-"):
         raise LeftOut("the words are no command of the plain program")
     if any(len(text.replace(b" ", b"")) > MOST_BYTES for text in row.files.values()):
         raise LeftOut("a text is too long for the plain program")
@@ -43,9 +43,9 @@ def plain(row):
         text = Text(name, Shelf(row.files))
     except NoText as refused:
         return (refused.line + "\n").encode(), refused.status
-    if command != "audit" and state_count(Game(text)) > MOST_STATES:
+    if command not in ("audit", "verify") and state_count(Game(text)) > MOST_STATES:
         raise LeftOut("there are too many states for the plain program")
-    lines, status = answer(command, text, lines_of(row.input.decode()))
+    lines, status = answer(command, text, input_of(command, row.input))
     return "".join(line + "\n" for line in lines).encode(), status
 
 
@@ -53,6 +53,8 @@ def built(program, row):
     """What a built program writes for a row, in a folder with its files, and its status."""
     if any(name.startswith("/") or name.endswith("/") for name in row.files) or row.written.endswith(b"/\n"):
         raise LeftOut("a file lies outside of the folder, or has a folder's name")
+    if row.words[:1] == ["export"]:
+        raise LeftOut("the program doesn't export yet")
     with tempfile.TemporaryDirectory() as folder:
         for name, text in row.files.items():
             file = Path(folder, name)

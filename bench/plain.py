@@ -2,10 +2,10 @@
 """plain.py COMMAND FILE [INPUT]: what the program should write, by plain sets of states.
 
 COMMAND is one of the program's, or `layers`. The input is that of the file INPUT, or else the standard input, of which each
-line is answered before the next is read. It shares nothing with the crates: a state is some tuples of values, a set is a
-Python set, and each greatest or least set is found by going on until nothing changes (reference/). It is slow: try it on
-texts of a few hundred states. It reads the whole language of docs/LANGUAGE.md, with what FILE imports, and tells the fault of
-a text that is refused.
+line is answered before the next is read; `verify` reads it whole. It shares nothing with the crates: a state is some tuples of
+values, a set is a Python set, and each greatest or least set is found by going on until nothing changes (reference/). It is
+slow: try it on texts of a few hundred states. It reads the whole language of docs/LANGUAGE.md, with what FILE imports, and tells
+the fault of a text that is refused.
 
 `layers` writes Z, and for each goal and rank the layer `y` and its parts `x`, one for each assumption. Goals and
 assumptions count from 0, ranks from 1. A set has a digit for each state: hidden values, inputs and then outputs, each in
@@ -20,10 +20,11 @@ sys.path.insert(0, str(Path(__file__).resolve().parent))
 
 from reference.game import Game  # noqa: E402
 from reference.layers import round_count, winning  # noqa: E402
-from reference.talks import lines_of, talk  # noqa: E402
+from reference.tables import MOST_BYTES  # noqa: E402
+from reference.talks import input_of, talk  # noqa: E402
 from reference.text import NoText, Shelf, Text  # noqa: E402
 
-COMMANDS = ("synth", "run", "counter", "core", "separate", "audit", "layers")
+COMMANDS = ("synth", "run", "counter", "core", "separate", "audit", "export", "verify", "layers")
 USAGE = f"""usage: plain.py COMMAND FILE [INPUT]
 COMMAND is one of {' '.join(COMMANDS)}; without INPUT the standard input is read.
 It writes what spectra writes, slowly and without a proof: python3 bench/plain.py run examples/lift.spectra examples/lift.run.in"""
@@ -62,11 +63,18 @@ def typed():
         yield text[:-1].removesuffix("\r") if text.endswith("\n") else text
 
 
-def write(given):
+def given(command, name=None):
+    """The input that a command takes: that of a file, or else the standard input."""
+    if name is not None:
+        return input_of(command, Path(name).read_bytes())
+    return sys.stdin.buffer.read(MOST_BYTES + 1) if command == "verify" else typed()
+
+
+def write(lines):
     """Writes each line as it comes; the status behind the last."""
     while True:
         try:
-            print(next(given), flush=True)
+            print(next(lines), flush=True)
         except StopIteration as end:
             return end.value
         except BrokenPipeError:
@@ -86,8 +94,7 @@ def main():
     if sys.argv[1] == "layers":
         write_layers(Game(text))
         return 0
-    lines = lines_of(Path(sys.argv[3]).read_text(encoding="utf-8")) if len(sys.argv) == 4 else typed()
-    return write(talk(sys.argv[1], text, lines))
+    return write(talk(sys.argv[1], text, given(sys.argv[1], *sys.argv[3:])))
 
 
 def deep(call):

@@ -1,7 +1,8 @@
 #!/usr/bin/env bash
-# test.sh [PROGRAM]: tries the tools, the patterns and the drawn warehouse with the built program, and the recorded runs of the
-# examples without it. What each should write stands in tests/. A program that is named and isn't there is a failure; where none
-# is named and none is built, what needs one is skipped, and said to be.
+# test.sh [PROGRAM]: tries the tools, the patterns and the drawn warehouse with the built program, and without it the recorded runs
+# of the examples, and that bench/fuzz.py finds what is wrong. Pages, graphs and controllers in C are tried with it, or else with the
+# plain program. What each should write stands in tests/. A program that is named and isn't there is a failure; where none is named and
+# none is built, what needs one is skipped, and said to be.
 named=$1
 [ -n "$named" ] && named=$(command -v "$named") && named=$(realpath "$named")
 [ $# -gt 0 ] && [ -z "$named" ] && echo "tools: no program $1" && exit 1
@@ -25,8 +26,11 @@ writes() {
 passes() { "$@" || failed=$((failed + 1)); }
 
 passes python3 tools/tests/kept.py
+passes python3 bench/fuzz.py --self-test
 if [ ! -x "$SPECTRA" ]; then
   passes python3 tools/tests/patterns.py
+  passes python3 tools/tests/drawn.py
+  passes python3 tools/tests/embedded.py
   echo "tools: the rest is skipped, since there is no program at $SPECTRA"
   exit $((failed > 0))
 fi
@@ -45,7 +49,7 @@ writes duel-door.out 1 tools/duel.py examples/door.spectra
 begun() { tools/controller.py examples/arbiter.spectra <tools/tests/begun.in; }
 writes begun.out 6 begun
 writes ../../examples/warehouse.txt 0 examples/warehouse.py 13 4
-for tool in controller.py numbered.py duel.py sanity.py; do
+for tool in controller.py numbered.py duel.py sanity.py draw.py embed.py; do
   writes nothing.out 2 "tools/$tool"
 done
 writes nothing.out 2 examples/warehouse.py fast
@@ -59,5 +63,7 @@ writes late.out 3 late
 passes python3 tools/tests/talks.py
 passes python3 tools/tests/sanity.py
 passes python3 tools/tests/patterns.py "$SPECTRA"
+passes python3 tools/tests/drawn.py "$SPECTRA"
+passes python3 tools/tests/embedded.py "$SPECTRA"
 echo "tools: $failed failed"
 exit $((failed > 0))

@@ -136,6 +136,10 @@ class Source:
             yield Item(word, tokens[at:end])
             at, before = end, word
 
+    def name(self):
+        """The specification's name."""
+        return next(item.tokens[1].text for item in self.items if item.word == "spec")
+
     def words(self):
         """Every token's text, to find a name that isn't taken."""
         return {t.text for item in self.items for t in item.tokens}

@@ -46,11 +46,11 @@ class Game:
 
     @functools.cached_property
     def goals(self):
-        return self.recurring("gar")[1]
+        return self.states_of("gar")
 
     @functools.cached_property
     def assumptions(self):
-        return self.recurring("asm")[1]
+        return self.states_of("asm")
 
     def waits_for_output(self, line):
         """Whether a line is judged on the position before, at the move to the next one."""
@@ -58,14 +58,18 @@ class Game:
         return line.time == "alw" and (has_next(line.says) or reads_output)
 
     def recurring(self, role):
-        """The labels and the states of the recurring goals; all states where there is no such goal."""
+        """The labels of the recurring goals, and a test of what is known at a state for each; `true` where there is no such goal."""
         labels, tests = [], []
         own = {table.key: table for table in self.tables}
         for line in self.lines:
             goals = line.goals(own.get(("line", line.number))) if line.role == role else []
             tests += goals
             labels += [f"{line.number}" if len(goals) == 1 else f"{line.number}.{part}" for part in range(1, len(goals) + 1)]
-        return labels, [{s for s in self.states if test(self.named(s))} for test in tests] or [set(self.states)]
+        return labels, tests or [lambda now: True]
+
+    def states_of(self, role):
+        """The states of each recurring goal."""
+        return [{s for s in self.states if test(self.named(s))} for test in self.recurring(role)[1]]
 
     def named(self, state):
         """What is known at a state."""

@@ -153,7 +153,8 @@ class TriggerTable:
         if len(self.atoms) > MOST_ATOMS or max(position_count(cause), position_count(effect)) > MOST_POSITIONS:
             raise TooWide
         self.sides = {"cause": Side(cause), "effect": Side(effect)}
-        letters = [set(some) for k in range(len(self.atoms) + 1) for some in itertools.combinations(self.atoms, k)]
+        # a letter is a number with a bit for each atom, the first one lowest
+        letters = [{e for k, e in enumerate(self.atoms) if letter >> k & 1} for letter in range(2 ** len(self.atoms))]
         states = [(phase, state) for phase, side in self.sides.items() for state in side.states(letters)]
         if len(states) > MOST_STATES:
             raise TooWide

@@ -1,6 +1,9 @@
 """What each command writes, line by line, and the status at its end."""
+from .choices import FRESH, answered, begun, noted
 from .game import Game
 from .layers import Verdict
+from .rules import first_flaw
+from .tables import NoTable, TooLarge, is_listed, table_for, table_of, text_of
 from .text import Line
 
 # ---- lines
@@ -39,76 +42,44 @@ def lines_of(text):
 
 
 def run(game, verdict, lines):
-    """Each reply leads to the least rank for the goal aimed at, and while goal and rank stay, into the part of the
-    assumption that is waited for."""
+    """Each input is answered by the controller."""
     yield verdict.line()
     if not verdict.realizable:
         return 1
-    goals = verdict.goals
-    state, goal, rank, index = None, 0, 0, 0
+    play = FRESH
     for p, line in enumerate(lines, 1):
         x = read(game.inputs, line)
         if x is None:
             yield f"line {p} refused"
             return 6
-        broken = game.broken_by_input(state, x)
+        broken = game.broken_by_input(play.state, x)
         if broken is not None:
             yield f"assumption broken #{broken}"
             return 4
-        reached = game.moves(state)[x]
-        met = state is not None and state in game.goals[goal]
-        aim = (goal + 1) % len(goals) if met else goal
-        least = next(r for r, (y, _) in enumerate(goals[aim], 1) if any(s in y for s in reached))
-        layer, parts = goals[aim][least - 1]
-        if state is not None and not met and least == rank:
-            state = next(s for s in reached if s in parts[index])
-        else:
-            state = next(s for s in reached if s in layer)
-            index = next(i for i, states in enumerate(parts) if state in states)
-        goal, rank = aim, least
-        yield show(game.outputs, state[2])
+        play = answered(game, verdict.goals, play, x)
+        yield show(game.outputs, play.state[2])
     return 0
 
 
-def first_into(game, state, sets):
-    """The first input that forces the least set into which the next state can be forced."""
-    return next(x for x in (game.env_input(state, target) for target in sets) if x is not None)
-
-
 def counter(game, verdict, lines):
-    """Each input forces the state into the least layer, or while a goal is denied into the least iterate of the hold for
-    the assumption aimed at."""
+    """Each reply is noted by the counterstrategy, which gives the next input."""
     yield verdict.line()
     if verdict.realizable:
         return 1
-    zs = [set()] + [z for z, _ in verdict.layers]
-    state, denying = None, False
-    x = first_into(game, None, zs)
-    yield show(game.inputs, x)
+    here = begun(game, verdict.layers)
+    yield show(game.inputs, here.input)
     for p, line in enumerate(lines, 1):
         y = read(game.outputs, line)
         if y is None:
             yield f"line {p} refused"
             return 6
-        broken = game.broken_by_output(state, x, y)
+        broken = game.broken_by_output(here.state, here.input, y)
         if broken is not None:
             yield f"guarantee broken #{broken}"
             return 0
-        state = (game.hidden_after(state), x, y)
-        if not denying:
-            a = next(a for a, z in enumerate(zs) if state in z)
-            holds = verdict.layers[a - 1][1]
-            j = next(j for j, (hold, _) in enumerate(holds) if state in hold)
-            i = 0
-        denying = state not in game.goals[j]
-        if denying:
-            if state in game.assumptions[i]:
-                i = (i + 1) % len(game.assumptions)
-            x = first_into(game, state, [set()] + holds[j][1][i])
-        else:
-            x = first_into(game, state, zs)
-        yield f"deny #{game.labels[j]}" if denying else "shift"
-        yield show(game.inputs, x)
+        here = noted(game, verdict.layers, here, y)
+        yield f"deny #{game.labels[here.goal]}" if here.denying else "shift"
+        yield show(game.inputs, here.input)
     return 0
 
 
@@ -163,30 +134,64 @@ def synth(verdict):
     return 0 if verdict.realizable else 1
 
 
+# ---- tables
+
+
+def export(game, verdict):
+    """The table of the winner's strategy."""
+    try:
+        yield text_of(game, table_for(game, verdict))
+        return 0
+    except TooLarge:
+        yield "size limit reached"
+        return 14
+
+
+def verify(game, given):
+    """Whether the bytes are a table of the specification, and the first rule that it breaks; nothing is solved."""
+    try:
+        table = table_of(game, given)
+    except NoTable:
+        yield "table refused"
+        return 13
+    if not is_listed(game, table.kind):
+        yield "size limit reached"
+        return 14
+    flaw = first_flaw(game, table)
+    if flaw is not None:
+        yield f"not verified rule {flaw[0]} node {flaw[1]}"
+        return 1
+    yield "verified " + " ".join(f"{name.upper()}={number}" for name, number in table.numbers.items())
+    return 0
+
+
 # ---- all commands
 
 
-def talk(command, text, lines):
-    """What a command writes for a text and the lines of its input: gives each line before the next input is read, then the
-    status."""
+def input_of(command, given):
+    """What a command takes of the bytes of its input: all of them, or their lines."""
+    return given if command == "verify" else lines_of(given.decode("utf-8", "replace"))
+
+
+def talk(command, text, given):
+    """What a command writes for a text and the lines of its input, or its bytes: gives each line before the next input is read,
+    then the status."""
     if command == "separate":
         return separate(text)
     game = Game(text)
-    if command == "audit":
-        return audit(game, lines)
+    if command in ("audit", "verify"):
+        return (audit if command == "audit" else verify)(game, given)
     verdict = Verdict(game)
-    if command == "synth":
-        return synth(verdict)
-    if command == "core":
-        return core(text, verdict)
-    return (run if command == "run" else counter)(game, verdict, lines)
+    if command in ("run", "counter"):
+        return (run if command == "run" else counter)(game, verdict, given)
+    return core(text, verdict) if command == "core" else export(game, verdict) if command == "export" else synth(verdict)
 
 
-def answer(command, text, lines):
+def answer(command, text, given):
     """All that a command writes, and its status."""
-    written, given = [], talk(command, text, lines)
+    written, lines = [], talk(command, text, given)
     while True:
         try:
-            written.append(next(given))
+            written.append(next(lines))
         except StopIteration as end:
             return written, end.value

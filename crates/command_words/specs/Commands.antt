@@ -3,7 +3,7 @@ use Rattle.std.specs.Prelude.{◌≡◌, ℕ, ◌≤◌, List, [], Option, None,
 use Rattle.std.specs.Str.Parse.{IsNumeral, digits_value}
 use Rattle.clap.specs.Words.{App, Rule, Text, fault_of, first_of, matches_of, new_app, new_rule, with_rule}
 use Rattle.command_words.specs.declared.words.Command.{Command}
-use Rattle.command_words.specs.declared.words.Command.TheVariants.{Synth, Run, Core, Separate, Counter, Audit}
+use Rattle.command_words.specs.declared.words.Command.TheVariants.{Synth, Run, Core, Separate, Counter, Audit, Verify}
 
 -- ---- what `clap` reads: `spectra COMMAND FILE [--nodes N]`
 
@@ -35,6 +35,7 @@ word_of Core = codes "core"
 word_of Separate = codes "separate"
 word_of Counter = codes "counter"
 word_of Audit = codes "audit"
+word_of Verify = codes "verify"
 
 -- how the command is written that is for an arbiter and not for a file
 abbrev pub arbiter_word : Text

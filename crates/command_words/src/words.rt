@@ -25,6 +25,8 @@ pub enum Command {
     Counter,
     /// To read a log and to write whether each position of it is legal.
     Audit,
+    /// To read a table and to write whether it wins.
+    Verify,
 }
 
 /// A command, the name of the file that it is for, and the most nodes that may be held at a time.
@@ -55,6 +57,7 @@ fn command_of(word: &str) -> Option<Command>
         "separate" => Some(Command::Separate),
         "counter" => Some(Command::Counter),
         "audit" => Some(Command::Audit),
+        "verify" => Some(Command::Verify),
         _ => None,
     }
 }

@@ -12,3 +12,4 @@ mod Owning
 pub mod Makings
 mod Begun
 pub mod Serving
+pub mod Spotting

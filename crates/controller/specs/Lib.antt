@@ -5,3 +5,4 @@ pub mod Settled
 pub mod Owned
 pub mod Made
 pub mod Objects
+pub mod Spots

@@ -2,6 +2,8 @@
 
 ghost use Rattle.std.specs.Prelude.{◌≡◌, ◌<◌, length, IsTrue, IfOk, IfErr, Some, None, is_none, option_map, slice_get};
 ghost use Rattle.std.specs.Bool.{OnTrue, OnFalse};
+ghost use Rattle.spec_model.specs.Rules.{Run};
+ghost use Rattle.spec_model.specs.Games.{State};
 ghost use Rattle.spec_model.specs.Steps.{is_input, legal_input};
 ghost use Rattle.regions.specs.Rules.{output_count};
 ghost use Rattle.spec_model.specs.GameViews.{game_data};
@@ -11,8 +13,10 @@ ghost use Rattle.spec_model.specs.FirstBroken.{first_broken};
 ghost use Rattle.gr1_law.specs.Layers.{LayerSets};
 ghost use Rattle.gr1_law.specs.Choice.{Memory, first_memory};
 ghost use Rattle.controller.specs.Made.{AreLayersOf, IsRefused};
+ghost use Rattle.strategy_parts.specs.Counts.{HasFewGoals, value_count};
 ghost use Rattle.controller.specs.Places.{IsAt};
-ghost use Rattle.controller.specs.Objects.{IsFresh, IsStarted, game_of, Stands, InEachPlay, Begins, GoesOn, HoldsTheSame, GivesBack};
+ghost use Rattle.controller.specs.Spots.{EndsAt, CanGo, BeginsAgain};
+ghost use Rattle.controller.specs.Objects.{IsFresh, IsStarted, game_of, StandsFor, Stands, InEachPlay, Begins, GoesOn, HoldsTheSame, GivesBack};
 
 use crate::aims::Aim;
 use crate::choosing::least_rank;
@@ -20,6 +24,7 @@ use crate::equipping::equip;
 use crate::remembered::Remembered;
 use crate::settling::new_index;
 use crate::spending::spend_made;
+use crate::spot::Spot;
 use crate::turning::{aimed, lead};
 use game_play::InputJudge;
 use gr1_sys::{SysLayer, SysLayers};
@@ -171,6 +176,37 @@ impl<G: Regions> Controller<G> {
         self.place.go_on(self.g.game(), input, out);
         let index = new_index(&mut self.g, &self.layers, &self.place, goal, rank, waits);
         self.place.remember(goal, rank + 1, index);
+    }
+
+    /// Writes the state of the last position, the hidden values first, and gives its spot. It takes no memory.
+    pub fn spot(&self, state: &mut [Value]) -> Spot
+        requires stands { Stands G.kept self.now }
+        requires started { IsStarted self.now }
+        requires few { HasFewGoals (game_of G.kept self.now) }
+        requires room { length state.old ≡ value_count (game_of G.kept self.now) }
+        ensures ends { InEachPlay G.kept self.now (λ z l h b m. (s : State) × (b ≡ Some s) × EndsAt (game_of G.kept self.now) l h s m state.new result) }
+    {
+        state.copy_from_slice(self.place.values());
+        self.place.spot()
+    }
+
+    /// Goes to where some play of chosen outputs ends, by its state, the hidden values first, and its spot. Then it stands for
+    /// each play that ends there. It takes no memory.
+    pub fn go(&mut self, state: &[Value], spot: Spot)
+        requires there { CanGo G.kept self.old state.now spot }
+        ensures stands { InEachPlay G.kept self.old (λ z l h b m. (to : Run) (s : State) (next : Memory) → EndsAt (game_of G.kept self.old) l to s next state.now spot → StandsFor G.kept self.new z l to (Some s) next) }
+        ensures keeps { HoldsTheSame G.kept self.old self.new }
+    {
+        self.place.go_to(self.g.game(), state, spot);
+    }
+
+    /// Begins again, as before the first move. It takes no memory.
+    pub fn again(&mut self)
+        requires stands { Stands G.kept self.old }
+        ensures begins { BeginsAgain G.kept self.old self.new }
+        ensures keeps { HoldsTheSame G.kept self.old self.new }
+    {
+        self.place.start_anew(self.g.game());
     }
 
     /// Ends the play: all that it owns is spent.

@@ -5,9 +5,10 @@
 //! assumption (Bloem et al. 2012, solving GR(1) games; that this assumption is kept is this project's own).
 //!
 //! Contract: `Controller`, for each play that it stands for: `start` and `step` write the output that is chosen, `legal`
-//! names the first assumption that an input breaks, and `close` spends all that is held. Only `Controller::make` takes
-//! memory: it makes the moves into each layer and each part, so that a position tries moves and reads regions, and makes
-//! none.
+//! names the first assumption that an input breaks, and `close` spends all that is held. `spot` tells where a play is, by its
+//! last state and what is remembered there, `go` goes to where any such play ends, and `again` to the start. Only
+//! `Controller::make` takes memory: it makes the moves into each layer and each part, so that a position tries moves and reads
+//! regions, and makes none.
 //! Path: layers → **controller** → lines.
 #![tactic(auto)]
 
@@ -19,6 +20,8 @@ mod making;
 mod remembered;
 mod settling;
 mod spending;
+mod spot;
 mod turning;
 
 pub use controller::Controller;
+pub use spot::Spot;

@@ -1,13 +1,16 @@
 //! Where a play is, and what is remembered of it.
 
-ghost use Rattle.std.specs.Prelude.{◌≡◌, None, Some, IfOk};
+ghost use Rattle.std.specs.Prelude.{◌≡◌, ◌+◌, ◌^◌, ◌<◌, ◌≤◌, None, Some, IfOk, IsTrue};
 ghost use Rattle.spec_model.specs.GameViews.{game_data};
-ghost use Rattle.spec_model.specs.Steps.{Before, reached};
+ghost use Rattle.spec_model.specs.Games.{State, listed};
+ghost use Rattle.spec_model.specs.Steps.{Before, is_state, reached};
 ghost use Rattle.spec_model.specs.WellMade.{WellMade};
 ghost use Rattle.gr1_law.specs.Choice.{Memory, first_memory};
 ghost use Rattle.strategy_parts.specs.Positions.{IsClosedAt, values_at};
-ghost use Rattle.controller.specs.Places.{IsAt};
+ghost use Rattle.controller.specs.Places.{IsAt, memory_at};
+ghost use Rattle.controller.specs.Spots.{spot_at};
 
+use crate::spot::Spot;
 use spec_model::game::Game;
 use spec_model::value::Value;
 use std::alloc::{AllocError, Global};
@@ -51,6 +54,53 @@ impl Remembered {
             IsAt (game_data game.now) self.new (Some (reached (game_data game.now) b input.now output.now)) m }
     {
         self.position.go_on(game, input, output);
+    }
+
+    /// Stands before the first position again.
+    pub fn start_anew(&mut self, game: &Game)
+        requires { (b : Before) × (m : Memory) × IsAt (game_data game.now) self.old b m }
+        ensures { IsAt (game_data game.now) self.new None first_memory }
+    {
+        self.position.start_anew(game);
+        self.remember(0, 0, 0);
+    }
+
+    /// Stands after a listed state, where this spot is remembered.
+    pub fn go_to(&mut self, game: &Game, state: &[Value], spot: Spot)
+        requires made { WellMade (game_data game.now) }
+        requires here { (b : Before) × (m : Memory) × IsAt (game_data game.now) self.old b m }
+        requires there { (s : State) × IsTrue (is_state (game_data game.now) s) × (listed s ≡ state.now) }
+        requires counted { (m : Memory) × (spot_at m ≡ spot) }
+        ensures { (s : State) (m : Memory) → IsTrue (is_state (game_data game.now) s) → listed s ≡ state.now → spot_at m ≡ spot → IsAt (game_data game.now) self.new (Some s) m }
+    {
+        self.position.go_to(game, state);
+        self.recall(spot);
+    }
+
+    /// Remembers what a spot tells.
+    fn recall(&mut self, spot: Spot)
+        requires { (m : Memory) × (spot_at m ≡ spot) }
+        ensures memory { (m : Memory) → spot_at m ≡ spot → memory_at self.new ≡ m }
+        ensures position { self.new.position ≡ self.old.position }
+    {
+        self.remember(
+            spot.goal as usize - 1,
+            spot.rank as usize,
+            spot.index as usize - 1,
+        );
+    }
+
+    /// What is remembered, as a spot.
+    pub fn spot(&self) -> Spot
+        requires goal { self.now.goal + 1 < 2 ^ 32 }
+        requires index { self.now.index + 1 < 2 ^ 32 }
+        ensures { result ≡ spot_at (memory_at self.now) }
+    {
+        Spot {
+            goal: self.goal as u32 + 1,
+            rank: self.rank as u64,
+            index: self.index as u32 + 1,
+        }
     }
 
     /// Remembers a goal, a rank and an index.

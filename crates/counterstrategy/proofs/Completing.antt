@@ -4,7 +4,7 @@ use Rattle.std.proofs.lemmas.Bool.{false≢true}
 use Rattle.std.proofs.Math.Seq.{take-append_seam}
 use Rattle.std.specs.declared.alloc.Global.{Global}
 use Rattle.spec_model.specs.Values.{Assignment}
-use Rattle.spec_model.specs.Games.{GameData}
+use Rattle.spec_model.specs.Games.{GameData, State}
 use Rattle.spec_model.specs.Steps.{Before, reached}
 use Rattle.strategy_parts.specs.declared.position.Position.{Position}
 use Rattle.strategy_parts.specs.Positions.{IsAfter, IsClosedAt}
@@ -12,6 +12,11 @@ use Rattle.strategy_parts.specs.Positions.{IsAfter, IsClosedAt}
 pub no_state : (b : Before) → is_some b ≡ false → b ≡ None
 no_state None e = refl
 no_state (Some s) e = absurd (false≢true (sym e))
+
+-- a state is there
+pub past : (b : Before) → is_some b ≡ true → (s : State) × (b ≡ Some s)
+past None e = absurd (false≢true e)
+past (Some s) e = (s, refl)
 
 pub was_false : (d : Bool) → not d ≡ true → d ≡ false
 was_false false e = refl

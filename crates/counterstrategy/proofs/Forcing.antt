@@ -50,12 +50,12 @@ module _ (g : GameData) (when : When) (sets : ℕ → StateSet) (b : Before) (r 
         | inr here ↦ absurd (let e : Some x ≡ None = sym is.here ∙ (ap (λ (i : ℕ). first_forcing g when (sets i) b) (sym here) ∙ found) in cc)
       ]
 
-  pub is_forced : (answer : Bool) → answer ≡ true → Found answer written (first_forcing g when (sets n) b) → written ≡ x
+  pub is_forced : (answer : Bool) → answer ≡ true → Found answer written (first_forcing g when (sets n) b) → (n ≡ r) × (written ≡ x)
   is_forced false so found = absurd (false≢true so)
   is_forced true so found =
       elim (next_or_here n r le) [
         | inl more ↦ absurd (let e : Some written ≡ None = sym found ∙ is.none_before n (omega (arith, more)) in cc)
-        | inr here ↦ (let e : Some written ≡ Some x = sym found ∙ (ap (λ (i : ℕ). first_forcing g when (sets i) b) here ∙ is.here) in cc)
+        | inr here ↦ (here, (let e : Some written ≡ Some x = sym found ∙ (ap (λ (i : ℕ). first_forcing g when (sets i) b) here ∙ is.here) in cc))
       ]
 
 -- ---- a move into one of them

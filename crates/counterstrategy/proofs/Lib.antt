@@ -11,6 +11,7 @@ pub mod Begun
 mod Turned
 mod Replying
 mod Completing
+mod Spotting
 mod Erring
 mod Filling
 pub mod Serving

@@ -31,15 +31,16 @@ below_some (suc q) some = (q, refl)
 later_forced : (g : GameData) (when : When) (sets : ℕ → StateSet) (b : Before) (q : ℕ) (x : Assignment) → IsFirstForced g when sets b (suc q) x → IsFirstForced g when (λ r. sets (suc r)) b q x
 later_forced g when sets b q x is = record { none_before = λ i less. is.none_before (suc i) (omega (arith, less)); here = is.here }
 
-module _ {R M : Type 0} (k k1 : Kept R M) (stays : Stays k k1) (same : IsSameGame k k1) (moves : List M) (values : List Value) (input : Assignment) where
+module _ {R M : Type 0} (k k1 : Kept R M) (stays : Stays k k1) (same : IsSameGame k k1) (moves : List M) (values : List Value) (input : Assignment) (number : ℕ) where
   -- where none forces the state into the first set, a call finds the input for the others
-  pub in_others : ((when : When) (sets : ℕ → StateSet) (b : Before) (r : ℕ) (x : Assignment) → MovesLead k1 when moves sets → AreBefore k1.game when b values → IsFirstForced k1.game when sets b r x → r < length moves → input ≡ x) →
-      (when : When) (sets : ℕ → StateSet) (b : Before) (r : ℕ) (x : Assignment) → MovesLead k when moves (λ r. sets (suc r)) → AreBefore k.game when b values → IsFirstForced k.game when sets b r x → 1 ≤ r → r ≤ length moves → input ≡ x
+  pub in_others : ((when : When) (sets : ℕ → StateSet) (b : Before) (r : ℕ) (x : Assignment) → MovesLead k1 when moves sets → AreBefore k1.game when b values → IsFirstForced k1.game when sets b r x → r < length moves → (input ≡ x) × (number ≡ suc r)) →
+      (when : When) (sets : ℕ → StateSet) (b : Before) (r : ℕ) (x : Assignment) → MovesLead k when moves (λ r. sets (suc r)) → AreBefore k.game when b values → IsFirstForced k.game when sets b r x → 1 ≤ r → r ≤ length moves → (input ≡ x) × (number ≡ r)
   in_others call when sets b r x lead before forced some few =
       let q = below_some r some in
       let here : IsFirstForced k.game when sets b (suc q.0) x = subst (λ n. IsFirstForced k.game when sets b n x) q.1 forced in
-      call when (λ r. sets (suc r)) b q.0 x (moves_stay k k1 when moves (λ r. sets (suc r)) stays lead) (subst (λ (g : GameData). AreBefore g when b values) (sym same.game) before)
-      (subst (λ (g : GameData). IsFirstForced g when (λ r. sets (suc r)) b q.0 x) (sym same.game) (later_forced k.game when sets b q.0 x here)) (let e = q.1 in omega (arith, few, e))
+      let found = call when (λ r. sets (suc r)) b q.0 x (moves_stay k k1 when moves (λ r. sets (suc r)) stays lead) (subst (λ (g : GameData). AreBefore g when b values) (sym same.game) before)
+      (subst (λ (g : GameData). IsFirstForced g when (λ r. sets (suc r)) b q.0 x) (sym same.game) (later_forced k.game when sets b q.0 x here)) (let e = q.1 in omega (arith, few, e)) in
+      (found.0, found.1 ∙ sym q.1)
 
 -- ---- the moves after a denial
 

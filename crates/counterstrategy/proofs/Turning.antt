@@ -1,10 +1,10 @@
 -- A turn after each play that is stood for, and what is remembered after each legal reply.
-use Rattle.std.proofs.Common.{◌≡◌, ℕ, suc, ◌<◌, ◌≤◌, inl, inr, Bool, true, false, not, ◌||◌, if◌then◌else◌, List, [], ◌∷◌, count_by, length, slice_index, Some, None, is_some, refl, sym, ◌∙◌, ap, subst, arith, IsTrue}
+use Rattle.std.proofs.Common.{◌≡◌, ℕ, suc, ◌<◌, ◌≤◌, inl, inr, Bool, true, false, not, ◌||◌, if◌then◌else◌, List, [], ◌∷◌, length, slice_index, Some, None, is_some, refl, sym, ◌∙◌, ap, subst, arith, IsTrue}
 use Rattle.std.specs.List.{list_any, list_all}
 use Rattle.std.proofs.lemmas.Bool.{and_parts, and_from, or_cases, false≢true}
 use Rattle.spec_model.specs.Values.{Assignment}
 use Rattle.spec_model.specs.Rules.{Run}
-use Rattle.spec_model.specs.Unrealizable.{NoteData, is_shift}
+use Rattle.spec_model.specs.Unrealizable.{NoteData}
 use Rattle.spec_model.specs.Games.{GameData, inputs_of, outputs_of}
 use Rattle.spec_model.specs.Steps.{Before, IsClosed, is_input, is_output, is_state, legal_output, reached}
 use Rattle.spec_model.specs.Sets.{StateSet, input_into, environment_forces, IsPartOf}

@@ -5,3 +5,4 @@ pub mod Turns
 pub mod Owned
 pub mod Made
 pub mod Objects
+pub mod Spots

@@ -27,6 +27,7 @@ use Rattle.counterstrategy.specs.Settled.{LayersAre, GoalsAre}
 use Rattle.counterstrategy.specs.Owned.{layer_items, kit_items}
 use Rattle.counterstrategy.specs.Made.{made_meanings}
 use Rattle.counterstrategy.specs.Places.{IsAt}
+use Rattle.counterstrategy.specs.Turns.{rank_kept}
 
 -- a note, as the laws have it
 abbrev pub note_data : Note → NoteData
@@ -68,13 +69,13 @@ module _ {G R M : Type 0} where
     IsSound c e = AreSound (kept c.g) c.layers.items c.kit e
 
     -- It stands for this noted play of given inputs, which ends in its state with what it remembers; where it has given an
-    -- input, that is the one which is given after the play.
+    -- input, that is the one which is given after the play, and after a denial the number of the iterate is kept with it.
     pub record StandsFor (c : Counterstrategy G R M) (e : EnvLayerSets) (h : Run) (notes : List NoteData) (b : Before) (k : CounterMemory) : Type 0 where
       pub sound : IsSound c e
       pub play : AnsweredPlay (game_of c) e h notes b k
       pub whole : IsWholeBefore (game_of c) b
       pub place : IsAt (game_of c) c.place b k
-      pub given : HasGiven c → (r : ℕ) × IsGiven (game_of c) e b k r (given_by c)
+      pub given : HasGiven c → (r : ℕ) × IsGiven (game_of c) e b k r (given_by c) × (c.rank ≡ rank_kept k r)
       pub room : length (given_by c) ≡ input_count (game_of c)
       pub owned : HasAll (kept c.g) (items_of c)
       pub few : denials_of c.layers.items ≤ 18446744073709551615

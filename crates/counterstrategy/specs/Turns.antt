@@ -1,5 +1,5 @@
 -- One turn of the environment's strategy: which input is given, and what is remembered after the reply; the numbers are in range.
-use Rattle.std.specs.Prelude.{◌≡◌, ℕ, suc, ◌<◌, ◌≤◌, true, false, List, length, slice_index, Some, is_some, IsTrue}
+use Rattle.std.specs.Prelude.{◌≡◌, ℕ, suc, ◌<◌, ◌≤◌, true, false, if◌then◌else◌, List, length, slice_index, Some, is_some, IsTrue}
 use Rattle.spec_model.specs.Values.{Assignment}
 use Rattle.spec_model.specs.Games.{GameData, State}
 use Rattle.spec_model.specs.Steps.{Before, is_state}
@@ -15,6 +15,10 @@ use Rattle.counterstrategy.specs.declared.remembered.Remembered.{Remembered}
 use Rattle.counterstrategy.specs.Places.{IsAt}
 use Rattle.counterstrategy.specs.Forced.{MovesLead, ChainsLead}
 use Rattle.counterstrategy.specs.Settled.{LayersAre, GoalsAre}
+
+-- of the number of the set that an input leads into what is kept: after a denial the iterate's, after a shift none
+abbrev pub rank_kept : CounterMemory → ℕ → ℕ
+rank_kept k r = if k.denying then r else 0
 
 -- what is remembered names a hold, whose iterates for the assumption aimed at have this rank
 pub record IsInHold (g : GameData) (n : ℕ) (counts : ℕ → ℕ → List ℕ) (k : CounterMemory) (r : ℕ) : Type 0 where

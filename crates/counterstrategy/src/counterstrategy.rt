@@ -1,7 +1,11 @@
 //! The environment's strategy over any regions.
 
-ghost use Rattle.std.specs.Prelude.{◌≡◌, ◌<◌, length, IsTrue, IfOk, IfErr, None, is_none};
+ghost use Rattle.std.specs.Prelude.{◌≡◌, ◌<◌, List, length, IsTrue, IfOk, IfErr, Some, None, is_none};
 ghost use Rattle.std.specs.Bool.{OnTrue, OnFalse};
+ghost use Rattle.spec_model.specs.Values.{Assignment};
+ghost use Rattle.spec_model.specs.Rules.{Run};
+ghost use Rattle.spec_model.specs.Unrealizable.{NoteData};
+ghost use Rattle.spec_model.specs.Games.{State};
 ghost use Rattle.spec_model.specs.Steps.{is_output, legal_output};
 ghost use Rattle.spec_model.specs.GameViews.{game_data};
 ghost use Rattle.spec_model.specs.WellMade.{WellMade};
@@ -11,14 +15,17 @@ ghost use Rattle.game_play.specs.Judged.{IsOutputJudgeOf};
 ghost use Rattle.gr1_law.specs.EnvLayers.{EnvLayerSets};
 ghost use Rattle.gr1_law.specs.Counter.{CounterMemory, first_counter, note_of};
 ghost use Rattle.counterstrategy.specs.Made.{AreLayersOf, IsRefused};
+ghost use Rattle.strategy_parts.specs.Counts.{HasFewGoals, value_count};
 ghost use Rattle.counterstrategy.specs.Places.{IsAt, memory_at};
-ghost use Rattle.counterstrategy.specs.Objects.{IsFresh, HasGiven, given_by, game_of, Stands, InEachPlay, Begins, Completes, Gives, GoesOn, HoldsTheSame, GivesBack, note_data};
+ghost use Rattle.counterstrategy.specs.Spots.{HasPosition, EndsAt, CanGo, BeginsAgain};
+ghost use Rattle.counterstrategy.specs.Objects.{IsFresh, HasGiven, given_by, game_of, StandsFor, Stands, InEachPlay, Begins, Completes, Gives, GoesOn, HoldsTheSame, GivesBack, note_data};
 
 use crate::equipping::equip;
 use crate::giving::give;
 use crate::kit::{Kit, spend_kit};
-use crate::noting::{label_of, note_position};
+use crate::noting::{label_of, note_position, settle};
 use crate::remembered::Remembered;
+use crate::spot::EnvSpot;
 use game_play::OutputJudge;
 use gr1_env::{EnvLayer, EnvLayers};
 use regions::{Halt, MakeRefusal, Regions};
@@ -40,9 +47,11 @@ pub struct Counterstrategy<G: Regions> {
     layers: Vec<EnvLayer<G>>,
     kit: Kit<G>,
     place: Remembered,
-    /// Whether an input was given, and the one that was given last.
+    /// Whether an input was given, and the one that was given last; where that was after a denial, the number of the iterate into
+    /// which it leads, else 0.
     has_given: bool,
     given: Vec<Value>,
+    rank: usize,
     judge: OutputJudge,
 }
 
@@ -93,6 +102,7 @@ impl<G: Regions> Counterstrategy<G> {
                     place,
                     has_given: false,
                     given,
+                    rank: 0,
                     judge,
                 })
             }
@@ -200,8 +210,58 @@ impl<G: Regions> Counterstrategy<G> {
         ensures given { InEachPlay G.kept self.old (λ e h notes b k. Gives G.kept self.new e h notes b k (given_by self.new)) }
         ensures keeps { HoldsTheSame G.kept self.old self.new }
     {
-        give(&mut self.g, &self.kit, &self.place, &mut self.given);
+        self.rank = give(&mut self.g, &self.kit, &self.place, &mut self.given);
         self.has_given = true;
+    }
+
+    /// Writes the state of the last position, the hidden values first, and gives its spot. It takes no memory.
+    pub fn spot(&self, state: &mut [Value]) -> EnvSpot
+        requires stands { Stands G.kept self.now }
+        requires given { HasGiven self.now }
+        requires completed { HasPosition self.now }
+        requires few { HasFewGoals (game_of G.kept self.now) }
+        requires room { length state.old ≡ value_count (game_of G.kept self.now) }
+        ensures ends { InEachPlay G.kept self.now (λ e h notes b k. (s : State) × (b ≡ Some s) × EndsAt (game_of G.kept self.now) e h notes s k state.new result) }
+    {
+        state.copy_from_slice(self.place.position.values());
+        self.place.spot(self.rank)
+    }
+
+    /// Goes to where some noted play of given inputs ends, by its state, the hidden values first, and its spot, and gives the input
+    /// that follows. Then it stands for each play that ends there. It takes no memory.
+    pub fn go(&mut self, state: &[Value], spot: EnvSpot)
+        requires there { CanGo G.kept self.old state.now spot }
+        ensures stands { InEachPlay G.kept self.old (λ e h notes b k. (to : Run) (noted : List NoteData) (s : State) (next : CounterMemory) → EndsAt (game_of G.kept self.old) e to noted s next state.now spot → (x : Assignment) × Gives G.kept self.new e to noted (Some s) next x) }
+        ensures keeps { HoldsTheSame G.kept self.old self.new }
+    {
+        self.settle_at(state, spot);
+        self.give_next();
+    }
+
+    /// Goes to where a play ends, before an input is given.
+    fn settle_at(&mut self, state: &[Value], spot: EnvSpot)
+        requires there { CanGo G.kept self.old state.now spot }
+        ensures stands { InEachPlay G.kept self.old (λ e h notes b k. (to : Run) (noted : List NoteData) (s : State) (next : CounterMemory) → EndsAt (game_of G.kept self.old) e to noted s next state.now spot → StandsFor G.kept self.new e to noted (Some s) next) }
+        ensures fresh { IsFresh self.new }
+        ensures keeps { HoldsTheSame G.kept self.old self.new }
+    {
+        let place = &mut self.place;
+        place.position.go_to(self.g.game(), state);
+        let layer = spot.layer as usize;
+        let goal = spot.goal as usize - 1;
+        let before = spot.asm as usize - 1;
+        settle(&mut self.g, &self.kit, place, layer, goal, before);
+        self.has_given = false;
+    }
+
+    /// Begins again, as before the first input. It takes no memory.
+    pub fn again(&mut self)
+        requires stands { Stands G.kept self.old }
+        ensures begins { BeginsAgain G.kept self.old self.new }
+        ensures keeps { HoldsTheSame G.kept self.old self.new }
+    {
+        self.place.start_anew(self.g.game());
+        self.has_given = false;
     }
 
     /// Ends the play: all that it owns is spent.
@@ -216,6 +276,7 @@ impl<G: Regions> Counterstrategy<G> {
             place: _place,
             has_given: _has_given,
             given: _given,
+            rank: _rank,
             judge: _judge,
         } = self;
         EnvLayers { layers }.spend_all(&mut g);

@@ -6,8 +6,9 @@
 //!
 //! Contract: `Counterstrategy`, for each noted play that it stands for: `first` and `reply` write the input that is given,
 //! `reply` answers the note of the position that it completes, `legal` names the first guarantee or monitor's line that an
-//! output breaks, and `close` spends all that is held. Only `Counterstrategy::make` takes memory: it makes the moves into
-//! each layer and each iterate, so that a position tries moves and reads regions, and makes none.
+//! output breaks, and `close` spends all that is held. `spot` tells where a play is, by its last state and what is remembered
+//! there, `go` goes to where any such play ends, and `again` to the start. Only `Counterstrategy::make` takes memory: it makes
+//! the moves into each layer and each iterate, so that a position tries moves and reads regions, and makes none.
 //! Path: layers → **counterstrategy** → lines.
 #![tactic(auto)]
 
@@ -18,5 +19,7 @@ mod kit;
 mod making;
 mod noting;
 mod remembered;
+mod spot;
 
 pub use counterstrategy::{Counterstrategy, Note};
+pub use spot::EnvSpot;

@@ -11,7 +11,8 @@ ghost use Rattle.gr1_law.specs.EnvLayers.{EnvLayerSets};
 ghost use Rattle.gr1_law.specs.Counter.{CounterMemory, next_assumption};
 ghost use Rattle.strategy_parts.specs.Owned.{RegionsAre, AreSomewhere};
 ghost use Rattle.counterstrategy.specs.Places.{memory_at};
-ghost use Rattle.counterstrategy.specs.Settled.{tops, holds_in};
+ghost use Rattle.strategy_parts.specs.Positions.{values_at};
+ghost use Rattle.counterstrategy.specs.Settled.{tops, holds_in, settled_at, AreThere};
 ghost use Rattle.counterstrategy.specs.Turns.{ServesReply};
 
 use crate::kit::Kit;
@@ -89,6 +90,27 @@ fn next_index<G: Regions>(g: &mut G, asms: &[G::R], before: usize, state: &[Valu
     }
 }
 
+/// Remembers the position that the place is after, by its layer, its goal and the assumption aimed at when it came.
+pub fn settle<G: Regions>(
+    g: &mut G,
+    kit: &Kit<G>,
+    place: &mut Remembered,
+    layer: usize,
+    goal: usize,
+    before: usize,
+)
+    requires { AreThere (G.kept g.old) kit.now goal before }
+    ensures settled { let k = G.kept g.old in (s : State) → IsTrue (is_state k.game s) → listed s ≡ values_at place.old.position → memory_at place.new ≡ settled_at k.game s layer goal before }
+    ensures position { place.new.position ≡ place.old.position }
+    ensures held { Stays (G.kept g.old) (G.kept g.new) }
+    ensures keeps { IsSameGame (G.kept g.old) (G.kept g.new) }
+{
+    let state = place.position.values();
+    let denying = !g.has(&kit.goals[goal], state);
+    let index = next_index(g, &kit.asms, before, state);
+    place.remember(denying, layer, goal, before, index);
+}
+
 /// Remembers the position that the place is after.
 pub fn note_position<G: Regions>(
     g: &mut G,
@@ -103,10 +125,7 @@ pub fn note_position<G: Regions>(
     ensures keeps { IsSameGame (G.kept g.old) (G.kept g.new) }
 {
     let (layer, goal, before) = aim(g, layers, place);
-    let state = place.position.values();
-    let denying = !g.has(&kit.goals[goal], state);
-    let index = next_index(g, &kit.asms, before, state);
-    place.remember(denying, layer, goal, before, index);
+    settle(g, kit, place, layer, goal, before);
 }
 
 /// The label of a goal.

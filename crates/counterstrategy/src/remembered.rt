@@ -1,11 +1,13 @@
 //! Where a play is, and what is remembered of it.
 
-ghost use Rattle.std.specs.Prelude.{◌≡◌, IfOk, None};
+ghost use Rattle.std.specs.Prelude.{◌≡◌, ◌+◌, ◌^◌, ◌<◌, suc, IfOk, None};
 ghost use Rattle.spec_model.specs.GameViews.{game_data};
+ghost use Rattle.spec_model.specs.Steps.{Before};
 ghost use Rattle.spec_model.specs.WellMade.{WellMade};
-ghost use Rattle.gr1_law.specs.Counter.{first_counter};
+ghost use Rattle.gr1_law.specs.Counter.{CounterMemory, first_counter};
 ghost use Rattle.counterstrategy.specs.Places.{IsAt};
 
+use crate::spot::EnvSpot;
 use spec_model::game::Game;
 use std::alloc::{AllocError, Global};
 use strategy_parts::Position;
@@ -36,6 +38,29 @@ impl Remembered {
             before: 0,
             index: 0,
         })
+    }
+
+    /// Stands before the first position again.
+    pub fn start_anew(&mut self, game: &Game)
+        requires { (b : Before) × (k : CounterMemory) × IsAt (game_data game.now) self.old b k }
+        ensures { IsAt (game_data game.now) self.new None first_counter }
+    {
+        self.position.start_anew(game);
+        self.remember(false, 0, 0, 0, 0);
+    }
+
+    /// What is remembered, as a spot with this rank.
+    pub fn spot(&self, rank: usize) -> EnvSpot
+        requires goal { self.now.goal + 1 < 2 ^ 32 }
+        requires asm { self.now.before + 1 < 2 ^ 32 }
+        ensures { result ≡ record { layer = self.now.layer; goal = suc self.now.goal; asm = suc self.now.before; rank = rank } }
+    {
+        EnvSpot {
+            layer: self.layer as u64,
+            goal: self.goal as u32 + 1,
+            asm: self.before as u32 + 1,
+            rank: rank as u64,
+        }
     }
 
     /// Remembers what is noted of a position.

@@ -10,6 +10,7 @@
 mod choices;
 mod finding;
 mod make;
+mod moves;
 mod numbered;
 mod options;
 mod places;
@@ -17,5 +18,6 @@ mod states;
 
 pub use choices::place;
 pub use make::{number, state_count};
+pub use moves::{all_inputs, all_outputs, count_all_inputs, count_all_outputs};
 pub use numbered::Numbered;
 pub use options::PAST;

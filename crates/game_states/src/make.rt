@@ -2,15 +2,15 @@
 
 ghost use Rattle.std.specs.Prelude.{◌≡◌, min, map, length, IfOk};
 ghost use Rattle.spec_model.specs.GameViews.{game_data};
-ghost use Rattle.spec_model.specs.Games.{inputs_of, outputs_of};
 ghost use Rattle.spec_model.specs.Moves.{has_next};
 ghost use Rattle.spec_model.specs.Steps.{states_of, hidden_values, waits_for_output};
 ghost use Rattle.spec_model.specs.WellMade.{WellMade};
 ghost use Rattle.game_states.specs.Numbers.{hidden_choices};
 
 use crate::choices::choices_of;
+use crate::moves::{all_inputs, all_outputs};
 use crate::numbered::Numbered;
-use crate::options::{count_hidden, count_owned, hidden_numbers, hidden_options, options_of};
+use crate::options::{count_hidden, count_owned, hidden_numbers, hidden_options};
 use crate::states::read_all;
 use game_values::late::{nexts, waits};
 use spec_model::game::Game;
@@ -25,22 +25,6 @@ pub fn state_count(game: &Game) -> usize
     let outputs = count_owned(&game.vars, Owner::Sys, 1);
     let moves = count_owned(&game.vars, Owner::Env, outputs);
     count_hidden(&game.hidden, moves)
-}
-
-fn all_inputs(alloc: Global, game: &Game) -> Result<Vec<Vec<Value>>, AllocError>
-    requires { WellMade (game_data game.now) }
-    ensures { IfOk result (λ all. map (λ c. c.items) all.items ≡ inputs_of (game_data game.now)) }
-{
-    let options = options_of(alloc, &game.vars, Owner::Env)?;
-    choices_of(alloc, &options)
-}
-
-fn all_outputs(alloc: Global, game: &Game) -> Result<Vec<Vec<Value>>, AllocError>
-    requires { WellMade (game_data game.now) }
-    ensures { IfOk result (λ all. map (λ c. c.items) all.items ≡ outputs_of (game_data game.now)) }
-{
-    let options = options_of(alloc, &game.vars, Owner::Sys)?;
-    choices_of(alloc, &options)
 }
 
 fn all_hidden(alloc: Global, game: &Game) -> Result<Vec<Vec<Value>>, AllocError>

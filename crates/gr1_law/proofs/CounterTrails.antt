@@ -1,5 +1,5 @@
 -- What is remembered at each position of an answered play.
-use Rattle.std.proofs.Common.{◌≡◌, ℕ, suc, ◌+◌, ◌<◌, ◌⊎◌, inl, inr, Bool, true, false, if◌then◌else◌, cond, List, [], ◌∷◌, ◌++◌, length, take, slice_get, count_by, Some, None, refl, sym, ◌∙◌, ap, subst, arith, IsTrue}
+use Rattle.std.proofs.Common.{◌≡◌, ℕ, suc, ◌+◌, ◌<◌, ◌≤◌, ◌⊎◌, inl, inr, Bool, true, false, if◌then◌else◌, cond, List, [], ◌∷◌, ◌++◌, length, take, slice_get, count_by, Some, None, refl, sym, ◌∙◌, ap, subst, arith, IsTrue}
 use Rattle.std.proofs.lemmas.Bool.{and_from, false≢true}
 use Rattle.std.proofs.lemmas.List.{length_push, take-append-le, take_all}
 use Rattle.std.proofs.lemmas.List.Sums.{sum_by_push}
@@ -20,7 +20,8 @@ use Rattle.gr1_law.proofs.Lengthening.{with_last, with_last-here, with_last-befo
 use Rattle.gr1_law.proofs.Solutions.{least-one}
 use Rattle.gr1_law.proofs.CounterSteps.{CounterReady, CounterStands, CounterStep, counter_step, ready_after, given_input, given_legal, given_leads, in_iterate, stands_next}
 
--- After a shift the layer falls. After a denial the layer and the goal stay, and where the assumption aimed at fails the rank falls.
+-- After a shift the layer falls. After a denial the layer and the goal stay, where the assumption aimed at fails the rank falls, and it
+-- is at most the number of the iterate that the input leads into.
 pub record IsFollowed (g : GameData) (e : EnvLayerSets) (s s' : State) (k k' : CounterMemory) : Type 0 where
   pub shifts : k.denying ≡ false → k'.layer < k.layer
   pub layer : k.denying ≡ true → k'.layer ≡ k.layer
@@ -28,6 +29,7 @@ pub record IsFollowed (g : GameData) (e : EnvLayerSets) (s s' : State) (k k' : C
   pub before : k.denying ≡ true → k'.before ≡ k.index
   pub lower : k.denying ≡ true → assumption_set g k.before s ≡ false → (rank rank' : ℕ) → IsLeastNumber (λ r. IsTrue (e.x k.layer k.goal k.before r s)) rank →
       IsLeastNumber (λ r. IsTrue (e.x k'.layer k'.goal k'.before r s')) rank' → rank' < rank
+  pub reaches : k.denying ≡ true → (r : ℕ) (x : Assignment) → IsGiven g e (Some s) k r x → (rank' : ℕ) → IsLeastNumber (λ r. IsTrue (e.x k'.layer k'.goal k'.before r s')) rank' → rank' ≤ r
 
 -- what is remembered at each position, the last being the one at the end
 pub record CounterTrail (g : GameData) (e : EnvLayerSets) (n : ℕ) (h : Run) (notes : List NoteData) (k : CounterMemory) : Type 0 where
@@ -47,55 +49,65 @@ pub record Answered (g : GameData) (e : EnvLayerSets) (n : ℕ) (h : Run) (notes
   pub counted : length notes ≡ length h
 
 module _ (g : GameData) (e : EnvLayerSets) (of : AreEnvLayers g e) (n : ℕ) where
-  module _ (s : State) (k : CounterMemory) (stands : CounterStands g e n s k) (r : ℕ) (x : Assignment) (given : IsGiven g e (Some s) k r x) (s' : State) (led : IsTrue (targets e k r s')) (k' : CounterMemory) (noted : IsNoted g e k s' k') where
-    lowers : k.denying ≡ true → assumption_set g k.before s ≡ false → (rank' : ℕ) → IsLeastNumber (λ r. IsTrue (e.x k'.layer k'.goal k'.before r s')) rank' → rank' < stands.rank
-    lowers denying fails rank' least' = by_step (counter_step g e of n s k stands)
+  module _ (s : State) (k : CounterMemory) (stands : CounterStands g e n s k) (r : ℕ) (x : Assignment) (given : IsGiven g e (Some s) k r x) where
+    -- where the assumption aimed at fails, a lower iterate than the state's can be forced, and the input leads into the first that can be
+    pub given_lower : k.denying ≡ true → assumption_set g k.before s ≡ false → r < stands.rank
+    given_lower denying fails = by_step (counter_step g e of n s k stands)
       where
-        same : (k'.layer ≡ k.layer) × (k'.goal ≡ k.goal) × (k'.before ≡ k.index)
-        same = noted.stays denying
-
-        here : IsTrue (e.x k'.layer k'.goal k'.before r s')
-        here =
-            subst (λ (a : ℕ). IsTrue (e.x a k'.goal k'.before r s')) (sym same.0)
-            (subst (λ (j : ℕ). IsTrue (e.x k.layer j k'.before r s')) (sym same.1)
-            (subst (λ (i : ℕ). IsTrue (e.x k.layer k.goal i r s')) (sym same.2) (in_iterate g e of n (Some s) k r x given s' led denying)))
-
-        by_step : CounterStep g e s k stands.low stands.rank → rank' < stands.rank
+        by_step : CounterStep g e s k stands.low stands.rank → r < stands.rank
         by_step (CounterStep.shift shifts down) = absurd (false≢true (sym shifts ∙ denying))
         by_step (CounterStep.met denying' holds aims q on) = absurd (false≢true (sym fails ∙ holds))
         by_step (CounterStep.missed denying' aims q is on) =
             let number_low : q < r → ⊥ = λ less. given.number.none_before q less (subst (λ (d : Bool). environment_forces g ((if d then e.x k.layer k.goal k.index else e.z) q) (Some s) ≡ true) (sym denying) on) in
-            let rank_low : r < rank' → ⊥ = λ less. least'.none_before r less here in
-            grind (arith, number_low, rank_low, is)
+            grind (arith, number_low, is)
 
-    -- where the goal holds, the layer below can be forced, and the input leads into the first that can be
-    layer_falls : k.denying ≡ false → k'.layer < k.layer
-    layer_falls shifting = by_step (counter_step g e of n s k stands)
+    -- where the goal holds, so can the layer below
+    pub given_below : k.denying ≡ false → r < k.layer
+    given_below shifting = by_step (counter_step g e of n s k stands)
       where
-        here : IsTrue (e.z r s')
-        here = subst (λ (d : Bool). IsTrue ((if d then e.x k.layer k.goal k.index else e.z) r s')) shifting led
-
-        at_most : r < k'.layer → ⊥
-        at_most less = (noted.anew shifting).0.none_before r less here
-
-        by_step : CounterStep g e s k stands.low stands.rank → k'.layer < k.layer
+        by_step : CounterStep g e s k stands.low stands.rank → r < k.layer
         by_step (CounterStep.shift shifts down) =
             let number_low : stands.low < r → ⊥ = λ less. given.number.none_before stands.low less (subst (λ (d : Bool). environment_forces g ((if d then e.x k.layer k.goal k.index else e.z) stands.low) (Some s) ≡ true) (sym shifting) down) in
-            grind (arith, number_low, at_most, stands.layer)
+            grind (arith, number_low, stands.layer)
         by_step (CounterStep.met denying holds aims q on) = absurd (false≢true (sym shifting ∙ denying))
         by_step (CounterStep.missed denying aims q is on) = absurd (false≢true (sym shifting ∙ denying))
 
-    followed : IsFollowed g e s s' k k'
-    followed =
-        record {
-          shifts = layer_falls;
-          layer = λ denying. (noted.stays denying).0;
-          goal = λ denying. (noted.stays denying).1;
-          before = λ denying. (noted.stays denying).2;
-          lower = λ denying fails rank rank' least least'.
-              let is : rank ≡ stands.rank = least-one (λ r. IsTrue (e.x k.layer k.goal k.before r s)) rank stands.rank least stands.ranked in
-              omega (arith, is, lowers denying fails rank' least');
-        }
+    module _ (s' : State) (led : IsTrue (targets e k r s')) (k' : CounterMemory) (noted : IsNoted g e k s' k') where
+      -- the new state is in the iterate
+      reaches : k.denying ≡ true → (rank' : ℕ) → IsLeastNumber (λ r. IsTrue (e.x k'.layer k'.goal k'.before r s')) rank' → rank' ≤ r
+      reaches denying rank' least' =
+          let same = noted.stays denying in
+          let here : IsTrue (e.x k'.layer k'.goal k'.before r s') =
+          subst (λ (a : ℕ). IsTrue (e.x a k'.goal k'.before r s')) (sym same.0)
+          (subst (λ (j : ℕ). IsTrue (e.x k.layer j k'.before r s')) (sym same.1)
+          (subst (λ (i : ℕ). IsTrue (e.x k.layer k.goal i r s')) (sym same.2) (in_iterate g e of n (Some s) k r x given s' led denying))) in
+          let rank_low : r < rank' → ⊥ = λ less. least'.none_before r less here in
+          grind (arith, rank_low)
+
+      layer_falls : k.denying ≡ false → k'.layer < k.layer
+      layer_falls shifting =
+          let here : IsTrue (e.z r s') = subst (λ (d : Bool). IsTrue ((if d then e.x k.layer k.goal k.index else e.z) r s')) shifting led in
+          let at_most : r < k'.layer → ⊥ = λ less. (noted.anew shifting).0.none_before r less here in
+          let below = given_below shifting in
+          grind (arith, at_most, below)
+
+      pub follows_on : IsFollowed g e s s' k k'
+      follows_on =
+          record {
+            shifts = layer_falls;
+            layer = λ denying. (noted.stays denying).0;
+            goal = λ denying. (noted.stays denying).1;
+            before = λ denying. (noted.stays denying).2;
+            lower = λ denying fails rank rank' least least'.
+                let is : rank ≡ stands.rank = least-one (λ r. IsTrue (e.x k.layer k.goal k.before r s)) rank stands.rank least stands.ranked in
+                let most = reaches denying rank' least' in
+                let less = given_lower denying fails in
+                omega (arith, is, most, less);
+            reaches = λ denying r' x' given' rank' least'.
+                let is : r' ≡ r = least-one (λ r. IsTrue (environment_forces g (targets e k r) (Some s))) r' r given'.number given.number in
+                let most = reaches denying rank' least' in
+                omega (arith, is, most);
+          }
 
   module _ (h : Run) (notes : List NoteData) (b : Before) (k : CounterMemory) (r : ℕ) (x y : Assignment) (k' : CounterMemory) (play : AnsweredPlay g e h notes b k) (answered : Answered g e n h notes b k) (given : IsGiven g e b k r x) (output : is_output g y ≡ true) (legal : legal_output g b x y ≡ true) (noted : IsNoted g e k (reached g b x y) k') where
     abbrev p : Position
@@ -152,7 +164,7 @@ module _ (g : GameData) (e : EnvLayerSets) (of : AreEnvLayers g e) (n : ℕ) whe
         let is : b ≡ Some (state_at g h t) = answered.state ∙ ap (before_at g h) (sym same) in
         let last = answered.trail.last t same in
         subst (λ (k : CounterMemory). IsFollowed g e (state_at g h t) (reached g b x y) k k') (sym last)
-        (followed (state_at g h t) k (subst (CounterStands g e n (state_at g h t)) last (answered.trail.stands t (omega (arith, same)))) r x (subst (λ (b : Before). IsGiven g e b k r x) is given) (reached g b x y) led k' noted)
+        (follows_on (state_at g h t) k (subst (CounterStands g e n (state_at g h t)) last (answered.trail.stands t (omega (arith, same)))) r x (subst (λ (b : Before). IsGiven g e b k r x) is given) (reached g b x y) led k' noted)
 
     follows_at : (t : ℕ) → (suc t < length h) ⊎ (suc t ≡ length h) → IsFollowed g e (state_at g (after h x y) t) (state_at g (after h x y) (suc t)) (memory t) (memory (suc t))
     follows_at t (inl less) =
@@ -223,3 +235,11 @@ module _ (g : GameData) (e : EnvLayerSets) (of : AreEnvLayers g e) (n : ℕ) whe
         counted = refl;
       }
   answered _ _ _ _ start (AnsweredPlay.more h notes b k r x y k' play given output legal noted) = longer h notes b k r x y k' play (answered h notes b k start play) given output legal noted
+
+  -- what is remembered at the end tells of the last state
+  pub stands_at_end : (h : Run) (notes : List NoteData) (b : Before) (k : CounterMemory) → environment_forces g (e.z n) None ≡ true → AnsweredPlay g e h notes b k → (s : State) → b ≡ Some s → CounterStands g e n s k
+  stands_at_end _ _ _ _ start AnsweredPlay.nothing s is = absurd (let none : None ≡ Some s = is in cc)
+  stands_at_end _ _ _ _ start (AnsweredPlay.more h notes b k r x y k' play given output legal noted) s is =
+      let same : reached g b x y ≡ s = let e : Some (reached g b x y) ≡ Some s = is in cc in
+      subst (λ (s : State). CounterStands g e n s k') same
+      (stands_next g e of n b k r x given (reached g b x y) (given_leads g e of n b k r x given y output legal) (answered h notes b k start play).ready k' noted)

@@ -52,7 +52,7 @@ module _ (g : GameData) (e : EnvLayerSets) (of : AreEnvLayers g e) (n : ℕ) whe
       low_in : stands.low < n
       low_in = omega (arith, stands.few, stands.layer)
 
-      counted : length (counts k.layer k.goal) ≡ length (assumption_sets g)
+      pub counted : length (counts k.layer k.goal) ≡ length (assumption_sets g)
       counted = subst (λ (a : ℕ). length (counts a k.goal) ≡ length (assumption_sets g)) (sym stands.layer) (are.counted stands.low k.goal low_in stands.goal_in)
 
       settled : e.x k.layer k.goal k.before (slice_index (counts k.layer k.goal) k.before) ≡ e.x k.layer k.goal k.before (suc (slice_index (counts k.layer k.goal) k.before))
@@ -61,21 +61,21 @@ module _ (g : GameData) (e : EnvLayerSets) (of : AreEnvLayers g e) (n : ℕ) whe
           (are.each stands.low k.goal k.before low_in stands.goal_in stands.before_in).here
 
       -- all counts together are fewer than M
-      sum_few : sum (counts k.layer k.goal) < denial_count g n counts
+      pub sum_few : sum (counts k.layer k.goal) < denial_count g n counts
       sum_few =
           let goals = at_most-most (λ j. sum (counts (suc stands.low) j)) (length (goal_sets g)) k.goal stands.goal_in in
           let layers = at_most-most (λ a. most (λ j. sum (counts (suc a) j)) (length (goal_sets g))) n stands.low low_in in
           let same : sum (counts k.layer k.goal) ≡ sum (counts (suc stands.low) k.goal) = ap (λ (a : ℕ). sum (counts a k.goal)) stands.layer in
           omega (arith, goals, layers, same)
 
-      is_of_game : is_state g s ≡ true
+      pub is_of_game : is_state g s ≡ true
       is_of_game = (and_parts _ _ (iterate_some g e of k.layer stands.low stands.layer k.goal k.before stands.rank s stands.ranked.here).2.stays).0
 
       module _ (rank : ℕ) (ranked : RankedBy s k rank) where
-        rank_some : 1 ≤ rank
+        pub rank_some : 1 ≤ rank
         rank_some = let some = iterate_some g e of k.layer stands.low stands.layer k.goal k.before rank s ranked.here in omega (arith, some.1)
 
-        rank_at_most : rank ≤ slice_index (counts k.layer k.goal) k.before
+        pub rank_at_most : rank ≤ slice_index (counts k.layer k.goal) k.before
         rank_at_most =
             let told = delays_at g e of k.layer stands.low stands.layer k.goal k.before in
             let last = slice_index (counts k.layer k.goal) k.before in
@@ -98,10 +98,10 @@ module _ (g : GameData) (e : EnvLayerSets) (of : AreEnvLayers g e) (n : ℕ) whe
       abbrev rank : ℕ → ℕ
       rank = rank_at h notes k trail
 
-      some_at : (t : ℕ) → t < length h → 1 ≤ rank_at h notes k trail t
+      pub some_at : (t : ℕ) → t < length h → 1 ≤ rank_at h notes k trail t
       some_at t inner = rank_some (state_at g h t) (trail.memory t) (stands t inner) (rank_at h notes k trail t) (ranked_at h notes k trail t inner)
 
-      most_at : (t : ℕ) → t < length h → rank_at h notes k trail t ≤ slice_index (counts (trail.memory t).layer (trail.memory t).goal) (trail.memory t).before
+      pub most_at : (t : ℕ) → t < length h → rank_at h notes k trail t ≤ slice_index (counts (trail.memory t).layer (trail.memory t).goal) (trail.memory t).before
       most_at t inner = rank_at_most (state_at g h t) (trail.memory t) (stands t inner) (rank_at h notes k trail t) (ranked_at h notes k trail t inner)
 
       pub followed : FollowedTrail g n (denial_count g n counts) counts h notes trail.memory (rank_at h notes k trail)

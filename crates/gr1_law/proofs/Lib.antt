@@ -31,6 +31,8 @@ pub mod CounterTrails
 pub mod Denied
 pub mod CounterRounds
 pub mod Following
+pub mod Givens
+pub mod FollowedPlays
 pub mod CounterBeats
 pub mod Labels
 pub mod OneSide

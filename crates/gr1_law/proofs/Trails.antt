@@ -138,6 +138,12 @@ module _ (g : GameData) (z : StateSet) (l : LayerSets) (w : IsWinning g z l) (ra
       }
   played _ _ _ start (ChosenPlay.more h b m x y m' play input legal c) = longer h b m x y m' play (played h b m start play) input legal c
 
+  -- no rank is above its goal's greatest one
+  pub rank_at_most : (s : State) (m : Memory) → Standing g l s m → m.rank ≤ slice_index ranks m.goal
+  rank_at_most s m standing =
+      let no_less : slice_index ranks m.goal < m.rank → ⊥ = λ less. standing.rank.none_before (slice_index ranks m.goal) less (in_last g z l w ranks greatest m.goal m.rank standing.goal_in s standing.rank.here) in
+      grind (arith, no_less)
+
   -- what is remembered at the positions of a chosen play makes its ranks fall
   pub ranked : (h : Run) (m : Memory) (trail : Trail g l h m) → RankedTrail g ranks h trail.memory
   ranked h m trail =
@@ -150,8 +156,3 @@ module _ (g : GameData) (z : StateSet) (l : LayerSets) (w : IsWinning g z l) (ra
         rank_most = λ t inner. rank_at_most (state_at g h t) (trail.memory t) (trail.standing t inner);
         moves = trail.moves;
       }
-    where
-      rank_at_most : (s : State) (m : Memory) → Standing g l s m → m.rank ≤ slice_index ranks m.goal
-      rank_at_most s m standing =
-          let no_less : slice_index ranks m.goal < m.rank → ⊥ = λ less. standing.rank.none_before (slice_index ranks m.goal) less (in_last g z l w ranks greatest m.goal m.rank standing.goal_in s standing.rank.here) in
-          grind (arith, no_less)

@@ -10,4 +10,5 @@ pub mod EnvLaws
 pub mod Counter
 pub mod Trails
 pub mod CounterLaws
+pub mod FollowedPlays
 pub mod CoreLaws

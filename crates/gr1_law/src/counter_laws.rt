@@ -4,6 +4,7 @@ ghost use Rattle.spec_model.specs.Games.{GameData};
 ghost use Rattle.spec_model.specs.WellMade.{WellMade};
 ghost use Rattle.gr1_law.specs.EnvLayers.{EnvLayerSets};
 ghost use Rattle.gr1_law.specs.CounterLaws.{LabelsDiffer, AnsweredPlaysBeat, LosingIsUnrealizable, AnswerIsOne, DenialsLower};
+ghost use Rattle.gr1_law.specs.FollowedPlays.{AnsweredPlaysAreFollowed};
 
 /// What is remembered and the state determine the next input; and with the state that it leads to what is remembered then.
 pub fn answer_is_one()
@@ -25,4 +26,10 @@ pub fn losing_is_unrealizable()
 /// assumption aimed at, and the hold's greatest ranks for the assumptions from there on up to the one that fails.
 pub fn denials_lower()
     ensures { (g : GameData) → DenialsLower g }
+{}
+
+/// What is remembered along such a run waits for the assumptions that are aimed at, by ranks that fall; and each input leads into a
+/// set whose number falls with them.
+pub fn answered_plays_are_followed()
+    ensures { (g : GameData) → AnsweredPlaysAreFollowed g }
 {}

@@ -14,3 +14,4 @@ pub mod Limits
 pub mod GoalParts
 pub mod Making
 pub mod FewBits
+pub mod FewGoals

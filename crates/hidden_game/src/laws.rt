@@ -1,6 +1,6 @@
 //! What holds of every specification and its game.
 
-ghost use Rattle.std.specs.Prelude.{◌≡◌};
+ghost use Rattle.std.specs.Prelude.{◌≡◌, ◌<◌, ◌^◌, length};
 ghost use Rattle.spec_model.specs.Syntax.{Specification};
 ghost use Rattle.spec_model.specs.Agreement.{Agrees};
 ghost use Rattle.spec_model.specs.Laws.{NumbersRise};
@@ -20,4 +20,10 @@ pub fn games_agree()
 /// The lines of a well-typed specification are numbered in text order.
 pub fn lines_rise()
     ensures { (s : Specification) → WellTyped s → NumbersRise s.lines }
+{}
+
+/// The game of a well-typed specification has fewer than 2^32 goals, and fewer than 2^32 assumptions.
+pub fn goals_are_few()
+    ensures goals { (s : Specification) → WellTyped s → length (game_of s).goals < 2 ^ 32 }
+    ensures asms { (s : Specification) → WellTyped s → length (game_of s).assume < 2 ^ 32 }
 {}

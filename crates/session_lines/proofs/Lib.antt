@@ -2,6 +2,7 @@ mod Assigned
 mod Feeds
 mod GivenValues
 pub mod HandingLemmas
+mod InOrder
 mod OneReading
 mod Printing
 mod Rooms

@@ -141,7 +141,7 @@ weaken_known v vs (w ∷ ws) known =
     let parts = and_parts (names_one vs w) (list_all (names_one vs) ws) known in
     ap (λ (b : Bool). b && list_all (names_one (v ∷ vs)) ws) (or_right (is_some (after_name v.name w)) (names_one vs w) parts.0) ∙ weaken_known v vs ws parts.1
 
-items_known : (names : List (List ℕ)) (vs : List VariableData) (xs : Assignment) → list_all (names_one vs) (items_of names vs xs) ≡ true
+pub items_known : (names : List (List ℕ)) (vs : List VariableData) (xs : Assignment) → list_all (names_one vs) (items_of names vs xs) ≡ true
 items_known names [] xs = refl
 items_known names (v ∷ vs) [] = refl
 items_known names (v ∷ vs) (x ∷ xs) =
@@ -150,7 +150,7 @@ items_known names (v ∷ vs) (x ∷ xs) =
 
 -- ---- each variable has its value
 
-abbrev GivesNone : List (List ℕ) → List VariableData → Type 0
+abbrev pub GivesNone : List (List ℕ) → List VariableData → Type 0
 GivesNone ws [] = Unit {0}
 GivesNone ws (v ∷ vs) = (texts_given v ws ≡ []) × GivesNone ws vs
 
@@ -182,11 +182,11 @@ item_none names ws v x (u ∷ vs) plain others none = (
   item_none names ws v x vs plain others.2 none.1,
 )
 
-none_given : (vs : List VariableData) → GivesNone [] vs
+pub none_given : (vs : List VariableData) → GivesNone [] vs
 none_given [] = tt
 none_given (v ∷ vs) = (refl, none_given vs)
 
-items_given : (names before : List (List ℕ)) (vs : List VariableData) (xs : Assignment) → ArePlain (map (λ v. v.name) vs) → GivesNone before vs → is_assignment (domains vs) xs ≡ true
+pub items_given : (names before : List (List ℕ)) (vs : List VariableData) (xs : Assignment) → ArePlain (map (λ v. v.name) vs) → GivesNone before vs → is_assignment (domains vs) xs ≡ true
     → AreGiven names (before ++ items_of names vs xs) vs xs
 items_given names before [] [] plain none within = tt
 items_given names before [] (x ∷ xs) plain none within = cc

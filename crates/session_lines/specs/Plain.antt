@@ -1,5 +1,5 @@
 -- Which names may stand on lines, so that what is shown is read again and reads as nothing else.
-use Rattle.std.specs.Prelude.{◌≡◌, ℕ, ◌<◌, ◌^◌, false, ◌||◌, ◌==◌, List, [], ◌∷◌, length, slice_index_or}
+use Rattle.std.specs.Prelude.{◌≡◌, ℕ, ◌<◌, ◌^◌, Bool, true, false, not, ◌&&◌, ◌||◌, ◌==◌, List, [], ◌∷◌, length, slice_index_or}
 use Rattle.std.specs.List.{list_any}
 use Rattle.std.specs.Str.{bytes_eq}
 use lib.Signed.{mag}
@@ -19,6 +19,11 @@ IsPlain name = list_any (λ c. is_blank c || c == 61) name ≡ false
 abbrev pub ArePlain : List (List ℕ) → Type 0
 ArePlain [] = Unit {0}
 ArePlain (name ∷ names) = IsPlain name × (list_any (bytes_eq name) names ≡ false) × ArePlain names
+
+-- the same as a test
+abbrev pub are_plain : List (List ℕ) → Bool
+are_plain [] = true
+are_plain (name ∷ names) = not (list_any (λ c. is_blank c || c == 61) name) && (not (list_any (bytes_eq name) names) && are_plain names)
 
 -- the numbers are of 64 bits, and the names are there
 abbrev pub IsWritable : List (List ℕ) → DomainData → Type 0

@@ -11,6 +11,7 @@ pub mod laws;
 mod lines;
 mod make;
 mod number;
+mod plain;
 mod print;
 mod read;
 mod reader;

@@ -118,12 +118,7 @@ impl Lines {
         ensures keeps { KeepsTables self.old self.new }
         ensures reader { KeepsReader self.old self.new }
     {
-        read_line(
-            &self.names,
-            &self.wanted.vars,
-            self.reader.line(),
-            &mut self.wanted.values,
-        )
+        read_line(&self.names, &mut self.wanted, self.reader.line())
     }
 
     /// Whether these are values of the shown variables, one for each.

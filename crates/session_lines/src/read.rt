@@ -1,14 +1,15 @@
 //! Reading the assignment of a line.
 
-ghost use Rattle.std.specs.Prelude.{◌≡◌, length, map, string_bytes, IfSome, IfNone};
+ghost use Rattle.std.specs.Prelude.{◌≡◌, [], length, map, string_bytes, IfSome, IfNone};
 ghost use Rattle.std.specs.Bool.{OnTrue, OnFalse};
 ghost use Rattle.spec_model.specs.declared.value.Value.{Value};
 ghost use Rattle.spec_model.specs.Values.{Assignment};
 ghost use Rattle.spec_model.specs.Views.{variable_data};
-ghost use Rattle.session_lines.specs.Reading.{words, IsGiven, Reads};
+ghost use Rattle.session_lines.specs.Reading.{words, IsGiven, Reads, BeginsWith};
 
+use crate::row::Row;
 use crate::value::value_in;
-use crate::word::{all_known, one_text};
+use crate::word::{all_known, first_item, one_text};
 use spec_model::value::{Value, Var};
 
 // The value that a line gives a variable.
@@ -22,8 +23,28 @@ fn value_given(names: &[String], var: &Var, line: &[u8]) -> Option<Value>
     }
 }
 
-/// Reads a line into `values`, and says whether it reads as an assignment. It takes no memory.
-pub fn read_line(names: &[String], vars: &[Var], line: &[u8], values: &mut [Value]) -> bool
+// Reads a line that has the items of the variables in their order, as lines are printed. It looks at each word once.
+fn read_in_order(names: &[String], vars: &[Var], line: &[u8], values: &mut [Value]) -> bool
+    requires { length values.old ≡ length vars.now }
+    ensures items { OnTrue result (BeginsWith (map string_bytes names.now) (map variable_data vars.now) values.new line.now []) }
+    ensures places { length values.new ≡ length values.old }
+{
+    let mut rest = line;
+    for (i, var) in vars.iter().enumerate() {
+        let Some((text, after)) = first_item(var, rest) else {
+            return false;
+        };
+        let Some(value) = value_in(names, &var.domain, text) else {
+            return false;
+        };
+        values[i] = value;
+        rest = after;
+    }
+    rest.is_empty()
+}
+
+// Reads a line that has the items of the variables in any order.
+fn read_in_any_order(names: &[String], vars: &[Var], line: &[u8], values: &mut [Value]) -> bool
     requires { length values.old ≡ length vars.now }
     ensures read { OnTrue result (Reads (map string_bytes names.now) (map variable_data vars.now) line.now values.new) }
     ensures refused { OnFalse result ((xs : Assignment) → Reads (map string_bytes names.now) (map variable_data vars.now) line.now xs → ⊥) }
@@ -38,4 +59,19 @@ pub fn read_line(names: &[String], vars: &[Var], line: &[u8], values: &mut [Valu
         }
     }
     true
+}
+
+/// Reads a line into the values of a row, and says whether it reads as an assignment of its variables. It takes no memory.
+pub fn read_line(names: &[String], row: &mut Row, line: &[u8]) -> bool
+    ensures read { OnTrue result (Reads (map string_bytes names.now) (map variable_data row.new.vars.items) line.now row.new.values.items) }
+    ensures refused { OnFalse result ((xs : Assignment) → Reads (map string_bytes names.now) (map variable_data row.new.vars.items) line.now xs → ⊥) }
+    ensures keeps { row.new.vars ≡ row.old.vars }
+{
+    if !row.plain {
+        return read_in_any_order(names, &row.vars, line, &mut row.values);
+    }
+    if read_in_order(names, &row.vars, line, &mut row.values) {
+        return true;
+    }
+    read_in_any_order(names, &row.vars, line, &mut row.values)
 }

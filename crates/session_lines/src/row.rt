@@ -3,18 +3,25 @@
 ghost use Rattle.std.specs.Prelude.{◌≡◌, ◌++◌, [], map, vec_len, IfOk};
 ghost use Rattle.spec_model.specs.Moves.{is_env, is_of};
 ghost use Rattle.spec_model.specs.Views.{variable_data};
+ghost use Rattle.session_lines.specs.Plain.{are_plain};
 
 use crate::make::push_vars_of;
+use crate::plain::are_plain;
 use sp_outside::OutOfMemory;
 use spec_model::value::{Owner, Value, Var};
 use std::alloc::Global;
 
 /// Variables in declared order, and a value for each: what a line is read as, or what is shown on one.
+///
+/// `plain` tells that no word can be an item of two of them, so that a line with one item of each in their order reads as an
+/// assignment.
 #[derive(Drop)]
 pub struct Row {
     pub vars: Vec<Var>,
     pub values: Vec<Value>,
+    pub(crate) plain: bool,
     ghost places: { vec_len values ≡ vec_len vars },
+    ghost plainly: { plain ≡ are_plain (map (λ v. v.name) (map variable_data vars.items)) },
 }
 
 impl Row {
@@ -51,6 +58,11 @@ impl Row {
         ensures { IfOk result (λ row. row.vars.items ≡ vars.items) }
     {
         let values = vec![in alloc; Value::Bool(false); vars.len()]?;
-        Ok(Row { vars, values })
+        let plain = are_plain(&vars);
+        Ok(Row {
+            vars,
+            values,
+            plain,
+        })
     }
 }

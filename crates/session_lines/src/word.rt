@@ -9,7 +9,7 @@ ghost use Rattle.session_lines.specs.Reading.{is_blank as blank_test, words, aft
 use spec_model::value::Var;
 
 /// Whether a byte separates words.
-fn is_blank(byte: u8) -> bool
+pub fn is_blank(byte: u8) -> bool
     ensures { result ≡ blank_test byte }
 {
     byte == b' ' || byte == b'\t'
@@ -50,6 +50,20 @@ fn text_in<'a>(name: &str, word: &'a [u8]) -> Option<&'a [u8]>
 {
     match word.strip_prefix(name.as_bytes()) {
         Some(after) => text_after_sign(after),
+        None => None,
+    }
+}
+
+/// The text of the variable's item, where a line begins with that item, and what follows it.
+pub fn first_item<'a>(var: &Var, line: &'a [u8]) -> Option<(&'a [u8], &'a [u8])>
+    ensures { IfSome result (λ found. words line.now ≡ ((variable_data var.now).name ++ 61 ∷ found.0.now) ∷ words found.1.now) }
+{
+    if line.is_empty() {
+        return None;
+    }
+    let (word, after) = cut(line);
+    match text_in(&var.name, word) {
+        Some(text) => Some((text, after)),
         None => None,
     }
 }

@@ -1,4 +1,5 @@
--- What those who ask a shelf for a part of a file learn of it.
+-- What those who ask a shelf for a part of a file learn of it, and what is taken of an input.
+use Rattle.std.specs.Io.KnownBytes.{Consumes, IsAtEnd}
 use Rattle.std.specs.Prelude.{◌≡◌, ℕ, ◌-◌, ◌<◌, ◌≤◌, List, [], length, take, drop, Option, None, Some, Result, Ok, Err}
 
 -- the bytes are the first of the file, as many as the limit lets; where there is no file, it lets none
@@ -20,3 +21,9 @@ GivesPart (Some file) from (Err e) buf = Unit {0}
 GivesPart (Some file) from (Ok None) buf = file ≡ None
 GivesPart (Some None) from (Ok (Some n)) buf = ⊥
 GivesPart (Some (Some bytes)) from (Ok (Some n)) buf = IsPart bytes from n buf
+
+-- the bytes were taken from the front of what an input had left: as many as the limit lets, or all
+pub record TakesUpTo (limit : ℕ) (left_old left_new : Option (List ℕ)) (bytes : List ℕ) : Type 0 where
+  pub taken : Consumes left_old left_new bytes
+  pub within : length bytes ≤ limit
+  pub whole : length bytes < limit → IsAtEnd left_new

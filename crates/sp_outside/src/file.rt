@@ -38,9 +38,9 @@ pub fn read_file<F: Shelf>(
     Ok(bytes)
 }
 
-// Makes room for as many bytes again, or for a first part, up to the limit. Doubling keeps the
-// copies of a large file few, and a small file costs one part.
-fn make_room(bytes: &mut Vec<u8>, limit: usize) -> Result<(), OutOfMemory>
+/// Makes room for as many bytes again, or for a first part, up to the limit. Doubling keeps the
+/// copies of a large file few, and a small file costs one part.
+pub(crate) fn make_room(bytes: &mut Vec<u8>, limit: usize) -> Result<(), OutOfMemory>
     requires { vec_len bytes.old < limit }
     ensures longer { OnOk result (vec_len bytes.old < vec_len bytes.new) }
     ensures within { OnOk result (vec_len bytes.new ≤ limit) }

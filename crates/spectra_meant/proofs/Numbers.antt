@@ -36,13 +36,13 @@ pub record HasSpan (z : ℤ) (k : Kind) : Type 0 where
   pub within : IsWithin z k
   pub narrow : is_wide k ≡ false
 
-none_some : {X : Type 0} {x : X} → None ≡ Some x → ⊥
+pub none_some : {X : Type 0} {x : X} → None ≡ Some x → ⊥
 none_some e = cc
 
-same : (x z : ℤ) → Some x ≡ Some z → x ≡ z
+pub same : (x z : ℤ) → Some x ≡ Some z → x ≡ z
 same x z e = cc
 
-capped-near : (z : ℤ) → IsNear z → capped_number z ≡ z
+pub capped-near : (z : ℤ) → IsNear z → capped_number z ≡ z
 capped-near z is = let l = is.0 in let h = is.1 in omega (arith, ints, clamps)
 
 -- what is capped there is the number itself
@@ -133,7 +133,7 @@ still_some : (f : Finding) (fs : List Finding) → is_some (with_faults (Some f)
 still_some f [] = refl
 still_some f (g ∷ fs) = still_some (if precedes g f then g else f) fs
 
-faultless : (fs : List Finding) → is_faulty fs ≡ false → fs ≡ []
+pub faultless : (fs : List Finding) → is_faulty fs ≡ false → fs ≡ []
 faultless [] e = refl
 faultless (f ∷ fs) e = absurd (false≢true (sym e ∙ still_some f fs))
 
@@ -149,10 +149,10 @@ sound_has c spanned st t z is = by (is_faulty (faults_of (known_constants c.kind
 
 -- ---- defines
 
-abbrev IsSpanned : Constant → Type 0
+abbrev pub IsSpanned : Constant → Type 0
 IsSpanned c = (z : ℤ) → c.number ≡ Some z → HasSpan z c.kind
 
-all_spanned : (cs : List Constant) → Every IsSpanned cs → AreSpanned (each_of cs)
+pub all_spanned : (cs : List Constant) → Every IsSpanned cs → AreSpanned (each_of cs)
 all_spanned [] all k z is = absurd (none_some is)
 all_spanned (c ∷ cs) all zero z is = all.0 z is
 all_spanned (c ∷ cs) all (suc k) z is = all_spanned cs all.1 k z is
@@ -165,7 +165,7 @@ one_spanned c spanned body z = by (sound_number c stand.Define body) refl
     by None at is = absurd (none_some is)
 
 module _ (uses : List (List ℕ)) (ds : List ResolvedDefinition) where
-  abbrev make : List Constant → ResolvedDefinition → Constant
+  abbrev pub make : List Constant → ResolvedDefinition → Constant
   make known d = constant_of (each_of known) d.body
 
   each_spanned : (known : List Constant) → Every IsSpanned known → (es : List (ℕ × ResolvedDefinition)) → Every IsSpanned (map (λ (d : ℕ × ResolvedDefinition). if is_on_cycle uses d.0 then no_constant else make known d.1) es)
@@ -176,7 +176,7 @@ module _ (uses : List (List ℕ)) (ds : List ResolvedDefinition) where
       by true z is = absurd (none_some is)
       by false z is = one_spanned (each_of known) (all_spanned known all) e.1.body z is
 
-  made_spanned : (deep : ℕ) → Every IsSpanned (made_to_depth uses no_constant make deep ds)
+  pub made_spanned : (deep : ℕ) → Every IsSpanned (made_to_depth uses no_constant make deep ds)
   made_spanned zero = tt
   made_spanned (suc deep) = each_spanned (made_to_depth uses no_constant make deep ds) (made_spanned deep) (enumerate_from 0 ds)
 

@@ -1,1 +1,2 @@
 pub mod Exchanges
+mod Verified

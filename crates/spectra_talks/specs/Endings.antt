@@ -3,7 +3,7 @@ use Rattle.std.specs.Prelude.{◌≡◌, ◌⊎◌, ℕ, List, [], ◌∷◌, �
 use Rattle.std.specs.Fmt.{decimal}
 use Rattle.spectra_trees.specs.Faults.{fault_text}
 use Rattle.spectra_talks.specs.declared.status.Status.{Status}
-use Rattle.spectra_talks.specs.declared.status.Status.TheVariants.{Done, Other, Words, Refused, Assumption, Budget, BadLine, ShelfFault, InputFault, OutputFault, Memory, NoFile, Limit}
+use Rattle.spectra_talks.specs.declared.status.Status.TheVariants.{Done, Other, Words, Refused, Assumption, Budget, BadLine, ShelfFault, InputFault, OutputFault, Memory, NoFile, Limit, TableRefused, SizeLimit}
 
 -- ---- statuses
 
@@ -64,6 +64,11 @@ pub data Ending : Type 0 where
   audited : (positions : ℕ) → Ending
   audit_broken : (line position : ℕ) → Ending
   state_limit : Ending
+  verified_system : (k : ℕ) → Ending
+  verified_environment : (n m : ℕ) → Ending
+  not_verified : (rule node : ℕ) → Ending
+  table_refused : Ending
+  size_limit : Ending
   input_fault : Ending
   output_fault : Ending
 
@@ -87,6 +92,11 @@ row (guarantee_broken line) = (codes "guarantee broken #" ++ (decimal line ++ co
 row (audited positions) = (codes "audit ok " ++ (decimal positions ++ codes "\n"), Done)
 row (audit_broken line position) = (codes "audit broken #" ++ (decimal line ++ (codes " line " ++ (decimal position ++ codes "\n"))), Other)
 row state_limit = (codes "state limit reached\n", Limit)
+row (verified_system k) = (codes "verified K=" ++ (decimal k ++ 10 ∷ []), Done)
+row (verified_environment n m) = (codes "verified N=" ++ (decimal n ++ (codes " M=" ++ (decimal m ++ 10 ∷ []))), Done)
+row (not_verified rule node) = (codes "not verified rule " ++ (decimal rule ++ (codes " node " ++ (decimal node ++ 10 ∷ []))), Other)
+row table_refused = (codes "table refused\n", TableRefused)
+row size_limit = (codes "size limit reached\n", SizeLimit)
 row input_fault = (codes "input fault\n", InputFault)
 row output_fault = ([], OutputFault)
 

@@ -1,7 +1,7 @@
 -- The number of each status.
 use Rattle.std.specs.Prelude.{ℕ}
 use Rattle.spectra_talks.specs.declared.status.Status.{Status}
-use Rattle.spectra_talks.specs.declared.status.Status.TheVariants.{Done, Other, Words, Refused, Assumption, Budget, BadLine, ShelfFault, InputFault, OutputFault, Memory, NoFile, Limit}
+use Rattle.spectra_talks.specs.declared.status.Status.TheVariants.{Done, Other, Words, Refused, Assumption, Budget, BadLine, ShelfFault, InputFault, OutputFault, Memory, NoFile, Limit, TableRefused, SizeLimit}
 
 -- the number that stands for each
 abbrev pub number_of : Status → ℕ
@@ -18,3 +18,5 @@ number_of OutputFault = 9
 number_of Memory = 10
 number_of NoFile = 11
 number_of Limit = 12
+number_of TableRefused = 13
+number_of SizeLimit = 14

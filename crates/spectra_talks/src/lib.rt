@@ -2,9 +2,10 @@
 //!
 //! A session writes the verdict, answers each line of the input by the strategy of the side that wins, and says how that
 //! ended. An audit reads a log, and says which line of the specification is broken first, and where. All room for these is
-//! taken before anything is written or read.
+//! taken before anything is written or read. A check takes the input as a table, and says whether
+//! it wins.
 //!
-//! Contract: `holding::hold` and `countering::counter`, over any regions; `auditing::audit`; in `saying` a function for each
+//! Contract: `holding::hold` and `countering::counter`, over any regions; `auditing::audit`; `verifying::verify`; in `saying` a function for each
 //! last line; `status::Status`, how a run ends. Path: strategy → verdict → **lines and status**.
 #![tactic(auto)]
 
@@ -12,5 +13,7 @@ pub mod auditing;
 mod closing;
 pub mod countering;
 pub mod holding;
+pub mod laws;
 pub mod saying;
 pub mod status;
+pub mod verifying;

@@ -2,7 +2,7 @@
 
 ghost use Rattle.std.specs.Prelude.{◌≡◌, ◌++◌, [], ◌∷◌, IfOk, codes, string_bytes};
 ghost use Rattle.std.specs.Fmt.{decimal};
-ghost use Rattle.spectra_talks.specs.Endings.{line_of, usage, no_file, shelf_fault, refused, realizable, unrealizable, realizable_instead, with_core, separated, not_separated, node_budget, arbiter_line as arbiter_line_lem};
+ghost use Rattle.spectra_talks.specs.Endings.{line_of, usage, no_file, shelf_fault, refused, realizable, unrealizable, realizable_instead, with_core, separated, not_separated, node_budget, verified_system, verified_environment, not_verified, table_refused, size_limit, input_fault, arbiter_line as arbiter_line_lem};
 ghost use Rattle.spectra_talks.specs.Streams.{Writes, Ends};
 ghost use Rattle.spectra_talks.specs.Offered.{IsSaid, OverOutput};
 
@@ -193,4 +193,57 @@ pub fn say_not_separated<O: Sink>(alloc: Global, k: u64, output: &mut O) -> Stat
         Ok(line) => say(output, line.as_bytes(), Status::Other),
         Err(_) => Status::Memory,
     }
+}
+
+// ---- tables
+
+/// Says that a system's table wins with K.
+pub fn say_verified_system<O: Sink>(alloc: Global, k: u64, output: &mut O) -> Status
+    ensures { IsSaid O.written O.faults (verified_system k) output.old output.new result }
+{
+    match format!(in alloc; "verified K={k}\n") {
+        Ok(line) => say(output, line.as_bytes(), Status::Done),
+        Err(_) => Status::Memory,
+    }
+}
+
+/// Says that an environment's table wins with N and M.
+pub fn say_verified_environment<O: Sink>(alloc: Global, n: u64, m: u64, output: &mut O) -> Status
+    ensures { IsSaid O.written O.faults (verified_environment n m) output.old output.new result }
+{
+    match format!(in alloc; "verified N={n} M={m}\n") {
+        Ok(line) => say(output, line.as_bytes(), Status::Done),
+        Err(_) => Status::Memory,
+    }
+}
+
+/// Says which rule a table fails, and at which node.
+pub fn say_not_verified<O: Sink>(alloc: Global, rule: u8, node: u32, output: &mut O) -> Status
+    ensures { IsSaid O.written O.faults (not_verified rule node) output.old output.new result }
+{
+    match format!(in alloc; "not verified rule {rule} node {node}\n") {
+        Ok(line) => say(output, line.as_bytes(), Status::Other),
+        Err(_) => Status::Memory,
+    }
+}
+
+/// Says that the input is no table of the specification. It takes no memory.
+pub fn say_table_refused<O: Sink>(output: &mut O) -> Status
+    ensures { IsSaid O.written O.faults table_refused output.old output.new result }
+{
+    say(output, b"table refused\n", Status::TableRefused)
+}
+
+/// Says that a limit on tables is passed. It takes no memory.
+pub fn say_size_limit<O: Sink>(output: &mut O) -> Status
+    ensures { IsSaid O.written O.faults size_limit output.old output.new result }
+{
+    say(output, b"size limit reached\n", Status::SizeLimit)
+}
+
+/// Says that the input failed. It takes no memory.
+pub fn say_input_fault<O: Sink>(output: &mut O) -> Status
+    ensures { IsSaid O.written O.faults input_fault output.old output.new result }
+{
+    say(output, b"input fault\n", Status::InputFault)
 }

@@ -32,10 +32,14 @@ pub enum Status {
     NoFile,
     /// The limit of positions is reached.
     Limit,
+    /// The input is no table of the specification.
+    TableRefused,
+    /// A table, or what it is checked by, is too large.
+    SizeLimit,
 }
 
 impl Status {
-    /// The number that the process ends with, from 0 to 12. It takes no memory.
+    /// The number that the process ends with, from 0 to 14. It takes no memory.
     pub fn number(self) -> u8
         ensures { result ≡ number_of self }
     {

@@ -1,5 +1,5 @@
 -- What causes the statuses that tell of a failure.
-use Rattle.std.proofs.Common.{◌⊎◌, ℕ, List, [], ◌∷◌, ◌++◌, Option, inl, inr, sym, subst, arith}
+use Rattle.std.proofs.Common.{◌≡◌, ◌⊎◌, ℕ, List, [], ◌∷◌, ◌++◌, Option, None, Some, inl, inr, sym, subst, arith}
 use Rattle.sp_outside.specs.Causes.{Rose}
 use Rattle.sp_outside.specs.Files.{Files, told_file}
 use Rattle.spectra_trees.specs.Data.{TreeData}
@@ -10,29 +10,39 @@ use Rattle.session.specs.declared.auditing.AuditEnd.{AuditEnd}
 use Rattle.session.specs.declared.auditing.AuditEnd.TheVariants as audits
 use Rattle.session.specs.AuditTalks.{AuditTalk}
 use Rattle.command_words.specs.declared.words.Command.{Command}
-use Rattle.command_words.specs.declared.words.Command.TheVariants.{Synth}
-use Rattle.command_words.specs.Commands.{AsksArbiter}
+use Rattle.command_words.specs.declared.words.Command.TheVariants.{Synth, Verify}
+use Rattle.command_words.specs.Commands.{Asks, AsksArbiter}
 use Rattle.spec_gen.specs.Arbiter.{arbiter_text}
 use Rattle.spectra_talks.specs.declared.status.Status.{Status}
-use Rattle.spectra_talks.specs.declared.status.Status.TheVariants.{Done, Other, Words, Refused, Assumption, Budget, BadLine, ShelfFault, InputFault, OutputFault, Memory, NoFile, Limit}
-use Rattle.spectra_talks.specs.Endings.{Ending, status_of, realizable, unrealizable}
+use Rattle.spectra_talks.specs.declared.status.Status.TheVariants.{Done, Other, Words, Refused, Assumption, Budget, BadLine, ShelfFault, InputFault, OutputFault, Memory, NoFile, Limit, TableRefused, SizeLimit}
+use Rattle.spectra_talks.specs.Endings.{Ending, status_of, realizable, unrealizable, input_fault}
 use Rattle.spectra_talks.specs.Streams.{Moment, Writes, Ends, whole, cut, WantsMemory}
-use Rattle.spectra_top.specs.Top.{headed, no_room, Stops, Decides, ServesTrees, ServesTree, ServesText, ServesFile, ServesWords, ServesArbiter, arbiter_name, HasCause, StopsBelowLine, IsCaused}
+use Rattle.spectra_top.specs.Top.{headed, no_room, Stops, Decides, ServesTrees, ServesTree, ServesText, ServesFile, ServesWords, ServesArbiter, arbiter_name, HasCause, StopsBelowLine, StopsAtTable, IsCaused}
 use Rattle.spectra_talks.specs.Sessions as sessions
+use Rattle.spectra_talks.specs.Verifying as tables
+use Rattle.spectra_talks.specs.Verifying.{checked, of_table, verify_ending, Verifies}
+use Rattle.strategy_tables.specs.Views.{TableData, OfSystem, OfEnvironment}
+use Rattle.strategy_text.specs.Reading.{table_in}
+use Rattle.table_check.specs.declared.checking.CheckEnd.{CheckEnd}
+use Rattle.table_check.specs.declared.checking.CheckEnd.TheVariants.{Sound, Flaw, Limit as PastSize}
+use Rattle.table_check.specs.Ends.{check_end}
+use Rattle.hidden_game.specs.GameOf.{game_of}
+use Rattle.std.specs.Io.KnownBytes.{Appends}
 use Rattle.spectra_talks.specs.Sessions.{Talk, Closes, HoldsSession, session, cut_at_once, ending_after, RunTalks, counter_ending_after, CounterTalks, most_positions, audit_ending_after}
 use Rattle.spectra_files.specs.Reading.{Told, import_names}
 use Rattle.spectra_top.specs.Top as top
 
-module _ (failed : Type 0) (before after : Moment) where
+-- what it is called that no memory was given, as it is where nothing was done
+module _ (failed wanted : Type 0) (before after : Moment) (of_wanting : WantsMemory before after Memory → wanted) where
   abbrev Caused : Status → Type 0
-  Caused status = HasCause failed (WantsMemory before after Memory) before after status
+  Caused status = HasCause failed wanted before after status
 
   by_writing : (line : List ℕ) (expected status : Status) → Caused expected → Writes line expected before after status → Caused status
   by_writing line expected _ given (whole unread is) = given
   by_writing line expected _ given (cut unread part rose) = rose
 
   by_wanting : (status : Status) → WantsMemory before after status → Caused status
-  by_wanting status wants = subst Caused (sym wants.is) (subst (WantsMemory before after) wants.is wants)
+  by_wanting status wants = subst Caused (sym wants.is) (of_wanting (subst (WantsMemory before after) wants.is wants))
 
   by_closing : (last : Ending) (talked : Option (List ℕ)) (status : Status) → Caused (status_of last) → Closes last talked after.written (Rose before.write_faults after.write_faults) status → Caused status
   by_closing last talked _ given (sessions.whole is) = given
@@ -69,7 +79,22 @@ module _ (failed : Type 0) (before after : Moment) where
   by_audit s audits.StateLimit talk = tt
   by_audit s audits.ReadFault talk = talk.ends.1.0
 
-  module _ (command : Command) (nodes : ℕ) where
+  by_check : (t : TableData) (end : CheckEnd) → Caused (status_of (checked t end))
+  by_check (OfSystem t) Sound = tt
+  by_check (OfEnvironment t) Sound = tt
+  by_check t (Flaw rule node) = tt
+  by_check t PastSize = tt
+
+  by_table : (s : Specification) (table : Option TableData) → Caused (status_of (of_table s table))
+  by_table s None = tt
+  by_table s (Some t) = by_check t (check_end (game_of s) t)
+
+  by_verifying : (s : Specification) (status : Status) → (Appends before.written after.written [] → wanted) → Verifies s before after status → Caused status
+  by_verifying s status of_table' (tables.told bytes taken wins closes) = by_closing (verify_ending s bytes) before.written status (by_table s (table_in s bytes)) closes
+  by_verifying s status of_table' (tables.not_taken rose closes) = by_closing input_fault before.written status rose closes
+  by_verifying s status of_table' (tables.without_room is nothing) = subst Caused (sym is) (of_table' nothing)
+
+  module _ (command : Command) (nodes : ℕ) (at_table : command ≡ Verify → Appends before.written after.written [] → wanted) where
     by_deciding : (s : Specification) (status : Status) → Decides command nodes s before after status → Caused status
     by_deciding s status (top.won k is wins writes) = by_writing _ Done status tt writes
     by_deciding s status (top.held k is wins holds) = by_session (realizable k) (RunTalks s k) ending_after status (by_run s k) holds
@@ -80,6 +105,7 @@ module _ (failed : Type 0) (before after : Moment) where
     by_deciding s status (top.separates n m is loses writes) = by_writing _ Done status tt writes
     by_deciding s status (top.separates_not k is wins writes) = by_writing _ Other status tt writes
     by_deciding s status (top.audits is audit) = by_closing (audit_ending_after audit.end) before.written status (by_audit s audit.end audit.talk) audit.closes
+    by_deciding s status (top.verifies is read) = by_verifying s status (at_table is) read
     by_deciding s status (top.budget decides short filled writes) = by_writing _ Budget status tt writes
     by_deciding s status (top.no_memory wants) = by_wanting status wants
 
@@ -126,23 +152,29 @@ module _ (failed wanted wanted' : Type 0) (before between after : Moment) (of_re
   caused_before Memory cause = of_memory cause
   caused_before NoFile cause = tt
   caused_before Limit cause = tt
+  caused_before TableRefused cause = tt
+  caused_before SizeLimit cause = tt
 
 module _ (words : List (List ℕ)) (failed : Type 0) (before after : Moment) where
-  at_once : (status : Status) → HasCause failed (WantsMemory before after Memory) before after status → IsCaused words failed before after status
-  at_once status cause = caused_before failed (WantsMemory before after Memory) (WantsMemory before after Memory ⊎ StopsBelowLine words before after) before before after (λ rose. rose) (λ rose. rose) inl status cause
+  abbrev Wanted : Type 0
+  Wanted = WantsMemory before after Memory ⊎ (StopsBelowLine words before after ⊎ StopsAtTable words before after)
 
   -- below the line of an arbiter
   of_arbiter : (told : Told) (clients nodes : ℕ) → AsksArbiter words clients nodes → (status : Status) → ServesArbiter told failed clients nodes before after status → IsCaused words failed before after status
   of_arbiter told clients nodes asks status (headed between line serves) =
-      caused_before failed (WantsMemory between after Memory) (WantsMemory before after Memory ⊎ StopsBelowLine words before after) before between after
+      caused_before failed (WantsMemory between after Memory) Wanted before between after
       (λ rose. subst (λ (n : ℕ). Rose n after.read_faults) line.unread.faults rose) (λ rose. let later = line.later in omega (arith, later, rose))
-      (λ wants. inr (record { clients = clients; nodes = nodes; between = between; asks = asks; headed = line; wants = wants })) status
-      (of_text failed between after Synth nodes arbiter_name told (arbiter_text clients) status serves)
+      (λ wants. inr (inl (record { clients = clients; nodes = nodes; between = between; asks = asks; headed = line; wants = wants }))) status
+      (of_text failed (WantsMemory between after Memory) between after (λ wants. wants) Synth nodes (λ is. absurd (cc)) arbiter_name told (arbiter_text clients) status serves)
   of_arbiter told clients nodes asks _ (top.cut_at_once unread part rose) = rose
-  of_arbiter told clients nodes asks status (no_room wants) = at_once status (by_wanting failed before after status wants)
+  of_arbiter told clients nodes asks status (no_room wants) = by_wanting failed Wanted before after inl status wants
+
+  -- where no memory was given for a table
+  at_table : (command : Command) (name : List ℕ) (nodes : ℕ) → Asks words command name nodes → command ≡ Verify → Appends before.written after.written [] → Wanted
+  at_table command name nodes asks is nothing = inr (inr (record { name = name; nodes = nodes; asks = subst (λ (c : Command). Asks words c name nodes) is asks; nothing_written = nothing }))
 
   pub is_caused : (shelf : Option Files) (status : Status) → ServesWords words shelf failed before after status → IsCaused words failed before after status
-  is_caused shelf status (top.no_command nothing writes) = at_once status (by_writing failed before after _ Words status tt writes)
-  is_caused shelf status (top.asked command name nodes asks serves) = at_once status (of_file failed before after command nodes name (told_file shelf) status serves)
+  is_caused shelf status (top.no_command nothing writes) = by_writing failed Wanted before after inl _ Words status tt writes
+  is_caused shelf status (top.asked command name nodes asks serves) = of_file failed Wanted before after inl command nodes (at_table command name nodes asks) name (told_file shelf) status serves
   is_caused shelf status (top.arbiter clients nodes asks serves) = of_arbiter (told_file shelf) clients nodes asks status serves
-  is_caused shelf status (top.no_memory wants) = at_once status (by_wanting failed before after status wants)
+  is_caused shelf status (top.no_memory wants) = by_wanting failed Wanted before after inl status wants

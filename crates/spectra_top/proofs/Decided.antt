@@ -15,7 +15,7 @@ use Rattle.solve.specs.Crowded.{Crowded}
 use Rattle.solve.specs.Budgets.{MayHalt, MayHaltInTurn}
 use Rattle.solve.specs.Winners.{IsWonBySystem, IsWonByEnvironment}
 use Rattle.command_words.specs.declared.words.Command.{Command}
-use Rattle.command_words.specs.declared.words.Command.TheVariants.{Synth, Run, Core, Separate, Counter, Audit}
+use Rattle.command_words.specs.declared.words.Command.TheVariants.{Synth, Run, Core, Separate, Counter, Audit, Verify}
 use Rattle.command_words.specs.Commands.{AskNothing}
 use Rattle.spec_gen.specs.Arbiter.{arbiter_text}
 use Rattle.spectra_files.specs.declared.reading.NoTree.{NoTree}
@@ -25,7 +25,7 @@ use Rattle.spectra_talks.specs.declared.status.Status.{Status}
 use Rattle.spectra_talks.specs.declared.status.Status.TheVariants.{Memory}
 use Rattle.spectra_talks.specs.Endings.{Ending, usage, no_file, shelf_fault, refused, realizable, unrealizable, realizable_instead, with_core, separated, not_separated, arbiter_line}
 use Rattle.spectra_talks.specs.Streams.{Moment, Ends, WantsMemory}
-use Rattle.spectra_top.specs.Top.{Heads, solved_for, AreFilled, won, held, lost, won_instead, countered, has_core, separates, separates_not, audits, Stops, Decides, ServesTrees, ServesTree, ServesText, ServesFile, ServesWords, ServesArbiter, arbiter_name}
+use Rattle.spectra_top.specs.Top.{Heads, solved_for, AreFilled, won, held, lost, won_instead, countered, has_core, separates, separates_not, audits, Stops, Solves, Decides, ServesTrees, ServesTree, ServesText, ServesFile, ServesWords, ServesArbiter, arbiter_name}
 use Rattle.spectra_top.specs.Saying.{SaysNoVerdict, SaysStop}
 use Rattle.spectra_talks.specs.Sessions.{Holds, Counters, Audits}
 use Rattle.spectra_files.specs.Reading.{Told, import_names, IsRefusedAt, FilesReadAs, ComesNext}
@@ -92,26 +92,10 @@ module _ (command : Command) (nodes : ℕ) (s : Specification) (before after : M
   is_audited is (inr wants) = top.no_memory wants
 
   -- there is no verdict
-  pub not_decided : (halt : Halt) → ¬ (command ≡ Audit) → IsUndecided command nodes s halt → SaysNoVerdict halt nodes before after status → Decides command nodes s before after status
+  pub not_decided : (halt : Halt) → Solves command → IsUndecided command nodes s halt → SaysNoVerdict halt nodes before after status → Decides command nodes s before after status
   not_decided Budget decides short (inl writes) = top.budget decides short.0 short.1 writes
   not_decided Budget decides short (inr wants) = top.no_memory wants
   not_decided NoMemory decides short wants = top.no_memory wants
-
--- the commands other than `audit`
-pub synth_decides : ¬ (Synth ≡ Audit)
-synth_decides is = absurd (cc)
-
-pub run_decides : ¬ (Run ≡ Audit)
-run_decides is = absurd (cc)
-
-pub counter_decides : ¬ (Counter ≡ Audit)
-counter_decides is = absurd (cc)
-
-pub core_decides : ¬ (Core ≡ Audit)
-core_decides is = absurd (cc)
-
-pub separate_decides : ¬ (Separate ≡ Audit)
-separate_decides is = absurd (cc)
 
 -- what is served for the command that it is
 pub served_as : (command is : Command) → command ≡ is → (nodes : ℕ) (s : Specification) (before after : Moment) (status : Status) → Decides is nodes s before after status → Decides command nodes s before after status

@@ -1,5 +1,5 @@
 -- With enough nodes no named sets fill them, so that the node budget is never reached.
-use Rattle.std.proofs.Common.{◌<◌, ◌≤◌, ℕ, List, [], ◌∷◌, Option, inl, inr, arith, sym, subst}
+use Rattle.std.proofs.Common.{◌<◌, ◌≤◌, ℕ, List, [], ◌∷◌, Option, None, Some, inl, inr, arith, sym, subst}
 use Rattle.sp_outside.specs.Causes.{Rose}
 use Rattle.spec_model.specs.Syntax.{Specification}
 use Rattle.spec_model.specs.Cores.{less, guarantees_of}
@@ -12,12 +12,19 @@ use Rattle.session.specs.declared.talking.End.TheVariants as ends
 use Rattle.session.specs.declared.auditing.AuditEnd.{AuditEnd}
 use Rattle.session.specs.declared.auditing.AuditEnd.TheVariants as audits
 use Rattle.command_words.specs.declared.words.Command.{Command}
-use Rattle.command_words.specs.declared.words.Command.TheVariants.{Synth, Run, Core, Separate, Counter, Audit}
+use Rattle.command_words.specs.declared.words.Command.TheVariants.{Synth, Run, Core, Separate, Counter, Audit, Verify}
 use Rattle.spectra_talks.specs.declared.status.Status.{Status}
 use Rattle.spectra_talks.specs.declared.status.Status.TheVariants.{Budget}
-use Rattle.spectra_talks.specs.Endings.{Ending, status_of}
+use Rattle.spectra_talks.specs.Endings.{Ending, status_of, input_fault}
 use Rattle.spectra_talks.specs.Streams.{Moment, Writes, whole, cut, WantsMemory}
 use Rattle.spectra_talks.specs.Sessions as sessions
+use Rattle.spectra_talks.specs.Verifying as tables
+use Rattle.spectra_talks.specs.Verifying.{checked, of_table, verify_ending, Verifies}
+use Rattle.strategy_tables.specs.Views.{TableData, OfSystem, OfEnvironment}
+use Rattle.strategy_text.specs.Reading.{table_in}
+use Rattle.table_check.specs.declared.checking.CheckEnd.{CheckEnd}
+use Rattle.table_check.specs.declared.checking.CheckEnd.TheVariants.{Sound, Flaw, Limit as SizeLimit}
+use Rattle.table_check.specs.Ends.{check_end}
 use Rattle.spectra_talks.specs.Sessions.{Talk, Closes, HoldsSession, session, cut_at_once, ending_after, counter_ending_after, audit_ending_after}
 use Rattle.spectra_top.specs.Top.{Decides, solved_for, AreFilled}
 use Rattle.spectra_top.specs.Budgets.{NeverFilled, NeverRunsOut}
@@ -51,6 +58,7 @@ module _ (crowded_few : CrowdedIsFew) where
   never_filled Separate nodes s enough_nodes filled = never nodes (solved_for Separate s) enough_nodes filled
   never_filled Counter nodes s enough_nodes filled = never nodes s enough_nodes filled
   never_filled Audit nodes s enough_nodes filled = never nodes s enough_nodes filled
+  never_filled Verify nodes s enough_nodes filled = never nodes s enough_nodes filled
 
 -- ---- so they don't run out
 
@@ -97,6 +105,21 @@ module _ (before after : Moment) where
   by_audit audits.StateLimit = tt
   by_audit audits.ReadFault = tt
 
+  by_check : (t : TableData) (end : CheckEnd) → IsOther (status_of (checked t end))
+  by_check (OfSystem t) Sound = tt
+  by_check (OfEnvironment t) Sound = tt
+  by_check t (Flaw rule node) = tt
+  by_check t SizeLimit = tt
+
+  by_table : (s : Specification) (table : Option TableData) → IsOther (status_of (of_table s table))
+  by_table s None = tt
+  by_table s (Some t) = by_check t (check_end (game_of s) t)
+
+  by_verifying : (s : Specification) (status : Status) → Verifies s before after status → IsOther status
+  by_verifying s status (tables.told bytes taken wins closes) = by_closing (verify_ending s bytes) before.written after.written (Rose before.write_faults after.write_faults) status (by_table s (table_in s bytes)) closes
+  by_verifying s status (tables.not_taken rose closes) = by_closing input_fault before.written after.written (Rose before.write_faults after.write_faults) status tt closes
+  by_verifying s status (tables.without_room is nothing) = subst IsOther (sym is) tt
+
   module _ (command : Command) (nodes : ℕ) (s : Specification) (not_filled : ¬ AreFilled command nodes s) where
     decided : (status : Status) → Decides command nodes s before after status → IsOther status
     decided status (top.won k is by ends) = by_writing _ _ status tt ends
@@ -108,6 +131,7 @@ module _ (before after : Moment) where
     decided status (top.separates n m is by ends) = by_writing _ _ status tt ends
     decided status (top.separates_not k is by ends) = by_writing _ _ status tt ends
     decided status (top.audits is log) = by_closing (audit_ending_after log.end) before.written after.written (Rose before.write_faults after.write_faults) status (by_audit log.end) log.closes
+    decided status (top.verifies is read) = by_verifying s status read
     decided status (top.budget other few filled ends) = absurd (not_filled filled)
     decided status (top.no_memory wants) = by_wanting status wants
 

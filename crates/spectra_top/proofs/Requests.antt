@@ -2,7 +2,7 @@
 use Rattle.std.proofs.Common.{◌≡◌, ◌≤◌, ℕ, List, Option, Some, None, sum, refl, sym, ap, arith, ◌∙◌}
 use Rattle.std.specs.Str.Parse.{digits_value}
 use Rattle.command_words.specs.declared.words.Command.{Command}
-use Rattle.command_words.specs.declared.words.Command.TheVariants.{Synth, Run, Core, Separate, Counter, Audit}
+use Rattle.command_words.specs.declared.words.Command.TheVariants.{Synth, Run, Core, Separate, Counter, Audit, Verify}
 use Rattle.command_words.specs.Commands.{Asks, AsksArbiter, IsBudget, word_of, arbiter_word}
 
 -- the codes of each word have another sum
@@ -13,6 +13,7 @@ sum_of Core = 425
 sum_of Separate = 853
 sum_of Counter = 768
 sum_of Audit = 535
+sum_of Verify = 661
 
 summed : (command : Command) → sum (word_of command) ≡ sum_of command
 summed Synth = refl
@@ -21,6 +22,7 @@ summed Core = refl
 summed Separate = refl
 summed Counter = refl
 summed Audit = refl
+summed Verify = refl
 
 one_sum : (command other : Command) → sum_of command ≡ sum_of other → command ≡ other
 one_sum Synth Synth same = refl
@@ -29,6 +31,7 @@ one_sum Core Core same = refl
 one_sum Separate Separate same = refl
 one_sum Counter Counter same = refl
 one_sum Audit Audit same = refl
+one_sum Verify Verify same = refl
 one_sum _ _ same = absurd (omega arith)
 
 one_word : (command other : Command) → word_of command ≡ word_of other → command ≡ other
@@ -66,6 +69,7 @@ no_arbiter_word command same = no_sum command (sym (summed command) ∙ ap sum s
     no_sum Separate is = absurd (omega arith)
     no_sum Counter is = absurd (omega arith)
     no_sum Audit is = absurd (omega arith)
+    no_sum Verify is = absurd (omega arith)
 
 module _ (words : List (List ℕ)) where
   pub one_arbiter : (clients clients' nodes nodes' : ℕ) → AsksArbiter words clients nodes → AsksArbiter words clients' nodes' → (clients ≡ clients') × (nodes ≡ nodes')

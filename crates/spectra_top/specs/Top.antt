@@ -15,7 +15,7 @@ use Rattle.solve.specs.Winners.{IsWonBySystem, IsWonByEnvironment}
 use Rattle.solve.specs.Crowded.{Crowded}
 use Rattle.spec_gen.specs.Arbiter.{arbiter_text}
 use Rattle.command_words.specs.declared.words.Command.{Command}
-use Rattle.command_words.specs.declared.words.Command.TheVariants.{Synth, Run, Core, Separate, Counter, Audit}
+use Rattle.command_words.specs.declared.words.Command.TheVariants.{Synth, Run, Core, Separate, Counter, Audit, Verify}
 use Rattle.command_words.specs.Commands.{Asks, AsksArbiter, AskNothing}
 use Rattle.spectra_files.specs.declared.reading.NoTree.TheVariants as files
 use Rattle.spectra_talks.specs.declared.status.Status.{Status}
@@ -23,6 +23,7 @@ use Rattle.spectra_talks.specs.declared.status.Status.TheVariants.{Words, Refuse
 use Rattle.spectra_talks.specs.Endings.{Ending, IsUnlessCut, IsUnlessFault, usage, no_file, shelf_fault, refused, realizable, unrealizable, realizable_instead, with_core, separated, not_separated, node_budget, arbiter_line}
 use Rattle.spectra_talks.specs.Streams.{Moment, IsUnread, Ends, WantsMemory}
 use Rattle.spectra_talks.specs.Sessions.{Holds, Counters, Audits}
+use Rattle.spectra_talks.specs.Verifying.{Verifies}
 use Rattle.spectra_files.specs.Reading.{ReadsAs, IsRefusedAt, import_names, Told, FileReadsAs, FilesReadAs, ComesNext, ImportsAreThere, MissesImport}
 use Rattle.spectra_top.specs.Meanings.{Reads, MeansNothing, ReadsAlone}
 
@@ -57,6 +58,12 @@ abbrev pub solved_for : Command → Specification → Specification
 solved_for Separate s = forced s
 solved_for _ s = s
 
+-- the commands that solve one, and so need nodes
+abbrev pub Solves : Command → Type 0
+Solves Audit = ⊥
+Solves Verify = ⊥
+Solves _ = Unit {0}
+
 -- named sets of its game fill so many nodes; for `core`, those of one that trying the guarantees asks about
 abbrev pub AreFilled : Command → (nodes : ℕ) → Specification → Type 0
 AreFilled Core nodes s = (part : Specification) × Tried s part × Crowded (game_of part) nodes
@@ -66,7 +73,7 @@ module _ (command : Command) (nodes : ℕ) where
   -- By who wins. `synth` writes the verdict, and so do `run`, `counter` and `core` where the other side wins than they are for.
   -- Where the system wins, `run` holds a session; where the environment does, `counter` holds one, and `core` writes what
   -- trying the guarantees in order leaves, which is a core. `separate` says who wins with a guarantee that can never be met alone. `audit` reads a log,
-  -- whoever wins, so that the nodes never run out there. They run out only where there are fewer than the specification that
+  -- whoever wins, and `verify` a table, so that the nodes never run out there. They run out only where there are fewer than the specification that
   -- is solved needs, and named sets of its game fill them.
   module _ (s : Specification) (before after : Moment) where
     pub data Decides : Status → Type 0 where
@@ -79,7 +86,8 @@ module _ (command : Command) (nodes : ℕ) where
       separates : {status : Status} (n m : ℕ) → command ≡ Separate → IsWonByEnvironment (forced s) n m → Ends (separated n m) before after status → Decides status
       separates_not : {status : Status} (k : ℕ) → command ≡ Separate → IsWonBySystem (forced s) k → Ends (not_separated k) before after status → Decides status
       audits : {status : Status} → command ≡ Audit → Audits s before after status → Decides status
-      budget : {status : Status} → ¬ (command ≡ Audit) → nodes < need_of (solved_for command s) → AreFilled command nodes s → Ends (node_budget nodes) before after status → Decides status
+      verifies : {status : Status} → command ≡ Verify → Verifies s before after status → Decides status
+      budget : {status : Status} → Solves command → nodes < need_of (solved_for command s) → AreFilled command nodes s → Ends (node_budget nodes) before after status → Decides status
       no_memory : {status : Status} → WantsMemory before after status → Decides status
 
   -- with the main file of this name
@@ -173,6 +181,13 @@ pub record StopsBelowLine (words : List (List ℕ)) (before after : Moment) : Ty
   pub headed : IsHeaded (arbiter_line clients) before between
   pub wants : WantsMemory between after Memory
 
--- no memory was given: nothing is written, or for an arbiter its line alone, and the input was not read
+-- no memory was given for a table: nothing is written, however much of the input was taken
+pub record StopsAtTable (words : List (List ℕ)) (before after : Moment) : Type 0 where
+  pub name : List ℕ
+  pub nodes : ℕ
+  pub asks : Asks words Verify name nodes
+  pub nothing_written : Appends before.written after.written []
+
+-- No memory was given: nothing is written, or for an arbiter its line alone, and the input was not read; or it was read as a table.
 abbrev pub IsCaused : (words : List (List ℕ)) (shelf_failed : Type 0) (before after : Moment) → Status → Type 0
-IsCaused words shelf_failed before after = HasCause shelf_failed (WantsMemory before after Memory ⊎ StopsBelowLine words before after) before after
+IsCaused words shelf_failed before after = HasCause shelf_failed (WantsMemory before after Memory ⊎ (StopsBelowLine words before after ⊎ StopsAtTable words before after)) before after

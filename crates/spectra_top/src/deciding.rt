@@ -24,6 +24,7 @@ use spectra_talks::saying::{
     say_separated, say_unrealizable,
 };
 use spectra_talks::status::Status;
+use spectra_talks::verifying::verify;
 use std::alloc::Global;
 
 // Says why there is no verdict, where that is a line.
@@ -167,5 +168,6 @@ pub fn serve_specification<I: Source, O: Sink>(
         Command::Separate => serve_separate(alloc, spec, nodes, output),
         Command::Counter => serve_counter(alloc, spec, nodes, input, output),
         Command::Audit => audit(alloc, spec, input, output),
+        Command::Verify => verify(alloc, spec, input, output),
     }
 }

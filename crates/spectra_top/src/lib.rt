@@ -6,7 +6,7 @@
 //! by a note and the next input, so that the exchanged lines beat the system within the printed N and M, and `core FILE` names
 //! the guarantees of an unrealizable core. `separate FILE` says whether the environment, by its assumptions alone, beats a
 //! system that can never meet its guarantee. `audit FILE` reads a log of positions, and says which line of the specification
-//! is broken first, and where. `gen N` does as `synth` for an arbiter of N clients. The verdict is decided over sets of the
+//! is broken first, and where. `verify FILE` reads a table of a strategy, and says whether it wins. `gen N` does as `synth` for an arbiter of N clients. The verdict is decided over sets of the
 //! states of the specification's game, by at most as many nodes at a time as `--nodes` says.
 //!
 //! Contract: `top::spectra`. Path: words and bytes → tokens → trees → specification → verdict → **lines and status**.

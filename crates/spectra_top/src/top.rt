@@ -19,11 +19,11 @@ use std::alloc::Global;
 /// each line of the input by one line. `counter` writes the same and, where the environment wins, counters each line of the
 /// input by a note and an input. `core` writes the verdict and, where the environment wins, the lines of a core. `separate`
 /// writes who wins where the one guarantee can never be met. `audit` writes whether each line of the input, as a position,
-/// is legal. A file is read first, and then each file that it imports, in order; the first that isn't there, or is refused,
+/// is legal. `verify` writes whether the input is a table that wins, and with which numbers. A file is read first, and then each file that it imports, in order; the first that isn't there, or is refused,
 /// is told. `gen` writes which arbiter it is, and then as `synth` for its text. The status says how it ended; `Budget`: the
 /// nodes ran out; `ShelfFault`: the shelf failed; `InputFault`: the input failed; `OutputFault`: the output failed, and a
-/// front of what is due is written; `Memory`: none was given, nothing is read, and nothing is written but, by `gen`, its
-/// first line.
+/// front of what is due is written; `TableRefused`: the input is no table; `SizeLimit`: it
+/// passes a limit; `Memory`: none was given, nothing is read but by `verify`, and nothing is written but, by `gen`, its first line.
 pub fn spectra<F: Shelf, I: Source, O: Sink>(
     alloc: Global,
     words: &[String],

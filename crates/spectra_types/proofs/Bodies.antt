@@ -36,7 +36,7 @@ all_at p [] k x all at = absurd (cc)
 all_at p (y ∷ xs) zero x all at = ap p (sym (same_Some y x at)) ∙ (and_parts (p y) (list_all p xs) all).0
 all_at p (y ∷ xs) (suc k) x all at = all_at p xs k x (and_parts (p y) (list_all p xs) all).1 at
 
-body_at : (ds : List ResolvedDefinition) (k : ℕ) (body : ResolvedTree) → slice_get (map (λ (d : ResolvedDefinition). d.body) ds) k ≡ Some body → (d : ResolvedDefinition) × (slice_get ds k ≡ Some d) × (d.body ≡ body)
+pub body_at : (ds : List ResolvedDefinition) (k : ℕ) (body : ResolvedTree) → slice_get (map (λ (d : ResolvedDefinition). d.body) ds) k ≡ Some body → (d : ResolvedDefinition) × (slice_get ds k ≡ Some d) × (d.body ≡ body)
 body_at [] k body at = absurd (cc)
 body_at (d ∷ ds) zero body at = (d, refl, same_Some d.body body at)
 body_at (d ∷ ds) (suc k) body at = body_at ds k body at
@@ -58,23 +58,23 @@ module _ (text : ResolvedText) (sound : IsSound text) (none : declared_faults te
   count : length (all_uses defs) ≡ length defs
   count = length-map defs (λ (d : ResolvedDefinition). uses_in d.body)
 
-  free : NoneGoesRound (all_uses defs)
+  pub free : NoneGoesRound (all_uses defs)
   free k below = none_goes_round text none k (let same = count in omega (arith, same, below))
 
-  order : (order : List ℕ) × IsOrderOf (all_uses defs) (length (all_uses defs)) order
+  pub order : (order : List ℕ) × IsOrderOf (all_uses defs) (length (all_uses defs)) order
   order = ordered (all_uses defs) free
 
-  order_is : IsOrderOf (all_uses defs) (length defs) order.0
+  pub order_is : IsOrderOf (all_uses defs) (length defs) order.0
   order_is = subst (λ n. IsOrderOf (all_uses defs) n order.0) count order.1
 
-  single : NoneIsDoubled text
+  pub single : NoneIsDoubled text
   single k d at = by d.doubled (and_parts (not d.doubled) _ (all_at (is_sound_definition (sizes_of text)) defs k d sound.definitions at)).0
     where
       by : (b : Bool) → not b ≡ true → b ≡ false
       by false e = refl
       by true e = absurd (false≢true e)
 
-  meant : HasMeantParameters arities (known_in_line (noted text))
+  pub meant : HasMeantParameters arities (known_in_line (noted text))
   meant =
       record {
         counts = counts_of text defs;
@@ -88,7 +88,7 @@ module _ (text : ResolvedText) (sound : IsSound text) (none : declared_faults te
       let own = and_parts (not d.doubled) _ (all_at (is_sound_definition (sizes_of text)) defs k d sound.definitions at) in
       (and_parts (list_all (is_type (sizes_of text)) d.params) (is_sound_tree (sizes_of text) (length d.params) d.body) own.1).1
 
-  all_written : AreWritten arities (is_part (sizes_of text)) (map (λ (d : ResolvedDefinition). d.body) defs)
+  pub all_written : AreWritten arities (is_part (sizes_of text)) (map (λ (d : ResolvedDefinition). d.body) defs)
   all_written =
       record {
         size = length-map defs (λ (d : ResolvedDefinition). length d.params) ∙ sym (length-map defs (λ (d : ResolvedDefinition). d.body));

@@ -38,7 +38,7 @@ mutual
 
 -- ---- lines among all lines
 
-trigger_at : (before : List TriggerData) (t : TriggerData) (rest : List TriggerData) → slice_get (before ++ t ∷ rest) (length before) ≡ Some t
+pub trigger_at : (before : List TriggerData) (t : TriggerData) (rest : List TriggerData) → slice_get (before ++ t ∷ rest) (length before) ≡ Some t
 trigger_at [] t rest = refl
 trigger_at (b ∷ before) t rest = trigger_at before t rest
 

@@ -5,3 +5,4 @@ pub mod Telling
 pub mod Reaching
 pub mod Searching
 pub mod Standing
+pub mod Counting

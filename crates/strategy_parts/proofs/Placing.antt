@@ -1,7 +1,6 @@
 -- How a position goes on to the next state.
 use Rattle.std.proofs.Common.{◌≡◌, suc, ◌+◌, Bool, true, false, not, List, [], ◌∷◌, ◌++◌, length, cond, count_by, refl, sym, ap, ◌∙◌, arith}
 use Rattle.std.proofs.lemmas.Bool.{and_parts, false≢true}
-use Rattle.std.proofs.lemmas.List.{length-append}
 use Rattle.spec_model.specs.declared.value.Value.{Value}
 use Rattle.spec_model.specs.Values.{DomainData, Assignment, is_assignment}
 use Rattle.spec_model.specs.declared.value.Owner.{Owner}
@@ -38,7 +37,3 @@ module _ (g : GameData) (p : Position) (b : Before) (here : IsAfter g p b) (x y 
   -- the values of the state that is reached
   pub listed_next : listed (reached g b x y) ≡ p.next.items ++ (x ++ y)
   listed_next = ap (λ vs. vs ++ (x ++ y)) (sym here.next)
-
-  pub room_next : length (listed (reached g b x y)) ≡ length g.hidden + (input_count g + output_count g)
-  room_next =
-      ap (λ (vs : List Value). length vs) listed_next ∙ (length-append p.next.items (x ++ y) ∙ (ap (λ n. length p.next.items + n) (length-append x y) ∙ (sym sized ∙ here.room)))

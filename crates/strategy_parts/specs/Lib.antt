@@ -2,3 +2,4 @@ pub mod Owned
 pub mod Told
 pub mod Positions
 pub mod Wanted
+pub mod Counts

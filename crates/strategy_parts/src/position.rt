@@ -46,6 +46,14 @@ fn write_state(state: &mut Vec<Value>, hidden: &[Value], input: &[Value], output
     write_all(state, hidden, input, output);
 }
 
+/// Writes the values of a state that is listed.
+fn write_listed(state: &mut Vec<Value>, values: &[Value])
+    requires { length state.old.items ≡ length values.now }
+    ensures { state.new.items ≡ values.now }
+{
+    state.copy_from_slice(values);
+}
+
 /// Writes the hidden values of the first position.
 fn write_first(game: &Game, next: &mut Vec<Value>)
     requires { length next.old.items ≡ length (game_data game.now).hidden }
@@ -94,6 +102,26 @@ impl Position {
         if self.started { &self.state } else { &[] }
     }
 
+    /// Stands before the first position again.
+    pub fn start_anew(&mut self, game: &Game)
+        requires { (b : Before) × IsAfter (game_data game.now) self.old b }
+        ensures { IsAfter (game_data game.now) self.new None }
+    {
+        write_first(game, &mut self.next);
+        self.started = false;
+    }
+
+    /// Stands after a state of the game, whose values are given in order.
+    pub fn go_to(&mut self, game: &Game, state: &[Value])
+        requires made { WellMade (game_data game.now) }
+        requires here { (b : Before) × IsAfter (game_data game.now) self.old b }
+        requires state { (s : State) × IsTrue (is_state (game_data game.now) s) × (listed s ≡ state.now) }
+        ensures { (s : State) → IsTrue (is_state (game_data game.now) s) → listed s ≡ state.now → IsAfter (game_data game.now) self.new (Some s) }
+    {
+        write_listed(&mut self.state, state);
+        self.arrive(game);
+    }
+
     /// Goes on to the state that an input and an output lead to.
     pub fn go_on(&mut self, game: &Game, input: &[Value], output: &[Value])
         requires made { WellMade (game_data game.now) }
@@ -102,6 +130,17 @@ impl Position {
             IsAfter (game_data game.now) self.new (Some (reached (game_data game.now) b input.now output.now)) }
     {
         write_state(&mut self.state, &self.next, input, output);
+        self.arrive(game);
+    }
+
+    /// Stands after the state whose values are written.
+    fn arrive(&mut self, game: &Game)
+        requires made { WellMade (game_data game.now) }
+        requires cells { length self.old.cells.items ≡ length (game_data game.now).hidden }
+        requires room { length self.old.next.items ≡ length (game_data game.now).hidden }
+        requires state { (s : State) × IsTrue (is_state (game_data game.now) s) × (listed s ≡ self.old.state.items) }
+        ensures { (s : State) → IsTrue (is_state (game_data game.now) s) → listed s ≡ self.old.state.items → IsAfter (game_data game.now) self.new (Some s) }
+    {
         write_next(game, &self.state, &mut self.cells, &mut self.next);
         self.started = true;
     }

@@ -6,7 +6,11 @@
 //! met goes back to Bloem et al. 2012, solving GR(1) games, and Könighofer et al. 2009, counterstrategies.)
 //!
 //! Contract: `laws::sound_tables_win`, of a specification and its game; `laws::sound_system_tables_win` and
-//! `laws::sound_environment_tables_win`, of any well-made game. Path: strategy → **table** → text.
+//! `laws::sound_environment_tables_win`, of any well-made game. `Table` is what programs read, write and check; what it stands for
+//! is `table_data`. Path: strategy → **table** → text.
 #![tactic(auto)]
 
 pub mod laws;
+mod tables;
+
+pub use tables::{Node, Table};

@@ -49,6 +49,7 @@ fn game(alloc: Global) -> Result<Game, AllocError>
     })
 }
 
+#[tactic(auto, using(crate::proofs::Made::coded_made))]
 fn codes(rt: &impl Abort, alloc: Global) -> Codes
     ensures { result ≡ state_domains example }
 {
@@ -166,6 +167,7 @@ fn truths_of(diagrams: &mut Diagrams, made: Result<Root, Halt>) -> Option<u32>
 }
 
 #[test]
+#[tactic(auto, using(crate::proofs::Made::coded_made))]
 fn a_comparison_is_true_of_one_code(rt: HostRuntime) -> Result<(), Fail> {
     let game = game(rt.alloc())?;
     let codes = Codes::make(rt.alloc(), &game)?;
@@ -179,6 +181,7 @@ fn a_comparison_is_true_of_one_code(rt: HostRuntime) -> Result<(), Fail> {
 
 // The codes 5 to 7 are of no value.
 #[test]
+#[tactic(auto, using(crate::proofs::Made::coded_made))]
 fn unused_codes_compare_with_nothing(rt: HostRuntime) -> Result<(), Fail> {
     let game = game(rt.alloc())?;
     let codes = Codes::make(rt.alloc(), &game)?;
@@ -201,6 +204,7 @@ fn five_of_eight_codes_are_values(rt: HostRuntime) -> Result<(), Fail> {
 }
 
 #[test]
+#[tactic(auto, using(crate::proofs::Made::parity_made))]
 fn a_table_moves_where_its_atom_is_true(rt: HostRuntime) -> Result<(), Fail> {
     let game = parity(rt.alloc())?;
     let codes = Codes::make(rt.alloc(), &game)?;

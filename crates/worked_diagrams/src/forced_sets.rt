@@ -53,6 +53,7 @@ fn follower(alloc: Global) -> Result<Game, AllocError>
     })
 }
 
+#[tactic(auto, using(crate::proofs::Made::follower_made))]
 fn made(rt: &impl Abort, alloc: Global, budget: u32) -> Result<RegionBdd, Halt>
     requires { 2 ≤ budget }
     ensures { IfOk result (λ o. IsFollower (seen o)) }

@@ -119,6 +119,7 @@ fn judged(
 }
 
 /// The same of the first moves, and of later ones.
+#[tactic(auto, using(crate::proofs::Made::judged_made))]
 fn tried(
     diagrams: &mut Diagrams,
     codes: &Codes,
@@ -141,6 +142,7 @@ fn tried(
 }
 
 #[test]
+#[tactic(auto, using(crate::proofs::Made::judged_made))]
 fn lines_judge_the_moves(rt: HostRuntime) -> Result<(), Fail> {
     let game = game(rt.alloc())?;
     let codes = Codes::make(rt.alloc(), &game)?;

@@ -40,6 +40,7 @@ fn game(alloc: Global) -> Result<Game, AllocError>
     })
 }
 
+#[tactic(auto, using(crate::proofs::Made::coded_made))]
 fn codes(rt: &impl Abort, alloc: Global) -> Codes
     ensures { result ≡ state_domains example }
 {

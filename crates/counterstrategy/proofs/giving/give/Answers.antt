@@ -1,4 +1,4 @@
-use Rattle.std.proofs.Common.{◌∙◌, ◌+◌, ◌*◌, suc, length, List, Vec, sym, ap, subst, arith}
+use Rattle.std.proofs.Common.{◌∙◌, ◌+◌, ◌*◌, suc, Bool, if◌then◌else◌, length, List, Vec, sym, ap, subst, arith}
 use Rattle.std.specs.declared.alloc.Global.{Global}
 use Rattle.std.proofs.lemmas.Option.{slice_get_within}
 use Rattle.regions.specs.declared.types.When.TheVariants.{First, Later}
@@ -45,11 +45,13 @@ returns-then-place-clause-given g c = λ e n counts b m r x serves.
     let hold = serves_hold k kit p e n counts b m r x serves c.if-place.true in
     let before = after_denial k kit p e n counts b m r x serves c.if-place.true c.values-state.result.now c.values-state.ensures in
     let items = c.deref.ensures.value ∙ ap (λ (v : Vec _ Global). v.items) (chain_found k kit p e m r hold c.chain_number.result (c.chain_number.ensures hold.low hold.layer) c.index-chain.result.now c.index-chain.ensures) in
-    c.give_in_hold.ensures.first Later (e.x m.layer m.goal m.index) b r x
+    let denying = denies k kit p e n counts b m r x serves c.if-place.true in
+    let found = c.give_in_hold.ensures.first Later (e.x m.layer m.goal m.index) b r x
     (none_into k kit p e n counts b m r x serves c.if-place.true c.index.result.now c.index.ensures)
     (subst (λ (ms : List _). MovesLead k Later ms (λ r. e.x m.layer m.goal m.index (suc r))) (sym items) hold.lead)
-    before (first_into_hold k.game Later b before.time e m r x serves.turn.given (denies k kit p e n counts b m r x serves c.if-place.true))
-    (let long = ap (λ (ms : List _). length ms) items in omega (arith, hold.few, long))
+    before (first_into_hold k.game Later b before.time e m r x serves.turn.given denying)
+    (let long = ap (λ (ms : List _). length ms) items in omega (arith, hold.few, long)) in
+    (found.0, found.1 ∙ ap (λ (d : Bool). if d then r else 0) (sym denying))
 
 pub returns-then-place-2-clause-given : goal.returns-then-place-2-clause-given
 returns-then-place-2-clause-given g c = λ e n counts b m r x serves.
@@ -58,10 +60,11 @@ returns-then-place-2-clause-given g c = λ e n counts b m r x serves.
     let p = c.args.place.now in
     let off = denies_not k kit p e n counts b m r x serves c.if-place.false in
     let before = before_later k kit p e n counts b m r x serves c.if-place-2.true c.values-state.result.now c.values-state.ensures in
-    c.give_first.ensures.first Later e.z b r x
+    let found = c.give_first.ensures.first Later e.z b r x
     (subst (λ (ms : List _). MovesLead k Later ms e.z) (sym c.deref-then-place-2.ensures.value) serves.later)
     before (first_into_layer k.game Later b before.time e m r x serves.turn.given off)
-    (let long = ap (λ (ms : List _). length ms) c.deref-then-place-2.ensures.value in let few = serves.turn.layer off in let many = serves.later_counted in omega (arith, long, few, many))
+    (let long = ap (λ (ms : List _). length ms) c.deref-then-place-2.ensures.value in let few = serves.turn.layer off in let many = serves.later_counted in omega (arith, long, few, many)) in
+    (found.0, ap (λ (d : Bool). if d then r else 0) (sym off))
 
 pub returns-else-place-2-clause-given : goal.returns-else-place-2-clause-given
 returns-else-place-2-clause-given g c = λ e n counts b m r x serves.
@@ -70,7 +73,8 @@ returns-else-place-2-clause-given g c = λ e n counts b m r x serves.
     let p = c.args.place.now in
     let off = denies_not k kit p e n counts b m r x serves c.if-place.false in
     let before = before_first k kit p e n counts b m r x serves c.if-place-2.false c.values-state.result.now c.values-state.ensures in
-    c.give_first-else-place-2.ensures.first First e.z b r x
+    let found = c.give_first-else-place-2.ensures.first First e.z b r x
     (subst (λ (ms : List _). MovesLead k First ms e.z) (sym c.deref-else-place-2.ensures.value) serves.first)
     before (first_into_layer k.game First b before.time e m r x serves.turn.given off)
-    (let long = ap (λ (ms : List _). length ms) c.deref-else-place-2.ensures.value in let few = serves.turn.layer off in let many = serves.first_counted in omega (arith, long, few, many))
+    (let long = ap (λ (ms : List _). length ms) c.deref-else-place-2.ensures.value in let few = serves.turn.layer off in let many = serves.first_counted in omega (arith, long, few, many)) in
+    (found.0, ap (λ (d : Bool). if d then r else 0) (sym off))

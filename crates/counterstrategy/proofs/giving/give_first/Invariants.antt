@@ -9,13 +9,13 @@ use Rattle.counterstrategy.specs.Forced.{MovesLead, IsFirstForced}
 use Rattle.counterstrategy.proofs.giving.give_first.Given as goal
 
 -- no input forces the state into one of the sets so far
-abbrev pub invariant-loop-m : goal.invariant-loop-m
-invariant-loop-m g l =
+abbrev pub invariant-loop-n : goal.invariant-loop-n
+invariant-loop-n g l =
     let kept = g.G.Regions.kept in
     let first = kept l.fn.g in
     record {
       none : (when : When) (sets : ℕ → StateSet) (b : Before) (r : ℕ) (x : Assignment) →
-          MovesLead first when l.fn.moves sets → AreBefore first.game when b l.fn.state → IsFirstForced first.game when sets b r x → r < length l.fn.moves → l.m-index ≤ r;
+          MovesLead first when l.fn.moves sets → AreBefore first.game when b l.fn.state → IsFirstForced first.game when sets b r x → r < length l.fn.moves → l.n ≤ r;
       room : length l.input ≡ length l.fn.input;
       stays : Stays first (kept l.g);
       same : IsSameGame first (kept l.g);

@@ -17,16 +17,17 @@ give_first-requires-clause-moves g c =
     let some = c.requires.moves in
     (some.0, (λ r. some.1 (suc r)), moves_stay (kept c.args.g.now) (kept c.first_in.new.self) some.0 c.args.moves.now (λ r. some.1 (suc r)) c.first_in.ensures.held some.3)
 
-pub returns-then-not-first_in-clause-first : goal.returns-then-not-first_in-clause-first
-returns-then-not-first_in-clause-first g c = λ when sets b r x held lead before forced few.
+pub returns-then-first_in-clause-first : goal.returns-then-first_in-clause-first
+returns-then-first_in-clause-first g c = λ when sets b r x held lead before forced few.
+    let k = g.G.Regions.kept c.args.g.now in
+    let here = is_forced k.game when sets b r x forced 0 (omega arith) c.first_in.new.input c.first_in.result c.if-first_in.true
+    (found_by k k (g.met.G.Regions.exact _) (nothing_done k) (same_game k) c.args.none.now when (sets 0) b c.args.state.now c.first_in.new.input c.first_in.result c.first_in.ensures.first held before) in
+    (here.1, here.0)
+
+pub returns-else-first_in-clause-first : goal.returns-else-first_in-clause-first
+returns-else-first_in-clause-first g c = λ when sets b r x held lead before forced few.
     let kept = g.G.Regions.kept in
     let k = kept c.args.g.now in
-    let some = not_before k.game when sets b r x forced 0 (omega arith) c.first_in.new.input c.first_in.result c.if-not-first_in.true
+    let some = not_before k.game when sets b r x forced 0 (omega arith) c.first_in.new.input c.first_in.result c.if-first_in.false
     (found_by k k (g.met.G.Regions.exact _) (nothing_done k) (same_game k) c.args.none.now when (sets 0) b c.args.state.now c.first_in.new.input c.first_in.result c.first_in.ensures.first held before) in
-    in_others k (kept c.first_in.new.self) c.first_in.ensures.held c.first_in.ensures.keeps c.args.moves.now c.args.state.now c.give_first.new.input c.give_first.ensures.first when sets b r x lead before forced (omega (arith, some)) few
-
-pub returns-else-not-first_in-clause-first : goal.returns-else-not-first_in-clause-first
-returns-else-not-first_in-clause-first g c = λ when sets b r x held lead before forced few.
-    let k = g.G.Regions.kept c.args.g.now in
-    is_forced k.game when sets b r x forced 0 (omega arith) c.first_in.new.input c.first_in.result c.if-not-first_in.false
-    (found_by k k (g.met.G.Regions.exact _) (nothing_done k) (same_game k) c.args.none.now when (sets 0) b c.args.state.now c.first_in.new.input c.first_in.result c.first_in.ensures.first held before)
+    in_others k (kept c.first_in.new.self) c.first_in.ensures.held c.first_in.ensures.keeps c.args.moves.now c.args.state.now c.give_first.new.input c.give_first.result c.give_first.ensures.first when sets b r x lead before forced (omega (arith, some)) few

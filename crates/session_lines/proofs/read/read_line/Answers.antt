@@ -1,18 +1,20 @@
-use Rattle.std.proofs.Common.{sym, subst, arith, map, string_bytes}
+use Rattle.std.proofs.Common.{◌≡◌, ℕ, true, List, [], ◌++◌, map, length, take, drop, string_bytes, sym, subst, arith}
+use Rattle.std.proofs.lemmas.List.{take_at}
+use Rattle.spec_model.specs.declared.value.Value.{Value}
 use Rattle.spec_model.specs.declared.value.Var.{Var}
 use Rattle.spec_model.specs.Views.{variable_data}
-use Rattle.session_lines.specs.Reading.{words, IsGiven}
-use Rattle.session_lines.proofs.GivenValues.{given_at, given_more}
+use Rattle.session_lines.specs.Reading.{BeginsWith, Reads}
+use Rattle.session_lines.specs.Plain.{are_plain}
+use Rattle.session_lines.proofs.InOrder.{begins_reads, plain_if}
 use Rattle.session_lines.proofs.read.read_line.Goals as goal
 
-pub returns-in-None-clause-refused : goal.returns-in-None-clause-refused
-returns-in-None-clause-refused c = λ xs reads.
+pub returns-then-read_in_order-clause-read : goal.returns-then-read_in_order-clause-read
+returns-then-read_in_order-clause-read c =
+    let row = c.args.row.now in
     let names = map string_bytes c.args.names.now in
-    let ws = words c.args.line.now in
-    let given = given_at names ws c.args.vars.now xs c.loop-i.i c.index-vars-i.result c.loop-i-test.true reads.given in
-    c.in-None.ensures.none given.0 (subst (λ (v : Var). IsGiven names ws (variable_data v) given.0) (sym c.index-vars-i.is) given.1)
-
-pub loop-i-preserved : goal.loop-i-preserved
-loop-i-preserved c =
-    given_more (map string_bytes c.args.names.now) (words c.args.line.now) c.args.vars.now c.loop-i.values c.loop-i.i c.index-vars-i.result c.in-Some.value
-    c.loop-i-test.true (omega (arith, c.loop-i-test.true, c.loop-i.auto.values, c.requires)) c.index-vars-i.is c.loop-i.invariant c.in-Some.ensures.some
+    let vs = map variable_data row.vars.items in
+    let new = c.read_in_order.new.values in
+    let plain : are_plain (map (λ v. v.name) vs) ≡ true = (let told = row.plainly in let test = c.if-not-row.false in cc) in
+    let long : length new ≡ row.values.len = omega (arith, c.read_in_order.ensures.places, c.deref_mut-2.ensures.len) in
+    let begins = subst (λ (vars : List Var). BeginsWith names (map variable_data vars) new c.args.line.now []) c.deref-2.ensures.value c.if-read_in_order.ensures.items in
+    subst (λ (xs : List Value). Reads names vs c.args.line.now xs) (sym (take_at new (drop (length new) row.values.items) row.values.len long)) (begins_reads names vs new c.args.line.now (plain_if (map (λ v. v.name) vs) plain) begins)

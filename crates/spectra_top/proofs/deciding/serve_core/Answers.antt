@@ -1,6 +1,6 @@
 use Rattle.std.proofs.Common.{inl, refl}
 use Rattle.solve.proofs.Budgets.{whole_in_turn}
-use Rattle.spectra_top.proofs.Decided.{is_kept, by_trying, not_decided, core_decides}
+use Rattle.spectra_top.proofs.Decided.{is_kept, by_trying, not_decided}
 use Rattle.spectra_top.proofs.deciding.serve_core.Goals as goal
 
 pub returns-in-Ok-Realizable : goal.returns-in-Ok-Realizable
@@ -9,4 +9,4 @@ returns-in-Ok-Realizable g c =
     λ left faults. is_kept _ _ _ _ _ _ _ (inl refl) h.numbers (c.say_realizable_instead.ensures left faults)
 
 pub returns-in-Err : goal.returns-in-Err
-returns-in-Err g c = λ left faults. not_decided _ _ _ _ _ _ _ core_decides (by_trying _ _ _ (whole_in_turn _ _ _ c.in-Err.ensures.cause)) (c.say_no_verdict.ensures left faults)
+returns-in-Err g c = λ left faults. not_decided _ _ _ _ _ _ _ tt (by_trying _ _ _ (whole_in_turn _ _ _ c.in-Err.ensures.cause)) (c.say_no_verdict.ensures left faults)

@@ -1,6 +1,6 @@
 use Rattle.std.proofs.Common.{inr, refl}
 use Rattle.command_words.specs.declared.words.Command.TheVariants.{Counter}
-use Rattle.spectra_top.proofs.Decided.{is_kept, is_countered, by_solving, not_decided, counter_decides}
+use Rattle.spectra_top.proofs.Decided.{is_kept, is_countered, by_solving, not_decided}
 use Rattle.spectra_top.proofs.deciding.serve_counter.Goals as goal
 
 pub returns-in-Ok-Realizable : goal.returns-in-Ok-Realizable
@@ -20,4 +20,4 @@ returns-in-Ok-Unrealizable g c =
     is_countered _ _ _ _ _ _ _ _ refl h.verdict.0 c.counter.ensures.holds
 
 pub returns-in-Err : goal.returns-in-Err
-returns-in-Err g c = not_decided _ _ _ _ _ _ _ counter_decides (by_solving Counter _ _ (λ filled. filled) _ c.in-Err.ensures.cause) (c.say_no_verdict.ensures _ _)
+returns-in-Err g c = not_decided _ _ _ _ _ _ _ tt (by_solving Counter _ _ (λ filled. filled) _ c.in-Err.ensures.cause) (c.say_no_verdict.ensures _ _)

@@ -1,6 +1,6 @@
 use Rattle.std.proofs.Common.{refl}
 use Rattle.solve.proofs.Wholly.{lost_within}
-use Rattle.spectra_top.proofs.Decided.{core_found, by_trying, not_decided, core_decides}
+use Rattle.spectra_top.proofs.Decided.{core_found, by_trying, not_decided}
 use Rattle.spectra_top.proofs.deciding.serve_lost_core.Goals as goal
 
 pub core_of_lost-requires-clause-lost : goal.core_of_lost-requires-clause-lost
@@ -12,4 +12,4 @@ returns-in-Ok g c = λ left faults.
 
 pub returns-in-Err : goal.returns-in-Err
 returns-in-Err g c = λ left faults.
-    not_decided _ _ _ _ _ _ _ core_decides (by_trying _ _ _ c.in-Err.ensures.cause) (c.say_no_verdict.ensures left faults)
+    not_decided _ _ _ _ _ _ _ tt (by_trying _ _ _ c.in-Err.ensures.cause) (c.say_no_verdict.ensures left faults)

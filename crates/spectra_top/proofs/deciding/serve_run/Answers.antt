@@ -1,6 +1,6 @@
 use Rattle.std.proofs.Common.{inr, refl}
 use Rattle.command_words.specs.declared.words.Command.TheVariants.{Run}
-use Rattle.spectra_top.proofs.Decided.{run_held, is_lost, by_solving, not_decided, run_decides}
+use Rattle.spectra_top.proofs.Decided.{run_held, is_lost, by_solving, not_decided}
 use Rattle.spectra_top.proofs.deciding.serve_run.Goals as goal
 
 pub hold-requires : goal.hold-requires
@@ -20,4 +20,4 @@ returns-in-Ok-Unrealizable g c =
     is_lost _ _ _ _ _ _ _ _ (inr refl) h.verdict.0 (c.say_unrealizable.ensures _ _)
 
 pub returns-in-Err : goal.returns-in-Err
-returns-in-Err g c = not_decided _ _ _ _ _ _ _ run_decides (by_solving Run _ _ (λ filled. filled) _ c.in-Err.ensures.cause) (c.say_no_verdict.ensures _ _)
+returns-in-Err g c = not_decided _ _ _ _ _ _ _ tt (by_solving Run _ _ (λ filled. filled) _ c.in-Err.ensures.cause) (c.say_no_verdict.ensures _ _)

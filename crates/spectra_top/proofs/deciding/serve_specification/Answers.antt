@@ -1,3 +1,4 @@
+use Rattle.spectra_top.specs.Top as top
 use Rattle.spectra_top.proofs.Decided.{served_as, is_audited}
 use Rattle.spectra_top.proofs.deciding.serve_specification.Goals as goal
 
@@ -18,3 +19,6 @@ returns-in-Audit g c = is_audited _ _ _ _ _ _ c.in-Audit.is c.audit.ensures
 
 pub returns-in-Counter : goal.returns-in-Counter
 returns-in-Counter g c = served_as _ _ c.in-Counter.is _ _ _ _ _ c.serve_counter.ensures
+
+pub returns-in-Verify : goal.returns-in-Verify
+returns-in-Verify g c = top.verifies c.in-Verify.is c.verify.ensures

@@ -1,6 +1,6 @@
 use Rattle.std.proofs.Common.{inl, refl}
 use Rattle.command_words.specs.declared.words.Command.TheVariants.{Synth}
-use Rattle.spectra_top.proofs.Decided.{synth_won, is_lost, by_solving, not_decided, synth_decides}
+use Rattle.spectra_top.proofs.Decided.{synth_won, is_lost, by_solving, not_decided}
 use Rattle.spectra_top.proofs.deciding.serve_synth.Goals as goal
 
 pub returns-in-Ok-Realizable : goal.returns-in-Ok-Realizable
@@ -14,4 +14,4 @@ returns-in-Ok-Unrealizable g c =
     λ left faults. is_lost _ _ _ _ _ _ _ _ (inl refl) h.numbers (c.say_unrealizable.ensures left faults)
 
 pub returns-in-Err : goal.returns-in-Err
-returns-in-Err g c = λ left faults. not_decided _ _ _ _ _ _ _ synth_decides (by_solving Synth _ _ (λ filled. filled) _ c.in-Err.ensures.cause) (c.say_no_verdict.ensures left faults)
+returns-in-Err g c = λ left faults. not_decided _ _ _ _ _ _ _ tt (by_solving Synth _ _ (λ filled. filled) _ c.in-Err.ensures.cause) (c.say_no_verdict.ensures left faults)

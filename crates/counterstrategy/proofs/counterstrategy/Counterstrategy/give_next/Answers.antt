@@ -14,8 +14,8 @@ use Rattle.counterstrategy.proofs.Sounding.{sound_stays, serves_turn}
 use Rattle.counterstrategy.proofs.Completing.{written_over}
 use Rattle.counterstrategy.proofs.counterstrategy.Counterstrategy.give_next.Goals as goal
 
-pub give-requires-clause-turn : goal.give-requires-clause-turn
-give-requires-clause-turn g c =
+pub give-self-requires-clause-turn : goal.give-self-requires-clause-turn
+give-self-requires-clause-turn g c =
     let k = g.G.Regions.kept c.args.self.now.g in
     let self = c.args.self.now in
     let some = c.requires.stands in
@@ -28,24 +28,24 @@ returns-clause-given g c = λ e h notes b m st.
     let kept = g.G.Regions.kept in
     let self = c.args.self.now in
     let k = kept self.g in
-    let k1 = kept c.give.new.g in
-    let stays = c.give.ensures.held in
-    let same = c.give.ensures.keeps in
+    let k1 = kept c.give-self.new.g in
+    let stays = c.give-self.ensures.held in
+    let same = c.give-self.ensures.keeps in
     let ls = self.layers.items in
     let turn = turn_exists k.game e (length ls) (counts_of ls) st.sound.lost h notes b m st.play st.whole in
     let serves = serves_turn k ls self.kit e st.sound self.place b m turn.0 turn.1 turn.2 st.place in
-    let wrote : c.give.new.input ≡ turn.1 = c.give.ensures.given e (length ls) (counts_of ls) b m turn.0 turn.1 serves in
-    let long : length c.give.new.input ≡ length self.given.items = c.give.ensures.room ∙ ap (λ (vs : List _). length vs) c.deref_mut.ensures.value in
-    let now = written_over self.given c.give.new.input long in
-    let x = take self.given.len (c.give.new.input ++ drop (length c.give.new.input) self.given.items) in
-    let given : IsGiven k1.game e b m turn.0 x = subst (λ (d : GameData). IsGiven d e b m turn.0 x) (sym same.game) (subst (λ (x : Assignment). IsGiven k.game e b m turn.0 x) (sym (now ∙ wrote)) turn.2.given) in
+    let gave = c.give-self.ensures.given e (length ls) (counts_of ls) b m turn.0 turn.1 serves in
+    let long : length c.give-self.new.input ≡ length self.given.items = c.give-self.ensures.room ∙ ap (λ (vs : List _). length vs) c.deref_mut.ensures.value in
+    let now = written_over self.given c.give-self.new.input long in
+    let x = take self.given.len (c.give-self.new.input ++ drop (length c.give-self.new.input) self.given.items) in
+    let given : IsGiven k1.game e b m turn.0 x = subst (λ (d : GameData). IsGiven d e b m turn.0 x) (sym same.game) (subst (λ (x : Assignment). IsGiven k.game e b m turn.0 x) (sym (now ∙ gave.0)) turn.2.given) in
     record {
       stands = record {
         sound = sound_stays k k1 stays same ls self.kit e st.sound;
         play = subst (λ (d : GameData). AnsweredPlay d e h notes b m) (sym same.game) st.play;
         whole = subst (λ (d : GameData). IsWholeBefore d b) (sym same.game) st.whole;
         place = subst (λ (d : GameData). IsAt d self.place b m) (sym same.game) st.place;
-        given = λ yes. (turn.0, given);
+        given = λ yes. (turn.0, given, gave.1);
         room = ap (λ (vs : List _). length vs) now ∙ (long ∙ (st.room ∙ ap input_count (sym same.game)));
         owned = all_stay k k1 (items_of self) (g.met.G.Regions.exact _) (λ w. omega (arith, stays.held w)) st.owned;
         few = st.few;

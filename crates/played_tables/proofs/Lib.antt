@@ -1,0 +1,9 @@
+pub mod Same
+pub mod Rows
+pub mod Targets
+pub mod Ranks
+pub mod Played
+pub mod CounterRows
+pub mod CounterTargets
+pub mod CounterBounds
+pub mod CounterPlayed

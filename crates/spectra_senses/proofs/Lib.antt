@@ -1,0 +1,12 @@
+pub mod Formulas
+pub mod Orders
+pub mod Putting
+pub mod Deep
+pub mod Trees
+pub mod Lines
+pub mod Numbers
+pub mod Domains
+pub mod Patterns
+pub mod Worked
+pub mod Spans
+pub mod Theorem

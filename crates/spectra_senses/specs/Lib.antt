@@ -1,0 +1,5 @@
+pub mod Senses
+pub mod SameText
+pub mod Worked
+pub mod Spans
+pub mod Laws

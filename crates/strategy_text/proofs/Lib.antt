@@ -1,0 +1,9 @@
+pub mod Lists
+pub mod Listing
+pub mod DomainValues
+pub mod NodeParts
+pub mod Answers
+pub mod Plain
+pub mod Back
+pub mod Only
+pub mod Texts

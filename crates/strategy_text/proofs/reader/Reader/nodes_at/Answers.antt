@@ -1,0 +1,9 @@
+use Rattle.std.proofs.lemmas.Result.{err_from_is_err_and}
+use Rattle.strategy_text.proofs.Answers.{fails}
+use Rattle.strategy_text.proofs.reader.Reader.nodes_at.Goals as goal
+
+pub returns-in_err-list : goal.returns-in_err-list
+returns-in_err-list c = let p = err_from_is_err_and c.from_residual.result c.from_residual.ensures.1 in rw (p.1, p.2) (fails c.in_err-list.ensures (λ none. rw none))
+
+pub returns : goal.returns
+returns c = rw c.in_ok-list.ensures.ok c.nodes.ensures

@@ -1,0 +1,4 @@
+pub mod Written
+pub mod Reading
+pub mod Views
+pub mod Laws
