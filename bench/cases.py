@@ -53,8 +53,6 @@ def built(program, row):
     """What a built program writes for a row, in a folder with its files, and its status."""
     if any(name.startswith("/") or name.endswith("/") for name in row.files) or row.written.endswith(b"/\n"):
         raise LeftOut("a file lies outside of the folder, or has a folder's name")
-    if row.words[:1] == ["export"]:
-        raise LeftOut("the program doesn't export yet")
     with tempfile.TemporaryDirectory() as folder:
         for name, text in row.files.items():
             file = Path(folder, name)

@@ -1,57 +1,75 @@
 #!/usr/bin/env python3
-"""deep.py PROGRAM FOLDER ROUNDS: how long `PROGRAM synth` reads texts whose definitions stand on one another."""
+"""deep.py PROGRAM [WORD]: what PROGRAM does with the texts of deep_texts.py, or with those in whose name WORD stands.
+
+Each is read by a process of its own with a stack of STACK bytes (as behind `ulimit -s 512`), which is ended after LIMIT
+seconds. A row says the status, the seconds by the clock, and how it ended: answered as it should be, late (after more than
+SECOND), by a signal, not within the limit, or with something else. Behind a text that isn't answered as it should be stands
+what was known of it. The exit status is 1 where there is such a text.
+"""
+import resource
+import signal
+import subprocess
 import sys
+import tempfile
+import time
+from pathlib import Path
 
-from runs import seconds
+from deep_texts import MOST_BYTES, TEXTS
 
-HEAD = "spec Deep\nenv boolean e;\nsys boolean g;\nenv Int(0..2) r;\n"
-
-
-def chain(first, next_one, count, line):
-    """A first definition, so many more, each by its number and that of the one before it, and a line."""
-    return HEAD + first + "".join(next_one(k, k - 1) for k in range(1, count + 1)) + line
-
-
-def defines(count):
-    """Each define is the one before it."""
-    return chain("define d0 := e;\n", lambda k, j: f"define d{k} := d{j};\n", count, f"gar alw g | d{count};\n")
+STACK = 512 * 1024
+LIMIT = 20
+SECOND = 1.0
 
 
-def calls(count):
-    """Each predicate calls the one before it, with a narrower span than it was declared with."""
-    first = "predicate p0(Int(0..4) n): n > 1;\n"
-    return chain(first, lambda k, j: f"predicate p{k}(Int(0..4) n): p{j}(n);\n", count, f"gar alw g | p{count}(r);\n")
+def narrow():
+    """The stack of the program that is begun."""
+    resource.setrlimit(resource.RLIMIT_STACK, (STACK, resource.getrlimit(resource.RLIMIT_STACK)[1]))
 
 
-def handed(count):
-    """Each predicate hands on what the one before it does."""
-    first = "predicate same(boolean x): x;\npredicate p0(boolean x): x;\n"
-    return chain(first, lambda k, j: f"predicate p{k}(boolean x): same(p{j}(x));\n", count, f"gar alw g | p{count}(e);\n")
+def run(program, text, folder):
+    """The status of a run, what it wrote, and its seconds; no status where it was ended by the limit."""
+    Path(folder, "t.spectra").write_bytes(text.text.encode())
+    command = [program, text.command, "t.spectra"]
+    before = time.perf_counter()
+    try:
+        done = subprocess.run(command, cwd=folder, input=text.given.encode(), capture_output=True, timeout=LIMIT, preexec_fn=narrow, check=False)
+    except subprocess.TimeoutExpired:
+        return None, b"", time.perf_counter() - before
+    return done.returncode, done.stdout, time.perf_counter() - before
 
 
-def ring(count):
-    """Each define is the next one, and the last the first."""
-    return HEAD + "".join(f"define d{k} := d{(k + 1) % count};\n" for k in range(count))
-
-
-def doubling(count):
-    """Each predicate is its first argument and gives itself twice, with other numbers for the second."""
-    first = "predicate p0(boolean x, Int(1..1) n): x;\n"
-    return chain(first, lambda k, j: f"predicate p{k}(boolean x, Int(1..1) n): p{j}(p{j}(x, n + 1), n * 2);\n", count, f"gar alw g | p{count}(e, 1);\n")
-
-
-CASES = [(defines, 1_000), (defines, 2_000), (calls, 500), (calls, 1_000), (handed, 500), (handed, 1_000), (ring, 4_000), (ring, 8_000), (doubling, 16), (doubling, 20)]
+def ended(text, status, written, took):
+    """How a run ended, and whether as it should."""
+    if status is None:
+        return f"not within {LIMIT} s", False
+    if status < 0:
+        return signal.Signals(-status).name, False
+    if status > 128:
+        return f"status {status}", False
+    if (written.decode("utf-8", "replace"), status) != (text.written, text.status):
+        return f"something else: {written[:60]!r}", False
+    return ("as it should", True) if took <= SECOND else ("late", False)
 
 
 def main():
-    program, folder, rounds = sys.argv[1], sys.argv[2], int(sys.argv[3])
-    print("| Text | Definitions | s |\n|---|---|---|")
-    for make, count in CASES:
-        path = f"{folder}/{make.__name__}{count}.spectra"
-        with open(path, "w", encoding="ascii") as text:
-            text.write(make(count))
-        expected = f"{path}:5:8: fault 15 Cycle\n" if make is ring else "realizable K=2\n"
-        print(f"| {make.__name__} | {count:,} | {seconds([program, 'synth', path], expected, rounds):.3f} |")
+    if len(sys.argv) not in (2, 3):
+        sys.exit(__doc__)
+    program = str(Path(sys.argv[1]).resolve())
+    chosen = [it for it in TEXTS if len(sys.argv) == 2 or sys.argv[2] in it.name]
+    print("| Text | Bytes | Status | s | Ended | Known |\n|---|---|---|---|---|---|", flush=True)
+    wrong = known = 0
+    with tempfile.TemporaryDirectory() as folder:
+        for text in chosen:
+            size = len(text.text.encode())
+            assert size <= MOST_BYTES, text.name
+            status, written, took = run(program, text, folder)
+            how, right = ended(text, status, written, took)
+            wrong += not right
+            known += not right and text.known != ""
+            shown = "none" if status is None else status
+            print(f"| {text.name} | {size:,} | {shown} | {took:.3f} | {how} | {'' if right else text.known} |", flush=True)
+    print(f"\n{len(chosen)} texts, {wrong} not answered as they should be, {known} of these known")
+    return 1 if wrong else 0
 
 
-main()
+sys.exit(main())

@@ -1,8 +1,7 @@
 #!/usr/bin/env bash
-# Times how long `spectra synth` reads texts whose definitions stand on one another.
-# deep.sh [ROUNDS]: prints a table; the least seconds of ROUNDS runs count, 5 if none are given.
+# What the program does with hostile texts on a small stack.
+# deep.sh [WORD]: prints a table of all texts of deep_texts.py, or of those in whose name WORD stands.
 set -euo pipefail
-rounds=${1:-5}
 source "$(dirname "$0")/program.sh"
 
-python3 "$here/deep.py" "$program" "$made" "$rounds"
+python3 "$here/deep.py" "$program" "$@"

@@ -1,5 +1,5 @@
 #!/usr/bin/env bash
-# Times the lines that `spectra run` answers, beside `cat` and `wc -l` on the same file in the same run.
+# Times the lines that `spectra run` and `spectra many` answer, beside `cat` and `wc -l` on the same file in the same run.
 # lines.sh [LINES]: prints a table, with the ratio to `wc -l`; 1,000,000 lines if none are given. Each command runs three
 # times, and the least of its seconds counts.
 set -euo pipefail

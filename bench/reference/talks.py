@@ -1,4 +1,6 @@
 """What each command writes, line by line, and the status at its end."""
+import re
+
 from .choices import FRESH, answered, begun, noted
 from .game import Game
 from .layers import Verdict
@@ -59,6 +61,36 @@ def run(game, verdict, lines):
         play = answered(game, verdict.goals, play, x)
         yield show(game.outputs, play.state[2])
     return 0
+
+
+def many(game, verdict, lines):
+    """Each line is answered for the session whose number it begins with; a session is a play, or None once it is over."""
+    yield verdict.line()
+    if not verdict.realizable:
+        return 1
+    plays = {str(n): FRESH for n in range(1, 1_025)}
+    for p, line in enumerate(lines, 1):
+        number = re.match(r"[^ \t]*", line)[0]
+        if number not in plays or len(line.encode()) > MOST_BYTES:
+            yield f"line {p} refused"
+            return 6
+        plays[number], reply = replied(game, verdict, plays[number], line[len(number) :])
+        yield f"{number} {reply}"
+    return 0
+
+
+def replied(game, verdict, play, text):
+    """One session after a text, and what it is told."""
+    if play is None:
+        return None, "ended"
+    x = read(game.inputs, text)
+    if x is None:
+        return None, "refused"
+    broken = game.broken_by_input(play.state, x)
+    if broken is not None:
+        return None, f"assumption broken #{broken}"
+    play = answered(game, verdict.goals, play, x)
+    return play, show(game.outputs, play.state[2])
 
 
 def counter(game, verdict, lines):
@@ -182,8 +214,8 @@ def talk(command, text, given):
     if command in ("audit", "verify"):
         return (audit if command == "audit" else verify)(game, given)
     verdict = Verdict(game)
-    if command in ("run", "counter"):
-        return (run if command == "run" else counter)(game, verdict, given)
+    if command in ("run", "counter", "many"):
+        return {"run": run, "counter": counter, "many": many}[command](game, verdict, given)
     return core(text, verdict) if command == "core" else export(game, verdict) if command == "export" else synth(verdict)
 
 

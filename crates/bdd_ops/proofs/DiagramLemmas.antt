@@ -17,7 +17,7 @@ pub later_ignores : (d : Diagram) (level : ℕ) → IsReduced d → IsLater leve
 later_ignores d level reduced later m le s b = value-with_bit d m s b reduced (later_than_earlier d m level le later)
 
 -- and its own it reads
-own_is_read : (own : ℕ) (low high : Diagram) → IsReduced (branch own low high) → Ignores own (value (branch own low high)) → ⊥
+pub own_is_read : (own : ℕ) (low high : Diagram) → IsReduced (branch own low high) → Ignores own (value (branch own low high)) → ⊥
 own_is_read own low high reduced ignores =
     let agree : (s : Bits) → value low s ≡ value high s = λ s.
     sym (value_at_false own low high s reduced) ∙ (ignores s false ∙ (sym (ignores s true) ∙ value_at_true own low high s reduced)) in

@@ -14,3 +14,4 @@ pub mod ShiftLemmas
 pub mod PathLemmas
 pub mod RowLemmas
 pub mod FirstLemmas
+pub mod SplitLemmas

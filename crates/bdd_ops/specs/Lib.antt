@@ -6,3 +6,4 @@ pub mod Calls
 pub mod Paths
 pub mod Reading
 pub mod Together
+pub mod Splits

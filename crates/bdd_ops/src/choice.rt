@@ -47,9 +47,9 @@ impl Diagrams {
             return Ok(edge);
         }
         let level = self.earlier(self.earlier(self.level(a), b), c);
-        let (a_low, a_high) = self.split(a, level);
-        let (b_low, b_high) = self.split(b, level);
-        let (c_low, c_high) = self.split(c, level);
+        let (a_low, a_high) = self.parts_at(a, level);
+        let (b_low, b_high) = self.parts_at(b, level);
+        let (c_low, c_high) = self.parts_at(c, level);
         let low = self.choice(a_low, b_low, c_low)?;
         let high = self.choice(a_high, b_high, c_high)?;
         let edge = self.join(level, low, high)?;

@@ -127,7 +127,7 @@ impl Diagrams {
     }
 
     /// The two parts of an edge at a level that isn't after its own.
-    pub(crate) fn split(&self, e: Edge, level: u32) -> (Edge, Edge)
+    pub(crate) fn parts_at(&self, e: Edge, level: u32) -> (Edge, Edge)
         requires below { level < self.now.state.table.levels }
         requires live { IsEdge self.now.state e.0 }
         requires from { level ≤ level_at self.now e.0 }

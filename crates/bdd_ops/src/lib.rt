@@ -24,10 +24,12 @@ mod relate;
 mod remembered;
 mod rows;
 mod shift;
+mod split;
 mod together;
 
 pub use bdd_store::{Root, StoreFault};
 pub use diagrams::Diagrams;
+pub use split::Split;
 pub use together::Conjunction;
 /// Memory ran out.
 pub use std::alloc::AllocError as OutOfMemory;

@@ -75,7 +75,7 @@ impl Diagrams {
             return Ok(edge);
         }
         let level = self.level(a);
-        let (a_low, a_high) = self.split(a, level);
+        let (a_low, a_high) = self.parts_at(a, level);
         let low = self.quantified(all, list, a_low)?;
         if self.is_settled(all, list, level, low) {
             self.remember_quantified(all, list, a, low);

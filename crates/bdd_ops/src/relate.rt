@@ -50,8 +50,8 @@ impl Diagrams {
             return Ok(edge);
         }
         let level = self.earlier(self.level(a), b);
-        let (a_low, a_high) = self.split(a, level);
-        let (b_low, b_high) = self.split(b, level);
+        let (a_low, a_high) = self.parts_at(a, level);
+        let (b_low, b_high) = self.parts_at(b, level);
         let low = self.related(list, a_low, b_low)?;
         if self.is_settled(false, list, level, low) {
             self.remember_related(list, a, b, low);

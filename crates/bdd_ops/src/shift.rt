@@ -27,7 +27,7 @@ impl Diagrams {
             return Ok(edge);
         }
         let level = self.level(a);
-        let (a_low, a_high) = self.split(a, level);
+        let (a_low, a_high) = self.parts_at(a, level);
         let low = self.moved(list, a_low)?;
         let high = self.moved(list, a_high)?;
         let to = self.target(list, level);

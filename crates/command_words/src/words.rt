@@ -17,6 +17,8 @@ pub enum Command {
     Synth,
     /// To write the verdict and, where the system wins, to answer the lines of the input.
     Run,
+    /// To write the verdict and, where the system wins, to answer the lines of many sessions.
+    Many,
     /// To write the verdict and, where the environment wins, the guarantees of an unrealizable core.
     Core,
     /// To write whether the assumptions keep the system from a guarantee that can never be met.
@@ -25,6 +27,8 @@ pub enum Command {
     Counter,
     /// To read a log and to write whether each position of it is legal.
     Audit,
+    /// To write the table of the strategy that wins.
+    Export,
     /// To read a table and to write whether it wins.
     Verify,
 }
@@ -53,10 +57,12 @@ fn command_of(word: &str) -> Option<Command>
     match word {
         "synth" => Some(Command::Synth),
         "run" => Some(Command::Run),
+        "many" => Some(Command::Many),
         "core" => Some(Command::Core),
         "separate" => Some(Command::Separate),
         "counter" => Some(Command::Counter),
         "audit" => Some(Command::Audit),
+        "export" => Some(Command::Export),
         "verify" => Some(Command::Verify),
         _ => None,
     }

@@ -69,16 +69,19 @@ impl<'a> Operators<'a> {
     }
 
     #[tactic(auto, using(crate::proofs::Places::added_parts))]
-    /// Adds the operators in a regular expression.
+    /// Adds the operators in a regular expression. Repeats around one another are a loop.
     #[cycle(regexes)]
     fn collect_regex(&mut self, r: &'a Regex) -> Result<(), AllocError>
         ensures { OnOk result (map tree_of self.new ≡ added (map tree_of self.old) (flat_map past_trees (atoms_of (regular r.now)))) }
     {
-        match r {
-            Regex::Atom(e) => self.collect(e),
-            Regex::Cat(rs) => self.collect_regexes(rs),
-            Regex::Alt(rs) => self.collect_regexes(rs),
-            Regex::Repeat(r, _, _) => self.collect_regex(r),
+        let mut part = r;
+        'repeats: loop {
+            match part {
+                Regex::Atom(e) => return self.collect(e),
+                Regex::Cat(rs) => return self.collect_regexes(rs),
+                Regex::Alt(rs) => return self.collect_regexes(rs),
+                Regex::Repeat(inner, _, _) => part = inner,
+            }
         }
     }
 

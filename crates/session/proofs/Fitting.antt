@@ -26,6 +26,10 @@ pub reads_over : (l : Lines) (names : List (List ℕ)) (vs us : List VariableDat
 reads_over l names vs us line x over reads =
     subst (λ vs. Reads names vs line x) over.wanted (subst (λ (names : List (List ℕ)). Reads names (wanted_variables l) line x) over.names reads)
 
+pub over_reads : (l : Lines) (names : List (List ℕ)) (vs us : List VariableData) (line : List ℕ) (x : Assignment) → AreOver l names vs us → Reads names vs line x → Reads (names_of l) (wanted_variables l) line x
+over_reads l names vs us line x over reads =
+    subst (λ vs. Reads (names_of l) vs line x) (sym over.wanted) (subst (λ (names : List (List ℕ)). Reads names vs line x) (sym over.names) reads)
+
 pub over_after : (old new : Lines) (names : List (List ℕ)) (vs us : List VariableData) → AreOver old names vs us → KeepsTables old new → AreOver new names vs us
 over_after old new names vs us over keeps = record { names = keeps.names ∙ over.names; wanted = keeps.wanted ∙ over.wanted; shown = keeps.shown ∙ over.shown }
 
@@ -33,7 +37,7 @@ pub fits_after : (old new : Lines) (line : List ℕ) → KeepsTables old new →
 fits_after old new line keeps reads =
     subst (λ vs. is_assignment (domains vs) (read_of new) ≡ true) (sym keeps.wanted) (read_fits (names_of old) (wanted_variables old) line (read_of new) reads)
 
-pub serves_after : {State : Type 0} (terms : Specification → Terms State) (Stands : Specification → State → Type 0) (old new : Lines) → Serves terms Stands old → KeepsTables old new → Serves terms Stands new
+pub serves_after : {State Read : Type 0} (terms : Specification → Terms State Read) (Stands : Specification → State → Type 0) (old new : Lines) → Serves terms Stands old → KeepsTables old new → Serves terms Stands new
 serves_after terms Stands old new some keeps =
     record {
       spec = some.spec;

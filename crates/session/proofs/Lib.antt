@@ -1,8 +1,8 @@
-mod Fitting
+pub mod Fitting
 pub mod Turns
 pub mod RunTalks
 pub mod CounterTalks
 mod Noting
-mod Strategic
+pub mod Strategic
 mod Countering
 pub mod Logging

@@ -1,5 +1,5 @@
 -- One line more of a log, and how its audit ends.
-use Rattle.std.proofs.Common.{◌≡◌, inl, inr, ◌↔◌, ℕ, ◌+◌, ◌<◌, ◌≤◌, not, true, false, List, [], ◌∷◌, ◌++◌, length, map, Option, Some, None, is_none, option_map, refl, sym, ap, subst, ◌∙◌, arith, append-nil, length-append}
+use Rattle.std.proofs.Common.{◌≡◌, inl, inr, ◌↔◌, ℕ, Bool, ◌+◌, ◌<◌, ◌≤◌, not, true, false, List, [], ◌∷◌, ◌++◌, length, map, Option, Some, None, is_none, option_map, refl, sym, ap, subst, ◌∙◌, arith, append-nil, length-append}
 use Rattle.std.proofs.lemmas.Bool.{and_parts, and_from}
 use Rattle.std.proofs.lemmas.List.{map-append}
 use Rattle.std.specs.List.{list_any}
@@ -20,9 +20,10 @@ use Rattle.session_lines.specs.Room.{domains}
 use Rattle.session_lines.specs.InputLines.{Line}
 use Rattle.session_lines.specs.Shown.{inputs_of, outputs_of}
 use Rattle.session_lines.specs.Reading.{Reads}
-use Rattle.session_lines.specs.Taking.{Takes}
+use Rattle.session_lines.specs.declared.lines.Lines.{Lines}
+use Rattle.session_lines.specs.Views.{AreUnread, ended_of, pending_of}
 use Rattle.session_lines.specs.Handing.{IsNext, AreFirst}
-use Rattle.session_lines.proofs.HandingLemmas.{first_with, none_handed, handed_first, given_now, taken_now, hands_more, line_next, last_ended, last_told, last_next, end_ended, end_told, fault_told, long_next}
+use Rattle.session_lines.proofs.HandingLemmas.{first_with, none_handed, handed_first, last_handed, Asked, tells_line, tells_long, tells_end, tells_fault}
 use Rattle.trace_planes.specs.declared.audit.Audit.{Audit}
 use Rattle.trace_planes.specs.declared.finding.Finding.{Finding}
 use Rattle.trace_planes.specs.Audits.{IsPosition, Stands, OfEachRun, room_of}
@@ -31,7 +32,7 @@ use Rattle.trace_planes.specs.GameFindings.{broken_in_game, first_finding}
 use Rattle.session.specs.declared.auditing.AuditEnd.{AuditEnd}
 use Rattle.session.specs.declared.auditing.AuditEnd.TheVariants as ends
 use Rattle.session.specs.AuditTalks.{ReadsAll, ReadsPosition, ArePositions, Stops, AuditEnds, AuditTalk}
-use Rattle.session.specs.Audits.{IsAuditOf, IsTold, IsPushed, IsTaken, HasRead, ReadsOn, IsLastOf}
+use Rattle.session.specs.Audits.{IsAuditOf, IsTold, IsPushed, IsTaken, HasRead, ReadsOn}
 use Rattle.session.proofs.RunTalks.{input_domains_are, output_domains_are}
 
 -- ---- the two parts of what a line reads as
@@ -169,41 +170,35 @@ module _ (s : Specification) (limit : ℕ) (left0 left1 : Option (List ℕ)) (gi
 
 -- ---- a turn
 
-module _ (s : Specification) (a : Audit) (limit : ℕ) (left0 left1 left2 : Option (List ℕ)) (before line after_it : List ℕ) (count : ℕ) (so : HasRead s a left0 left1 before count) (what : Taken) (takes : Takes left1 left2 before line after_it what)
-    (below : count < limit) (rose_in : Type 0) where
-  abbrev given' : List ℕ
-  given' = given_now left0 left1 left2 so.handed before line after_it so.hands what takes
-
-  consumed : Consumes left0 left2 given'
-  consumed = taken_now left0 left1 left2 so.handed before line after_it so.hands what takes
-
+module _ (s : Specification) (a : Audit) (limit : ℕ) (left0 left1 left2 : Option (List ℕ)) (ended0 ended1 : Bool) (before line after_it : List ℕ) (count : ℕ) (so : HasRead s a ended0 left0 left1 before count) (what : Taken)
+    (asks : Asked what ended1 left0 left2 so.handed line after_it) (below : count < limit) (rose_in : Type 0) where
   few_before : length so.log ≤ limit
   few_before = omega (arith, so.counted, below)
 
   -- no line more was read
-  pub stops_at : (due end : AuditEnd) → Stops s limit given' left2 so.handed (length so.log) rose_in due → IsTold s so.log due end → AuditTalk s limit left0 left2 rose_in end
-  stops_at due end stops told = is_told s limit left0 left2 given' consumed so.handed so.log so.positions few_before rose_in due end stops told
+  pub stops_at : (due end : AuditEnd) → Stops s limit asks.given left2 so.handed (length so.log) rose_in due → IsTold s so.log due end → AuditTalk s limit left0 left2 rose_in end
+  stops_at due end stops told = is_told s limit left0 left2 asks.given asks.taken_from so.handed so.log so.positions few_before rose_in due end stops told
 
   -- what came of the line at hand ended the audit
-  ends_at : (new : Audit) (end : AuditEnd) → IsNext given' left2 so.handed (Some line) → IsTaken s new so.log line count (Some end) → AuditTalk s limit left0 left2 rose_in end
+  ends_at : (new : Audit) (end : AuditEnd) → IsNext asks.given left2 so.handed (Some line) → IsTaken s new so.log line count (Some end) → AuditTalk s limit left0 left2 rose_in end
   ends_at new end next (inl refused) =
       stops_at (ends.BadLine (count + 1)) end (Some line, next, refused.0, (omega (arith, so.counted)), (omega (arith, so.counted, below))) refused.1
   ends_at new end next (inr found) =
       let x = found.0 in
       let y = found.1 in
       let e = one_more so.log x y in
-      is_broken s limit left0 left2 given' consumed (so.handed ++ line ∷ []) (after so.log x y) (positions_more s so.handed so.log line x y so.positions found.2) (omega (arith, e, so.counted, below)) rose_in
-      found.3 end found.4 found.5 (first_with given' left2 so.handed line next)
+      is_broken s limit left0 left2 asks.given asks.taken_from (so.handed ++ line ∷ []) (after so.log x y) (positions_more s so.handed so.log line x y so.positions found.2) (omega (arith, e, so.counted, below)) rose_in
+      found.3 end found.4 found.5 (first_with asks.given left2 so.handed line next)
 
   -- a line
-  pub by_line : (what ≡ taken.Line) → (new : Audit) (r : Option AuditEnd) → IsTaken s new so.log line count r → ReadsOn s new limit left0 left2 after_it count rose_in r
+  pub by_line : (what ≡ taken.Line) → (new : Audit) (r : Option AuditEnd) → IsTaken s new so.log line count r → ReadsOn s new limit ended1 left0 left2 after_it count rose_in r
   by_line is new None was =
       let x = was.0 in
       let y = was.1 in
       let e = one_more so.log x y in (
         record {
           handed = so.handed ++ line ∷ [];
-          hands = hands_more left0 left1 left2 so.handed before line after_it so.hands what takes is;
+          hands = record { given = asks.given; taken_from = asks.taken_from; so_far = tells_line what ended1 left0 left2 so.handed line after_it asks is };
           log = after so.log x y;
           positions = positions_more s so.handed so.log line x y so.positions was.2;
           counted = omega (arith, e, so.counted);
@@ -211,60 +206,30 @@ module _ (s : Specification) (a : Audit) (limit : ℕ) (left0 left1 left2 : Opti
         },
         was.3.1,
       )
-  by_line is new (Some end) was = ends_at new end (line_next left0 left1 left2 so.handed before line after_it so.hands what takes is) was
-
-  -- the last line
-  pub by_last : (what ≡ taken.Last) → (new : Audit) (r : Option AuditEnd) (end : AuditEnd) → r ≡ Some end → IsTaken s new so.log line count r → AuditTalk s limit left0 left2 rose_in end
-  by_last is new r end same was =
-      ends_at new end (last_next left0 left1 left2 so.handed before line after_it so.hands what takes is) (subst (IsTaken s new so.log line count) same was)
-
-  pub by_finish : (what ≡ taken.Last) → (new : Audit) (r : Option AuditEnd) → r ≡ None → IsTaken s new so.log line count r → (due end : AuditEnd) → IsLastOf (count + 1) limit due →
-      ((log : Run) → IsAuditOf new s log → IsTold s log due end) → AuditTalk s limit left0 left2 rose_in end
-  by_finish is new r same was due end last told =
-      let m = subst (IsTaken s new so.log line count) same was in
-      let x = m.0 in
-      let y = m.1 in
-      let e = one_more so.log x y in
-      is_told s limit left0 left2 given' consumed (so.handed ++ line ∷ []) (after so.log x y) (positions_more s so.handed so.log line x y so.positions m.2) (omega (arith, e, so.counted, below)) rose_in due end
-      (finishes is (length (after so.log x y)) (omega (arith, e, so.counted)) due last) (told (after so.log x y) m.3.0)
-    where
-      finishes : (what ≡ taken.Last) → (n : ℕ) → n ≡ count + 1 → (due : AuditEnd) → IsLastOf (count + 1) limit due → Stops s limit given' left2 (so.handed ++ line ∷ []) n rose_in due
-      finishes is n e (ends.Whole k) last = (
-        last_ended left0 left1 left2 so.handed before line after_it so.hands what takes is,
-        last_told left0 left1 left2 so.handed before line after_it so.hands what takes is,
-        (omega (arith, e, last.0)),
-        (omega (arith, e, last.1)),
-      )
-      finishes is n e ends.StateLimit last = (
-        first_with given' left2 so.handed line (last_next left0 left1 left2 so.handed before line after_it so.hands what takes is),
-        (omega (arith, e, last)),
-      )
-      finishes is n e (ends.BadLine k) last = absurd last
-      finishes is n e ends.ReadFault last = absurd last
-      finishes is n e (ends.Broken f) last = absurd last
+  by_line is new (Some end) was = ends_at new end (last_handed ended1 asks.given left2 so.handed line after_it (tells_line what ended1 left0 left2 so.handed line after_it asks is)) was
 
   -- no line
   pub too_long : (what ≡ taken.TooLong) → (end : AuditEnd) → IsTold s so.log (ends.BadLine (count + 1)) end → AuditTalk s limit left0 left2 rose_in end
   too_long is end told =
       stops_at (ends.BadLine (count + 1)) end
-      (None, long_next left0 left1 left2 so.handed before line after_it so.hands what takes is, tt, (omega (arith, so.counted)), (omega (arith, so.counted, below))) told
+      (None, tells_long what ended1 left0 left2 so.handed line after_it asks is, tt, (omega (arith, so.counted)), (omega (arith, so.counted, below))) told
 
-  pub at_end : (what ≡ taken.End) → (end : AuditEnd) → IsTold s so.log (ends.Whole count) end → AuditTalk s limit left0 left2 rose_in end
+  pub at_end : (what ≡ taken.Finish) → (end : AuditEnd) → IsTold s so.log (ends.Whole count) end → AuditTalk s limit left0 left2 rose_in end
   at_end is end told =
-      stops_at (ends.Whole count) end
-      (end_ended left0 left1 left2 so.handed before line after_it so.hands what takes is, end_told left0 left1 left2 so.handed before line after_it so.hands what takes is, (omega (arith, so.counted)), (omega (arith, so.counted, below))) told
+      let all = tells_end what ended1 left0 left2 so.handed line after_it asks is in
+      stops_at (ends.Whole count) end (all.0, all.1, (omega (arith, so.counted)), (omega (arith, so.counted, below))) told
 
   pub failed : (what ≡ taken.Failed) → rose_in → (end : AuditEnd) → IsTold s so.log ends.ReadFault end → AuditTalk s limit left0 left2 rose_in end
   failed is rose end told =
-      stops_at ends.ReadFault end (rose, fault_told left0 left1 left2 so.handed before line after_it so.hands what takes is, (omega (arith, so.counted, below))) told
+      stops_at ends.ReadFault end (rose, tells_fault what ended1 left0 left2 so.handed line after_it asks is, (omega (arith, so.counted, below))) told
 
 -- ---- the first turn, and after the last
 
-pub nothing_read : (s : Specification) (a : Audit) (left : Option (List ℕ)) (pending : List ℕ) → pending ≡ [] → IsAuditOf a s [] → HasRead s a left left pending 0
-nothing_read s a left pending fresh stands =
+pub nothing_read : (s : Specification) (a : Audit) (left : Option (List ℕ)) (lines : Lines) → AreUnread lines → IsAuditOf a s [] → HasRead s a (ended_of lines) left left (pending_of lines) 0
+nothing_read s a left lines unread stands =
     record {
       handed = [];
-      hands = none_handed left pending fresh;
+      hands = none_handed left (ended_of lines) (pending_of lines) unread.not_ended unread.pending;
       log = [];
       positions = tt;
       counted = refl;
@@ -272,11 +237,11 @@ nothing_read s a left pending fresh stands =
     }
 
 -- as many lines were read as may be
-pub at_limit : (s : Specification) (a : Audit) (limit count : ℕ) (left0 left1 : Option (List ℕ)) (pending : List ℕ) (rose_in : Type 0) (end : AuditEnd) → count ≡ limit → (so : HasRead s a left0 left1 pending count) → IsTold s so.log ends.StateLimit end →
+pub at_limit : (s : Specification) (a : Audit) (limit count : ℕ) (ended : Bool) (left0 left1 : Option (List ℕ)) (pending : List ℕ) (rose_in : Type 0) (end : AuditEnd) → count ≡ limit → (so : HasRead s a ended left0 left1 pending count) → IsTold s so.log ends.StateLimit end →
     AuditTalk s limit left0 left1 rose_in end
-at_limit s a limit count left0 left1 pending rose_in end reached so told =
+at_limit s a limit count ended left0 left1 pending rose_in end reached so told =
     is_told s limit left0 left1 so.hands.given so.hands.taken_from so.handed so.log so.positions (omega (arith, so.counted, reached)) rose_in ends.StateLimit end
-    (handed_first left0 left1 so.handed pending so.hands, so.counted ∙ reached) told
+    (handed_first ended left0 left1 so.handed pending so.hands, so.counted ∙ reached) told
 
 -- what rose in a part rose in the whole
 stops_weaker : (s : Specification) (limit : ℕ) (given : List ℕ) (left : Option (List ℕ)) (handed : List (List ℕ)) (count : ℕ) (rose_in rose_in' : Type 0) → (rose_in → rose_in') → (due : AuditEnd) → Stops s limit given left handed count rose_in due →

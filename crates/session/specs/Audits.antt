@@ -1,5 +1,5 @@
 -- What is read of a log line by line, and which run an audit stands for.
-use Rattle.std.specs.Prelude.{◌≡◌, ◌⊎◌, ℕ, ◌+◌, ◌<◌, true, List, ◌++◌, length, Option, Some, None}
+use Rattle.std.specs.Prelude.{◌≡◌, ◌⊎◌, ℕ, Bool, ◌+◌, ◌<◌, true, List, ◌++◌, length, Option, Some, None}
 use Rattle.spec_model.specs.Values.{Assignment, is_assignment}
 use Rattle.spec_model.specs.Syntax.{Specification}
 use Rattle.spec_model.specs.Rules.{Run, after}
@@ -55,22 +55,16 @@ IsTaken s new log line count (Some end) =
 
 -- ---- on the way
 
--- the lines that were handed out read as the positions of the run, which were pushed
-pub record HasRead (s : Specification) (a : Audit) (left_old left_new : Option (List ℕ)) (pending : List ℕ) (count : ℕ) : Type 0 where
+-- the lines that were handed out read as the positions of the run, which were pushed; `ended` says whether the input gave its end
+pub record HasRead (s : Specification) (a : Audit) (ended : Bool) (left_old left_new : Option (List ℕ)) (pending : List ℕ) (count : ℕ) : Type 0 where
   pub handed : List (List ℕ)
-  pub hands : Hands left_old left_new handed pending
+  pub hands : Hands ended left_old left_new handed pending
   pub log : Run
   pub positions : ArePositions s handed log
   pub counted : length log ≡ count
   pub stands : IsAuditOf a s log
 
 -- what came of a turn: one line more was read and there is room for another, or the audit has ended
-abbrev pub ReadsOn : Specification → (new : Audit) → (limit : ℕ) → (left_old left_new : Option (List ℕ)) → (pending : List ℕ) → (count : ℕ) → (rose_in : Type 0) → Option AuditEnd → Type 0
-ReadsOn s new limit left_old left_new pending count rose_in None = HasRead s new left_old left_new pending (count + 1) × (0 < room_of new)
-ReadsOn s new limit left_old left_new pending count rose_in (Some end) = AuditTalk s limit left_old left_new rose_in end
-
--- after the last line of the input the log is whole, unless the limit is reached
-abbrev pub IsLastOf : (count limit : ℕ) → AuditEnd → Type 0
-IsLastOf count limit (ends.Whole n) = (n ≡ count) × (count < limit)
-IsLastOf count limit ends.StateLimit = count ≡ limit
-IsLastOf count limit _ = ⊥
+abbrev pub ReadsOn : Specification → (new : Audit) → (limit : ℕ) → (ended : Bool) → (left_old left_new : Option (List ℕ)) → (pending : List ℕ) → (count : ℕ) → (rose_in : Type 0) → Option AuditEnd → Type 0
+ReadsOn s new limit ended left_old left_new pending count rose_in None = HasRead s new ended left_old left_new pending (count + 1) × (0 < room_of new)
+ReadsOn s new limit ended left_old left_new pending count rose_in (Some end) = AuditTalk s limit left_old left_new rose_in end

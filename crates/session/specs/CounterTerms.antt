@@ -7,7 +7,7 @@ use Rattle.spec_model.specs.Unrealizable.{NoteData, Beaten}
 use Rattle.spec_model.specs.Moves.{legal_input, rules_of}
 use Rattle.session_lines.specs.Shown.{inputs_of, outputs_of}
 use Rattle.session.specs.Exchanges.{Terms}
-use Rattle.session.specs.CounterTalks.{shown_input, note_line, first_broken_reply}
+use Rattle.session.specs.CounterTalks.{ReadsOutput, shown_input, note_line, first_broken_reply}
 
 -- the noted play so far, which beats the system within so many shifts and denials in a row, and the input given after it
 pub record CounterState : Type 0 where
@@ -34,12 +34,13 @@ pub record AnswersOutput (s : Specification) (st : CounterState) (y : Assignment
   pub goes_on : next ≡ record { shifts = st.shifts; denials = st.denials; play = after st.play st.input y; notes = st.notes ++ note ∷ []; input = input }
   pub beaten : Beaten (rules_of s) st.shifts st.denials (after st.play st.input y) (st.notes ++ note ∷ [])
 
-abbrev pub counter_terms : Specification → Terms CounterState
+abbrev pub counter_terms : Specification → Terms CounterState Assignment
 counter_terms s =
     record {
       names = s.names;
       wanted = outputs_of s;
       shown = inputs_of s;
+      ReadsAs = ReadsOutput s;
       first_broken = λ st y. first_broken_reply s st.play st.input y;
       Opens = OpensCounter s;
       Answers = AnswersOutput s;

@@ -13,6 +13,7 @@ use Rattle.gr1_law.specs.Counter.{CounterMemory}
 use Rattle.gr1_env.specs.Solved.{counts_of}
 use Rattle.counterstrategy.specs.declared.counterstrategy.Counterstrategy.{Counterstrategy}
 use Rattle.counterstrategy.specs.Objects.{game_of as game_played, IsFresh, HasGiven, given_by, StandsFor, InEachPlay}
+use Rattle.session.specs.CounterTerms.{CounterState}
 
 module _ {G R M : Type 0} where
   -- N, by the layers that it was made for
@@ -53,3 +54,10 @@ module _ {G R M : Type 0} where
       pub place : StandsIn c s n m h notes
       pub has_given : HasGiven c
       pub input : given_by c ≡ x
+
+    -- likewise of a state of the talk
+    abbrev pub waits_in : Counterstrategy G R M → Specification → CounterState → Type 0
+    waits_in c s st = WaitsIn c s st.shifts st.denials st.play st.notes
+
+    abbrev pub gives_in : Counterstrategy G R M → Specification → CounterState → Type 0
+    gives_in c s st = GivesIn c s st.shifts st.denials st.play st.notes st.input

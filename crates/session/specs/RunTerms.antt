@@ -7,7 +7,7 @@ use Rattle.spec_model.specs.Realizable.{Kept}
 use Rattle.spec_model.specs.Moves.{legal_output, rules_of}
 use Rattle.session_lines.specs.Shown.{inputs_of, outputs_of}
 use Rattle.session.specs.Exchanges.{Terms}
-use Rattle.session.specs.Talks.{shown_output, first_broken_after}
+use Rattle.session.specs.Talks.{ReadsInput, shown_output, first_broken_after}
 
 -- the play so far, which keeps each recurring guarantee within so many rounds
 pub record RunState : Type 0 where
@@ -28,12 +28,13 @@ pub record AnswersInput (s : Specification) (st : RunState) (x : Assignment) (te
   pub goes_on : next ≡ record { rounds = st.rounds; play = after st.play x output }
   pub kept : Kept (rules_of s) st.rounds (after st.play x output)
 
-abbrev pub run_terms : Specification → Terms RunState
+abbrev pub run_terms : Specification → Terms RunState Assignment
 run_terms s =
     record {
       names = s.names;
       wanted = inputs_of s;
       shown = outputs_of s;
+      ReadsAs = ReadsInput s;
       first_broken = λ st x. first_broken_after s st.play x;
       Opens = OpensRun s;
       Answers = AnswersInput s;

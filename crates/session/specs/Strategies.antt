@@ -11,6 +11,7 @@ use Rattle.gr1_law.specs.Choice.{Memory}
 use Rattle.gr1_sys.specs.Held.{ranks_of}
 use Rattle.controller.specs.declared.controller.Controller.{Controller}
 use Rattle.controller.specs.Objects.{game_of as game_played, StandsFor}
+use Rattle.session.specs.RunTerms.{RunState}
 
 module _ {G R M : Type 0} where
   -- K, by the layers that it was made for
@@ -32,3 +33,7 @@ module _ {G R M : Type 0} where
       pub before : Before
       pub memory : Memory
       pub stands : StandsFor kept c z layers h before memory
+
+    -- likewise of a state of the talk
+    abbrev pub plays_for : Controller G R M → Specification → RunState → Type 0
+    plays_for c s st = PlaysFor c s st.rounds st.play

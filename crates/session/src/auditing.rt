@@ -7,9 +7,9 @@ ghost use Rattle.spec_model.specs.Values.{is_assignment};
 ghost use Rattle.spec_model.specs.Rules.{Run};
 ghost use Rattle.trace_planes.specs.Audits.{room_of};
 ghost use Rattle.session_lines.specs.Room.{domains};
-ghost use Rattle.session_lines.specs.Views.{AreForLogs, KeepsTables, pending_of, line_of, read_of, wanted_variables};
+ghost use Rattle.session_lines.specs.Views.{AreForLogs, AreUnread, KeepsTables, KeepsReader, pending_of, line_of, ended_of, read_of, wanted_variables};
 ghost use Rattle.session.specs.AuditTalks.{AuditTalk};
-ghost use Rattle.session.specs.Audits.{IsAuditOf, Serves, IsTold, IsPushedAs, IsTaken, HasRead, ReadsOn, IsLastOf};
+ghost use Rattle.session.specs.Audits.{IsAuditOf, Serves, IsTold, IsPushedAs, IsTaken, HasRead, ReadsOn};
 
 use session_lines::{Lines, Taken};
 use sp_outside::Source;
@@ -62,8 +62,8 @@ fn take(lines: &mut Lines, audit: &mut Audit, count: u64) -> Option<AuditEnd>
     requires few { count + 1 < 18446744073709551616 }
     requires room { 0 < room_of audit.old }
     ensures taken { (s : Specification) (log : Run) → AreForLogs lines.old s → IsAuditOf audit.old s log → IsTaken s audit.new log (line_of lines.old) count result }
-    ensures pending { pending_of lines.new ≡ pending_of lines.old }
     ensures keeps { KeepsTables lines.old lines.new }
+    ensures reader { KeepsReader lines.old lines.new }
 {
     if !lines.read() {
         return Some(told(audit, AuditEnd::BadLine(count + 1)));
@@ -74,42 +74,25 @@ fn take(lines: &mut Lines, audit: &mut Audit, count: u64) -> Option<AuditEnd>
     }
 }
 
-// Which end is due once the last line of the input is read.
-fn last_end(count: u64, limit: u64) -> AuditEnd
-    requires { count ≤ limit }
-    ensures { IsLastOf count limit result }
-{
-    if count == limit {
-        AuditEnd::StateLimit
-    } else {
-        AuditEnd::Whole(count)
-    }
-}
-
 // Takes the next line, which follows `count` others, and reads it: none where the audit goes on.
 fn turn<I: Source>(
     lines: &mut Lines,
     audit: &mut Audit,
     input: &mut I,
-    limit: u64,
     count: u64,
 ) -> Option<AuditEnd>
     requires serves { Serves lines.old audit.old count }
     requires room { 0 < room_of audit.old }
-    requires below { count < limit }
-    ensures reads_on { (s : Specification) (left : Option (List ℕ)) → AreForLogs lines.old s → HasRead s audit.old left (I.left input.old) (pending_of lines.old) count →
-        ReadsOn s audit.new limit left (I.left input.new) (pending_of lines.new) count (Rose (I.faults input.old) (I.faults input.new)) result }
+    requires few { count + 1 < 18446744073709551616 }
+    ensures reads_on { (s : Specification) (limit : ℕ) (left : Option (List ℕ)) → count < limit → AreForLogs lines.old s → HasRead s audit.old (ended_of lines.old) left (I.left input.old) (pending_of lines.old) count →
+        ReadsOn s audit.new limit (ended_of lines.new) left (I.left input.new) (pending_of lines.new) count (Rose (I.faults input.old) (I.faults input.new)) result }
     ensures keeps { KeepsTables lines.old lines.new }
     ensures later { I.faults input.old ≤ I.faults input.new }
 {
     match lines.next_line(input) {
         Taken::Line => take(lines, audit, count),
-        Taken::Last => match take(lines, audit, count) {
-            Some(end) => Some(end),
-            None => Some(told(audit, last_end(count + 1, limit))),
-        },
         Taken::TooLong => Some(told(audit, AuditEnd::BadLine(count + 1))),
-        Taken::End => Some(told(audit, AuditEnd::Whole(count))),
+        Taken::Finish => Some(told(audit, AuditEnd::Whole(count))),
         Taken::Failed => Some(told(audit, AuditEnd::ReadFault)),
     }
 }
@@ -123,14 +106,14 @@ pub fn audit_lines<I: Source>(
     input: &mut I,
     limit: u64,
 ) -> AuditEnd
-    requires nothing_taken { pending_of lines.old ≡ [] }
+    requires unread { AreUnread lines.old }
     requires one_specification { (s : Specification) × AreForLogs lines.old s × IsAuditOf audit.old s [] }
     ensures talk { (s : Specification) → AreForLogs lines.old s → IsAuditOf audit.old s [] →
         AuditTalk s limit (I.left input.old) (I.left input.new) (Rose (I.faults input.old) (I.faults input.new)) result }
     ensures later { I.faults input.old ≤ I.faults input.new }
 {
     for count in 0..limit {
-        if let Some(end) = turn(lines, audit, input, limit, count) {
+        if let Some(end) = turn(lines, audit, input, count) {
             return end;
         }
     }

@@ -13,11 +13,14 @@ ghost use Rattle.gr1_law.specs.Counter.{CounterMemory};
 ghost use Rattle.counterstrategy.specs.Objects.{IsFresh, HasGiven, given_by, game_of, Stands, InEachPlay, Gives, GoesOn, HoldsTheSame, note_data};
 ghost use Rattle.session_lines.specs.Room.{domains};
 ghost use Rattle.session_lines.specs.Shown.{show};
-ghost use Rattle.session_lines.specs.Views.{AreFor, KeepsTables, KeepsReader, names_of, shown_variables, pending_of, read_of, shown_of};
+ghost use Rattle.session_lines.specs.Views.{AreFor, AreUnread, KeepsTables, KeepsReader, names_of, wanted_variables, shown_variables, read_of, shown_of};
+ghost use Rattle.session.specs.Exchanges.{RepliesTo};
+ghost use Rattle.session.specs.Protocols.{Suits, Serves};
 ghost use Rattle.session.specs.CounterTalks.{CounterTalk, denial_line, note_line};
-ghost use Rattle.session.specs.Counters.{shifts_of, denials_of, IsCounterOf, HasPlayedNothing};
+ghost use Rattle.session.specs.CounterTerms.{CounterState, counter_terms};
+ghost use Rattle.session.specs.Counters.{shifts_of, denials_of, IsCounterOf, HasPlayedNothing, gives_in};
 
-use crate::protocol::Protocol;
+use crate::protocol::{Alone, Protocol, Reply};
 use crate::talking::{End, talk};
 use counterstrategy::{Counterstrategy, Note};
 use regions::Regions;
@@ -113,33 +116,63 @@ fn write_answer<O: Sink>(lines: &mut Lines, note: Note, output: &mut O) -> Resul
     lines.write_shown(output)
 }
 
-impl<G: Regions> Protocol for Counterstrategy<G> {
+// Answers the output that was read, unless that breaks a guarantee or a monitor's line.
+fn reply<G: Regions, O: Sink>(
+    play: &mut Counterstrategy<G>,
+    lines: &mut Lines,
+    output: &mut O,
+) -> Reply
+    requires serves { Serves counter_terms (gives_in G.kept play.old) lines.old }
+    requires read { is_assignment (domains (wanted_variables lines.old)) (read_of lines.old) ≡ true }
+    ensures replies { (s : Specification) (st : CounterState) → Suits lines.old (counter_terms s) → gives_in G.kept play.old s st →
+        RepliesTo (counter_terms s) (gives_in G.kept play.new s) st (O.written output.old) (O.written output.new) (Rose (O.faults output.old) (O.faults output.new)) (read_of lines.old) result }
+    ensures later { O.faults output.old ≤ O.faults output.new }
+    ensures keeps { KeepsTables lines.old lines.new }
+    ensures reader { KeepsReader lines.old lines.new }
+{
+    if let Some(label) = broken_with(play, lines) {
+        return Reply::Broken(label);
+    }
+    let note = complete(play, lines);
+    match write_answer(lines, note, output) {
+        Ok(()) => Reply::Answered,
+        Err(_) => Reply::Failed,
+    }
+}
+
+impl<G: Regions> Protocol<Alone> for Counterstrategy<G> {
+    ghost use Rattle.spec_model.specs.Values.{Assignment};
     ghost use Rattle.session.specs.CounterTerms.{CounterState, counter_terms};
-    ghost use Rattle.session.specs.Counters.{WaitsIn, GivesIn};
+    ghost use Rattle.session.specs.Counters.{waits_in, gives_in};
 
     ghost State = { CounterState };
 
+    ghost Read = { Assignment };
+
     ghost terms = { counter_terms };
 
-    ghost begins = { λ c s st. WaitsIn G.kept c s st.shifts st.denials st.play st.notes };
+    ghost begins = { λ c w. waits_in G.kept c };
 
-    ghost stands = { λ c s st. GivesIn G.kept c s st.shifts st.denials st.play st.notes st.input };
+    ghost stands = { λ c w. gives_in G.kept c };
 
     // The environment moves first.
-    fn open<O: Sink>(&mut self, lines: &mut Lines, output: &mut O) -> Result<(), Failed> {
+    fn open<O: Sink>(
+        &mut self,
+        beside: &mut Alone,
+        lines: &mut Lines,
+        output: &mut O,
+    ) -> Result<(), Failed> {
+        let _ = beside;
         begin(self, lines);
         lines.write_shown(output)
     }
 
-    fn answer<O: Sink>(&mut self, lines: &mut Lines, output: &mut O) -> Option<End> {
-        if let Some(label) = broken_with(self, lines) {
-            return Some(End::Broken(label));
+    fn answer<O: Sink>(&mut self, beside: &mut Alone, lines: &mut Lines, output: &mut O) -> Reply {
+        let _ = beside;
+        if !lines.read() {
+            return Reply::Refused;
         }
-        let note = complete(self, lines);
-        match write_answer(lines, note, output) {
-            Ok(()) => None,
-            Err(_) => Some(End::WriteFault),
-        }
+        reply(self, lines, output)
     }
 }
 
@@ -155,7 +188,7 @@ pub fn counter_lines<G: Regions, I: Source, O: Sink>(
     output: &mut O,
     limit: u64,
 ) -> End
-    requires nothing_taken { pending_of lines.old ≡ [] }
+    requires unread { AreUnread lines.old }
     requires fresh { IsFresh play.old × HasPlayedNothing G.kept play.old }
     requires stands { Stands G.kept play.old }
     requires one_specification { (s : Specification) × AreFor lines.old s × IsCounterOf G.kept play.old s }
@@ -167,5 +200,5 @@ pub fn counter_lines<G: Regions, I: Source, O: Sink>(
     ensures later_out { O.faults output.old ≤ O.faults output.new }
 {
     lines.turn_round();
-    talk(lines, play, input, output, limit)
+    talk(lines, play, &mut Alone, input, output, limit)
 }

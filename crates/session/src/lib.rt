@@ -20,7 +20,8 @@ mod talking;
 
 pub use auditing::{AuditEnd, audit_lines};
 pub use counter::counter_lines;
+pub use protocol::{Alone, Protocol, Reply};
 pub use session_lines::{Lines, Taken};
 pub use strategy::run_lines;
-pub use talking::End;
+pub use talking::{End, talk};
 pub use trace_planes::Finding;

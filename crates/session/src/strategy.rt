@@ -1,18 +1,23 @@
 //! The system's strategy as what answers the lines, and its talks.
 
-ghost use Rattle.std.specs.Prelude.{◌≡◌, ◌≤◌, [], length, is_none, IsTrue};
+ghost use Rattle.std.specs.Prelude.{◌≡◌, ◌≤◌, true, length, is_none, IsTrue};
 ghost use Rattle.sp_outside.specs.Causes.{Rose};
 ghost use Rattle.spec_model.specs.Syntax.{Specification};
+ghost use Rattle.spec_model.specs.Values.{is_assignment};
 ghost use Rattle.spec_model.specs.Steps.{is_input, legal_input};
 ghost use Rattle.spec_model.specs.FirstBroken.{first_broken};
 ghost use Rattle.gr1_law.specs.Choice.{Memory};
 ghost use Rattle.regions.specs.Rules.{output_count};
 ghost use Rattle.controller.specs.Objects.{IsFresh, game_of, Stands, InEachPlay, GoesOn, HoldsTheSame};
-ghost use Rattle.session_lines.specs.Views.{AreFor, KeepsTables, KeepsReader, pending_of, read_of, shown_of};
+ghost use Rattle.session_lines.specs.Room.{domains};
+ghost use Rattle.session_lines.specs.Views.{AreFor, AreUnread, KeepsTables, KeepsReader, wanted_variables, read_of, shown_of};
+ghost use Rattle.session.specs.Exchanges.{RepliesTo};
+ghost use Rattle.session.specs.Protocols.{Suits, Serves};
 ghost use Rattle.session.specs.Talks.{RunTalk};
-ghost use Rattle.session.specs.Strategies.{rounds_of, IsOf};
+ghost use Rattle.session.specs.RunTerms.{RunState, run_terms};
+ghost use Rattle.session.specs.Strategies.{rounds_of, IsOf, PlaysFor, plays_for};
 
-use crate::protocol::Protocol;
+use crate::protocol::{Alone, Protocol, Reply};
 use crate::talking::{End, talk};
 use controller::Controller;
 use regions::Regions;
@@ -50,34 +55,60 @@ fn choose<G: Regions>(play: &mut Controller<G>, lines: &mut Lines)
     }
 }
 
-impl<G: Regions> Protocol for Controller<G> {
+// Answers the input that was read, unless that breaks an assumption.
+fn reply<G: Regions, O: Sink>(play: &mut Controller<G>, lines: &mut Lines, output: &mut O) -> Reply
+    requires serves { Serves run_terms (plays_for G.kept play.old) lines.old }
+    requires read { is_assignment (domains (wanted_variables lines.old)) (read_of lines.old) ≡ true }
+    ensures replies { (s : Specification) (st : RunState) → Suits lines.old (run_terms s) → plays_for G.kept play.old s st →
+        RepliesTo (run_terms s) (plays_for G.kept play.new s) st (O.written output.old) (O.written output.new) (Rose (O.faults output.old) (O.faults output.new)) (read_of lines.old) result }
+    ensures later { O.faults output.old ≤ O.faults output.new }
+    ensures keeps { KeepsTables lines.old lines.new }
+    ensures reader { KeepsReader lines.old lines.new }
+{
+    if let Some(label) = broken_by(play, lines) {
+        return Reply::Broken(label);
+    }
+    choose(play, lines);
+    match lines.write_shown(output) {
+        Ok(()) => Reply::Answered,
+        Err(_) => Reply::Failed,
+    }
+}
+
+impl<G: Regions> Protocol<Alone> for Controller<G> {
+    ghost use Rattle.spec_model.specs.Values.{Assignment};
     ghost use Rattle.session.specs.RunTerms.{RunState, run_terms};
-    ghost use Rattle.session.specs.Strategies.{PlaysFor};
+    ghost use Rattle.session.specs.Strategies.{plays_for};
 
     ghost State = { RunState };
 
+    ghost Read = { Assignment };
+
     ghost terms = { run_terms };
 
-    ghost begins = { λ c s st. PlaysFor G.kept c s st.rounds st.play };
+    ghost begins = { λ c w. plays_for G.kept c };
 
-    ghost stands = { λ c s st. PlaysFor G.kept c s st.rounds st.play };
+    ghost stands = { λ c w. plays_for G.kept c };
 
     // The environment moves first.
-    fn open<O: Sink>(&mut self, lines: &mut Lines, output: &mut O) -> Result<(), Failed> {
+    fn open<O: Sink>(
+        &mut self,
+        beside: &mut Alone,
+        lines: &mut Lines,
+        output: &mut O,
+    ) -> Result<(), Failed> {
+        let _ = beside;
         let _ = lines;
         let _ = output;
         Ok(())
     }
 
-    fn answer<O: Sink>(&mut self, lines: &mut Lines, output: &mut O) -> Option<End> {
-        if let Some(label) = broken_by(self, lines) {
-            return Some(End::Broken(label));
+    fn answer<O: Sink>(&mut self, beside: &mut Alone, lines: &mut Lines, output: &mut O) -> Reply {
+        let _ = beside;
+        if !lines.read() {
+            return Reply::Refused;
         }
-        choose(self, lines);
-        match lines.write_shown(output) {
-            Ok(()) => None,
-            Err(_) => Some(End::WriteFault),
-        }
+        reply(self, lines, output)
     }
 }
 
@@ -93,7 +124,7 @@ pub fn run_lines<G: Regions, I: Source, O: Sink>(
     output: &mut O,
     limit: u64,
 ) -> End
-    requires nothing_taken { pending_of lines.old ≡ [] }
+    requires unread { AreUnread lines.old }
     requires fresh { IsFresh play.old }
     requires stands { Stands G.kept play.old }
     requires one_specification { (s : Specification) × AreFor lines.old s × IsOf G.kept play.old s }
@@ -104,5 +135,5 @@ pub fn run_lines<G: Regions, I: Source, O: Sink>(
     ensures later_in { I.faults input.old ≤ I.faults input.new }
     ensures later_out { O.faults output.old ≤ O.faults output.new }
 {
-    talk(lines, play, input, output, limit)
+    talk(lines, play, &mut Alone, input, output, limit)
 }

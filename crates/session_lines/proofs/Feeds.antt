@@ -7,12 +7,12 @@ use Rattle.std.proofs.lemmas.List.Splits.{slice_split_none, slice_split_at, slic
 use Rattle.std.proofs.Math.ListN.{get_or-append}
 use Rattle.std.specs.List.{slice_split, onto_first, All}
 use Rattle.std.specs.Str.Lines.{strip_carriage_return}
-use Rattle.std.specs.Io.KnownBytes.{Consumes, IsAtEnd}
+use Rattle.std.specs.Io.KnownBytes.{Consumes}
 use Rattle.session_lines.specs.declared.reader.Taken.{Taken}
 use Rattle.session_lines.specs.declared.reader.Taken.TheVariants as taken
 use Rattle.session_lines.specs.InputLines.{Line, is_feed, ended_line, open_line, lines_of, input_lines}
 use Rattle.session_lines.specs.Pieces.{HasNoFeed, HasNoFeedBelow}
-use Rattle.session_lines.specs.Taking.{BeginsTooLong, GivesLine, IsEndIf}
+use Rattle.session_lines.specs.Taking.{BeginsTooLong, GivesLine}
 
 -- ---- bytes with no line feed
 
@@ -131,13 +131,12 @@ pub still_none : (p got : List ℕ) → HasNoFeed p → HasNoFeedBelow (length p
 still_none p got none k below = λ is. none k below (sym (get_or-append p got 0 k below) ∙ is)
 
 -- at the end of the input, what is there is the last line if it isn't empty
-pub finished : (what : Taken) (left : Option (List ℕ)) (before got line after : List ℕ)
-    → (what ≡ taken.Last → line ≡ before ++ got) → (what ≡ taken.Last → 0 < length (before ++ got)) → ((what ≡ taken.Last → ⊥) → what ≡ taken.End)
-    → (what ≡ taken.End → before ++ got ≡ []) → after ≡ [] → HasNoFeed (before ++ got) → length (before ++ got) ≤ 65536 → IsAtEnd left
-    → IsEndIf what left × GivesLine what before got line after
-finished taken.Last left before got line after is some other none rest plain short at_end =
-    (at_end, (open_lines true (before ++ got) plain ∙ last_line (before ++ got) (some refl) short ∙ ap (λ (l : List ℕ). Some l ∷ []) (sym (is refl)), rest))
-finished taken.End left before got line after is some other none rest plain short at_end = (at_end, (none refl, rest))
-finished taken.Line left before got line after is some other none rest plain short at_end = absurd (let e = other (λ e. cc) in cc)
-finished taken.TooLong left before got line after is some other none rest plain short at_end = absurd (let e = other (λ e. cc) in cc)
-finished taken.Failed left before got line after is some other none rest plain short at_end = absurd (let e = other (λ e. cc) in cc)
+pub finished : (what : Taken) (before got line after : List ℕ)
+    → (what ≡ taken.Line → (line ≡ before ++ got) × (0 < length (before ++ got))) → ((what ≡ taken.Line → ⊥) → what ≡ taken.Finish)
+    → (what ≡ taken.Finish → before ++ got ≡ []) → after ≡ [] → HasNoFeed (before ++ got) → length (before ++ got) ≤ 65536
+    → GivesLine what true before got line after
+finished taken.Line before got line after last other none rest plain short =
+    (open_lines true (before ++ got) plain ∙ last_line (before ++ got) (last refl).1 short ∙ ap (λ (l : List ℕ). Some l ∷ []) (sym (last refl).0), rest)
+finished taken.Finish before got line after last other none rest plain short = (refl, none refl, rest)
+finished taken.TooLong before got line after last other none rest plain short = absurd (let e = other (λ e. cc) in cc)
+finished taken.Failed before got line after last other none rest plain short = absurd (let e = other (λ e. cc) in cc)

@@ -1,19 +1,19 @@
 -- One line after the other, and how the lines end.
-use Rattle.std.proofs.Common.{◌≡◌, ℕ, true, false, List, [], ◌∷◌, ◌++◌, map, Option, Some, None, refl, sym, ap, subst, ◌∙◌, append_assoc, append-nil}
+use Rattle.std.proofs.Common.{◌≡◌, ℕ, Bool, true, false, List, [], ◌∷◌, ◌++◌, map, Option, Some, None, refl, sym, ap, subst, ◌∙◌, append_assoc, append-nil}
 use Rattle.std.proofs.KnownBytes.{Consumes-nil, Consumes-trans}
 use Rattle.std.specs.Io.KnownBytes.{Consumes, IsAtEnd}
 use Rattle.session_lines.specs.declared.reader.Taken.{Taken}
 use Rattle.session_lines.specs.declared.reader.Taken.TheVariants as taken
 use Rattle.session_lines.specs.InputLines.{Line, input_lines}
-use Rattle.session_lines.specs.Taking.{Takes, GivesLine, IsEndIf, BeginsTooLong}
+use Rattle.session_lines.specs.Taking.{Takes, GivesLine, BeginsTooLong}
 use Rattle.session_lines.specs.Handing.{IsNext, AreFirst}
-use Rattle.session_lines.specs.Handed.{HandsOut, EndsWith, Hands}
+use Rattle.session_lines.specs.Handed.{HandsOut, EndsWith, HasHanded, Hands}
 
 pub pushed : (handed : List (List ℕ)) (line : List ℕ) → map (λ l. Some l) (handed ++ line ∷ []) ≡ map (λ l. Some l) handed ++ Some line ∷ []
 pushed [] line = refl
 pushed (l ∷ handed) line = ap (λ (ls : List Line). Some l ∷ ls) (pushed handed line)
 
-pub one_more : (given before got line after : List ℕ) (handed : List (List ℕ)) → HandsOut given handed before → GivesLine taken.Line before got line after → HandsOut (given ++ got) (handed ++ line ∷ []) after
+pub one_more : (given before got line after : List ℕ) (handed : List (List ℕ)) → HandsOut given handed before → GivesLine taken.Line false before got line after → HandsOut (given ++ got) (handed ++ line ∷ []) after
 one_more given before got line after handed so_far gives = λ at_end later.
     ap (input_lines at_end) (append_assoc given got later)
     ∙ so_far at_end (got ++ later)
@@ -21,15 +21,15 @@ one_more given before got line after handed so_far gives = λ at_end later.
     ∙ sym (append_assoc (map (λ l. Some l) handed) (Some line ∷ []) (input_lines at_end (after ++ later)))
     ∙ ap (λ (ls : List Line). ls ++ input_lines at_end (after ++ later)) (sym (pushed handed line))
 
-pub all_told : (what : Taken) (given before got line after : List ℕ) (handed : List (List ℕ)) → HandsOut given handed before → GivesLine what before got line after → EndsWith what (given ++ got) handed line
-all_told taken.Line given before got line after handed so_far gives = tt
-all_told taken.Last given before got line after handed so_far gives =
+pub all_told : (what : Taken) (ended : Bool) (given before got line after : List ℕ) (handed : List (List ℕ)) → HandsOut given handed before → GivesLine what ended before got line after → EndsWith what ended (given ++ got) handed line
+all_told taken.Line false given before got line after handed so_far gives = tt
+all_told taken.Line true given before got line after handed so_far gives =
     so_far true got ∙ ap (λ (ls : List Line). map (λ l. Some l) handed ++ ls) gives.0 ∙ sym (pushed handed line)
-all_told taken.End given before got line after handed so_far gives =
-    so_far true got ∙ ap (λ (bytes : List ℕ). map (λ l. Some l) handed ++ input_lines true bytes) gives.0 ∙ append-nil (map (λ l. Some l) handed)
-all_told taken.Failed given before got line after handed so_far gives =
+all_told taken.Finish ended given before got line after handed so_far gives =
+    so_far true got ∙ ap (λ (bytes : List ℕ). map (λ l. Some l) handed ++ input_lines true bytes) gives.1 ∙ append-nil (map (λ l. Some l) handed)
+all_told taken.Failed ended given before got line after handed so_far gives =
     so_far false got ∙ ap (λ (ls : List Line). map (λ l. Some l) handed ++ ls) (ap (input_lines false) (sym gives.0) ∙ gives.1) ∙ append-nil (map (λ l. Some l) handed)
-all_told taken.TooLong given before got line after handed so_far gives = λ at_end later.
+all_told taken.TooLong ended given before got line after handed so_far gives = λ at_end later.
     let same : before ++ (got ++ later) ≡ after ++ later = sym (append_assoc before got later) ∙ ap (λ (bytes : List ℕ). bytes ++ later) (sym gives.0) in (
       input_lines at_end (after ++ later),
       ap (input_lines at_end) (append_assoc given got later) ∙ so_far at_end (got ++ later) ∙ ap (λ (bytes : List ℕ). map (λ l. Some l) handed ++ input_lines at_end bytes) same,
@@ -49,83 +49,102 @@ first_with given left handed line next =
     }
 
 -- before the first line nothing was handed out
-pub none_handed : (left : Option (List ℕ)) (pending : List ℕ) → pending ≡ [] → Hands left left [] pending
-none_handed left pending fresh =
-    record { given = []; taken_from = Consumes-nil left; hands_out = λ at_end later. ap (λ (l : List ℕ). input_lines at_end (l ++ later)) (sym fresh) }
+pub none_handed : (left : Option (List ℕ)) (ended : Bool) (pending : List ℕ) → ended ≡ false → pending ≡ [] → Hands ended left left [] pending
+none_handed left ended pending not_ended fresh =
+    subst (λ (b : Bool). Hands b left left [] pending) (sym not_ended)
+    (record { given = []; taken_from = Consumes-nil left; so_far = λ at_end later. ap (λ (l : List ℕ). input_lines at_end (l ++ later)) (sym fresh) })
 
 -- what was handed out stands first
-pub handed_first : (left0 left1 : Option (List ℕ)) (handed : List (List ℕ)) (pending : List ℕ) (so : Hands left0 left1 handed pending) → AreFirst so.given left1 handed
-handed_first left0 left1 handed pending so =
+first_handed : (ended : Bool) (given : List ℕ) (left : Option (List ℕ)) (handed : List (List ℕ)) (pending : List ℕ) → HasHanded ended given left handed pending → AreFirst given left handed
+first_handed false given left handed pending so =
     record {
       at_end = false;
       ended = λ never. absurd (cc);
       rest = input_lines false (pending ++ []);
-      follows = ap (input_lines false) (sym (append-nil so.given)) ∙ so.hands_out false [];
+      follows = ap (input_lines false) (sym (append-nil given)) ∙ so false [];
+    }
+first_handed true given left handed pending so =
+    record { at_end = true; ended = λ _. so.0; rest = []; follows = so.1 ∙ sym (append-nil (map (λ l. Some l) handed)) }
+
+pub handed_first : (ended : Bool) (left0 left1 : Option (List ℕ)) (handed : List (List ℕ)) (pending : List ℕ) (so : Hands ended left0 left1 handed pending) → AreFirst so.given left1 handed
+handed_first ended left0 left1 handed pending so = first_handed ended so.given left1 handed pending so.so_far
+
+-- the line that was handed out last was the next one before
+pub last_handed : (ended : Bool) (given : List ℕ) (left : Option (List ℕ)) (handed : List (List ℕ)) (line after : List ℕ) → HasHanded ended given left (handed ++ line ∷ []) after → IsNext given left handed (Some line)
+last_handed ended given left handed line after so =
+    let first = first_handed ended given left (handed ++ line ∷ []) after so in
+    record {
+      at_end = first.at_end;
+      ended = first.ended;
+      rest = first.rest;
+      follows = first.follows ∙ (ap (λ (ls : List Line). ls ++ first.rest) (pushed handed line) ∙ append_assoc (map (λ l. Some l) handed) (Some line ∷ []) first.rest);
     }
 
 -- ---- a line is asked for
 
-module _ (left0 left1 left2 : Option (List ℕ)) (handed : List (List ℕ)) (before line after : List ℕ) (so : Hands left0 left1 handed before) (what : Taken) (takes : Takes left1 left2 before line after what) where
-  abbrev pub given_now : List ℕ
-  given_now = so.given ++ takes.got
+-- what is told of all that was given: the line was handed out, the next one is too long, there is no other, or none is whole
+abbrev pub Tells : Taken → (ended : Bool) → (given : List ℕ) → (left : Option (List ℕ)) → (handed : List (List ℕ)) → (line after : List ℕ) → Type 0
+Tells taken.Line ended given left handed line after = HasHanded ended given left (handed ++ line ∷ []) after
+Tells taken.TooLong ended given left handed line after = IsNext given left handed None
+Tells taken.Finish ended given left handed line after = IsAtEnd left × (input_lines true given ≡ map (λ l. Some l) handed)
+Tells taken.Failed ended given left handed line after = input_lines false given ≡ map (λ l. Some l) handed
 
-  pub taken_now : Consumes left0 left2 given_now
-  taken_now = Consumes-trans left0 left1 left2 so.given takes.got so.taken_from takes.taken_from
+pub record Asked (what : Taken) (ended : Bool) (left_old left_new : Option (List ℕ)) (handed : List (List ℕ)) (line after : List ℕ) : Type 0 where
+  pub given : List ℕ
+  pub taken_from : Consumes left_old left_new given
+  pub tells : Tells what ended given left_new handed line after
 
-  pub gives_as : (is : Taken) → what ≡ is → GivesLine is before takes.got line after
-  gives_as is same = subst (λ w. GivesLine w before takes.got line after) same takes.gives
+first_none : (given : List ℕ) (left : Option (List ℕ)) (handed : List (List ℕ)) (rest : List Line) → input_lines false given ≡ map (λ l. Some l) handed ++ rest → BeginsTooLong rest → IsNext given left handed None
+first_none given left handed [] e begins = absurd begins
+first_none given left handed (l ∷ rest) e begins =
+    record {
+      at_end = false;
+      ended = λ never. absurd (cc);
+      rest = rest;
+      follows = e ∙ ap (λ (l : Line). map (λ l. Some l) handed ++ l ∷ rest) begins;
+    }
 
-  told : (is : Taken) → what ≡ is → EndsWith is given_now handed line
-  told is same = all_told is so.given before takes.got line after handed so.hands_out (gives_as is same)
+told : (what : Taken) (ended : Bool) (given before got line after : List ℕ) (left : Option (List ℕ)) (handed : List (List ℕ)) → HandsOut given handed before → GivesLine what ended before got line after → (ended ≡ true → IsAtEnd left) →
+    Tells what ended (given ++ got) left handed line after
+told taken.Line false given before got line after left handed so_far gives at_end = one_more given before got line after handed so_far gives
+told taken.Line true given before got line after left handed so_far gives at_end = (at_end refl, all_told taken.Line true given before got line after handed so_far gives)
+told taken.TooLong ended given before got line after left handed so_far gives at_end =
+    let all = all_told taken.TooLong ended given before got line after handed so_far gives false [] in
+    first_none (given ++ got) left handed all.0 (ap (input_lines false) (sym (append-nil (given ++ got))) ∙ all.1) all.2
+told taken.Finish ended given before got line after left handed so_far gives at_end = (at_end gives.0, all_told taken.Finish ended given before got line after handed so_far gives)
+told taken.Failed ended given before got line after left handed so_far gives at_end = all_told taken.Failed ended given before got line after handed so_far gives
 
-  -- it was handed out, and is the next one
-  abbrev pub hands_more : (what ≡ taken.Line) → Hands left0 left2 (handed ++ line ∷ []) after
-  hands_more is = record { given = given_now; taken_from = taken_now; hands_out = one_more so.given before takes.got line after handed so.hands_out (gives_as taken.Line is) }
+pub asked : (was ended : Bool) (left0 left1 left2 : Option (List ℕ)) (handed : List (List ℕ)) (before line after : List ℕ) (what : Taken) → Hands was left0 left1 handed before →
+    (was ≡ false → Takes left1 left2 ended before line after what) → (was ≡ true → (what ≡ taken.Finish) × (left2 ≡ left1)) → Asked what ended left0 left2 handed line after
+asked false ended left0 left1 left2 handed before line after what so takes over =
+    let t = takes refl in
+    record {
+      given = so.given ++ t.got;
+      taken_from = Consumes-trans left0 left1 left2 so.given t.got so.taken_from t.taken_from;
+      tells = told what ended so.given before t.got line after left2 handed so.so_far t.gives t.at_end;
+    }
+asked true ended left0 left1 left2 handed before line after what so takes over =
+    let o = over refl in
+    record {
+      given = so.given;
+      taken_from = subst (λ (left : Option (List ℕ)). Consumes left0 left so.given) (sym o.1) so.taken_from;
+      tells =
+          subst (λ (w : Taken). Tells w ended so.given left2 handed line after) (sym o.0)
+          (subst (λ (left : Option (List ℕ)). IsAtEnd left × (input_lines true so.given ≡ map (λ l. Some l) handed)) (sym o.1) so.so_far);
+    }
 
-  pub line_next : (what ≡ taken.Line) → IsNext given_now left2 handed (Some line)
-  line_next is =
-      record {
-        at_end = false;
-        ended = λ never. absurd (cc);
-        rest = input_lines false (after ++ []);
-        follows =
-            ap (input_lines false) (sym (append-nil given_now))
-            ∙ ((hands_more is).hands_out false [] ∙ (ap (λ (ls : List Line). ls ++ input_lines false (after ++ [])) (pushed handed line)
-            ∙ append_assoc (map (λ l. Some l) handed) (Some line ∷ []) (input_lines false (after ++ []))));
-      }
+module _ (what : Taken) (ended : Bool) (left0 left1 : Option (List ℕ)) (handed : List (List ℕ)) (line after : List ℕ) (asks : Asked what ended left0 left1 handed line after) where
+  tells_as : (is : Taken) → what ≡ is → Tells is ended asks.given left1 handed line after
+  tells_as is same = subst (λ (w : Taken). Tells w ended asks.given left1 handed line after) same asks.tells
 
-  -- it is the last one
-  pub last_ended : (what ≡ taken.Last) → IsAtEnd left2
-  last_ended is = subst (λ w. IsEndIf w left2) is takes.ended
+  pub tells_line : what ≡ taken.Line → HasHanded ended asks.given left1 (handed ++ line ∷ []) after
+  tells_line is = tells_as taken.Line is
 
-  pub last_told : (what ≡ taken.Last) → input_lines true given_now ≡ map (λ l. Some l) (handed ++ line ∷ [])
-  last_told is = told taken.Last is
+  pub tells_long : what ≡ taken.TooLong → IsNext asks.given left1 handed None
+  tells_long is = tells_as taken.TooLong is
 
-  pub last_next : (what ≡ taken.Last) → IsNext given_now left2 handed (Some line)
-  last_next is = record { at_end = true; ended = λ e. last_ended is; rest = []; follows = last_told is ∙ pushed handed line }
+  pub tells_end : what ≡ taken.Finish → IsAtEnd left1 × (input_lines true asks.given ≡ map (λ l. Some l) handed)
+  tells_end is = tells_as taken.Finish is
 
-  -- there is no more
-  pub end_ended : (what ≡ taken.End) → IsAtEnd left2
-  end_ended is = subst (λ w. IsEndIf w left2) is takes.ended
-
-  pub end_told : (what ≡ taken.End) → input_lines true given_now ≡ map (λ l. Some l) handed
-  end_told is = told taken.End is
-
-  pub fault_told : (what ≡ taken.Failed) → input_lines false given_now ≡ map (λ l. Some l) handed
-  fault_told is = told taken.Failed is
-
-  -- the next one is too long
-  pub long_next : (what ≡ taken.TooLong) → IsNext given_now left2 handed None
-  long_next is =
-      let all = told taken.TooLong is false [] in
-      first_none all.0 (ap (input_lines false) (sym (append-nil given_now)) ∙ all.1) all.2
-    where
-      first_none : (rest : List Line) → input_lines false given_now ≡ map (λ l. Some l) handed ++ rest → BeginsTooLong rest → IsNext given_now left2 handed None
-      first_none [] e begins = absurd begins
-      first_none (l ∷ rest) e begins =
-          record {
-            at_end = false;
-            ended = λ never. absurd (cc);
-            rest = rest;
-            follows = e ∙ ap (λ (l : Line). map (λ l. Some l) handed ++ l ∷ rest) begins;
-          }
+  pub tells_fault : what ≡ taken.Failed → input_lines false asks.given ≡ map (λ l. Some l) handed
+  tells_fault is = tells_as taken.Failed is

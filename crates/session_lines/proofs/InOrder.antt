@@ -10,7 +10,8 @@ use Rattle.spec_model.specs.Values.{Assignment, values_of, same_value, is_assign
 use Rattle.spec_model.specs.Syntax.{VariableData}
 use Rattle.spec_model.specs.Views.{variable_data}
 use Rattle.session_lines.specs.Shown.{text_of, item_of, items_of}
-use Rattle.session_lines.specs.Reading.{is_blank, words, after_sign, after_name, names_one, IsWritten, AreGiven, BeginsWith, Reads}
+use Rattle.session_lines.specs.Reading.{is_blank, words, after_sign, after_name, names_one, IsWritten, AreGiven, Reads}
+use Rattle.session_lines.specs.Beginning.{BeginsWith}
 use Rattle.session_lines.specs.Room.{domains}
 use Rattle.std.specs.Str.{bytes_eq}
 use Rattle.session_lines.specs.Plain.{ArePlain, are_plain}

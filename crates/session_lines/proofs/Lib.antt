@@ -6,8 +6,8 @@ mod InOrder
 mod OneReading
 mod Printing
 mod Rooms
-mod ShownIsRead
+pub mod ShownIsRead
 mod Slices
 mod Values
 mod Words
-mod TypedNames
+pub mod TypedNames

@@ -55,7 +55,7 @@ digits_whole (c ∷ cs) digits =
     let range = digit_from_value c digits.0 in
     ap (λ (b : Bool). b || list_any is_blank cs) (no_blank c range.0) ∙ digits_whole cs digits.1
 
-number_whole : (z : ℤ) → mag z < 2 ^ 63 → IsWhole (signed_decimal z)
+pub number_whole : (z : ℤ) → mag z < 2 ^ 63 → IsWhole (signed_decimal z)
 number_whole (pos n) small = digits_whole (decimal n) (decimal_is_IsNumeral n (omega (arith, small))).0.1
 number_whole (negsuc n) small = digits_whole (decimal (suc n)) (decimal_is_IsNumeral (suc n) (omega (arith, small))).0.1
 

@@ -1,5 +1,6 @@
 pub mod Shown
 pub mod Reading
+pub mod Beginning
 pub mod InputLines
 pub mod Pieces
 pub mod Taking

@@ -1,11 +1,10 @@
 -- Which assignment a line reads as.
-use Rattle.std.specs.Prelude.{◌≡◌, ℕ, Bool, true, not, ◌||◌, ◌==◌, if◌then◌else◌, List, [], ◌∷◌, ◌++◌, length, Option, Some, None, is_some, filter, filter_map}
+use Rattle.std.specs.Prelude.{◌≡◌, ℕ, Bool, true, not, ◌||◌, ◌==◌, if◌then◌else◌, List, [], ◌∷◌, length, Option, Some, None, is_some, filter, filter_map}
 use Rattle.std.specs.List.{list_any, list_all, slice_split}
 use Rattle.spec_model.specs.declared.value.Value.{Value}
-use Rattle.spec_model.specs.Values.{Assignment, DomainData, values_of, same_value, is_assignment}
+use Rattle.spec_model.specs.Values.{Assignment, DomainData, values_of, same_value}
 use Rattle.spec_model.specs.Syntax.{VariableData}
-use Rattle.session_lines.specs.Shown.{text_of, items_of}
-use Rattle.session_lines.specs.Room.{domains}
+use Rattle.session_lines.specs.Shown.{text_of}
 
 -- space or tab
 abbrev pub is_blank : ℕ → Bool
@@ -55,8 +54,3 @@ AreGiven names ws _ _ = ⊥
 pub record Reads (names : List (List ℕ)) (vs : List VariableData) (line : List ℕ) (xs : Assignment) : Type 0 where
   pub known : list_all (names_one vs) (words line) ≡ true
   pub given : AreGiven names (words line) vs xs
-
--- the words of the line are the items of an assignment, in order, and then those of the rest
-pub record BeginsWith (names : List (List ℕ)) (vs : List VariableData) (xs : Assignment) (line rest : List ℕ) : Type 0 where
-  pub words_are : words line ≡ items_of names vs xs ++ words rest
-  pub within : is_assignment (domains vs) xs ≡ true

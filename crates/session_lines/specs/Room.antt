@@ -20,3 +20,7 @@ domains vs = map (λ v. v.domain) vs
 -- each printed assignment has fewer bytes
 abbrev pub HasRoom : List (List ℕ) → List VariableData → ℕ → Type 0
 HasRoom names vs n = (xs : Assignment) → is_assignment (domains vs) xs ≡ true → length (show names vs xs) < n
+
+-- each printed assignment has fewer bytes, with a head of up to 64 bytes
+abbrev pub HasHeadRoom : List (List ℕ) → List VariableData → ℕ → Type 0
+HasHeadRoom names vs n = (xs : Assignment) → is_assignment (domains vs) xs ≡ true → length (show names vs xs) + 64 < n

@@ -1,5 +1,5 @@
 -- What contracts see of the lines of plays.
-use Rattle.std.specs.Prelude.{◌≡◌, ℕ, List, [], ◌++◌, map, string_bytes}
+use Rattle.std.specs.Prelude.{◌≡◌, ℕ, Bool, false, List, [], ◌++◌, map, string_bytes}
 use Rattle.spec_model.specs.Values.{Assignment}
 use Rattle.spec_model.specs.Syntax.{VariableData, Specification}
 use Rattle.spec_model.specs.Views.{variable_data}
@@ -13,6 +13,15 @@ pending_of l = reader_pending l.reader
 
 abbrev pub line_of : Lines → List ℕ
 line_of l = reader_line l.reader
+
+-- whether the input gave its end
+abbrev pub ended_of : Lines → Bool
+ended_of l = l.reader.ended
+
+-- nothing was taken of any input yet
+pub record AreUnread (l : Lines) : Type 0 where
+  pub pending : pending_of l ≡ []
+  pub not_ended : ended_of l ≡ false
 
 -- the enum names, the variables that a line is read as, and those that are shown on one, in declared order
 abbrev pub names_of : Lines → List (List ℕ)
@@ -59,8 +68,15 @@ KeepsTables old new = AreOver new (names_of old) (wanted_variables old) (shown_v
 pub record KeepsReader (old new : Lines) : Type 0 where
   pub pending : pending_of new ≡ pending_of old
   pub line : line_of new ≡ line_of old
+  pub ended : ended_of new ≡ ended_of old
 
 -- what was read last and what is shown next stay
 pub record KeepsMoves (old new : Lines) : Type 0 where
   pub read : read_of new ≡ read_of old
   pub shown : shown_of new ≡ shown_of old
+
+-- all of these stay
+pub record KeepsAll (old new : Lines) : Type 0 where
+  pub tables : KeepsTables old new
+  pub reader : KeepsReader old new
+  pub moves : KeepsMoves old new

@@ -1,6 +1,6 @@
 //! What holds of showing and reading, whatever the code does.
 
-ghost use Rattle.std.specs.Prelude.{◌≡◌, List, [], ◌∷◌, ◌++◌, ℕ, true, map};
+ghost use Rattle.std.specs.Prelude.{◌≡◌, List, [], ◌∷◌, ◌++◌, ℕ, Bool, true, false, map};
 ghost use Rattle.spec_model.specs.Values.{Assignment, is_assignment};
 ghost use Rattle.spec_model.specs.Syntax.{VariableData};
 ghost use Rattle.session_lines.specs.Shown.{show};
@@ -27,11 +27,11 @@ pub fn no_line_reads_as_two()
 pub fn lines_follow_one_another()
     ensures start { HandsOut [] [] [] }
     ensures one_more { (given before got line after : List ℕ) (handed : List (List ℕ)) → HandsOut given handed before
-        → GivesLine Taken.Line before got line after → HandsOut (given ++ got) (handed ++ line ∷ []) after }
+        → GivesLine Taken.Line false before got line after → HandsOut (given ++ got) (handed ++ line ∷ []) after }
 {}
 
 /// Where no line follows, those that were handed out are all the lines of what was given, or the next one is too long.
 pub fn an_end_tells_all_lines()
-    ensures { (what : Taken) (given before got line after : List ℕ) (handed : List (List ℕ)) → HandsOut given handed before
-        → GivesLine what before got line after → EndsWith what (given ++ got) handed line }
+    ensures { (what : Taken) (ended : Bool) (given before got line after : List ℕ) (handed : List (List ℕ)) → HandsOut given handed before
+        → GivesLine what ended before got line after → EndsWith what ended (given ++ got) handed line }
 {}

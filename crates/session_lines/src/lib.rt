@@ -3,8 +3,9 @@
 //! A line has an item `name=value` for each wanted variable, in any order, with spaces and tabs between. A value is
 //! written exactly as it is printed. Input comes in pieces of any size. Each buffer is taken before the first line.
 //!
-//! Contract: `Lines::next_line` hands out the lines of the input in order; `Lines::read` reads a line exactly where it reads
-//! as an assignment; `Lines::write_shown` writes a whole line. The laws are in `laws` and `typed_laws`. Path: verdict → **lines**.
+//! Contract: `Lines::next_line` hands out the lines of the input in order, and never reads it after its end; `Lines::read` and
+//! `Lines::assign` read a line, or its end, exactly where it reads as an assignment; `Lines::write_shown` and `Lines::show` write
+//! a whole line. The laws are in `laws` and `typed_laws`. Path: verdict → **lines**.
 #![tactic(auto)]
 
 pub mod laws;
@@ -21,5 +22,6 @@ mod value;
 mod word;
 
 pub use lines::Lines;
+pub use number::{number_in, put_count};
 pub use reader::Taken;
 pub use row::Row;

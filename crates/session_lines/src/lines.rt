@@ -1,6 +1,6 @@
 //! The lines of plays: what is read and what is shown, with all the room for it.
 
-ghost use Rattle.std.specs.Prelude.{◌≡◌, ◌≤◌, ◌+◌, ◌++◌, ◌∷◌, [], true, length, map, string_bytes, vec_capacity, IfOk, OnOk, OnErr};
+ghost use Rattle.std.specs.Prelude.{◌≡◌, ◌≤◌, ◌+◌, ◌++◌, ◌∷◌, [], true, false, length, map, drop, string_bytes, vec_capacity, IfOk, OnOk, OnErr};
 ghost use Rattle.std.specs.Fmt.{decimal};
 ghost use Rattle.std.specs.Bool.{OnTrue, OnFalse};
 ghost use Rattle.std.specs.Io.KnownBytes.{Appends};
@@ -8,10 +8,10 @@ ghost use Rattle.sp_outside.specs.Causes.{Rose, HasCause};
 ghost use Rattle.sp_outside.specs.Written.{AppendsFront};
 ghost use Rattle.spec_model.specs.Values.{Assignment, is_assignment};
 ghost use Rattle.spec_model.specs.Views.{variable_data, spec_data};
-ghost use Rattle.session_lines.specs.Room.{HasRoom};
+ghost use Rattle.session_lines.specs.Room.{HasHeadRoom};
 
-use crate::make::{copy_names, room_for};
-use crate::print::{NUMBERED, push_bytes, push_count, push_line};
+use crate::make::{copy_names, room_for, sum_of};
+use crate::print::{HEAD, NUMBERED, print_row, push_bytes, push_count};
 use crate::read::read_line;
 use crate::reader::{Reader, Taken};
 use crate::row::Row;
@@ -33,8 +33,8 @@ pub struct Lines {
     pub shown: Row,
     pub(crate) printed: Vec<u8>,
     pub(crate) reader: Reader,
-    ghost wanted_room: { HasRoom (map string_bytes names.items) (map variable_data wanted.vars.items) (vec_capacity printed) },
-    ghost shown_room: { HasRoom (map string_bytes names.items) (map variable_data shown.vars.items) (vec_capacity printed) },
+    ghost wanted_room: { HasHeadRoom (map string_bytes names.items) (map variable_data wanted.vars.items) (vec_capacity printed) },
+    ghost shown_room: { HasHeadRoom (map string_bytes names.items) (map variable_data shown.vars.items) (vec_capacity printed) },
     ghost numbered_room: { 80 ≤ vec_capacity printed },
 }
 
@@ -43,12 +43,12 @@ impl Lines {
     ghost use Rattle.session_lines.specs.Reading.{Reads};
     ghost use Rattle.session_lines.specs.Room.{domains};
     ghost use Rattle.session_lines.specs.Taking.{Takes};
-    ghost use Rattle.session_lines.specs.Views.{pending_of, line_of, names_of, wanted_variables, shown_variables, read_of, shown_of, AreOver, AreFor, AreForLogs, TurnsRound, KeepsTables, KeepsReader, KeepsMoves};
+    ghost use Rattle.session_lines.specs.Views.{pending_of, line_of, ended_of, names_of, wanted_variables, shown_variables, read_of, shown_of, AreOver, AreFor, AreForLogs, AreUnread, TurnsRound, KeepsTables, KeepsReader, KeepsMoves, KeepsAll};
 
     /// The lines of plays of a specification, before any byte was taken. It takes every buffer that later calls use.
     pub fn make(alloc: Global, spec: &Spec) -> Result<Lines, OutOfMemory>
         ensures for_spec { IfOk result (λ lines. AreFor lines (spec_data spec.now)) }
-        ensures fresh { IfOk result (λ lines. pending_of lines ≡ []) }
+        ensures fresh { IfOk result (λ lines. AreUnread lines) }
     {
         let wanted = Row::make(alloc, &spec.vars, Owner::Env)?;
         let shown = Row::make(alloc, &spec.vars, Owner::Sys)?;
@@ -59,7 +59,7 @@ impl Lines {
     /// shown.
     pub fn make_for_logs(alloc: Global, spec: &Spec) -> Result<Lines, OutOfMemory>
         ensures for_spec { IfOk result (λ lines. AreForLogs lines (spec_data spec.now)) }
-        ensures fresh { IfOk result (λ lines. pending_of lines ≡ []) }
+        ensures fresh { IfOk result (λ lines. AreUnread lines) }
     {
         let wanted = Row::make_for_all(alloc, &spec.vars)?;
         let shown = Row::make_for_none(alloc)?;
@@ -69,10 +69,11 @@ impl Lines {
     // Lines over the variables of two rows.
     fn over(alloc: Global, names: &[String], wanted: Row, shown: Row) -> Result<Lines, OutOfMemory>
         ensures over { IfOk result (λ lines. AreOver lines (map string_bytes names.now) (map variable_data wanted.vars.items) (map variable_data shown.vars.items)) }
-        ensures fresh { IfOk result (λ lines. pending_of lines ≡ []) }
+        ensures fresh { IfOk result (λ lines. AreUnread lines) }
     {
         let names = copy_names(alloc, names)?;
-        let room = room_for(&names, &wanted.vars)?.max(room_for(&names, &shown.vars)?);
+        let row = room_for(&names, &wanted.vars)?.max(room_for(&names, &shown.vars)?);
+        let room = sum_of(row, HEAD)?;
         Ok(Lines {
             names,
             wanted,
@@ -90,10 +91,11 @@ impl Lines {
         std::mem::swap(&mut self.wanted, &mut self.shown);
     }
 
-    /// Takes the next line of the input, which is then at hand. The input is read only where no whole line is there; each
-    /// turn takes at least one byte, or ends. It takes no memory.
+    /// Takes the next line of the input, which is then at hand. The input is read only where no whole line is there, and never
+    /// once it gave its end. It takes no memory.
     pub fn next_line<I: Source>(&mut self, input: &mut I) -> Taken
-        ensures takes { Takes (I.left input.old) (I.left input.new) (pending_of self.old) (line_of self.new) (pending_of self.new) result }
+        ensures takes { ended_of self.old ≡ false → Takes (I.left input.old) (I.left input.new) (ended_of self.new) (pending_of self.old) (line_of self.new) (pending_of self.new) result }
+        ensures over { ended_of self.old ≡ true → (result ≡ Taken.Finish) × (input.new ≡ input.old) × (self.new ≡ self.old) }
         ensures keeps { KeepsTables self.old self.new }
         ensures moves { KeepsMoves self.old self.new }
         ensures later { I.faults input.old ≤ I.faults input.new }
@@ -103,7 +105,7 @@ impl Lines {
     }
 
     /// The line at hand, without its line feed.
-    pub fn line(&self) -> &[u8]
+    pub fn bytes(&self) -> &[u8]
         ensures { result.now ≡ line_of self.now }
     {
         self.reader.line()
@@ -118,7 +120,26 @@ impl Lines {
         ensures keeps { KeepsTables self.old self.new }
         ensures reader { KeepsReader self.old self.new }
     {
-        read_line(&self.names, &mut self.wanted, self.reader.line())
+        let row = &mut self.wanted;
+        read_line(
+            &self.names,
+            &row.vars,
+            row.plain,
+            self.reader.line(),
+            &mut row.values,
+        )
+    }
+
+    /// Reads what the line at hand has from a place on as an assignment of the wanted variables, and says whether it reads as
+    /// one. It takes no memory.
+    pub fn assign(&self, from: usize, out: &mut [Value]) -> bool
+        requires within { from ≤ length (line_of self.now) }
+        requires room { length out.old ≡ length (wanted_variables self.now) }
+        ensures read { OnTrue result (Reads (names_of self.now) (wanted_variables self.now) (drop from (line_of self.now)) out.new) }
+        ensures refused { OnFalse result ((xs : Assignment) → Reads (names_of self.now) (wanted_variables self.now) (drop from (line_of self.now)) xs → ⊥) }
+    {
+        let text = &self.reader.line()[from..];
+        read_line(&self.names, &self.wanted.vars, self.wanted.plain, text, out)
     }
 
     /// Whether these are values of the shown variables, one for each.
@@ -152,15 +173,37 @@ impl Lines {
         ensures reader { KeepsReader self.old self.new }
         ensures moves { KeepsMoves self.old self.new }
     {
-        self.printed.clear();
-        push_line(
+        print_row(
             &mut self.printed,
+            b"",
             &self.names,
             &self.shown.vars,
             &self.shown.values,
         );
-        push_bytes(&mut self.printed, b"\n");
         write_line(output, &self.printed)
+    }
+
+    /// Writes a line that begins with the head, and then has the shown variables with these values; and says whether it did.
+    /// Else the output failed, and a front of the line is written. It takes no memory.
+    pub fn show<O: Sink>(&mut self, head: &[u8], values: &[Value], output: &mut O) -> bool
+        requires values { is_assignment (domains (shown_variables self.old)) values.now ≡ true }
+        requires head { length head.now ≤ 64 }
+        ensures whole { OnTrue result (Appends (O.written output.old) (O.written output.new)
+            (head.now ++ (show (names_of self.old) (shown_variables self.old) values.now ++ 10 ∷ []))) }
+        ensures part { OnFalse result (AppendsFront (O.written output.old) (O.written output.new)
+            (head.now ++ (show (names_of self.old) (shown_variables self.old) values.now ++ 10 ∷ []))) }
+        ensures cause { OnFalse result (Rose (O.faults output.old) (O.faults output.new)) }
+        ensures later { O.faults output.old ≤ O.faults output.new }
+        ensures keeps { KeepsAll self.old self.new }
+    {
+        print_row(
+            &mut self.printed,
+            head,
+            &self.names,
+            &self.shown.vars,
+            values,
+        );
+        write_line(output, &self.printed).is_ok()
     }
 
     /// Writes a line with a number between two texts, of which the second ends it. `Failed`: the output failed, and a front

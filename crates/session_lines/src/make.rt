@@ -71,8 +71,8 @@ fn longest_text(names: &[String], domain: &Domain) -> usize
     }
 }
 
-// A sum of lengths, where memory could hold as much.
-fn sum_of(a: usize, b: usize) -> Result<usize, OutOfMemory>
+/// A sum of lengths, where memory could hold as much.
+pub fn sum_of(a: usize, b: usize) -> Result<usize, OutOfMemory>
     ensures { IfOk result (λ sum. sum ≡ a + b) }
 {
     a.checked_add(b).ok_or(AllocError)

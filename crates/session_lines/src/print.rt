@@ -1,6 +1,6 @@
 //! Printing an assignment into a buffer that has room for it.
 
-ghost use Rattle.std.specs.Prelude.{◌≡◌, ◌+◌, ◌≤◌, ◌++◌, length, map, string_bytes, vec_len, vec_capacity};
+ghost use Rattle.std.specs.Prelude.{◌≡◌, ◌+◌, ◌<◌, ◌≤◌, ◌++◌, ◌∷◌, [], length, map, string_bytes, vec_len, vec_capacity};
 ghost use Rattle.std.specs.Fmt.{decimal};
 ghost use Rattle.spec_model.specs.Views.{variable_data};
 ghost use Rattle.session_lines.specs.Shown.{text_of, item_of, show};
@@ -11,6 +11,9 @@ use spec_model::value::{Value, Var};
 
 /// The room for a line with up to two numbers, and up to 40 bytes besides them, its line feed included.
 pub const NUMBERED: usize = 80;
+
+/// The room for what stands before an assignment on its line.
+pub const HEAD: usize = 64;
 
 /// Adds bytes to what is printed. It takes no memory.
 pub fn push_bytes(out: &mut Vec<u8>, bytes: &[u8])
@@ -75,4 +78,23 @@ pub fn push_line(out: &mut Vec<u8>, names: &[String], vars: &[Var], values: &[Va
         push_item(out, names, var, values[i]);
         separator = b" ".as_slice();
     }
+}
+
+/// Prints a line anew: what stands before an assignment, the assignment, and a line feed. It takes no memory.
+pub fn print_row(
+    printed: &mut Vec<u8>,
+    head: &[u8],
+    names: &[String],
+    vars: &[Var],
+    values: &[Value],
+)
+    requires places { length values.now ≡ length vars.now }
+    requires room { length head.now + length (show (map string_bytes names.now) (map variable_data vars.now) values.now) < vec_capacity printed.old }
+    ensures items { printed.new.items ≡ head.now ++ (show (map string_bytes names.now) (map variable_data vars.now) values.now ++ 10 ∷ []) }
+    ensures capacity { vec_capacity printed.old ≤ vec_capacity printed.new }
+{
+    printed.clear();
+    push_bytes(printed, head);
+    push_line(printed, names, vars, values);
+    push_bytes(printed, b"\n");
 }

@@ -5,9 +5,10 @@ ghost use Rattle.std.specs.Bool.{OnTrue, OnFalse};
 ghost use Rattle.spec_model.specs.declared.value.Value.{Value};
 ghost use Rattle.spec_model.specs.Values.{Assignment};
 ghost use Rattle.spec_model.specs.Views.{variable_data};
-ghost use Rattle.session_lines.specs.Reading.{words, IsGiven, Reads, BeginsWith};
+ghost use Rattle.session_lines.specs.Plain.{are_plain};
+ghost use Rattle.session_lines.specs.Reading.{words, IsGiven, Reads};
+ghost use Rattle.session_lines.specs.Beginning.{BeginsWith};
 
-use crate::row::Row;
 use crate::value::value_in;
 use crate::word::{all_known, first_item, one_text};
 use spec_model::value::{Value, Var};
@@ -61,17 +62,25 @@ fn read_in_any_order(names: &[String], vars: &[Var], line: &[u8], values: &mut [
     true
 }
 
-/// Reads a line into the values of a row, and says whether it reads as an assignment of its variables. It takes no memory.
-pub fn read_line(names: &[String], row: &mut Row, line: &[u8]) -> bool
-    ensures read { OnTrue result (Reads (map string_bytes names.now) (map variable_data row.new.vars.items) line.now row.new.values.items) }
-    ensures refused { OnFalse result ((xs : Assignment) → Reads (map string_bytes names.now) (map variable_data row.new.vars.items) line.now xs → ⊥) }
-    ensures keeps { row.new.vars ≡ row.old.vars }
+/// Reads a line as an assignment of the variables, and says whether it reads as one. `plain` tells that no word can be an item
+/// of two of them. It takes no memory.
+pub fn read_line(
+    names: &[String],
+    vars: &[Var],
+    plain: bool,
+    line: &[u8],
+    values: &mut [Value],
+) -> bool
+    requires places { length values.old ≡ length vars.now }
+    requires plainly { plain ≡ are_plain (map (λ v. v.name) (map variable_data vars.now)) }
+    ensures read { OnTrue result (Reads (map string_bytes names.now) (map variable_data vars.now) line.now values.new) }
+    ensures refused { OnFalse result ((xs : Assignment) → Reads (map string_bytes names.now) (map variable_data vars.now) line.now xs → ⊥) }
 {
-    if !row.plain {
-        return read_in_any_order(names, &row.vars, line, &mut row.values);
+    if !plain {
+        return read_in_any_order(names, vars, line, values);
     }
-    if read_in_order(names, &row.vars, line, &mut row.values) {
+    if read_in_order(names, vars, line, values) {
         return true;
     }
-    read_in_any_order(names, &row.vars, line, &mut row.values)
+    read_in_any_order(names, vars, line, values)
 }

@@ -1,6 +1,6 @@
 //! Taking lines from an input that gives its bytes in pieces of any size.
 
-ghost use Rattle.std.specs.Prelude.{◌≡◌, ◌≢◌, ◌+◌, ◌-◌, ◌<◌, ◌≤◌, [], ℕ, Some, None, Err, length, take, drop, vec_len, slice_index, IfSome, IfNone, IfOk, OnErr};
+ghost use Rattle.std.specs.Prelude.{◌≡◌, ◌≢◌, ◌+◌, ◌-◌, ◌<◌, ◌≤◌, [], ℕ, Some, None, Err, true, false, length, take, drop, vec_len, slice_index, IfSome, IfNone, IfOk, OnErr};
 ghost use Rattle.std.specs.Io.KnownBytes.{Keeps, Consumes, IsAtEnd};
 ghost use Rattle.std.specs.Str.Lines.{strip_carriage_return};
 ghost use Rattle.sp_outside.specs.Causes.{Rose, HasCause};
@@ -19,17 +19,16 @@ const ROOM: usize = 65_537;
 pub enum Taken {
     /// A line is at hand.
     Line,
-    /// The last line is at hand, and the input is at its end.
-    Last,
     /// The next line has more bytes than a line may have.
     TooLong,
     /// The input is at its end, and there is no more line.
-    End,
+    Finish,
     /// The input failed, and no whole line was there.
     Failed,
 }
 
-/// A buffer with the bytes that were taken and not handed out yet, and with the line that was handed out last.
+/// A buffer with the bytes that were taken and not handed out yet, and with the line that was handed out last. It remembers
+/// whether the input gave its end: then it is never read again.
 #[derive(Drop)]
 pub struct Reader {
     pub buffer: Vec<u8>,
@@ -37,6 +36,7 @@ pub struct Reader {
     pub end: usize,
     pub line_start: usize,
     pub line_end: usize,
+    pub ended: bool,
     ghost room: { vec_len buffer ≡ 65537 },
     ghost ordered: { start ≤ end },
     ghost within: { end ≤ 65537 },
@@ -102,7 +102,8 @@ impl Reader {
 
     /// A reader into which nothing was taken.
     pub fn make(alloc: Global) -> Result<Reader, OutOfMemory>
-        ensures { IfOk result (λ r. reader_pending r ≡ []) }
+        ensures nothing { IfOk result (λ r. reader_pending r ≡ []) }
+        ensures open { IfOk result (λ r. r.ended ≡ false) }
     {
         Ok(Reader {
             buffer: vec![in alloc; 0; ROOM]?,
@@ -110,6 +111,7 @@ impl Reader {
             end: 0,
             line_start: 0,
             line_end: 0,
+            ended: false,
         })
     }
 
@@ -132,6 +134,7 @@ impl Reader {
         requires { at < length (reader_pending self.old) }
         ensures line { reader_line self.new ≡ strip_carriage_return (take at (reader_pending self.old)) }
         ensures rest { reader_pending self.new ≡ drop (at + 1) (reader_pending self.old) }
+        ensures end { self.new.ended ≡ self.old.ended }
     {
         let start = self.start;
         let stop = line_stop(&self.buffer[start..start + at]);
@@ -144,6 +147,7 @@ impl Reader {
     fn hand_out_all(&mut self)
         ensures line { reader_line self.new ≡ reader_pending self.old }
         ensures rest { reader_pending self.new ≡ [] }
+        ensures end { self.new.ended ≡ self.old.ended }
     {
         self.line_start = self.start;
         self.line_end = self.end;
@@ -154,6 +158,7 @@ impl Reader {
     fn move_to_front(&mut self)
         ensures keeps { reader_pending self.new ≡ reader_pending self.old }
         ensures front { self.new.start ≡ 0 }
+        ensures end { self.new.ended ≡ self.old.ended }
     {
         let start = self.start;
         let end = self.end;
@@ -169,6 +174,7 @@ impl Reader {
         ensures at_end { IfOk result (λ n. n ≡ 0 → IsAtEnd (I.left input.new)) }
         ensures none { OnErr result (Grows (I.left input.old) (I.left input.new) (reader_pending self.old) (reader_pending self.new) 0) }
         ensures cause { HasCause (I.faults input.old) (I.faults input.new) result }
+        ensures end { self.new.ended ≡ self.old.ended }
     {
         self.move_to_front();
         let end = self.end;
@@ -177,10 +183,24 @@ impl Reader {
         Ok(count)
     }
 
-    /// Hands out the next line of the input, and takes more of the input only where no whole line is there. Each turn
-    /// takes at least one byte, or ends. It takes no memory.
+    /// Hands out the next line of the input, and takes more of the input only where no whole line is there. Once the input
+    /// gave its end it isn't read, and nothing changes. It takes no memory.
     pub fn next_line<I: Source>(&mut self, input: &mut I) -> Taken
-        ensures takes { Takes (I.left input.old) (I.left input.new) (reader_pending self.old) (reader_line self.new) (reader_pending self.new) result }
+        ensures takes { self.old.ended ≡ false → Takes (I.left input.old) (I.left input.new) self.new.ended (reader_pending self.old) (reader_line self.new) (reader_pending self.new) result }
+        ensures over { self.old.ended ≡ true → (result ≡ Taken.Finish) × (input.new ≡ input.old) × (self.new ≡ self.old) }
+        ensures later { I.faults input.old ≤ I.faults input.new }
+        ensures cause { result ≡ Taken.Failed → Rose (I.faults input.old) (I.faults input.new) }
+    {
+        if self.ended {
+            return Taken::Finish;
+        }
+        self.take_line(input)
+    }
+
+    // Hands out the next line of an input that hasn't given its end. Each turn takes at least one byte, or ends.
+    fn take_line<I: Source>(&mut self, input: &mut I) -> Taken
+        requires { self.old.ended ≡ false }
+        ensures takes { Takes (I.left input.old) (I.left input.new) self.new.ended (reader_pending self.old) (reader_line self.new) (reader_pending self.new) result }
         ensures later { I.faults input.old ≤ I.faults input.new }
         ensures cause { result ≡ Taken.Failed → Rose (I.faults input.old) (I.faults input.new) }
     {
@@ -204,16 +224,17 @@ impl Reader {
 
     // At the end of the input: what is there is the last line, if it isn't empty.
     fn finish(&mut self) -> Taken
-        ensures last { result ≡ Taken.Last → (reader_line self.new ≡ reader_pending self.old) }
-        ensures some { result ≡ Taken.Last → (0 < length (reader_pending self.old)) }
-        ensures end { result ≢ Taken.Last → (result ≡ Taken.End) }
-        ensures none { result ≡ Taken.End → (reader_pending self.old ≡ []) }
+        ensures last { result ≡ Taken.Line → (reader_line self.new ≡ reader_pending self.old) × (0 < length (reader_pending self.old)) }
+        ensures finish { result ≢ Taken.Line → (result ≡ Taken.Finish) }
+        ensures none { result ≡ Taken.Finish → (reader_pending self.old ≡ []) }
         ensures rest { reader_pending self.new ≡ [] }
+        ensures end { self.new.ended ≡ true }
     {
+        self.ended = true;
         if self.start == self.end {
-            return Taken::End;
+            return Taken::Finish;
         }
         self.hand_out_all();
-        Taken::Last
+        Taken::Line
     }
 }

@@ -1,6 +1,7 @@
 //! Copies of lines, patterns and triggers, which stand for the same data.
 
-ghost use Rattle.std.specs.Prelude.{◌≡◌, map, IfOk, string_bytes, option_map};
+ghost use Rattle.std.specs.Prelude.{◌≡◌, [], ◌∷◌, map, IfOk, string_bytes, option_map};
+ghost use Rattle.spec_model.specs.Around.{around};
 ghost use Rattle.spec_model.specs.Views.{regular, content_data, line_data, pattern_data, trigger_data, spec_data};
 
 use crate::copy::{copy_domains, copy_expr, copy_exprs, copy_names, copy_vars};
@@ -8,24 +9,63 @@ use crate::expr::Regex;
 use crate::spec::{Body, Line, Pattern, Spec, Trigger};
 use std::alloc::{AllocError, Global};
 
-/// A regular expression that stands for the same one.
+/// How often a piece is repeated.
+#[derive(Clone, Copy)]
+struct Times {
+    low: u16,
+    high: Option<u16>,
+}
+
+// A piece with one repeat more around it.
+fn repeat(alloc: Global, piece: Regex, times: Times) -> Result<Regex, AllocError>
+    ensures { IfOk result (λ made. regular made ≡ around (times ∷ []) (regular piece)) }
+{
+    Ok(Regex::Repeat(Box::new(alloc, piece)?, times.low, times.high))
+}
+
+// A piece with repeats around it, the outermost first.
+fn repeated(alloc: Global, piece: Regex, repeats: Vec<Times>) -> Result<Regex, AllocError>
+    ensures { IfOk result (λ made. regular made ≡ around repeats.items (regular piece)) }
+{
+    let mut made = piece;
+    let mut left = repeats;
+    'repeats: while let Some(times) = left.pop() {
+        made = repeat(alloc, made, times)?;
+    }
+    Ok(made)
+}
+
+/// A regular expression that stands for the same one. Repeats around one another are a loop, since they nest as deep as the
+/// text is long.
 #[cycle(regular_copies)]
 pub fn copy_regex(alloc: Global, r: &Regex) -> Result<Regex, AllocError>
     ensures { IfOk result (λ copy. regular copy ≡ regular r.now) }
 {
-    match r {
-        Regex::Atom(e) => Ok(Regex::Atom(copy_expr(alloc, e)?)),
-        Regex::Cat(rs) => Ok(Regex::Cat(copy_regexes(alloc, rs)?)),
-        Regex::Alt(rs) => Ok(Regex::Alt(copy_regexes(alloc, rs)?)),
-        Regex::Repeat(r, low, high) => Ok(Regex::Repeat(copy_boxed(alloc, r)?, *low, *high)),
+    let mut repeats = Vec::new(alloc);
+    let mut part = r;
+    'repeats: loop {
+        match part {
+            Regex::Atom(e) => {
+                let piece = Regex::Atom(copy_expr(alloc, e)?);
+                return repeated(alloc, piece, repeats);
+            }
+            Regex::Cat(rs) => {
+                let piece = Regex::Cat(copy_regexes(alloc, rs)?);
+                return repeated(alloc, piece, repeats);
+            }
+            Regex::Alt(rs) => {
+                let piece = Regex::Alt(copy_regexes(alloc, rs)?);
+                return repeated(alloc, piece, repeats);
+            }
+            Regex::Repeat(inner, low, high) => {
+                repeats.push(Times {
+                    low: *low,
+                    high: *high,
+                })?;
+                part = inner;
+            }
+        }
     }
-}
-
-#[cycle(regular_copies)]
-fn copy_boxed(alloc: Global, r: &Regex) -> Result<Box<Regex>, AllocError>
-    ensures { IfOk result (λ copy. regular copy.value ≡ regular r.now) }
-{
-    Ok(Box::new(alloc, copy_regex(alloc, r)?)?)
 }
 
 /// Regular expressions that stand for the same ones.

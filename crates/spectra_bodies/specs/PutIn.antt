@@ -1,5 +1,5 @@
 -- What is put in for definitions, and the faults of an expression in which everything is put in.
-use Rattle.std.specs.Prelude.{ℕ, nat_le, Bool, true, if◌then◌else◌, List, [], Option, Some, None, map, get_or}
+use Rattle.std.specs.Prelude.{ℕ, Bool, true, if◌then◌else◌, List, [], Option, Some, None, map, get_or}
 use Rattle.std.specs.List.{enumerate_from}
 use Rattle.spectra_resolved.specs.declared.stand.Stand.{Stand}
 use Rattle.spectra_resolved.specs.declared.findings.Finding.{Finding}
@@ -11,8 +11,7 @@ use Rattle.spectra_judge.specs.Judged.{faults_of}
 use Rattle.spectra_holes.specs.Holed.{holed}
 use Rattle.spectra_brought.specs.Names.{names_in}
 use Rattle.spectra_elaboration.specs.Putting.{Bodies, put_in}
-use Rattle.spectra_elaboration.specs.Nodes.{within_room}
-use Rattle.spectra_elaboration.specs.Levels.{tree_levels}
+use Rattle.spectra_elaboration.specs.Levels.{within_limits}
 use Rattle.spectra_notes.specs.Notes.{stand_of, known_inside, noted}
 
 -- ---- bodies
@@ -38,11 +37,11 @@ most_nodes = 1_000_000
 abbrev pub most_levels : ℕ
 most_levels = 512
 
--- the faults of what was made where there was room, if it doesn't have too many levels
+-- the faults of what was made where there was room
 abbrev pub made_faults : Known → Stand → Option ResolvedTree → List Finding
-made_faults known st (Some t) = if nat_le (tree_levels t) most_levels then faults_of known st t else []
+made_faults known st (Some t) = faults_of known st t
 made_faults known st None = []
 
 -- the faults of an expression that stands there, with everything put in for its names, where that isn't too large
 unfoldable pub put_in_faults : Bodies → Known → Stand → ResolvedTree → List Finding
-put_in_faults b known st t = made_faults (record known { brought = is_brought (names_in t) }) st (within_room most_nodes (put_in b (holed known st t)))
+put_in_faults b known st t = made_faults (record known { brought = is_brought (names_in t) }) st (within_limits most_nodes most_levels (put_in b (holed known st t)))

@@ -15,7 +15,6 @@ ghost use Rattle.spectra_bodies.specs.PutIn.{bodies as bodies_lem, made_faults, 
 use spectra_brought::known::known_with;
 use spectra_brought::order::names_of;
 use spectra_brought::reporting::report_faults;
-use spectra_elaboration::levels::is_flat;
 use spectra_elaboration::putting::put_in;
 use spectra_holes::holing::holed;
 use spectra_judge::known::Known;
@@ -84,7 +83,7 @@ pub fn bodies_of(
 
 // ---- faults
 
-// Reports the first fault of what was made where there was room, if it doesn't have too many levels.
+// Reports the first fault of what was made where there was room.
 fn report_made(
     findings: &mut Findings,
     known: &Known<'_, '_>,
@@ -95,11 +94,7 @@ fn report_made(
     ensures { found_in findings.new ≡ with_faults (found_in findings.old) (made_faults (known_data known.now) stand (option_map resolved_data made.now)) }
 {
     match made {
-        Some(t) => {
-            if is_flat(MOST_LEVELS, t) {
-                report_faults(findings, known, stand, t);
-            }
-        }
+        Some(t) => report_faults(findings, known, stand, t),
         None => {}
     }
 }
@@ -118,7 +113,7 @@ pub fn report_put_in(
     ensures { OnOk result (found_in findings.new ≡ with_faults (found_in findings.old) (put_in_faults (bodies_data bodies.now) (known_data known.now) stand (resolved_data t.now))) }
 {
     let written = holed(alloc, known, stand, t)?;
-    let made = put_in(alloc, bodies, MOST_NODES, &written)?;
+    let made = put_in(alloc, bodies, MOST_NODES, MOST_LEVELS, &written)?;
     let names = names_of(alloc, t)?;
     let around = known_with(known, &names);
     report_made(findings, &around, stand, &made);

@@ -68,17 +68,22 @@ fn kind_within<'s>(
 ) -> Kind<'s>
     ensures { kind_data result ≡ own_kind_lem (constants_data constants.now) (meant_within steps (map alias_data types.now) (type_data t.now)) }
 {
-    match t {
-        TypeUse::Named(k) => {
-            if steps == 0 || *k >= types.len() {
-                return Kind::Anything;
+    let mut left = steps;
+    let mut meant = t;
+    'names: loop {
+        match meant {
+            TypeUse::Named(k) => {
+                if left == 0 || *k >= types.len() {
+                    return Kind::Anything;
+                }
+                left -= 1;
+                meant = &types[*k].body;
             }
-            kind_within(steps - 1, constants, types, &types[*k].body)
+            TypeUse::Boolean => return own_kind(constants, meant),
+            TypeUse::Range(_, _, _) => return own_kind(constants, meant),
+            TypeUse::Names(_) => return own_kind(constants, meant),
+            TypeUse::Hole => return own_kind(constants, meant),
         }
-        TypeUse::Boolean => own_kind(constants, t),
-        TypeUse::Range(_, _, _) => own_kind(constants, t),
-        TypeUse::Names(_) => own_kind(constants, t),
-        TypeUse::Hole => own_kind(constants, t),
     }
 }
 

@@ -11,7 +11,7 @@ use Rattle.spectra_elaboration.specs.Links.{are_flat_above}
 use Rattle.spectra_judge.proofs.Lists.{mapped_left}
 
 -- the greater of two is within a limit where both are
-max_le : (a b n : ℕ) → nat_le (max a b) n ≡ (nat_le a n && nat_le b n)
+pub max_le : (a b n : ℕ) → nat_le (max a b) n ≡ (nat_le a n && nat_le b n)
 max_le a b n = by (nat_le a n) refl
   where
     by : (p : Bool) → nat_le a n ≡ p → nat_le (max a b) n ≡ (p && nat_le b n)
@@ -22,7 +22,7 @@ max_le a b n = by (nat_le a n) refl
         second false f = let high : n < b = grind (arith, nat_tests) in let both : n < max a b = omega (arith, high) in grind (arith, nat_tests)
     by false e = let high : n < a = grind (arith, nat_tests) in let both : n < max a b = omega (arith, high) in grind (arith, nat_tests)
 
-le-suc : (a n : ℕ) → nat_le (1 + a) (n + 1) ≡ nat_le a n
+pub le-suc : (a n : ℕ) → nat_le (1 + a) (n + 1) ≡ nat_le a n
 le-suc a n = by (nat_le a n) refl
   where
     by : (p : Bool) → nat_le a n ≡ p → nat_le (1 + a) (n + 1) ≡ p

@@ -1,7 +1,6 @@
 -- What is made of an expression, from what is made of its parts.
-use Rattle.std.proofs.Common.{◌≡◌, ℕ, ◌+◌, ◌<◌, ◌≤◌, List, [], ◌∷◌, ◌++◌, length, map, drop, get_or, Bool, true, false, nat_le, if◌then◌else◌, Option, Some, None, ℤ, Result, Ok, Err, IsErrAnd, refl, sym, ap, subst, ◌∙◌, append_assoc, append-nil, arith}
+use Rattle.std.proofs.Common.{◌≡◌, ℕ, ◌+◌, ◌<◌, ◌≤◌, List, [], ◌∷◌, ◌++◌, length, map, drop, get_or, Option, ℤ, Result, Ok, Err, IsErrAnd, sym, ap, subst, ◌∙◌, append_assoc, append-nil, arith}
 use Rattle.std.proofs.lemmas.List.{drop_all, map-append}
-use Rattle.std.proofs.lemmas.Bool.Decides.{nat_tests}
 use Rattle.spectra_trees.specs.declared.tree.PrefixWord.{PrefixWord}
 use Rattle.spectra_resolved.specs.declared.spot.Spot.{Spot}
 use Rattle.spectra_resolved.specs.declared.tree.Resolved.{Resolved}
@@ -17,7 +16,7 @@ use Rattle.spectra_elaboration.specs.declared.counted.Operators.{Operators}
 use Rattle.spectra_elaboration.specs.declared.refusal.Refusal.{Refusal}
 use Rattle.spectra_elaboration.specs.declared.refusal.Refusal.TheVariants.{Large, Memory}
 use Rattle.spectra_elaboration.specs.Putting.{Put, placed, filled, form_filled, each_filled}
-use Rattle.spectra_elaboration.specs.Nodes.{tree_nodes, each_nodes, within_room}
+use Rattle.spectra_elaboration.specs.Nodes.{tree_nodes, each_nodes}
 use Rattle.spectra_elaboration.specs.Links.{link_nodes}
 use Rattle.spectra_elaboration.specs.Making.{Makes, MakesEach, MakesLinks}
 use Rattle.spectra_elaboration.proofs.Chained.{link_filled}
@@ -115,7 +114,7 @@ module _ (put : Put) (brought : Option Spot) (arguments : List ResolvedTree) whe
 
   module _ (ls : List Link) (k : ℕ) where
     module _ (l : Link) (below : k < length ls) (is : l ≡ get_or ls k l) where
-      link_left : LinksFrom ls k ≡ link_filled put brought arguments (link_data l) ∷ LinksFrom ls (k + 1)
+      pub link_left : LinksFrom ls k ≡ link_filled put brought arguments (link_data l) ∷ LinksFrom ls (k + 1)
       link_left = ap FillLinks (mapped_left link_data ls k l below is)
 
       pub link_nodes_left : link_nodes (LinksFrom ls k) ≡ (1 + tree_nodes (Fill (resolved_data l.second))) + link_nodes (LinksFrom ls (k + 1))
@@ -127,7 +126,7 @@ module _ (put : Put) (brought : Option Spot) (arguments : List ResolvedTree) whe
           pushed link_data done x (LinksFrom ls k) (LinksFrom ls (k + 1)) all (link_left ∙ ap (λ y. y ∷ LinksFrom ls (k + 1)) (sym own)) so_far
 
     module _ (end : length ls ≤ k) where
-      none_links : LinksFrom ls k ≡ []
+      pub none_links : LinksFrom ls k ≡ []
       none_links = ap (λ xs. FillLinks (map link_data xs)) (drop_all k ls end)
 
       pub all_links : (done : List Link) (all : List LinkData) → map link_data done ++ LinksFrom ls k ≡ all → map link_data done ≡ all
@@ -138,7 +137,7 @@ module _ (put : Put) (brought : Option Spot) (arguments : List ResolvedTree) whe
 
   module _ (ts : List Resolved) (k : ℕ) where
     module _ (t : Resolved) (below : k < length ts) (is : t ≡ get_or ts k t) where
-      tree_left : TreesFrom ts k ≡ ResolvedTrees.one_more (Fill (resolved_data t)) (TreesFrom ts (k + 1))
+      pub tree_left : TreesFrom ts k ≡ ResolvedTrees.one_more (Fill (resolved_data t)) (TreesFrom ts (k + 1))
       tree_left = ap (λ us. FillEach (trees us)) (mapped_left resolved_data ts k t below is)
 
       pub each_nodes_left : each_nodes (TreesFrom ts k) ≡ tree_nodes (Fill (resolved_data t)) + each_nodes (TreesFrom ts (k + 1))
@@ -150,14 +149,8 @@ module _ (put : Put) (brought : Option Spot) (arguments : List ResolvedTree) whe
           pushed resolved_data done x (listed (TreesFrom ts k)) (listed (TreesFrom ts (k + 1))) all
           (ap listed tree_left ∙ ap (λ y. y ∷ listed (TreesFrom ts (k + 1))) (sym own)) so_far
 
-      pub argument_pushed : {X : Type 0} (f : X → ResolvedTree) (clip : ResolvedTree → ResolvedTree) (done : List X) (x : X) (all : List ResolvedTree) → f x ≡ clip (Fill (resolved_data t))
-          → map f done ++ map clip (listed (TreesFrom ts k)) ≡ all → map f (done ++ x ∷ []) ++ map clip (listed (TreesFrom ts (k + 1))) ≡ all
-      argument_pushed f clip done x all own so_far =
-          pushed f done x (map clip (listed (TreesFrom ts k))) (map clip (listed (TreesFrom ts (k + 1)))) all
-          (ap (λ us. map clip (listed us)) tree_left ∙ ap (λ y. y ∷ map clip (listed (TreesFrom ts (k + 1)))) (sym own)) so_far
-
     module _ (end : length ts ≤ k) where
-      none_trees : TreesFrom ts k ≡ ResolvedTrees.none
+      pub none_trees : TreesFrom ts k ≡ ResolvedTrees.none
       none_trees = ap (λ xs. FillEach (trees (map resolved_data xs))) (drop_all k ts end)
 
       pub all_trees : (done : List Resolved) (all : ResolvedTrees) → map resolved_data done ++ listed (TreesFrom ts k) ≡ listed all → trees (map resolved_data done) ≡ all
@@ -167,10 +160,6 @@ module _ (put : Put) (brought : Option Spot) (arguments : List ResolvedTree) whe
 
       pub no_each_nodes : each_nodes (TreesFrom ts k) ≡ 0
       no_each_nodes = ap each_nodes none_trees
-
-      pub all_arguments : {X : Type 0} (f : X → ResolvedTree) (clip : ResolvedTree → ResolvedTree) (done : List X) (all : List ResolvedTree)
-          → map f done ++ map clip (listed (TreesFrom ts k)) ≡ all → map f done ≡ all
-      all_arguments f clip done all so_far = sym (append-nil (map f done)) ∙ ap (λ us. map f done ++ map clip (listed us)) (sym none_trees) ∙ so_far
 
   -- ---- nodes above their operands
 
@@ -226,19 +215,3 @@ module _ (put : Put) (brought : Option Spot) (arguments : List ResolvedTree) whe
 
     pub or_stops : (ts : ResolvedTrees) (operators : List Spot) (halt : Refusal) → form ≡ Form.Or ts operators → MakesEach room (FillEach ts) (Err halt) → IsErrAnd r (λ y. y ≡ halt) → Makes room (Whole form) r
     or_stops ts operators halt is own err = stop_form (Form.Or ts operators) halt is err (λ e. let few = large_each room (FillEach ts) halt own e in omega (arith, few))
-
--- ---- the whole
-
-pub in_room : (room : ℕ) (t : ResolvedTree) → tree_nodes t ≤ room → within_room room t ≡ Some t
-in_room room t low = by (nat_le (tree_nodes t) room) refl
-  where
-    by : (b : Bool) → nat_le (tree_nodes t) room ≡ b → (if b then Some t else None) ≡ Some t
-    by true e = refl
-    by false e = absurd (grind (arith, nat_tests))
-
-pub past_room : (room : ℕ) (t : ResolvedTree) → room < tree_nodes t → within_room room t ≡ None
-past_room room t high = by (nat_le (tree_nodes t) room) refl
-  where
-    by : (b : Bool) → nat_le (tree_nodes t) room ≡ b → (if b then Some t else None) ≡ None
-    by true e = absurd (grind (arith, nat_tests))
-    by false e = refl

@@ -1,6 +1,7 @@
 -- How many levels of an expression stand in one another.
-use Rattle.std.specs.Prelude.{ℕ, ◌+◌, max}
+use Rattle.std.specs.Prelude.{ℕ, ◌+◌, max, nat_le, ◌&&◌, if◌then◌else◌, Option, Some, None}
 use Rattle.spectra_resolved.specs.Resolved.{ResolvedTree, tree, Form, ResolvedTrees}
+use Rattle.spectra_elaboration.specs.Nodes.{tree_nodes}
 
 -- a part without parts is one level, and so is what isn't put in
 abbrev mutual
@@ -21,3 +22,7 @@ abbrev mutual
   pub each_levels : ResolvedTrees → ℕ
   each_levels ResolvedTrees.none = 0
   each_levels (ResolvedTrees.one_more t ts) = max (tree_levels t) (each_levels ts)
+
+-- an expression where there is room for its nodes and levels
+abbrev pub within_limits : (nodes levels : ℕ) → ResolvedTree → Option ResolvedTree
+within_limits nodes levels t = if nat_le (tree_nodes t) nodes && nat_le (tree_levels t) levels then Some t else None

@@ -1,9 +1,11 @@
 pub mod Putting
 pub mod Nodes
-pub mod Clipped
 pub mod Links
 pub mod Making
 pub mod Levels
 pub mod Written
 pub mod PuttingViews
+pub mod Frames
+pub mod Following
+pub mod Counting
 pub mod Laws

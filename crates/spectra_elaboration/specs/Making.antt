@@ -1,5 +1,5 @@
 -- What the program makes where there is room for it.
-use Rattle.std.specs.Prelude.{◌≡◌, ℕ, ◌<◌, ◌≤◌, map, List, Result, MatchResult}
+use Rattle.std.specs.Prelude.{◌≡◌, ℕ, ◌<◌, ◌≤◌, nat_le, true, false, map, List, Result, MatchResult}
 use Rattle.spectra_resolved.specs.Resolved.{ResolvedTree, ResolvedTrees}
 use Rattle.spectra_resolved.specs.Chained.{LinkData, trees}
 use Rattle.spectra_resolved.specs.Views.{resolved_data, link_data}
@@ -7,9 +7,10 @@ use Rattle.spectra_elaboration.specs.declared.counted.Counted.{Counted}
 use Rattle.spectra_elaboration.specs.declared.counted.Operands.{Operands}
 use Rattle.spectra_elaboration.specs.declared.counted.Operators.{Operators}
 use Rattle.spectra_elaboration.specs.declared.refusal.Refusal.{Refusal}
-use Rattle.spectra_elaboration.specs.declared.refusal.Refusal.TheVariants.{Large}
+use Rattle.spectra_elaboration.specs.declared.refusal.Refusal.TheVariants.{Large, Deep}
 use Rattle.spectra_elaboration.specs.Nodes.{tree_nodes, each_nodes}
-use Rattle.spectra_elaboration.specs.Links.{link_nodes}
+use Rattle.spectra_elaboration.specs.Levels.{tree_levels, each_levels}
+use Rattle.spectra_elaboration.specs.Links.{link_nodes, are_flat_above}
 
 -- an expression, where it has no more nodes than there is room for; it is too large only where it has more
 unfoldable pub Makes : (room : ℕ) → ResolvedTree → Result Counted Refusal → Type 0
@@ -22,3 +23,13 @@ MakesEach room ts r = MatchResult r (λ made. (trees (map resolved_data made.all
 -- operators with their second operands
 unfoldable pub MakesLinks : (room : ℕ) → List LinkData → Result Operators Refusal → Type 0
 MakesLinks room ls r = MatchResult r (λ made. (map link_data made.all.items ≡ ls) × (made.nodes ≤ room)) (λ halt. halt ≡ Large → room < link_nodes ls)
+
+-- What is made has no more levels than there may be; it is too deep only where it has more.
+unfoldable pub IsFlat : (levels : ℕ) → ResolvedTree → Result Counted Refusal → Type 0
+IsFlat levels t r = MatchResult r (λ made. nat_le (tree_levels t) levels ≡ true) (λ halt. halt ≡ Deep → nat_le (tree_levels t) levels ≡ false)
+
+unfoldable pub AreFlat : (levels : ℕ) → ResolvedTrees → Result Operands Refusal → Type 0
+AreFlat levels ts r = MatchResult r (λ made. nat_le (each_levels ts) levels ≡ true) (λ halt. halt ≡ Deep → nat_le (each_levels ts) levels ≡ false)
+
+unfoldable pub AreFlatLinks : (first : ℕ) → List LinkData → Result Operators Refusal → Type 0
+AreFlatLinks first ls r = MatchResult r (λ made. are_flat_above first ls ≡ true) (λ halt. halt ≡ Deep → are_flat_above first ls ≡ false)

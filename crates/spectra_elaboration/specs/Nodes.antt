@@ -1,5 +1,5 @@
 -- How many nodes an expression has, and the room for them.
-use Rattle.std.specs.Prelude.{ℕ, ◌+◌, nat_le, if◌then◌else◌, Option, Some, None}
+use Rattle.std.specs.Prelude.{ℕ, ◌+◌, ◌-◌, nat_le, if◌then◌else◌, Option, Some, None}
 use Rattle.spectra_resolved.specs.Resolved.{ResolvedTree, tree, Form, ResolvedTrees}
 
 -- Operands of one conjunction or disjunction are of one node. What isn't put in is one node, as a hole is.
@@ -22,6 +22,6 @@ abbrev mutual
   each_nodes ResolvedTrees.none = 0
   each_nodes (ResolvedTrees.one_more t ts) = tree_nodes t + each_nodes ts
 
--- an expression where there is room for its nodes
-abbrev pub within_room : (room : ℕ) → ResolvedTree → Option ResolvedTree
-within_room room t = if nat_le (tree_nodes t) room then Some t else None
+-- the room that is left behind so many nodes, where there is room for them
+abbrev pub room_behind : (room nodes : ℕ) → Option ℕ
+room_behind room nodes = if nat_le nodes room then Some (room - nodes) else None

@@ -2,7 +2,7 @@
 //!
 //! `room` counts nodes. Each call that makes a tree gives `Large` only where the tree has more, and `Memory` only where none was given.
 
-ghost use Rattle.std.specs.Prelude.{◌≡◌, ◌+◌, ◌<◌, ◌≤◌, map, MatchResult};
+ghost use Rattle.std.specs.Prelude.{◌≡◌, ◌+◌, ◌<◌, ◌≤◌, map, MatchResult, IsErrOf};
 ghost use Rattle.spectra_resolved.specs.Resolved.{tree, Form};
 ghost use Rattle.spectra_resolved.specs.Chained.{chained, trees};
 ghost use Rattle.spectra_resolved.specs.Views.{resolved_data, link_data, form_data};
@@ -10,7 +10,6 @@ ghost use Rattle.spectra_elaboration.specs.Putting.{placed as placed_lem};
 ghost use Rattle.spectra_elaboration.specs.Nodes.{form_nodes};
 ghost use Rattle.spectra_elaboration.specs.Making.{Makes};
 
-use crate::copying::copy_tree;
 use crate::counted::{Counted, Operands, Operators};
 use crate::parts::{chain, placed_each};
 use crate::refusal::Refusal;
@@ -39,7 +38,8 @@ pub fn node(
     below: usize,
 ) -> Result<Counted, Refusal>
     requires { form_nodes (form_data shape) ≡ 1 + below }
-    ensures { Makes room (tree first at (form_data shape)) result }
+    ensures made { Makes room (tree first at (form_data shape)) result }
+    ensures not_deep { IsErrOf result Refusal.Deep → ⊥ }
 {
     if below >= room {
         return Err(Refusal::Large);
@@ -52,7 +52,8 @@ pub fn node(
 
 /// A part without parts.
 pub fn leaf_at(room: usize, first: Spot, at: Spot, leaf: Leaf) -> Result<Counted, Refusal>
-    ensures { Makes room (tree first at (Form.LeafOf leaf)) result }
+    ensures made { Makes room (tree first at (Form.LeafOf leaf)) result }
+    ensures not_deep { IsErrOf result Refusal.Deep → ⊥ }
 {
     node(room, first, at, Shape::Leaf(leaf), 0)
 }
@@ -65,7 +66,8 @@ pub fn next_above(
     at: Spot,
     operand: Counted,
 ) -> Result<Counted, Refusal>
-    ensures { Makes room (tree first at (Form.Next (resolved_data operand.tree))) result }
+    ensures made { Makes room (tree first at (Form.Next (resolved_data operand.tree))) result }
+    ensures not_deep { IsErrOf result Refusal.Deep → ⊥ }
 {
     let nodes = operand.nodes;
     let below = Box::new(alloc, operand.tree)?;
@@ -81,7 +83,8 @@ pub fn prefix_above(
     word: PrefixWord,
     operand: Counted,
 ) -> Result<Counted, Refusal>
-    ensures { Makes room (tree first at (Form.Prefix word (resolved_data operand.tree))) result }
+    ensures made { Makes room (tree first at (Form.Prefix word (resolved_data operand.tree))) result }
+    ensures not_deep { IsErrOf result Refusal.Deep → ⊥ }
 {
     let nodes = operand.nodes;
     let below = Box::new(alloc, operand.tree)?;
@@ -98,7 +101,8 @@ pub fn mod_above(
     number_at: Spot,
     number: i64,
 ) -> Result<Counted, Refusal>
-    ensures { Makes room (tree first at (Form.Mod (resolved_data operand.tree) number_at number)) result }
+    ensures made { Makes room (tree first at (Form.Mod (resolved_data operand.tree) number_at number)) result }
+    ensures not_deep { IsErrOf result Refusal.Deep → ⊥ }
 {
     let nodes = operand.nodes;
     let below = Box::new(alloc, operand.tree)?;
@@ -115,7 +119,8 @@ pub fn and_above(
     brought: Option<Spot>,
     operators: &[Spot],
 ) -> Result<Counted, Refusal>
-    ensures { Makes room (tree first at (Form.And (trees (map resolved_data operands.all.items)) (map (placed_lem brought) operators.now))) result }
+    ensures made { Makes room (tree first at (Form.And (trees (map resolved_data operands.all.items)) (map (placed_lem brought) operators.now))) result }
+    ensures not_deep { IsErrOf result Refusal.Deep → ⊥ }
 {
     let nodes = operands.nodes;
     let between = placed_each(alloc, brought, operators)?;
@@ -132,7 +137,8 @@ pub fn or_above(
     brought: Option<Spot>,
     operators: &[Spot],
 ) -> Result<Counted, Refusal>
-    ensures { Makes room (tree first at (Form.Or (trees (map resolved_data operands.all.items)) (map (placed_lem brought) operators.now))) result }
+    ensures made { Makes room (tree first at (Form.Or (trees (map resolved_data operands.all.items)) (map (placed_lem brought) operators.now))) result }
+    ensures not_deep { IsErrOf result Refusal.Deep → ⊥ }
 {
     let nodes = operands.nodes;
     let between = placed_each(alloc, brought, operators)?;
@@ -148,23 +154,10 @@ pub fn chain_of(
     links: Operators,
 ) -> Result<Counted, Refusal>
     requires { head.nodes + links.nodes ≤ room }
-    ensures { Makes room (chained (resolved_data head.tree) (map link_data links.all.items)) result }
+    ensures made { Makes room (chained (resolved_data head.tree) (map link_data links.all.items)) result }
+    ensures not_deep { IsErrOf result Refusal.Deep → ⊥ }
 {
     let nodes = head.nodes + links.nodes;
     let tree = chain(alloc, head.tree, links.all)?;
     Ok(Counted { tree, nodes })
-}
-
-#[tactic(auto, unfolding(crate::specs::Making::Makes))]
-/// A copy. `Large`: there is less room.
-pub fn copied(alloc: Global, room: usize, t: &Counted) -> Result<Counted, Refusal>
-    ensures { Makes room (resolved_data t.now.tree) result }
-{
-    if t.nodes > room {
-        return Err(Refusal::Large);
-    }
-    Ok(Counted {
-        tree: copy_tree(alloc, &t.tree)?,
-        nodes: t.nodes,
-    })
 }

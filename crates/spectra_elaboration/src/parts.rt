@@ -1,12 +1,11 @@
 //! What is put in, and the places of what is put in.
 
-ghost use Rattle.std.specs.Prelude.{◌≡◌, ◌≤◌, option_map, map, IfOk, IfSome, Some};
-ghost use denote.Param.Weighed.{most};
+ghost use Rattle.std.specs.Prelude.{◌≡◌, option_map, map, IfOk};
 ghost use Rattle.spectra_resolved.specs.Chained.{chained};
 ghost use Rattle.spectra_resolved.specs.Views.{resolved_data, link_data};
 ghost use Rattle.spectra_elaboration.specs.Putting.{placed as placed_lem, misuse_hole as misuse_hole_lem, body_of as body_of_lem};
 ghost use Rattle.spectra_elaboration.specs.Links.{placed_link as placed_link_lem};
-ghost use Rattle.spectra_elaboration.specs.PuttingViews.{bodies_data, body_size};
+ghost use Rattle.spectra_elaboration.specs.PuttingViews.{bodies_data};
 
 use spectra_resolved::spot::Spot;
 use spectra_resolved::tree::{Hole, Link, Misuse, Resolved};
@@ -71,8 +70,7 @@ pub fn misuse_hole(misuse: Misuse) -> Hole
 
 /// The body of a definition that has a meaning.
 pub fn body_of<'s>(bodies: &'s [Option<Resolved>], number: usize) -> Option<&'s Resolved>
-    ensures body { option_map (λ body. resolved_data body.now) result ≡ body_of_lem (bodies_data bodies.now) number }
-    ensures no_deeper { IfSome result (λ body. body_size (Some body.now) ≤ most body_size bodies.now) }
+    ensures { option_map (λ body. resolved_data body.now) result ≡ body_of_lem (bodies_data bodies.now) number }
 {
     match bodies.get(number) {
         Some(Some(body)) => Some(body),

@@ -10,6 +10,8 @@ use std::alloc::{AllocError, AllocFailed};
 pub enum Refusal {
     /// There is no room for all nodes.
     Large,
+    /// There is no room for all levels.
+    Deep,
     /// No memory was given.
     Memory,
 }

@@ -7,3 +7,4 @@ pub mod Stated
 pub mod Faultless
 pub mod Firsts
 pub mod Sized
+pub mod PutTrees

@@ -7,7 +7,7 @@ use Rattle.spectra_resolved.specs.Resolved.{ResolvedTree}
 use Rattle.spectra_resolved.specs.Chained.{trees}
 use Rattle.spectra_resolved.specs.Views.{resolved_data, link_data}
 use Rattle.spectra_judge.proofs.Lists.{mapped_left}
-use Rattle.spectra_elaboration.specs.Nodes.{tree_nodes, each_nodes, within_room}
+use Rattle.spectra_elaboration.specs.Nodes.{tree_nodes, each_nodes}
 use Rattle.spectra_elaboration.specs.Links.{link_nodes}
 use Rattle.spectra_lines.specs.Limits.{nodes_of, are_flat, room_behind, is_small}
 
@@ -76,21 +76,6 @@ none_left r n is = by (nat_le n r) refl is
     by : (t : Bool) → nat_le n r ≡ t → None ≡ (if t then Some (r - n) else None) → r < n
     by true fits e = absurd (cc)
     by false fits e = beyond r n fits
-
--- what was made is the expression
-pub made_some : (r : ℕ) (t made : ResolvedTree) → Some made ≡ within_room r t → made ≡ t
-made_some r t made is = by (nat_le (tree_nodes t) r) is
-  where
-    by : (fits : Bool) → Some made ≡ (if fits then Some t else None) → made ≡ t
-    by true e = cc
-    by false e = absurd (cc)
-
-pub made_none : (r : ℕ) (t : ResolvedTree) → None ≡ within_room r t → r < tree_nodes t
-made_none r t is = by (nat_le (tree_nodes t) r) refl is
-  where
-    by : (fits : Bool) → nat_le (tree_nodes t) r ≡ fits → None ≡ (if fits then Some t else None) → r < tree_nodes t
-    by true fits e = absurd (cc)
-    by false fits e = beyond r (tree_nodes t) fits
 
 -- where so much room was taken, this is left
 pub taken : (r n left : ℕ) → left + n ≡ r → room_behind (Some r) n ≡ Some left

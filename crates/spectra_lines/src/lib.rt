@@ -16,4 +16,5 @@ pub mod order;
 mod putting;
 mod reading;
 pub mod said;
+mod sizes;
 mod trees;

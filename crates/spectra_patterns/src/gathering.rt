@@ -86,17 +86,20 @@ fn gather_each<'a>(ops: &mut Operators<'a>, most: usize, es: &'a [Expr]) -> Resu
     Ok(())
 }
 
-/// Adds those in the brackets of a regular expression.
+/// Adds those in the brackets of a regular expression. Repeats around one another are a loop.
 #[cycle(regexes)]
 fn gather_regex<'a>(ops: &mut Operators<'a>, most: usize, r: &'a Regex) -> Result<(), Stop>
     ensures added { OnOk result (map tree_of ops.new ≡ added (map tree_of ops.old) (flat_map past_trees (atoms_of (regular r.now)))) }
     ensures many { IsErrOf result Many → most < length (added (map tree_of ops.old) (flat_map past_trees (atoms_of (regular r.now)))) }
 {
-    match r {
-        Regex::Atom(e) => gather(ops, most, e),
-        Regex::Cat(rs) => gather_regexes(ops, most, rs),
-        Regex::Alt(rs) => gather_regexes(ops, most, rs),
-        Regex::Repeat(part, _, _) => gather_regex(ops, most, part),
+    let mut part = r;
+    'repeats: loop {
+        match part {
+            Regex::Atom(e) => return gather(ops, most, e),
+            Regex::Cat(rs) => return gather_regexes(ops, most, rs),
+            Regex::Alt(rs) => return gather_regexes(ops, most, rs),
+            Regex::Repeat(inner, _, _) => part = inner,
+        }
     }
 }
 

@@ -7,6 +7,7 @@ use Rattle.sp_outside.specs.Causes.{Rose}
 use Rattle.sp_outside.specs.Written.{AppendsFront}
 use Rattle.spec_model.specs.Syntax.{Specification}
 use Rattle.session.specs.declared.talking.End.{End}
+use Rattle.spec_model.specs.Games.{GameData}
 use Rattle.session.proofs.RunTalks.{weaker}
 use Rattle.session.proofs.CounterTalks.{counter_weaker as counter_talk_weaker}
 use Rattle.spectra_talks.specs.declared.status.Status.{Status}
@@ -14,6 +15,8 @@ use Rattle.spectra_talks.specs.declared.status.Status.TheVariants.{OutputFault, 
 use Rattle.spectra_talks.specs.Endings.{Ending, line_of, status_of, unrealizable}
 use Rattle.spectra_talks.specs.Streams.{Moment, moment, Writes, WantsMemory}
 use Rattle.spectra_talks.specs.Offered.{OverOutput, IsSaid}
+use Rattle.many_sessions.proofs.ManyTalks.{many_weaker}
+use Rattle.spectra_talks.specs.Hosting.{ManyTalks, Hosts}
 use Rattle.spectra_talks.specs.Sessions.{most_positions, Talk, Closes, whole, cut, HoldsSession, session, RunTalks, CounterTalks, Counters}
 
 -- nothing was done: no memory was given
@@ -76,3 +79,21 @@ countered_as s n n' m m' before after status shifts denials holds =
 
 pub unrealizable_as : (n n' m m' : ℕ) → n ≡ n' → m ≡ m' → line_of (unrealizable n m) ≡ line_of (unrealizable n' m')
 unrealizable_as n n' m m' shifts denials = ap (λ (n : ℕ). line_of (unrealizable n m)) shifts ∙ ap (λ (m : ℕ). line_of (unrealizable n' m)) denials
+
+-- the talk of many sessions does not depend on more than that
+pub hosted_weaker : (s : Specification) (g : GameData) (k : ℕ) (left left' written written' : Option (List ℕ)) (rose_in rose rose' : Type 0) (end : End) → (rose → rose') → ManyTalks s g k left left' written written' rose_in rose end →
+    ManyTalks s g k left left' written written' rose_in rose' end
+hosted_weaker s g k left left' written written' rose_in rose rose' end from talk =
+    record {
+      winning_states = talk.winning_states;
+      layers = talk.layers;
+      winning = talk.winning;
+      told = talk.told;
+      same = talk.same;
+      talk = many_weaker s g talk.layers k most_positions left left' written written' rose_in rose rose_in rose' talk.told (λ is. is) from talk.talk;
+    }
+
+-- the game and the number of rounds may be named otherwise
+pub hosted_as : (s : Specification) (g h : GameData) (k k' : ℕ) (before after : Moment) (status : Status) → g ≡ h → k ≡ k' → Hosts s g k' before after status → Hosts s h k before after status
+hosted_as s g h k k' before after status game rounds hosts =
+    subst (λ (g : GameData). Hosts s g k before after status) game (subst (λ (k : ℕ). Hosts s g k before after status) (sym rounds) hosts)

@@ -1,2 +1,4 @@
 pub mod Exchanges
 mod Verified
+mod Exported
+mod Many

@@ -6,7 +6,7 @@ use Rattle.spec_model.specs.Games.{inputs_of, outputs_of}
 use Rattle.hidden_game.specs.GameOf.{game_of}
 use Rattle.strategy_tables.specs.Rules.{Check, system_checks, environment_checks, first_flaw}
 use Rattle.strategy_tables.specs.Sound.{SoundTablesWin}
-use Rattle.strategy_tables.specs.Views.{TableData, OfSystem, OfEnvironment, IsTableOf}
+use Rattle.strategy_tables.specs.Games.{TableData, OfSystem, OfEnvironment, IsTableOf}
 use Rattle.strategy_text.specs.Reading.{table_in}
 use Rattle.strategy_text.specs.Laws.{ReadsTablesOnly}
 use Rattle.table_check.specs.declared.checking.CheckEnd.TheVariants.{Limit}

@@ -64,6 +64,7 @@ pub data Ending : Type 0 where
   audited : (positions : ℕ) → Ending
   audit_broken : (line position : ℕ) → Ending
   state_limit : Ending
+  exported : (text : List ℕ) → Ending
   verified_system : (k : ℕ) → Ending
   verified_environment : (n m : ℕ) → Ending
   not_verified : (rule node : ℕ) → Ending
@@ -92,6 +93,7 @@ row (guarantee_broken line) = (codes "guarantee broken #" ++ (decimal line ++ co
 row (audited positions) = (codes "audit ok " ++ (decimal positions ++ codes "\n"), Done)
 row (audit_broken line position) = (codes "audit broken #" ++ (decimal line ++ (codes " line " ++ (decimal position ++ codes "\n"))), Other)
 row state_limit = (codes "state limit reached\n", Limit)
+row (exported text) = (text ++ 10 ∷ [], Done)
 row (verified_system k) = (codes "verified K=" ++ (decimal k ++ 10 ∷ []), Done)
 row (verified_environment n m) = (codes "verified N=" ++ (decimal n ++ (codes " M=" ++ (decimal m ++ 10 ∷ []))), Done)
 row (not_verified rule node) = (codes "not verified rule " ++ (decimal rule ++ (codes " node " ++ (decimal node ++ 10 ∷ []))), Other)

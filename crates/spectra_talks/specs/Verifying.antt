@@ -8,7 +8,7 @@ use Rattle.spec_model.specs.Moves.{rules_of}
 use Rattle.spec_model.specs.Realizable.{IsRealizable}
 use Rattle.spec_model.specs.Unrealizable.{IsUnrealizable}
 use Rattle.hidden_game.specs.GameOf.{game_of}
-use Rattle.strategy_tables.specs.Views.{TableData, OfSystem, OfEnvironment}
+use Rattle.strategy_tables.specs.Games.{TableData, OfSystem, OfEnvironment}
 use Rattle.strategy_text.specs.Reading.{table_in}
 use Rattle.table_check.specs.declared.checking.CheckEnd.{CheckEnd}
 use Rattle.table_check.specs.declared.checking.CheckEnd.TheVariants.{Sound, Flaw, Limit}

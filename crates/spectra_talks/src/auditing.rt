@@ -7,7 +7,7 @@ ghost use Rattle.spec_model.specs.GameViews.{game_data};
 ghost use Rattle.spec_model.specs.WellMade.{WellMade};
 ghost use Rattle.spec_model.specs.WellTyped.{WellTyped};
 ghost use Rattle.spec_model.specs.Agreement.{Agrees};
-ghost use Rattle.session_lines.specs.Views.{AreForLogs, pending_of};
+ghost use Rattle.session_lines.specs.Views.{AreForLogs, AreUnread};
 ghost use Rattle.session.specs.Audits.{IsAuditOf};
 ghost use Rattle.spectra_talks.specs.Streams.{moments, WantsMemory};
 ghost use Rattle.spectra_talks.specs.Sessions.{Audits};
@@ -36,7 +36,7 @@ fn room_for(alloc: Global, spec: &Spec, game: Game) -> Result<Room, OutOfMemory>
     requires agrees { Agrees (spec_data spec.now) (game_data game) }
     ensures audit { IfOk result (λ r. IsAuditOf r.audit (spec_data spec.now) []) }
     ensures for_spec { IfOk result (λ r. AreForLogs r.lines (spec_data spec.now)) }
-    ensures nothing_taken { IfOk result (λ r. pending_of r.lines ≡ []) }
+    ensures unread { IfOk result (λ r. AreUnread r.lines) }
 {
     Ok(Room {
         audit: Audit::make(alloc, game)?,
@@ -46,7 +46,7 @@ fn room_for(alloc: Global, spec: &Spec, game: Game) -> Result<Room, OutOfMemory>
 
 // Reads a log for which all the room is taken, and says how its audit ended.
 fn read_log<I: Source, O: Sink>(room: Room, input: &mut I, output: &mut O) -> Status
-    requires nothing_taken { pending_of room.lines ≡ [] }
+    requires unread { AreUnread room.lines }
     requires one_specification { (s : Specification) × AreForLogs room.lines s × IsAuditOf room.audit s [] }
     ensures { let at = moments I.left O.written I.faults O.faults in
         (s : Specification) → AreForLogs room.lines s → IsAuditOf room.audit s [] → Audits s (at input.old output.old) (at input.new output.new) result }

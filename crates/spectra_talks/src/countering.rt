@@ -1,10 +1,10 @@
 //! A session of the environment's side: the verdict line, the talk, and the last line.
 
-ghost use Rattle.std.specs.Prelude.{◌≡◌, ◌⊎◌, [], IfOk, string_bytes};
+ghost use Rattle.std.specs.Prelude.{◌≡◌, ◌⊎◌, IfOk, string_bytes};
 ghost use Rattle.spec_model.specs.Syntax.{Specification};
 ghost use Rattle.spec_model.specs.Views.{spec_data};
 ghost use Rattle.counterstrategy.specs.Objects.{IsFresh, Stands};
-ghost use Rattle.session_lines.specs.Views.{AreFor, pending_of};
+ghost use Rattle.session_lines.specs.Views.{AreFor, AreUnread};
 ghost use Rattle.session.specs.Counters.{shifts_of, denials_of, IsCounterOf, HasPlayedNothing};
 ghost use Rattle.spectra_talks.specs.Endings.{line_of, unrealizable};
 ghost use Rattle.spectra_talks.specs.Streams.{moments, WantsMemory};
@@ -32,7 +32,7 @@ struct Room {
 fn room_for(alloc: Global, spec: &Spec, n: u64, m: u64) -> Result<Room, OutOfMemory>
     ensures verdict { IfOk result (λ r. string_bytes r.verdict ≡ line_of (unrealizable n m)) }
     ensures for_spec { IfOk result (λ r. AreFor r.lines (spec_data spec.now)) }
-    ensures nothing_taken { IfOk result (λ r. pending_of r.lines ≡ []) }
+    ensures unread { IfOk result (λ r. AreUnread r.lines) }
 {
     Ok(Room {
         verdict: unrealizable_line(alloc, n, m)?,
@@ -49,7 +49,7 @@ fn exchange<G: Regions, I: Source, O: Sink>(
     output: &mut O,
 ) -> Status
     requires verdict { verdict.now ≡ line_of (unrealizable (shifts_of play.old) (denials_of G.kept play.old)) }
-    requires nothing_taken { pending_of lines.old ≡ [] }
+    requires unread { AreUnread lines.old }
     requires fresh { IsFresh play.old × HasPlayedNothing G.kept play.old }
     requires stands { Stands G.kept play.old }
     requires one_specification { (s : Specification) × AreFor lines.old s × IsCounterOf G.kept play.old s }
@@ -74,7 +74,7 @@ fn held<G: Regions + Drop, I: Source, O: Sink>(
     output: &mut O,
 ) -> Status
     requires verdict { string_bytes room.verdict ≡ line_of (unrealizable (shifts_of play) (denials_of G.kept play)) }
-    requires nothing_taken { pending_of room.lines ≡ [] }
+    requires unread { AreUnread room.lines }
     requires fresh { IsFresh play × HasPlayedNothing G.kept play }
     requires stands { Stands G.kept play }
     requires one_specification { (s : Specification) × AreFor room.lines s × IsCounterOf G.kept play s }

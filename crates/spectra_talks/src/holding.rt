@@ -1,10 +1,10 @@
 //! A session: the verdict line, the talk, and the last line.
 
-ghost use Rattle.std.specs.Prelude.{◌≡◌, ◌⊎◌, [], IfOk, string_bytes};
+ghost use Rattle.std.specs.Prelude.{◌≡◌, ◌⊎◌, IfOk, string_bytes};
 ghost use Rattle.spec_model.specs.Syntax.{Specification};
 ghost use Rattle.spec_model.specs.Views.{spec_data};
 ghost use Rattle.controller.specs.Objects.{IsFresh, Stands};
-ghost use Rattle.session_lines.specs.Views.{AreFor, pending_of};
+ghost use Rattle.session_lines.specs.Views.{AreFor, AreUnread};
 ghost use Rattle.session.specs.Strategies.{rounds_of, IsOf};
 ghost use Rattle.spectra_talks.specs.Endings.{line_of, realizable};
 ghost use Rattle.spectra_talks.specs.Streams.{moments, WantsMemory};
@@ -34,7 +34,7 @@ struct Room {
 fn room_for(alloc: Global, spec: &Spec, k: u64) -> Result<Room, OutOfMemory>
     ensures verdict { IfOk result (λ r. string_bytes r.verdict ≡ line_of (realizable k)) }
     ensures for_spec { IfOk result (λ r. AreFor r.lines (spec_data spec.now)) }
-    ensures nothing_taken { IfOk result (λ r. pending_of r.lines ≡ []) }
+    ensures unread { IfOk result (λ r. AreUnread r.lines) }
 {
     Ok(Room {
         verdict: realizable_line(alloc, k)?,
@@ -51,7 +51,7 @@ fn exchange<G: Regions, I: Source, O: Sink>(
     output: &mut O,
 ) -> Status
     requires verdict { verdict.now ≡ line_of (realizable (rounds_of play.old)) }
-    requires nothing_taken { pending_of lines.old ≡ [] }
+    requires unread { AreUnread lines.old }
     requires fresh { IsFresh play.old }
     requires stands { Stands G.kept play.old }
     requires one_specification { (s : Specification) × AreFor lines.old s × IsOf G.kept play.old s }
@@ -76,7 +76,7 @@ fn held<G: Regions + Drop, I: Source, O: Sink>(
     output: &mut O,
 ) -> Status
     requires verdict { string_bytes room.verdict ≡ line_of (realizable (rounds_of play)) }
-    requires nothing_taken { pending_of room.lines ≡ [] }
+    requires unread { AreUnread room.lines }
     requires fresh { IsFresh play }
     requires stands { Stands G.kept play }
     requires one_specification { (s : Specification) × AreFor room.lines s × IsOf G.kept play s }

@@ -2,7 +2,7 @@
 
 ghost use Rattle.std.specs.Prelude.{◌≡◌, ◌++◌, [], ◌∷◌, IfOk, codes, string_bytes};
 ghost use Rattle.std.specs.Fmt.{decimal};
-ghost use Rattle.spectra_talks.specs.Endings.{line_of, usage, no_file, shelf_fault, refused, realizable, unrealizable, realizable_instead, with_core, separated, not_separated, node_budget, verified_system, verified_environment, not_verified, table_refused, size_limit, input_fault, arbiter_line as arbiter_line_lem};
+ghost use Rattle.spectra_talks.specs.Endings.{line_of, usage, no_file, shelf_fault, refused, realizable, unrealizable, realizable_instead, with_core, separated, not_separated, node_budget, verified_system, verified_environment, not_verified, exported, table_refused, size_limit, input_fault, arbiter_line as arbiter_line_lem};
 ghost use Rattle.spectra_talks.specs.Streams.{Writes, Ends};
 ghost use Rattle.spectra_talks.specs.Offered.{IsSaid, OverOutput};
 
@@ -196,6 +196,17 @@ pub fn say_not_separated<O: Sink>(alloc: Global, k: u64, output: &mut O) -> Stat
 }
 
 // ---- tables
+
+/// Writes the text of a table and a line feed.
+pub fn say_exported<O: Sink>(text: String, output: &mut O) -> Status
+    ensures { IsSaid O.written O.faults (exported (string_bytes text)) output.old output.new result }
+{
+    let mut line = text;
+    match line.push('\n') {
+        Ok(()) => say(output, line.as_bytes(), Status::Done),
+        Err(_) => Status::Memory,
+    }
+}
 
 /// Says that a system's table wins with K.
 pub fn say_verified_system<O: Sink>(alloc: Global, k: u64, output: &mut O) -> Status

@@ -1,5 +1,5 @@
 -- What causes the statuses that tell of a failure.
-use Rattle.std.proofs.Common.{◌≡◌, ◌⊎◌, ℕ, List, [], ◌∷◌, ◌++◌, Option, None, Some, inl, inr, sym, subst, arith}
+use Rattle.std.proofs.Common.{◌≡◌, ◌⊎◌, ℕ, List, [], ◌∷◌, ◌++◌, length, Option, None, Some, inl, inr, sym, subst, arith}
 use Rattle.sp_outside.specs.Causes.{Rose}
 use Rattle.sp_outside.specs.Files.{Files, told_file}
 use Rattle.spectra_trees.specs.Data.{TreeData}
@@ -9,19 +9,24 @@ use Rattle.session.specs.declared.talking.End.TheVariants as ends
 use Rattle.session.specs.declared.auditing.AuditEnd.{AuditEnd}
 use Rattle.session.specs.declared.auditing.AuditEnd.TheVariants as audits
 use Rattle.session.specs.AuditTalks.{AuditTalk}
+use Rattle.session.specs.Ends.{Ends as TalkEnds}
+use Rattle.many_sessions.specs.Numbered.{IsNumbered}
+use Rattle.spectra_talks.specs.Hosting.{ManyTalks}
 use Rattle.command_words.specs.declared.words.Command.{Command}
 use Rattle.command_words.specs.declared.words.Command.TheVariants.{Synth, Verify}
 use Rattle.command_words.specs.Commands.{Asks, AsksArbiter}
 use Rattle.spec_gen.specs.Arbiter.{arbiter_text}
 use Rattle.spectra_talks.specs.declared.status.Status.{Status}
 use Rattle.spectra_talks.specs.declared.status.Status.TheVariants.{Done, Other, Words, Refused, Assumption, Budget, BadLine, ShelfFault, InputFault, OutputFault, Memory, NoFile, Limit, TableRefused, SizeLimit}
-use Rattle.spectra_talks.specs.Endings.{Ending, status_of, realizable, unrealizable, input_fault}
+use Rattle.spectra_talks.specs.Endings.{Ending, status_of, realizable, unrealizable, verified_system, verified_environment, input_fault}
 use Rattle.spectra_talks.specs.Streams.{Moment, Writes, Ends, whole, cut, WantsMemory}
 use Rattle.spectra_top.specs.Top.{headed, no_room, Stops, Decides, ServesTrees, ServesTree, ServesText, ServesFile, ServesWords, ServesArbiter, arbiter_name, HasCause, StopsBelowLine, StopsAtTable, IsCaused}
 use Rattle.spectra_talks.specs.Sessions as sessions
 use Rattle.spectra_talks.specs.Verifying as tables
+use Rattle.spectra_talks.specs.Exporting as exports
+use Rattle.spectra_talks.specs.Exporting.{Exports, IsLargeForSystem, IsLargeForEnvironment}
 use Rattle.spectra_talks.specs.Verifying.{checked, of_table, verify_ending, Verifies}
-use Rattle.strategy_tables.specs.Views.{TableData, OfSystem, OfEnvironment}
+use Rattle.strategy_tables.specs.Games.{TableData, OfSystem, OfEnvironment}
 use Rattle.strategy_text.specs.Reading.{table_in}
 use Rattle.table_check.specs.declared.checking.CheckEnd.{CheckEnd}
 use Rattle.table_check.specs.declared.checking.CheckEnd.TheVariants.{Sound, Flaw, Limit as PastSize}
@@ -63,6 +68,17 @@ module _ (failed wanted : Type 0) (before after : Moment) (of_wanting : WantsMem
   by_run s k ends.ReadFault greeted talked talk = talk.ends.0
   by_run s k ends.WriteFault greeted talked talk = talk.ends.0
 
+  by_many : (s : Specification) (k : ℕ) (end : End) (greeted talked : Option (List ℕ)) →
+      ManyTalks s (game_of s) k before.left after.left greeted talked (Rose before.read_faults after.read_faults) (Rose before.write_faults after.write_faults) end → Caused (status_of (ending_after end))
+  by_many s k ends.Finished greeted talked talk = tt
+  by_many s k (ends.Broken label) greeted talked talk = tt
+  by_many s k (ends.BadLine n) greeted talked talk = tt
+  by_many s k ends.StateLimit greeted talked talk = tt
+  by_many s k ends.ReadFault greeted talked talk =
+      (subst (λ (e : End). TalkEnds IsNumbered (λ m. None) most_positions talk.talk.given after.left talk.talk.handed (length talk.talk.handed) (Rose before.read_faults after.read_faults) (Rose before.write_faults after.write_faults) e) talk.same talk.talk.ends).0
+  by_many s k ends.WriteFault greeted talked talk =
+      (subst (λ (e : End). TalkEnds IsNumbered (λ m. None) most_positions talk.talk.given after.left talk.talk.handed (length talk.talk.handed) (Rose before.read_faults after.read_faults) (Rose before.write_faults after.write_faults) e) talk.same talk.talk.ends).0
+
   by_counter : (s : Specification) (n m : ℕ) (end : End) (greeted talked : Option (List ℕ)) →
       CounterTalks s n m before.left after.left greeted talked (Rose before.read_faults after.read_faults) (Rose before.write_faults after.write_faults) end → Caused (status_of (counter_ending_after end))
   by_counter s n m ends.Finished greeted talked talk = tt
@@ -94,10 +110,16 @@ module _ (failed wanted : Type 0) (before after : Moment) (of_wanting : WantsMem
   by_verifying s status of_table' (tables.not_taken rose closes) = by_closing input_fault before.written status rose closes
   by_verifying s status of_table' (tables.without_room is nothing) = subst Caused (sym is) (of_table' nothing)
 
+  by_export : (s : Specification) (says : Ending) (is_large : Type 0) (status : Status) → Exports s says is_large before after status → Caused status
+  by_export s says is_large status (exports.written text is writes) = by_writing _ Done status tt writes
+  by_export s says is_large status (exports.large passes writes) = by_writing _ SizeLimit status tt writes
+  by_export s says is_large status (exports.no_memory wants) = by_wanting status wants
+
   module _ (command : Command) (nodes : ℕ) (at_table : command ≡ Verify → Appends before.written after.written [] → wanted) where
     by_deciding : (s : Specification) (status : Status) → Decides command nodes s before after status → Caused status
     by_deciding s status (top.won k is wins writes) = by_writing _ Done status tt writes
     by_deciding s status (top.held k is wins holds) = by_session (realizable k) (RunTalks s k) ending_after status (by_run s k) holds
+    by_deciding s status (top.hosted k is wins hosts) = by_session (realizable k) (ManyTalks s (game_of s) k) ending_after status (by_many s k) hosts
     by_deciding s status (top.lost n m is loses writes) = by_writing _ Other status tt writes
     by_deciding s status (top.won_instead k is wins writes) = by_writing _ Other status tt writes
     by_deciding s status (top.has_core n m core is loses left is_core writes) = by_writing _ Done status tt writes
@@ -105,6 +127,8 @@ module _ (failed wanted : Type 0) (before after : Moment) (of_wanting : WantsMem
     by_deciding s status (top.separates n m is loses writes) = by_writing _ Done status tt writes
     by_deciding s status (top.separates_not k is wins writes) = by_writing _ Other status tt writes
     by_deciding s status (top.audits is audit) = by_closing (audit_ending_after audit.end) before.written status (by_audit s audit.end audit.talk) audit.closes
+    by_deciding s status (top.exports k is wins export) = by_export s (verified_system k) (IsLargeForSystem s k) status export
+    by_deciding s status (top.exports_counter n m is loses export) = by_export s (verified_environment n m) (IsLargeForEnvironment s n m) status export
     by_deciding s status (top.verifies is read) = by_verifying s status (at_table is) read
     by_deciding s status (top.budget decides short filled writes) = by_writing _ Budget status tt writes
     by_deciding s status (top.no_memory wants) = by_wanting status wants

@@ -15,19 +15,19 @@ use Rattle.solve.specs.Crowded.{Crowded}
 use Rattle.solve.specs.Budgets.{MayHalt, MayHaltInTurn}
 use Rattle.solve.specs.Winners.{IsWonBySystem, IsWonByEnvironment}
 use Rattle.command_words.specs.declared.words.Command.{Command}
-use Rattle.command_words.specs.declared.words.Command.TheVariants.{Synth, Run, Core, Separate, Counter, Audit, Verify}
+use Rattle.command_words.specs.declared.words.Command.TheVariants.{Synth, Run, Many, Core, Separate, Counter, Audit}
 use Rattle.command_words.specs.Commands.{AskNothing}
 use Rattle.spec_gen.specs.Arbiter.{arbiter_text}
 use Rattle.spectra_files.specs.declared.reading.NoTree.{NoTree}
 use Rattle.spectra_files.specs.declared.reading.NoTree.TheVariants as files
 use Rattle.spectra_files.specs.declared.reading.Stop.{Stop}
 use Rattle.spectra_talks.specs.declared.status.Status.{Status}
-use Rattle.spectra_talks.specs.declared.status.Status.TheVariants.{Memory}
 use Rattle.spectra_talks.specs.Endings.{Ending, usage, no_file, shelf_fault, refused, realizable, unrealizable, realizable_instead, with_core, separated, not_separated, arbiter_line}
 use Rattle.spectra_talks.specs.Streams.{Moment, Ends, WantsMemory}
-use Rattle.spectra_top.specs.Top.{Heads, solved_for, AreFilled, won, held, lost, won_instead, countered, has_core, separates, separates_not, audits, Stops, Solves, Decides, ServesTrees, ServesTree, ServesText, ServesFile, ServesWords, ServesArbiter, arbiter_name}
+use Rattle.spectra_top.specs.Top.{Heads, solved_for, AreFilled, won, held, hosted, lost, won_instead, countered, has_core, separates, separates_not, audits, Stops, Solves, Decides, ServesTrees, ServesTree, ServesText, ServesFile, ServesWords, ServesArbiter, arbiter_name}
 use Rattle.spectra_top.specs.Saying.{SaysNoVerdict, SaysStop}
 use Rattle.spectra_talks.specs.Sessions.{Holds, Counters, Audits}
+use Rattle.spectra_talks.specs.Hosting.{Hosts}
 use Rattle.spectra_files.specs.Reading.{Told, import_names, IsRefusedAt, FilesReadAs, ComesNext}
 use Rattle.spectra_files.specs.Refusals.{HasNoTree, StopsAt}
 use Rattle.spectra_top.specs.Top as top
@@ -62,7 +62,11 @@ module _ (command : Command) (nodes : ℕ) (s : Specification) (before after : M
   run_held k is wins (inl holds) = held k is wins holds
   run_held k is wins (inr wants) = top.no_memory wants
 
-  pub is_lost : (n m : ℕ) → (command ≡ Synth) ⊎ (command ≡ Run) → IsWonByEnvironment s n m → Ends (unrealizable n m) before after status ⊎ WantsMemory before after status → Decides command nodes s before after status
+  pub many_hosted : (k : ℕ) → command ≡ Many → IsWonBySystem s k → Hosts s (game_of s) k before after status ⊎ WantsMemory before after status → Decides command nodes s before after status
+  many_hosted k is wins (inl hosts) = hosted k is wins hosts
+  many_hosted k is wins (inr wants) = top.no_memory wants
+
+  pub is_lost : (n m : ℕ) → (command ≡ Synth) ⊎ ((command ≡ Run) ⊎ (command ≡ Many)) → IsWonByEnvironment s n m → Ends (unrealizable n m) before after status ⊎ WantsMemory before after status → Decides command nodes s before after status
   is_lost n m is wins (inl writes) = lost n m is wins writes
   is_lost n m is wins (inr wants) = top.no_memory wants
 

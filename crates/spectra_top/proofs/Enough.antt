@@ -12,15 +12,17 @@ use Rattle.session.specs.declared.talking.End.TheVariants as ends
 use Rattle.session.specs.declared.auditing.AuditEnd.{AuditEnd}
 use Rattle.session.specs.declared.auditing.AuditEnd.TheVariants as audits
 use Rattle.command_words.specs.declared.words.Command.{Command}
-use Rattle.command_words.specs.declared.words.Command.TheVariants.{Synth, Run, Core, Separate, Counter, Audit, Verify}
+use Rattle.command_words.specs.declared.words.Command.TheVariants.{Synth, Run, Many, Core, Separate, Counter, Audit, Export, Verify}
 use Rattle.spectra_talks.specs.declared.status.Status.{Status}
 use Rattle.spectra_talks.specs.declared.status.Status.TheVariants.{Budget}
-use Rattle.spectra_talks.specs.Endings.{Ending, status_of, input_fault}
+use Rattle.spectra_talks.specs.Endings.{Ending, status_of, verified_system, verified_environment, input_fault}
 use Rattle.spectra_talks.specs.Streams.{Moment, Writes, whole, cut, WantsMemory}
 use Rattle.spectra_talks.specs.Sessions as sessions
 use Rattle.spectra_talks.specs.Verifying as tables
+use Rattle.spectra_talks.specs.Exporting as exports
+use Rattle.spectra_talks.specs.Exporting.{Exports, IsLargeForSystem, IsLargeForEnvironment}
 use Rattle.spectra_talks.specs.Verifying.{checked, of_table, verify_ending, Verifies}
-use Rattle.strategy_tables.specs.Views.{TableData, OfSystem, OfEnvironment}
+use Rattle.strategy_tables.specs.Games.{TableData, OfSystem, OfEnvironment}
 use Rattle.strategy_text.specs.Reading.{table_in}
 use Rattle.table_check.specs.declared.checking.CheckEnd.{CheckEnd}
 use Rattle.table_check.specs.declared.checking.CheckEnd.TheVariants.{Sound, Flaw, Limit as SizeLimit}
@@ -55,9 +57,11 @@ module _ (crowded_few : CrowdedIsFew) where
   never_filled Core nodes s enough_nodes filled = never nodes filled.0 (let more = tried_needs s filled.0 filled.1 in omega (arith, more, enough_nodes)) filled.2
   never_filled Synth nodes s enough_nodes filled = never nodes s enough_nodes filled
   never_filled Run nodes s enough_nodes filled = never nodes s enough_nodes filled
+  never_filled Many nodes s enough_nodes filled = never nodes s enough_nodes filled
   never_filled Separate nodes s enough_nodes filled = never nodes (solved_for Separate s) enough_nodes filled
   never_filled Counter nodes s enough_nodes filled = never nodes s enough_nodes filled
   never_filled Audit nodes s enough_nodes filled = never nodes s enough_nodes filled
+  never_filled Export nodes s enough_nodes filled = never nodes s enough_nodes filled
   never_filled Verify nodes s enough_nodes filled = never nodes s enough_nodes filled
 
 -- ---- so they don't run out
@@ -120,10 +124,16 @@ module _ (before after : Moment) where
   by_verifying s status (tables.not_taken rose closes) = by_closing input_fault before.written after.written (Rose before.write_faults after.write_faults) status tt closes
   by_verifying s status (tables.without_room is nothing) = subst IsOther (sym is) tt
 
+  by_export : (s : Specification) (says : Ending) (is_large : Type 0) (status : Status) → Exports s says is_large before after status → IsOther status
+  by_export s says is_large status (exports.written text is writes) = by_writing _ _ status tt writes
+  by_export s says is_large status (exports.large passes writes) = by_writing _ _ status tt writes
+  by_export s says is_large status (exports.no_memory wants) = by_wanting status wants
+
   module _ (command : Command) (nodes : ℕ) (s : Specification) (not_filled : ¬ AreFilled command nodes s) where
     decided : (status : Status) → Decides command nodes s before after status → IsOther status
     decided status (top.won k is by ends) = by_writing _ _ status tt ends
     decided status (top.held k is by holds) = by_session _ _ ending_after status by_run holds
+    decided status (top.hosted k is by hosts) = by_session _ _ ending_after status by_run hosts
     decided status (top.lost n m is by ends) = by_writing _ _ status tt ends
     decided status (top.won_instead k is by ends) = by_writing _ _ status tt ends
     decided status (top.has_core n m core is by left core' ends) = by_writing _ _ status tt ends
@@ -131,6 +141,8 @@ module _ (before after : Moment) where
     decided status (top.separates n m is by ends) = by_writing _ _ status tt ends
     decided status (top.separates_not k is by ends) = by_writing _ _ status tt ends
     decided status (top.audits is log) = by_closing (audit_ending_after log.end) before.written after.written (Rose before.write_faults after.write_faults) status (by_audit log.end) log.closes
+    decided status (top.exports k is by export) = by_export s (verified_system k) (IsLargeForSystem s k) status export
+    decided status (top.exports_counter n m is by export) = by_export s (verified_environment n m) (IsLargeForEnvironment s n m) status export
     decided status (top.verifies is read) = by_verifying s status read
     decided status (top.budget other few filled ends) = absurd (not_filled filled)
     decided status (top.no_memory wants) = by_wanting status wants

@@ -2,35 +2,41 @@
 use Rattle.std.proofs.Common.{◌≡◌, ◌≤◌, ℕ, List, Option, Some, None, sum, refl, sym, ap, arith, ◌∙◌}
 use Rattle.std.specs.Str.Parse.{digits_value}
 use Rattle.command_words.specs.declared.words.Command.{Command}
-use Rattle.command_words.specs.declared.words.Command.TheVariants.{Synth, Run, Core, Separate, Counter, Audit, Verify}
+use Rattle.command_words.specs.declared.words.Command.TheVariants.{Synth, Run, Many, Core, Separate, Counter, Audit, Export, Verify}
 use Rattle.command_words.specs.Commands.{Asks, AsksArbiter, IsBudget, word_of, arbiter_word}
 
 -- the codes of each word have another sum
 abbrev sum_of : Command → ℕ
 sum_of Synth = 566
 sum_of Run = 341
+sum_of Many = 437
 sum_of Core = 425
 sum_of Separate = 853
 sum_of Counter = 768
 sum_of Audit = 535
+sum_of Export = 674
 sum_of Verify = 661
 
 summed : (command : Command) → sum (word_of command) ≡ sum_of command
 summed Synth = refl
 summed Run = refl
+summed Many = refl
 summed Core = refl
 summed Separate = refl
 summed Counter = refl
 summed Audit = refl
+summed Export = refl
 summed Verify = refl
 
 one_sum : (command other : Command) → sum_of command ≡ sum_of other → command ≡ other
 one_sum Synth Synth same = refl
 one_sum Run Run same = refl
+one_sum Many Many same = refl
 one_sum Core Core same = refl
 one_sum Separate Separate same = refl
 one_sum Counter Counter same = refl
 one_sum Audit Audit same = refl
+one_sum Export Export same = refl
 one_sum Verify Verify same = refl
 one_sum _ _ same = absurd (omega arith)
 
@@ -65,10 +71,12 @@ no_arbiter_word command same = no_sum command (sym (summed command) ∙ ap sum s
     no_sum : (command : Command) → sum_of command ≡ 314 → ⊥
     no_sum Synth is = absurd (omega arith)
     no_sum Run is = absurd (omega arith)
+    no_sum Many is = absurd (omega arith)
     no_sum Core is = absurd (omega arith)
     no_sum Separate is = absurd (omega arith)
     no_sum Counter is = absurd (omega arith)
     no_sum Audit is = absurd (omega arith)
+    no_sum Export is = absurd (omega arith)
     no_sum Verify is = absurd (omega arith)
 
 module _ (words : List (List ℕ)) where

@@ -5,7 +5,6 @@ use Rattle.regions.specs.declared.types.Halt.TheVariants as halts
 use Rattle.spectra_files.specs.declared.reading.NoTree.{NoTree}
 use Rattle.spectra_files.specs.declared.reading.NoTree.TheVariants as files
 use Rattle.spectra_talks.specs.declared.status.Status.{Status}
-use Rattle.spectra_talks.specs.declared.status.Status.TheVariants.{Budget, Refused, Memory}
 use Rattle.spectra_talks.specs.Endings.{no_file, shelf_fault, refused, node_budget}
 use Rattle.spectra_talks.specs.Streams.{Moment, Ends, WantsMemory}
 

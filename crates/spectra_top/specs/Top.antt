@@ -15,15 +15,16 @@ use Rattle.solve.specs.Winners.{IsWonBySystem, IsWonByEnvironment}
 use Rattle.solve.specs.Crowded.{Crowded}
 use Rattle.spec_gen.specs.Arbiter.{arbiter_text}
 use Rattle.command_words.specs.declared.words.Command.{Command}
-use Rattle.command_words.specs.declared.words.Command.TheVariants.{Synth, Run, Core, Separate, Counter, Audit, Verify}
+use Rattle.command_words.specs.declared.words.Command.TheVariants.{Synth, Run, Many, Core, Separate, Counter, Audit, Export, Verify}
 use Rattle.command_words.specs.Commands.{Asks, AsksArbiter, AskNothing}
-use Rattle.spectra_files.specs.declared.reading.NoTree.TheVariants as files
 use Rattle.spectra_talks.specs.declared.status.Status.{Status}
 use Rattle.spectra_talks.specs.declared.status.Status.TheVariants.{Words, Refused, ShelfFault, InputFault, OutputFault, Memory, NoFile}
 use Rattle.spectra_talks.specs.Endings.{Ending, IsUnlessCut, IsUnlessFault, usage, no_file, shelf_fault, refused, realizable, unrealizable, realizable_instead, with_core, separated, not_separated, node_budget, arbiter_line}
 use Rattle.spectra_talks.specs.Streams.{Moment, IsUnread, Ends, WantsMemory}
 use Rattle.spectra_talks.specs.Sessions.{Holds, Counters, Audits}
+use Rattle.spectra_talks.specs.Hosting.{Hosts}
 use Rattle.spectra_talks.specs.Verifying.{Verifies}
+use Rattle.spectra_talks.specs.Exporting.{ExportsSystem, ExportsEnvironment}
 use Rattle.spectra_files.specs.Reading.{ReadsAs, IsRefusedAt, import_names, Told, FileReadsAs, FilesReadAs, ComesNext, ImportsAreThere, MissesImport}
 use Rattle.spectra_top.specs.Meanings.{Reads, MeansNothing, ReadsAlone}
 
@@ -70,22 +71,26 @@ AreFilled Core nodes s = (part : Specification) × Tried s part × Crowded (game
 AreFilled command nodes s = Crowded (game_of (solved_for command s)) nodes
 
 module _ (command : Command) (nodes : ℕ) where
-  -- By who wins. `synth` writes the verdict, and so do `run`, `counter` and `core` where the other side wins than they are for.
-  -- Where the system wins, `run` holds a session; where the environment does, `counter` holds one, and `core` writes what
-  -- trying the guarantees in order leaves, which is a core. `separate` says who wins with a guarantee that can never be met alone. `audit` reads a log,
-  -- whoever wins, and `verify` a table, so that the nodes never run out there. They run out only where there are fewer than the specification that
-  -- is solved needs, and named sets of its game fill them.
+  -- By who wins. `synth` writes the verdict, and so do `run`, `many`, `counter` and `core` where the other side wins than they are
+  -- for. Where the system wins, `run` holds a session, and `many` as many as the input has; where the environment does, `counter`
+  -- holds one, and `core` writes what trying the guarantees in order leaves, which is a core. `export` writes the table of the side
+  -- that wins. `separate` says who wins with a guarantee that can never be met alone. `audit` reads a log, whoever wins, and
+  -- `verify` a table, so that the nodes never run out there. They run out only where there are fewer than the specification that is
+  -- solved needs, and named sets of its game fill them.
   module _ (s : Specification) (before after : Moment) where
     pub data Decides : Status → Type 0 where
       won : {status : Status} (k : ℕ) → command ≡ Synth → IsWonBySystem s k → Ends (realizable k) before after status → Decides status
       held : {status : Status} (k : ℕ) → command ≡ Run → IsWonBySystem s k → Holds s k before after status → Decides status
-      lost : {status : Status} (n m : ℕ) → (command ≡ Synth) ⊎ (command ≡ Run) → IsWonByEnvironment s n m → Ends (unrealizable n m) before after status → Decides status
+      hosted : {status : Status} (k : ℕ) → command ≡ Many → IsWonBySystem s k → Hosts s (game_of s) k before after status → Decides status
+      lost : {status : Status} (n m : ℕ) → (command ≡ Synth) ⊎ ((command ≡ Run) ⊎ (command ≡ Many)) → IsWonByEnvironment s n m → Ends (unrealizable n m) before after status → Decides status
       won_instead : {status : Status} (k : ℕ) → (command ≡ Core) ⊎ (command ≡ Counter) → IsWonBySystem s k → Ends (realizable_instead k) before after status → Decides status
       has_core : {status : Status} (n m : ℕ) (core : List ℕ) → command ≡ Core → IsWonByEnvironment s n m → IsLeft s core → IsCore s core → Ends (with_core n m core) before after status → Decides status
       countered : {status : Status} (n m : ℕ) → command ≡ Counter → IsWonByEnvironment s n m → Counters s n m before after status → Decides status
       separates : {status : Status} (n m : ℕ) → command ≡ Separate → IsWonByEnvironment (forced s) n m → Ends (separated n m) before after status → Decides status
       separates_not : {status : Status} (k : ℕ) → command ≡ Separate → IsWonBySystem (forced s) k → Ends (not_separated k) before after status → Decides status
       audits : {status : Status} → command ≡ Audit → Audits s before after status → Decides status
+      exports : {status : Status} (k : ℕ) → command ≡ Export → IsWonBySystem s k → ExportsSystem s k before after status → Decides status
+      exports_counter : {status : Status} (n m : ℕ) → command ≡ Export → IsWonByEnvironment s n m → ExportsEnvironment s n m before after status → Decides status
       verifies : {status : Status} → command ≡ Verify → Verifies s before after status → Decides status
       budget : {status : Status} → Solves command → nodes < need_of (solved_for command s) → AreFilled command nodes s → Ends (node_budget nodes) before after status → Decides status
       no_memory : {status : Status} → WantsMemory before after status → Decides status

@@ -18,7 +18,9 @@ use sp_outside::{Sink, Source};
 use spec_model::spec::Spec;
 use spectra_talks::auditing::audit;
 use spectra_talks::countering::counter;
+use spectra_talks::exporting::{export_environment, export_system};
 use spectra_talks::holding::hold;
+use spectra_talks::hosting::host;
 use spectra_talks::saying::{
     say_core, say_node_budget, say_not_separated, say_realizable, say_realizable_instead,
     say_separated, say_unrealizable,
@@ -73,6 +75,29 @@ fn serve_run<I: Source, O: Sink>(
     }
 }
 
+// `many`: serves many sessions where the system wins.
+fn serve_many<I: Source, O: Sink>(
+    alloc: Global,
+    spec: &Spec,
+    nodes: u32,
+    input: &mut I,
+    output: &mut O,
+) -> Status
+    requires typed { WellTyped (spec_data spec.now) }
+    requires budget { 2 ≤ nodes }
+    ensures { let at = moments I.left O.written I.faults O.faults in
+        Decides commands.Many nodes (spec_data spec.now) (at input.old output.old) (at input.new output.new) result }
+{
+    match whole_verdict(alloc, spec, nodes) {
+        Ok(Verdict::Realizable { k, play }) => host(alloc, spec, k, play, input, output),
+        Ok(Verdict::Unrealizable { n, m, play }) => {
+            let _g = play.close();
+            say_unrealizable(alloc, n, m, output)
+        }
+        Err(halt) => say_no_verdict(alloc, nodes, halt, output),
+    }
+}
+
 // `counter`: holds a session where the environment wins.
 fn serve_counter<I: Source, O: Sink>(
     alloc: Global,
@@ -93,6 +118,21 @@ fn serve_counter<I: Source, O: Sink>(
         }
         Ok(Verdict::Unrealizable { n, m, play }) => {
             counter(alloc, spec, n, m, play, input, output)
+        }
+        Err(halt) => say_no_verdict(alloc, nodes, halt, output),
+    }
+}
+
+// `export`: writes the table of the strategy of the side that wins.
+fn serve_export<O: Sink>(alloc: Global, spec: &Spec, nodes: u32, output: &mut O) -> Status
+    requires typed { WellTyped (spec_data spec.now) }
+    requires budget { 2 ≤ nodes }
+    ensures { OverOutput O.written O.faults output.old output.new (λ before after. Decides commands.Export nodes (spec_data spec.now) before after result) }
+{
+    match whole_verdict(alloc, spec, nodes) {
+        Ok(Verdict::Realizable { k, play }) => export_system(alloc, spec, k, play, output),
+        Ok(Verdict::Unrealizable { n, m, play }) => {
+            export_environment(alloc, spec, n, m, play, output)
         }
         Err(halt) => say_no_verdict(alloc, nodes, halt, output),
     }
@@ -164,10 +204,12 @@ pub fn serve_specification<I: Source, O: Sink>(
     match request.command {
         Command::Synth => serve_synth(alloc, spec, nodes, output),
         Command::Run => serve_run(alloc, spec, nodes, input, output),
+        Command::Many => serve_many(alloc, spec, nodes, input, output),
         Command::Core => serve_core(alloc, spec, nodes, output),
         Command::Separate => serve_separate(alloc, spec, nodes, output),
         Command::Counter => serve_counter(alloc, spec, nodes, input, output),
         Command::Audit => audit(alloc, spec, input, output),
+        Command::Export => serve_export(alloc, spec, nodes, output),
         Command::Verify => verify(alloc, spec, input, output),
     }
 }

@@ -16,7 +16,8 @@ use std::alloc::Global;
 /// All that the program does. The words are those of the command line, the program's own name first.
 ///
 /// `synth` writes one line: the verdict, or why there is none. `run` writes the same and, where the system wins, answers
-/// each line of the input by one line. `counter` writes the same and, where the environment wins, counters each line of the
+/// each line of the input by one line. `many` writes the same and, where the system wins, answers each line for the session whose
+/// number it begins with. `counter` writes the same and, where the environment wins, counters each line of the
 /// input by a note and an input. `core` writes the verdict and, where the environment wins, the lines of a core. `separate`
 /// writes who wins where the one guarantee can never be met. `audit` writes whether each line of the input, as a position,
 /// is legal. `verify` writes whether the input is a table that wins, and with which numbers. A file is read first, and then each file that it imports, in order; the first that isn't there, or is refused,

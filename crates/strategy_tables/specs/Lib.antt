@@ -1,4 +1,5 @@
 pub mod Tables
 pub mod Rules
 pub mod Sound
+pub mod Games
 pub mod Views

@@ -10,7 +10,9 @@
 //! is `table_data`. Path: strategy → **table** → text.
 #![tactic(auto)]
 
+mod fault;
 pub mod laws;
 mod tables;
 
+pub use fault::TableFault;
 pub use tables::{Node, Table};

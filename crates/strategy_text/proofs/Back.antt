@@ -15,7 +15,7 @@ use Rattle.spec_model.specs.Steps.{is_state, is_input, is_output, are_hidden_val
 use Rattle.spec_model.specs.WellTyped.{WellTyped}
 use Rattle.hidden_game.specs.GameOf.{game_of}
 use Rattle.strategy_tables.specs.Tables.{NodeData}
-use Rattle.strategy_tables.specs.Views.{TableData, OfSystem, OfEnvironment, IsTableOf}
+use Rattle.strategy_tables.specs.Games.{TableData, OfSystem, OfEnvironment, IsTableOf}
 use Rattle.strategy_text.specs.declared.kind.Kind.{Kind}
 use Rattle.strategy_text.specs.declared.kind.Kind.TheVariants.{Controller, Counterstrategy}
 use Rattle.strategy_text.specs.Written.{count_json, counts_json, value_json, values_json, plain_members, replying_members, node_json, table_json}

@@ -6,7 +6,7 @@ use Rattle.spec_model.specs.declared.value.Owner.TheVariants.{Env, Sys}
 use Rattle.spec_model.specs.Values.{Assignment}
 use Rattle.spec_model.specs.Games.{GameData}
 use Rattle.strategy_tables.specs.Tables.{NodeData}
-use Rattle.strategy_tables.specs.Views.{TableData, OfSystem, OfEnvironment}
+use Rattle.strategy_tables.specs.Games.{TableData, OfSystem, OfEnvironment}
 use Rattle.strategy_text.specs.Reading.{small_at, count_at, smalls_at, hidden_at, values_at, node_with, plain_node_of, replying, system_with, environment_with}
 
 -- ---- what the members of a node read as

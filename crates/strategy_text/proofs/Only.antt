@@ -12,7 +12,7 @@ use Rattle.spec_model.specs.Games.{GameData, HiddenData}
 use Rattle.spec_model.specs.Steps.{is_state, is_input, is_output, are_hidden_values}
 use Rattle.hidden_game.specs.GameOf.{game_of}
 use Rattle.strategy_tables.specs.Tables.{NodeData}
-use Rattle.strategy_tables.specs.Views.{TableData, IsTableOf}
+use Rattle.strategy_tables.specs.Games.{TableData, IsTableOf}
 use Rattle.strategy_text.specs.declared.kind.Kind.{Kind}
 use Rattle.strategy_text.specs.declared.kind.Kind.TheVariants.{Controller, Counterstrategy}
 use Rattle.strategy_text.specs.Written.{most_bytes}

@@ -9,7 +9,7 @@ use Rattle.spec_model.specs.declared.value.Value.{Value}
 use Rattle.spec_model.specs.declared.value.Value.TheVariants as value
 use Rattle.spec_model.specs.Values.{Assignment}
 use Rattle.strategy_tables.specs.Tables.{NodeData}
-use Rattle.strategy_tables.specs.Views.{TableData, OfSystem, OfEnvironment}
+use Rattle.strategy_tables.specs.Games.{TableData, OfSystem, OfEnvironment}
 use Rattle.strategy_text.specs.declared.kind.Kind.{Kind}
 use Rattle.strategy_text.specs.declared.kind.Kind.TheVariants.{Controller, Counterstrategy}
 use Rattle.strategy_text.specs.Written.{count_json, counts_json, value_json, values_json, node_json, nodes_json, table_json}

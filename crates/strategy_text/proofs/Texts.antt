@@ -9,7 +9,7 @@ use Rattle.spec_model.specs.Syntax.{Specification}
 use Rattle.spec_model.specs.Games.{GameData}
 use Rattle.spec_model.specs.WellTyped.{WellTyped}
 use Rattle.hidden_game.specs.GameOf.{game_of}
-use Rattle.strategy_tables.specs.Views.{TableData, IsTableOf}
+use Rattle.strategy_tables.specs.Games.{TableData, IsTableOf}
 use Rattle.strategy_text.specs.Written.{table_json, table_text, most_bytes}
 use Rattle.strategy_text.specs.Reading.{json_in, table_of, table_in}
 use Rattle.strategy_text.specs.Laws.{FitsProgram}

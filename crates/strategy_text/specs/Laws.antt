@@ -3,7 +3,7 @@ use Rattle.std.specs.Prelude.{◌≡◌, ℕ, ◌<◌, ◌^◌, List, Some, All}
 use Rattle.spec_model.specs.Syntax.{Specification}
 use Rattle.hidden_game.specs.GameOf.{game_of}
 use Rattle.strategy_tables.specs.Tables.{NodeData}
-use Rattle.strategy_tables.specs.Views.{TableData, OfSystem, OfEnvironment, IsTableOf}
+use Rattle.strategy_tables.specs.Games.{TableData, OfSystem, OfEnvironment, IsTableOf}
 use Rattle.strategy_text.specs.Written.{table_json}
 use Rattle.strategy_text.specs.Reading.{table_of, table_in}
 

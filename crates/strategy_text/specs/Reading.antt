@@ -15,7 +15,7 @@ use Rattle.spec_model.specs.Moves.{is_of, domains_of}
 use Rattle.spec_model.specs.Games.{GameData, HiddenData}
 use Rattle.hidden_game.specs.GameOf.{game_of}
 use Rattle.strategy_tables.specs.Tables.{NodeData}
-use Rattle.strategy_tables.specs.Views.{TableData, OfSystem, OfEnvironment}
+use Rattle.strategy_tables.specs.Games.{TableData, OfSystem, OfEnvironment}
 use Rattle.strategy_text.specs.declared.kind.Kind.{Kind}
 use Rattle.strategy_text.specs.declared.kind.Kind.TheVariants.{Controller, Counterstrategy}
 use Rattle.strategy_text.specs.Written.{kind_text, most_bytes}

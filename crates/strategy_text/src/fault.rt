@@ -1,27 +1,9 @@
-//! Why a table has no text, and a text no table.
+//! Why a text is no table.
 
 ghost use Rattle.std.specs.Prelude.{◌≡◌};
-ghost use Rattle.strategy_text.specs.declared.fault.TableFault.TheVariants as table_fault;
 ghost use Rattle.strategy_text.specs.declared.fault.ReadRefusal.TheVariants as read_refusal;
 
 use std::alloc::{AllocError, AllocFailed};
-
-/// Why a table was not made or not written.
-#[derive(Clone, Copy, Debug, PartialEq, Eq)]
-pub enum TableFault {
-    /// It passes a limit: in a text, 16,777,216 bytes.
-    Limit,
-    /// No memory was given.
-    Memory,
-}
-
-impl From<AllocError> for TableFault {
-    ghost from_gives = { λ _ fault. fault ≡ table_fault.Memory };
-
-    fn from(_: AllocError) -> Self {
-        TableFault::Memory
-    }
-}
 
 /// Why a text was not read.
 #[derive(Clone, Copy, Debug, PartialEq, Eq)]

@@ -2,7 +2,7 @@
 
 ghost use Rattle.spec_model.specs.Syntax.{Specification};
 ghost use Rattle.spec_model.specs.WellTyped.{WellTyped};
-ghost use Rattle.strategy_tables.specs.Views.{TableData};
+ghost use Rattle.strategy_tables.specs.Games.{TableData};
 ghost use Rattle.strategy_text.specs.Laws.{ReadsBack, ReadsTablesOnly};
 
 /// What is written of a table of a well-typed specification's game reads as that table.

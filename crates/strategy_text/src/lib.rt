@@ -18,6 +18,7 @@ mod reading;
 mod values;
 mod writing;
 
-pub use fault::{ReadRefusal, TableFault};
+pub use fault::ReadRefusal;
 pub use reading::read;
+pub use strategy_tables::TableFault;
 pub use writing::text;

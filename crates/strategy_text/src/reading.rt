@@ -5,7 +5,8 @@ ghost use Rattle.hidden_game.specs.GameOf.{game_of};
 ghost use Rattle.serde_json.specs.View.{view};
 ghost use Rattle.spec_model.specs.Views.{spec_data};
 ghost use Rattle.spec_model.specs.WellTyped.{WellTyped};
-ghost use Rattle.strategy_tables.specs.Views.{table_data, IsTableOf};
+ghost use Rattle.strategy_tables.specs.Views.{table_data};
+ghost use Rattle.strategy_tables.specs.Games.{IsTableOf};
 ghost use Rattle.strategy_text.specs.Reading.{json_in as json_in_lem, table_of_kind, table_of, table_in};
 ghost use Rattle.strategy_text.specs.Views.{IsRead, reader_names, reader_game};
 

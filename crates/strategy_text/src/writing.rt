@@ -6,19 +6,19 @@ ghost use Rattle.hidden_game.specs.GameOf.{game_of};
 ghost use Rattle.serde_json.specs.View.{view, members_view};
 ghost use Rattle.spec_model.specs.Views.{spec_data};
 ghost use Rattle.spec_model.specs.WellTyped.{WellTyped};
-ghost use Rattle.strategy_tables.specs.Views.{node_data, table_data, IsTableOf, OfSystem, OfEnvironment};
+ghost use Rattle.strategy_tables.specs.Views.{node_data, table_data};
+ghost use Rattle.strategy_tables.specs.Games.{IsTableOf, OfSystem, OfEnvironment};
 ghost use Rattle.strategy_text.specs.Laws.{AreSmall, HasSmallNumbers, FitsProgram};
 ghost use Rattle.strategy_text.specs.Reading.{table_in};
 ghost use Rattle.strategy_text.specs.Written.{count_json, counts_json, value_json, values_json, plain_members, replying_members, node_json, nodes_json, system_json, environment_json, table_json, table_text, most_bytes};
 
-use crate::fault::TableFault;
 use crate::kind::Kind;
 use crate::names::name_text;
 use serde_json::{Map, Value as Json, put};
 use spec_model::spec::Spec;
 use spec_model::value::Value;
 use std::alloc::{AllocError, Global};
-use strategy_tables::{Node, Table};
+use strategy_tables::{Node, Table, TableFault};
 
 /// How many bytes the text of a table may have.
 pub const MOST_BYTES: usize = 16_777_216;

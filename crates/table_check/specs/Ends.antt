@@ -6,7 +6,7 @@ use Rattle.spec_model.specs.Realizable.{IsRealizable}
 use Rattle.spec_model.specs.Unrealizable.{IsUnrealizable}
 use Rattle.spec_model.specs.Games.{GameData, inputs_of, outputs_of}
 use Rattle.strategy_tables.specs.Rules.{Check, system_checks, environment_checks, first_flaw}
-use Rattle.strategy_tables.specs.Views.{TableData, OfSystem, OfEnvironment}
+use Rattle.strategy_tables.specs.Games.{TableData, OfSystem, OfEnvironment}
 use Rattle.table_check.specs.declared.checking.CheckEnd.{CheckEnd}
 use Rattle.table_check.specs.declared.checking.CheckEnd.TheVariants.{Sound, Flaw, Limit}
 

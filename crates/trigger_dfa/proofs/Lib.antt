@@ -14,6 +14,8 @@ mod LaidParts
 pub mod PositionCounts
 mod MaskWords
 mod LaidLists
+mod Wrapped
+mod Skipped
 mod MetSets
 mod Walked
 mod Collected

@@ -1,5 +1,6 @@
 -- How many positions an expression has.
-use Rattle.std.proofs.Common.{◌≡◌, ℕ, ◌+◌, ◌-◌, ◌*◌, ◌≤◌, ◌<◌, max, min, inl, inr, List, [], ◌∷◌, ◌++◌, Some, None, Option, length, map, take, refl, sym, ◌∙◌, ap, arith, length-append, add-mul, mul-le-mul_right}
+use Rattle.std.proofs.Common.{◌≡◌, ℕ, ◌+◌, ◌-◌, ◌*◌, ◌≤◌, ◌<◌, max, min, inl, inr, List, [], ◌∷◌, ◌++◌, Some, None, Option, length, map, take, refl, sym, ◌∙◌, ap, arith, length-append, add-mul, mul-le-mul_right, mul_comm, mul_assoc}
+use Rattle.std.proofs.Math.Nat.{min_comm}
 use Rattle.std.proofs.lemmas.Bool.{cases_lt, cases_eq}
 use Rattle.std.proofs.Common.{get_or}
 use Rattle.std.proofs.lemmas.List.{take_more, map-append}
@@ -57,6 +58,15 @@ capped_product k c =
       ]
       | inr less ↦ let cap : min 65 c ≡ c = grind arith in ap (λ (m : ℕ). min (k * m) 65) cap ∙ (let e : min (k * c) 65 ≡ min 65 (k * c) = grind arith in e)
     ]
+
+-- a repeat more around the piece
+pub capped_more : (copies k s : ℕ) → min 65 (min (copies * k) 65 * s) ≡ min 65 (copies * (k * s))
+capped_more copies k s =
+    ap (λ (m : ℕ). min 65 (m * s)) (min_comm (copies * k) 65)
+    ∙ ap (λ (m : ℕ). min 65 m) (mul_comm (min 65 (copies * k)) s)
+    ∙ min_comm 65 (s * min 65 (copies * k))
+    ∙ capped_product s (copies * k)
+    ∙ ap (λ (m : ℕ). min 65 m) (mul_comm s (copies * k) ∙ mul_assoc copies k s)
 
 pub size-append : (xs ys : List Regular) → size_in_each (regulars (xs ++ ys)) ≡ size_in_each (regulars xs) + size_in_each (regulars ys)
 size-append [] ys = let e : size_in_each (regulars ys) ≡ 0 + size_in_each (regulars ys) = omega arith in e

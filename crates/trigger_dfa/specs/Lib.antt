@@ -3,6 +3,7 @@ pub mod Words
 pub mod Standings
 pub mod Along
 pub mod Sides
+pub mod Wraps
 pub mod Walks
 pub mod Atoms
 pub mod Rows

@@ -46,18 +46,21 @@ fn add(alloc: Global, atoms: &mut Vec<Expr>, e: &Expr) -> Result<(), DfaFault>
     Ok(())
 }
 
-// Adds the formulas of an expression's brackets, as far as they are new.
+// Adds the formulas of an expression's brackets, as far as they are new. Repeats around one another are a loop.
 #[cycle(collecting)]
 fn collect(alloc: Global, r: &Regex, atoms: &mut Vec<Expr>) -> Result<(), DfaFault>
     ensures added { OnOk result (map formula atoms.new.items ≡ with_atoms (map formula atoms.old.items) (atoms_of (regular r.now))) }
     ensures within { OnOk result (vec_len atoms.old ≤ 8 → vec_len atoms.new ≤ 8) }
     ensures wide { IsErrOf result DfaFault.Wide → 8 < length (with_atoms (map formula atoms.old.items) (atoms_of (regular r.now))) }
 {
-    match r {
-        Regex::Atom(e) => add(alloc, atoms, e),
-        Regex::Cat(rs) => collect_each(alloc, rs, atoms),
-        Regex::Alt(rs) => collect_each(alloc, rs, atoms),
-        Regex::Repeat(a, _, _) => collect(alloc, a, atoms),
+    let mut part = r;
+    'repeats: loop {
+        match part {
+            Regex::Atom(e) => return add(alloc, atoms, e),
+            Regex::Cat(rs) => return collect_each(alloc, rs, atoms),
+            Regex::Alt(rs) => return collect_each(alloc, rs, atoms),
+            Regex::Repeat(inner, _, _) => part = inner,
+        }
     }
 }
 

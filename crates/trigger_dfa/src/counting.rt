@@ -10,16 +10,24 @@ use spec_model::expr::Regex;
 // One more than there may be: more are not told apart.
 const TOO_MANY: usize = 65;
 
-/// How many positions the expression has with its repeats written out, but at most 65.
+/// How many positions the expression has with its repeats written out, but at most 65. Repeats around one another are a
+/// loop, since they nest as deep as the text is long; only the parts of sequences and choices are a recursion.
 #[cycle(counting)]
 pub fn positions_in(r: &Regex) -> usize
     ensures { result ≡ min 65 (size_in (regular r.now)) }
 {
-    match r {
-        Regex::Atom(_) => 1,
-        Regex::Cat(rs) => positions_in_each(rs),
-        Regex::Alt(rs) => positions_in_each(rs),
-        Regex::Repeat(a, low, high) => (copies_of(*low, *high) * positions_in(a)).min(TOO_MANY),
+    let mut copies = 1;
+    let mut part = r;
+    'repeats: loop {
+        match part {
+            Regex::Atom(_) => return copies,
+            Regex::Cat(rs) => return (copies * positions_in_each(rs)).min(TOO_MANY),
+            Regex::Alt(rs) => return (copies * positions_in_each(rs)).min(TOO_MANY),
+            Regex::Repeat(inner, low, high) => {
+                copies = (copies * copies_of(*low, *high)).min(TOO_MANY);
+                part = inner;
+            }
+        }
     }
 }
 
@@ -34,8 +42,8 @@ fn positions_in_each(rs: &[Regex]) -> usize
     count
 }
 
-// How often the piece of a repeat is written.
-fn copies_of(low: u16, high: Option<u16>) -> usize
+/// How often the piece of a repeat is written.
+pub fn copies_of(low: u16, high: Option<u16>) -> usize
     ensures copies { result ≡ copies_in low high }
     ensures few { result ≤ 2 ^ 16 }
 {

@@ -1,14 +1,16 @@
 //! From an expression to its positions. A repeat is written out, and the last position of an expression comes first, so that
 //! a sequence is read from its end.
 
-ghost use Rattle.std.specs.Prelude.{◌≡◌, ◌≤◌, ◌<◌, ◌+◌, ◌*◌, length, map, vec_len};
+ghost use Rattle.std.specs.Prelude.{◌≡◌, ◌≤◌, ◌<◌, ◌+◌, ◌*◌, ◌||◌, if◌then◌else◌, length, map, vec_len};
 ghost use Rattle.spec_model.specs.Views.{formula, regular};
 ghost use Rattle.spec_model.specs.Syntax.{regulars};
 ghost use Rattle.spec_model.specs.TriggerStates.{Bracket, Either, Empty, copies, written, written_in_turn, written_besides, repeated, brackets};
-ghost use Rattle.trigger_dfa.specs.Sides.{Lays, LaysCopies, tail_of};
+ghost use Rattle.trigger_dfa.specs.Sides.{Lays, LaysCopies, Links, tail_of};
 
 use crate::counting::positions_in;
-use crate::side::{Part, Side, atom_number, single};
+use crate::side::{Part, Side, atom_number, single, when};
+use crate::skipping::can_be_skipped;
+use crate::unwrapping::unwrapped;
 use spec_model::expr::{Expr, Regex};
 
 impl Side {
@@ -28,9 +30,36 @@ impl Side {
         }
     }
 
-    /// Adds the positions of an expression, the last of which is the one before `end`.
+    // What a part is with repeats around it that write it once.
+    fn wrap(&mut self, part: Part, starred: bool, optional: bool) -> Part
+        requires positions { vec_len self.old.follow ≡ 64 }
+        ensures linked { Links (if starred then part.lasts else 0) part.firsts self.old self.new }
+        ensures part { result ≡ record part { skipped = part.skipped || optional } }
+    {
+        self.link(when(starred, part.lasts), part.firsts);
+        Part {
+            skipped: part.skipped | optional,
+            ..part
+        }
+    }
+
+    /// Adds the positions of an expression, the last of which is the one before `end`. Repeats that write their piece once
+    /// are a loop, since they nest as deep as the text is long; those that write it more often nest at most six deep, as there
+    /// are 64 positions.
     #[cycle(laying)]
     pub fn lay(&mut self, atoms: &[Expr], r: &Regex, end: usize) -> Part
+        requires room { length (brackets (written (regular r.now))) ≤ end }
+        requires few { end ≤ 64 }
+        requires positions { vec_len self.old.follow ≡ 64 }
+        ensures { Lays (map formula atoms.now) (written (regular r.now)) end self.old self.new result }
+    {
+        let inner = unwrapped(r);
+        let part = self.lay_piece(atoms, inner.piece, end);
+        self.wrap(part, inner.starred, inner.optional)
+    }
+
+    #[cycle(laying)]
+    fn lay_piece(&mut self, atoms: &[Expr], r: &Regex, end: usize) -> Part
         requires room { length (brackets (written (regular r.now))) ≤ end }
         requires few { end ≤ 64 }
         requires positions { vec_len self.old.follow ≡ 64 }
@@ -78,7 +107,7 @@ impl Side {
         rest
     }
 
-    // Where the piece has no position, it is written once in place of many times.
+    // Where the piece has no position, nothing is laid.
     #[cycle(laying)]
     fn lay_repeated(
         &mut self,
@@ -94,12 +123,9 @@ impl Side {
         ensures { Lays (map formula atoms.now) (repeated (written (regular a.now)) low high) end self.old self.new result }
     {
         if positions_in(a) == 0 {
-            let piece = self.lay(atoms, a, end);
             return Part {
-                size: 0,
-                skipped: piece.skipped | (low == 0),
-                firsts: 0,
-                lasts: 0,
+                skipped: can_be_skipped(a) | (low == 0),
+                ..Part::EMPTY
             };
         }
         let tail = self.lay_tail(atoms, a, low, high, end);

@@ -19,8 +19,10 @@ mod masks;
 mod rows;
 mod same;
 mod side;
+mod skipping;
 mod states;
 mod table;
+mod unwrapping;
 mod walk;
 
 pub use fault::DfaFault;

@@ -109,6 +109,9 @@ impl Side {
         requires { vec_len self.old.follow ≡ 64 }
         ensures { Links from to self.old self.new }
     {
+        if from == 0 || to == 0 {
+            return;
+        }
         for q in 0..MAX_POSITIONS {
             self.follow[q] |= when(has(from, q), to);
         }

@@ -86,7 +86,7 @@ fn judge_calls(alloc: Global, row: &Row, device: Device) -> Result<(), Wrong> {
             let agrees = call > 1 && is_wanted(row, 0, &told);
             return hold(alloc, agrees, &name, told);
         }
-        let agrees = told.status == row.status && is_cut(row, device, &told.written);
+        let agrees = told.status == row.status && is_cut(row, device, &told);
         hold(alloc, agrees, &name, told)?;
     }
     Err(Wrong::Plain(ENDLESS))
@@ -117,16 +117,38 @@ fn budgeted(alloc: Global, row: &Row, nodes: u64) -> Result<Vec<String>, AllocEr
     Ok(words)
 }
 
-// Whether a run that fails writes this: whole lines of what is due, and behind them a fault of the input; or the fault of a file.
-fn is_cut(row: &Row, device: Device, written: &[u8]) -> bool {
+// Whether a run that fails writes this: whole lines of what is due, and behind those for the lines taken a fault of the input; or
+// the fault of a file.
+fn is_cut(row: &Row, device: Device, told: &Told) -> bool {
+    let written = told.written.as_slice();
     match device {
         Device::Write => is_front(row, written),
         Device::Read => match written.strip_suffix(INPUT_FAULT) {
-            Some(front) => is_front(row, front),
+            Some(front) => is_front(row, front) && lines_in(front) == lines_due(row, told.taken),
             None => false,
         },
         Device::File => names_a_file(row, written),
     }
+}
+
+// How many lines are due before a read fails behind so many bytes: what answers the lines in them, and as many that stand before
+// the first one is read. An audit writes none before its end.
+fn lines_due(row: &Row, taken: usize) -> u64 {
+    let Some(answers) = answers_of(row) else {
+        return 0;
+    };
+    let front = row.input.get(..taken).unwrap_or(row.input.as_slice());
+    lines_in(front).saturating_add(1).saturating_mul(answers)
+}
+
+fn lines_in(text: &[u8]) -> u64 {
+    let mut lines = 0u64;
+    for byte in text {
+        if *byte == b'\n' {
+            lines = lines.saturating_add(1);
+        }
+    }
+    lines
 }
 
 fn is_front(row: &Row, front: &[u8]) -> bool {
@@ -152,7 +174,7 @@ fn answers_of(row: &Row) -> Option<u64> {
         return None;
     }
     match row.words.get(1)?.as_str() {
-        "run" => Some(1),
+        "run" | "many" => Some(1),
         "counter" => Some(2),
         _ => None,
     }

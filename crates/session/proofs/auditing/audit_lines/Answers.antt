@@ -18,7 +18,7 @@ pub turn-requires-clause-serves : goal.turn-requires-clause-serves
 turn-requires-clause-serves g c =
     let inv = c.loop-count.invariant in
     let some = c.requires.one_specification in
-    let so = inv.so some.0 _ some.1 (nothing_read some.0 c.args.audit.now _ _ c.requires.nothing_taken some.2) in
+    let so = inv.so some.0 _ some.1 (nothing_read some.0 c.args.audit.now _ c.args.lines.now c.requires.unread some.2) in
     record {
       spec = some.0;
       log = so.log;
@@ -31,10 +31,10 @@ pub loop-count-preserved : goal.loop-count-preserved
 loop-count-preserved g c =
     let inv = c.loop-count.invariant in
     let some = c.requires.one_specification in
-    let one = inv.so some.0 _ some.1 (nothing_read some.0 c.args.audit.now _ _ c.requires.nothing_taken some.2) in
+    let one = inv.so some.0 _ some.1 (nothing_read some.0 c.args.audit.now _ c.args.lines.now c.requires.unread some.2) in
     record {
-      so = λ s left suits so. (c.in_default.ensures.reads_on s left (over_after c.args.lines.now c.loop-count.lines _ _ _ suits inv.keeps) (inv.so s left suits so)).0;
-      room = (c.in_default.ensures.reads_on some.0 _ (over_after c.args.lines.now c.loop-count.lines _ _ _ some.1 inv.keeps) one).1;
+      so = λ s left suits so. (c.in_default.ensures.reads_on s c.args.limit left c.loop-count-test.true (over_after c.args.lines.now c.loop-count.lines _ _ _ suits inv.keeps) (inv.so s left suits so)).0;
+      room = (c.in_default.ensures.reads_on some.0 c.args.limit _ c.loop-count-test.true (over_after c.args.lines.now c.loop-count.lines _ _ _ some.1 inv.keeps) one).1;
       keeps = kept_on c.args.lines.now c.loop-count.lines c.turn.new.lines inv.keeps c.turn.ensures.keeps;
       later = omega (arith, inv.later, c.turn.ensures.later);
     }
@@ -42,19 +42,19 @@ loop-count-preserved g c =
 pub returns-in-Some-clause-talk : goal.returns-in-Some-clause-talk
 returns-in-Some-clause-talk g c = λ s suits of.
     let inv = c.loop-count.invariant in
-    let so = inv.so s _ suits (nothing_read s c.args.audit.now _ _ c.requires.nothing_taken of) in
-    audit_weaker s c.args.limit _ _ _ _ c.in-Some.end (rose_earlier _ _ _ inv.later) (c.in-Some.ensures.reads_on s _ (over_after c.args.lines.now c.loop-count.lines _ _ _ suits inv.keeps) so)
+    let so = inv.so s _ suits (nothing_read s c.args.audit.now _ c.args.lines.now c.requires.unread of) in
+    audit_weaker s c.args.limit _ _ _ _ c.in-Some.end (rose_earlier _ _ _ inv.later) (c.in-Some.ensures.reads_on s c.args.limit _ c.loop-count-test.true (over_after c.args.lines.now c.loop-count.lines _ _ _ suits inv.keeps) so)
 
 pub told-requires : goal.told-requires
 told-requires g c =
     let inv = c.loop-count.invariant in
     let some = c.requires.one_specification in
-    let so = inv.so some.0 _ some.1 (nothing_read some.0 c.args.audit.now _ _ c.requires.nothing_taken some.2) in
+    let so = inv.so some.0 _ some.1 (nothing_read some.0 c.args.audit.now _ c.args.lines.now c.requires.unread some.2) in
     (some.0, so.log, so.stands)
 
 pub returns-clause-talk : goal.returns-clause-talk
 returns-clause-talk g c = λ s suits of.
     let inv = c.loop-count.invariant in
-    let so = inv.so s _ suits (nothing_read s c.args.audit.now _ _ c.requires.nothing_taken of) in
+    let so = inv.so s _ suits (nothing_read s c.args.audit.now _ c.args.lines.now c.requires.unread of) in
     let reached : c.loop-count.count ≡ c.args.limit = omega (arith, c.loop-count-test.false, c.loop-count.auto.count-end) in
-    at_limit s c.loop-count.audit c.args.limit c.loop-count.count _ _ _ _ c.told.result reached so (c.told.ensures s so.log so.stands)
+    at_limit s c.loop-count.audit c.args.limit c.loop-count.count _ _ _ _ _ c.told.result reached so (c.told.ensures s so.log so.stands)

@@ -4,8 +4,12 @@ use Rattle.session.proofs.Countering.{waits, counter_stands}
 use Rattle.session.proofs.CounterTalks.{counter_start, counter_talk, turned}
 use Rattle.session.proofs.counter.counter_lines.Goals as goal
 
-pub talk-requires-clause-fresh : goal.talk-requires-clause-fresh
-talk-requires-clause-fresh g c = c.turn_round.ensures.reader.pending ∙ c.requires.nothing_taken
+pub talk-requires-clause-unread : goal.talk-requires-clause-unread
+talk-requires-clause-unread g c =
+    record {
+      pending = c.turn_round.ensures.reader.pending ∙ c.requires.unread.pending;
+      not_ended = c.turn_round.ensures.reader.ended ∙ c.requires.unread.not_ended;
+    }
 
 pub talk-requires-clause-serves : goal.talk-requires-clause-serves
 talk-requires-clause-serves g c =

@@ -29,7 +29,7 @@ loop-count-preserved g c =
     let inv = c.loop-count.invariant in
     record {
       so = λ s first left written suits so.
-          c.in_default.ensures.goes_on s first left written (over_after c.args.lines.now c.loop-count.lines _ _ _ suits inv.keeps) (inv.so s first left written suits so);
+          c.in_default.ensures.goes_on s first c.args.limit left written c.loop-count-test.true (over_after c.args.lines.now c.loop-count.lines _ _ _ suits inv.keeps) (inv.so s first left written suits so);
       keeps = kept_on c.args.lines.now c.loop-count.lines c.turn.new.lines inv.keeps c.turn.ensures.keeps;
       later_in = omega (arith, inv.later_in, c.turn.ensures.later_in);
       later_out = omega (arith, inv.later_out, c.turn.ensures.later_out);
@@ -39,9 +39,9 @@ pub returns-in-Some-clause-ended : goal.returns-in-Some-clause-ended
 returns-in-Some-clause-ended g c = λ s first left written suits so.
     let inv = c.loop-count.invariant in
     let here = over_after c.args.lines.now c.loop-count.lines _ _ _ suits inv.keeps in
-    ended_since _ _ first left _ written _ _ _ _ _ _ _ _ c.in-Some.end inv.later_in inv.later_out (c.in-Some.ensures.goes_on s first left written here (inv.so s first left written suits so))
+    ended_since _ _ first left _ written _ _ _ _ _ _ _ _ c.in-Some.end inv.later_in inv.later_out (c.in-Some.ensures.goes_on s first c.args.limit left written c.loop-count-test.true here (inv.so s first left written suits so))
 
 pub returns-clause-ended : goal.returns-clause-ended
 returns-clause-ended g c = λ s first left written suits so.
     let reached : c.loop-count.count ≡ c.args.limit = omega (arith, c.loop-count-test.false, c.loop-count.auto.count-end) in
-    at_limit _ _ first left _ written _ _ _ _ reached _ _ (c.loop-count.invariant.so s first left written suits so)
+    at_limit _ _ first _ left _ written _ _ _ _ reached _ _ (c.loop-count.invariant.so s first left written suits so)

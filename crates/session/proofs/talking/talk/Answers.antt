@@ -14,7 +14,7 @@ exchange-requires g c =
         _,
         _,
         over_after c.args.lines.now c.open.new.lines _ _ _ some.suits c.open.ensures.keeps,
-        begun _ _ some.state _ _ _ _ (c.open.ensures.pending ∙ c.requires.fresh) opened.text opened.next opened.opens opened.stands opened.whole,
+        begun _ _ some.state _ _ _ _ _ (c.open.ensures.reader.ended ∙ c.requires.unread.not_ended) (c.open.ensures.reader.pending ∙ c.requires.unread.pending) opened.text opened.next opened.opens opened.stands opened.whole,
       );
     }
 
@@ -23,9 +23,9 @@ returns-in-Ok-clause-talk g c = λ s first suits stands.
     let opened = c.in-Ok.ensures.opens s first suits stands in
     ended_since _ _ first _ _ _ _ _ _ _ _ _ _ _ c.exchange.result (omega arith) c.open.ensures.cause.later
     (c.exchange.ensures.ended s first _ _ (over_after c.args.lines.now c.open.new.lines _ _ _ suits c.open.ensures.keeps)
-    (begun _ _ first _ _ _ _ (c.open.ensures.pending ∙ c.requires.fresh) opened.text opened.next opened.opens opened.stands opened.whole))
+    (begun _ _ first _ _ _ _ _ (c.open.ensures.reader.ended ∙ c.requires.unread.not_ended) (c.open.ensures.reader.pending ∙ c.requires.unread.pending) opened.text opened.next opened.opens opened.stands opened.whole))
 
 pub returns-in-Err-clause-talk : goal.returns-in-Err-clause-talk
 returns-in-Err-clause-talk g c = λ s first suits stands.
     let opened = c.in-Err.ensures.opens s first suits stands in
-    cut_at_once _ _ first _ _ _ _ c.requires.fresh opened.text opened.next opened.opens opened.stands _ _ _ c.in-Err.ensures.cause.failed opened.part
+    cut_at_once _ _ first _ _ _ _ _ c.requires.unread.not_ended c.requires.unread.pending opened.text opened.next opened.opens opened.stands _ _ _ c.in-Err.ensures.cause.failed opened.part

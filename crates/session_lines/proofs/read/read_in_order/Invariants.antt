@@ -1,6 +1,6 @@
 use Rattle.std.proofs.Common.{map, take, string_bytes}
 use Rattle.spec_model.specs.Views.{variable_data}
-use Rattle.session_lines.specs.Reading.{BeginsWith}
+use Rattle.session_lines.specs.Beginning.{BeginsWith}
 use Rattle.session_lines.proofs.read.read_in_order.Given as goal
 
 -- the line begins with the items of the variables so far

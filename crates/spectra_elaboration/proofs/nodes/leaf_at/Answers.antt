@@ -8,5 +8,5 @@ use Rattle.spectra_elaboration.proofs.nodes.leaf_at.Goals as goal
 pub node-requires : goal.node-requires
 node-requires c = ap form_nodes (leaf_data c.args.leaf)
 
-pub returns : goal.returns
-returns c = same c.args.room _ _ c.node.result (ap (tree c.args.first c.args.at) (leaf_data c.args.leaf)) c.node.ensures
+pub returns-clause-made : goal.returns-clause-made
+returns-clause-made c = same c.args.room _ _ c.node.result (ap (tree c.args.first c.args.at) (leaf_data c.args.leaf)) c.node.ensures.made

@@ -8,8 +8,8 @@ use Rattle.spectra_elaboration.proofs.Folded.{mod_data}
 use Rattle.spectra_elaboration.proofs.Made.{no_room, same, stop}
 use Rattle.spectra_elaboration.proofs.nodes.mod_above.Goals as goal
 
-pub returns-in_err-below : goal.returns-in_err-below
-returns-in_err-below c = stop c.args.room (tree c.args.first c.args.at (Form.Mod (resolved_data c.args.operand.tree) c.args.number_at c.args.number)) Memory c.from_residual.result c.from_residual.ensures.1 no_room
+pub returns-in_err-below-clause-made : goal.returns-in_err-below-clause-made
+returns-in_err-below-clause-made c = stop c.args.room (tree c.args.first c.args.at (Form.Mod (resolved_data c.args.operand.tree) c.args.number_at c.args.number)) Memory c.from_residual.result c.from_residual.ensures.1 no_room
 
 pub node-requires : goal.node-requires
 node-requires c =
@@ -17,8 +17,8 @@ node-requires c =
     ∙ (λ i. 1 + tree_nodes (resolved_data (c.in_ok-below.ensures.ok i)))
     ∙ ap (λ n. 1 + n) (sym c.args.operand.counted)
 
-pub returns : goal.returns
-returns c =
+pub returns-clause-made : goal.returns-clause-made
+returns-clause-made c =
     same c.args.room _ _ c.node.result
     (ap (tree c.args.first c.args.at) (mod_data c.in_ok-below.below c.args.number_at (to_z w64 (of_z w64 c.args.number)) ∙ (λ i. Form.Mod (resolved_data (c.in_ok-below.ensures.ok i)) c.args.number_at (to_z-of_z w64 c.args.number c.ranges.number i))))
-    c.node.ensures
+    c.node.ensures.made

@@ -1,67 +1,56 @@
-use Rattle.std.proofs.Common.{◌≡◌, ◌+◌, ◌*◌, ◌≤◌, ◌++◌, max, map, drop}
-use denote.Param.Weighed.{most}
-use Rattle.spectra_resolved.specs.declared.tree.Resolved.{size-Resolved}
-use Rattle.spectra_resolved.specs.declared.tree.Shape.{size-Shape}
-use Rattle.spectra_resolved.specs.declared.tree.Link.{size-Link}
+use Rattle.std.proofs.Common.{◌≡◌, ◌+◌, ◌-◌, ◌*◌, ◌≤◌, ◌++◌, length, map, drop}
 use Rattle.spectra_resolved.specs.Resolved.{listed}
 use Rattle.spectra_resolved.specs.Chained.{trees}
 use Rattle.spectra_resolved.specs.Views.{resolved_data, link_data}
 use Rattle.spectra_elaboration.specs.Nodes.{each_nodes}
-use Rattle.spectra_elaboration.specs.Clipped.{clipped}
-use Rattle.spectra_elaboration.specs.Links.{link_nodes}
-use Rattle.spectra_elaboration.specs.PuttingViews.{argument_data, each_within, link_within}
-use Rattle.spectra_elaboration.proofs.Depths.{depth_below}
+use Rattle.spectra_elaboration.specs.Levels.{each_levels}
+use Rattle.spectra_elaboration.specs.Links.{link_nodes, are_flat_above}
+use Rattle.spectra_elaboration.specs.PuttingViews.{bodies_data}
+use Rattle.spectra_elaboration.specs.Frames.{each_at, link_at}
+use Rattle.std.specs.Prelude.{nat_le}
 use Rattle.spectra_elaboration.proofs.putting.+putting.Given as goal
 
 abbrev pub decreases-fill : goal.decreases-fill
-decreases-fill l = 8 * (depth_below l.within.now.bodies.now l.within.now.deep + size-Resolved l.t.now)
+decreases-fill l = 4 * l.levels + 2
+
+abbrev pub decreases-fill_front : goal.decreases-fill_front
+decreases-fill_front l = 4 * l.levels + 1
 
 abbrev pub decreases-fill_chain : goal.decreases-fill_chain
-decreases-fill_chain l = 8 * (depth_below l.within.now.bodies.now l.within.now.deep + max (size-Resolved l.head.now) (most (λ k. size-Link k) l.links.now)) + 3
+decreases-fill_chain l = 4 * l.levels
 
 abbrev pub decreases-fill_links : goal.decreases-fill_links
-decreases-fill_links l = 8 * (depth_below l.within.now.bodies.now l.within.now.deep + most (λ k. size-Link k) l.links.now) + 2
+decreases-fill_links l = 4 * (l.first + length l.links.now) - 1
 
 abbrev pub decreases-fill_shape : goal.decreases-fill_shape
-decreases-fill_shape l = 8 * (depth_below l.within.now.bodies.now l.within.now.deep + size-Shape l.shape.now) + 4
-
-abbrev pub decreases-fill_leaf : goal.decreases-fill_leaf
-decreases-fill_leaf l = 8 * depth_below l.within.now.bodies.now l.within.now.deep + 2
+decreases-fill_shape l = 4 * l.levels + 4
 
 abbrev pub decreases-fill_operands : goal.decreases-fill_operands
-decreases-fill_operands l = 8 * (depth_below l.within.now.bodies.now l.within.now.deep + most (λ t. size-Resolved t) l.ts.now) + 2
+decreases-fill_operands l = 4 * l.levels + 3
 
-abbrev pub decreases-fill_predicate : goal.decreases-fill_predicate
-decreases-fill_predicate l = 8 * (depth_below l.within.now.bodies.now l.within.now.deep + most (λ t. size-Resolved t) l.ts.now) + 3
-
-abbrev pub decreases-fill_arguments : goal.decreases-fill_arguments
-decreases-fill_arguments l = 8 * (depth_below l.within.now.bodies.now l.within.now.deep + most (λ t. size-Resolved t) l.ts.now) + 2
-
-abbrev pub decreases-fill_argument : goal.decreases-fill_argument
-decreases-fill_argument l = 8 * (depth_below l.within.now.bodies.now l.within.now.deep + size-Resolved l.t.now) + 1
-
-abbrev pub decreases-put : goal.decreases-put
-decreases-put l = 8 * depth_below l.within.now.bodies.now l.within.now.deep + 1
-
--- Those so far and those of what is left are all. What is left of the room is too small for what is left only if the whole
--- room is too small for all.
+-- The frames are those of the first. Those so far and those of what is left are all. What is left of the room is too small for
+-- what is left only if the whole room is too small for all, and so it is with levels.
 abbrev pub invariant-fill_links-loop-link : goal.invariant-fill_links-loop-link
 invariant-fill_links-loop-link l =
+    let b = bodies_data l.by.bodies.now in
+    let fs = l.fn.frames.items in
     record {
-      same : map link_data l.all.items ++ map (link_within l.within) (map link_data (drop l.link-index l.links)) ≡ map (link_within l.within) (map link_data l.links);
+      frames : l.frames.items ≡ fs;
+      place : l.levels ≡ l.first + l.link-index;
+      same : map link_data l.all.items ++ map (link_at b fs l.frame) (map link_data (drop l.link-index l.links)) ≡ map (link_at b fs l.frame) (map link_data l.links);
       small : l.left ≤ l.room;
-      room : l.left + link_nodes (map (link_within l.within) (map link_data l.links)) ≡ l.room + link_nodes (map (link_within l.within) (map link_data (drop l.link-index l.links)));
+      room : l.left + link_nodes (map (link_at b fs l.frame) (map link_data l.links)) ≡ l.room + link_nodes (map (link_at b fs l.frame) (map link_data (drop l.link-index l.links)));
+      flat : are_flat_above l.levels (map (link_at b fs l.frame) (map link_data (drop l.link-index l.links))) ≡ are_flat_above l.first (map (link_at b fs l.frame) (map link_data l.links));
     }
 
 abbrev pub invariant-fill_operands-loop-t : goal.invariant-fill_operands-loop-t
 invariant-fill_operands-loop-t l =
+    let b = bodies_data l.by.bodies.now in
+    let fs = l.fn.frames.items in
     record {
-      same : map resolved_data l.all.items ++ listed (each_within l.within (trees (map resolved_data (drop l.t-index l.ts)))) ≡ listed (each_within l.within (trees (map resolved_data l.ts)));
+      frames : l.frames.items ≡ fs;
+      same : map resolved_data l.all.items ++ listed (each_at b fs l.frame (trees (map resolved_data (drop l.t-index l.ts)))) ≡ listed (each_at b fs l.frame (trees (map resolved_data l.ts)));
       small : l.left ≤ l.room;
-      room : l.left + each_nodes (each_within l.within (trees (map resolved_data l.ts))) ≡ l.room + each_nodes (each_within l.within (trees (map resolved_data (drop l.t-index l.ts))));
+      room : l.left + each_nodes (each_at b fs l.frame (trees (map resolved_data l.ts))) ≡ l.room + each_nodes (each_at b fs l.frame (trees (map resolved_data (drop l.t-index l.ts))));
+      flat : nat_le (each_levels (each_at b fs l.frame (trees (map resolved_data (drop l.t-index l.ts))))) l.levels ≡ nat_le (each_levels (each_at b fs l.frame (trees (map resolved_data l.ts)))) l.levels;
     }
-
-abbrev pub invariant-fill_arguments-loop-t : goal.invariant-fill_arguments-loop-t
-invariant-fill_arguments-loop-t l =
-    map (argument_data l.within.limit) l.made.items ++ map (clipped l.within.limit) (listed (each_within l.within (trees (map resolved_data (drop l.t-index l.ts)))))
-    ≡ map (clipped l.within.limit) (listed (each_within l.within (trees (map resolved_data l.ts))))

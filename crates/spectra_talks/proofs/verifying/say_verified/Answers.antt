@@ -1,7 +1,6 @@
 use Rattle.std.proofs.Common.{ap}
 use Rattle.strategy_tables.specs.declared.tables.Table.{Table}
 use Rattle.strategy_tables.specs.Views.{table_data}
-use Rattle.spectra_talks.specs.Endings.{verified_system, verified_environment}
 use Rattle.spectra_talks.specs.Verifying.{verified}
 use Rattle.spectra_talks.proofs.Verified.{said_too}
 use Rattle.spectra_talks.proofs.verifying.say_verified.Goals as goal

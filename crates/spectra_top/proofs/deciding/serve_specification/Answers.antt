@@ -22,3 +22,6 @@ returns-in-Counter g c = served_as _ _ c.in-Counter.is _ _ _ _ _ c.serve_counter
 
 pub returns-in-Verify : goal.returns-in-Verify
 returns-in-Verify g c = top.verifies c.in-Verify.is c.verify.ensures
+
+pub returns-in-Export : goal.returns-in-Export
+returns-in-Export g c = served_as _ _ c.in-Export.is _ _ _ _ _ (c.serve_export.ensures _ _)

@@ -1,17 +1,27 @@
-use Rattle.std.proofs.Common.{◌≤◌, arith, mul-le-mul, ◌∙◌}
-use Rattle.spec_model.specs.Views.{regular}
-use Rattle.trigger_dfa.specs.Sides.{size_in}
-use Rattle.std.proofs.Common.{map, take}
+use Rattle.std.proofs.Common.{◌*◌, min, map, take, sym, ap, ◌∙◌, arith}
+use Rattle.spec_model.specs.declared.expr.Regex.{size-Regex}
 use Rattle.spec_model.specs.Syntax.{regulars}
-use Rattle.trigger_dfa.specs.Sides.{size_in_each}
-use Rattle.trigger_dfa.proofs.PositionCounts.{size_more, capped_sum}
+use Rattle.spec_model.specs.Views.{regular}
+use Rattle.trigger_dfa.specs.Sides.{copies_in, size_in, size_in_each}
+use Rattle.trigger_dfa.proofs.PositionCounts.{size_more, capped_more, capped_sum}
+use Rattle.spec_model.proofs.Regexes.{data_repeat, piece_smaller}
 use Rattle.trigger_dfa.proofs.counting.+counting.Goals as goal
 
-pub positions_in-overflow_mul-copies_of : goal.positions_in-overflow_mul-copies_of
-positions_in-overflow_mul-copies_of t c =
-    let capped : c.positions_in.result ≤ 65 = grind (arith, c.positions_in.ensures) in
-    let product = mul-le-mul c.copies_of.ensures.few capped in
-    omega (arith, product)
+pub positions_in-repeats-preserved : goal.positions_in-repeats-preserved
+positions_in-repeats-preserved t c =
+    let copies = c.repeats.copies in
+    let piece = size_in (regular c.deref-part.result.now) in
+    record {
+      same = ap (λ n. min 65 (n * piece)) c.min-copies.ensures
+          ∙ capped_more copies c.copies_of.result piece
+          ∙ ap (λ n. min 65 (copies * (n * piece))) c.copies_of.ensures.copies
+          ∙ ap (λ p. min 65 (copies * (copies_in c.in-Repeat.low c.in-Repeat.high * size_in (regular p)))) c.deref-part.ensures
+          ∙ ap (λ r. min 65 (copies * size_in r)) (sym (data_repeat c.in-Repeat.inner c.in-Repeat.low c.in-Repeat.high))
+          ∙ ap (λ p. min 65 (copies * size_in (regular p))) (sym c.in-Repeat.is)
+          ∙ c.repeats.invariant.same;
+      few = grind (arith, c.min-copies.ensures);
+      no_larger = omega (arith, piece_smaller c.in-Repeat.inner c.in-Repeat.low c.in-Repeat.high, ap (λ p. size-Regex p) c.deref-part.ensures, ap (λ p. size-Regex p) c.in-Repeat.is, c.repeats.invariant.no_larger);
+    }
 
 pub positions_in_each-loop-r-preserved : goal.positions_in_each-loop-r-preserved
 positions_in_each-loop-r-preserved t c =

@@ -3,9 +3,26 @@ use Rattle.spec_model.specs.Views.{formula, regular}
 use Rattle.spec_model.specs.TriggerStates.{copies, written, repeated, brackets}
 use Rattle.trigger_dfa.specs.Sides.{Lays, tail_of, size_in, copies_in}
 use Rattle.trigger_dfa.proofs.PositionCounts.{size-written, length-repeated}
-use Rattle.trigger_dfa.proofs.LaidParts.{length-copies, length-optional, laid_empty, skipped_repeated, repeated-tail}
+use Rattle.trigger_dfa.proofs.LaidParts.{length-copies, length-optional, skipped_repeated, repeated-tail}
+use Rattle.trigger_dfa.proofs.Wrapped.{laid_none, laid_wrapped}
 use Rattle.trigger_dfa.proofs.LaidLists.{smaller, turn_room, besides_room, turn_step, besides_step, fewer_copies, copies_step, optional_step}
 use Rattle.trigger_dfa.proofs.side.Side.+laying.Goals as goal
+
+pub lay-lay_piece-part-requires : goal.lay-lay_piece-part-requires
+lay-lay_piece-part-requires t c =
+    let same = ap length c.unwrapped-inner.ensures.wraps.same_brackets in
+    let smaller = c.unwrapped-inner.ensures.smaller in
+    search rules
+
+pub lay-wrap-requires : goal.lay-wrap-requires
+lay-wrap-requires t c = record { positions = c.lay_piece-part.ensures.side.same_positions ∙ c.requires.positions }
+
+pub lay-returns : goal.lay-returns
+lay-returns t c =
+    let inner = c.unwrapped-inner.result in
+    laid_wrapped (map formula c.args.atoms.now) inner.starred inner.optional (written (regular inner.piece.now)) (written (regular c.args.r.now)) c.args.end
+    c.args.self.now c.lay_piece-part.new.self c.wrap.new.self c.lay_piece-part.result c.wrap.result
+    c.unwrapped-inner.ensures.wraps c.lay_piece-part.ensures c.wrap.ensures.linked c.wrap.ensures.part
 
 pub lay_besides-lay-rest-requires : goal.lay_besides-lay-rest-requires
 lay_besides-lay-rest-requires t c =
@@ -117,21 +134,14 @@ lay_optional-loop-k-preserved t c =
     optional_step (map formula c.args.atoms.now) a c.loop-k.k c.args.end c.args.self.now c.loop-k.self c.lay.new.self c.link.new.self c.loop-k.rest c.lay.result c.skippable-piece.result c.then-rest.result room
     c.loop-k.invariant c.lay.ensures c.skippable-piece.ensures c.link.ensures c.then-rest.ensures.part
 
-pub lay_repeated-lay-piece-requires : goal.lay_repeated-lay-piece-requires
-lay_repeated-lay-piece-requires t c =
-    let none : size_in (regular c.args.a.now) ≡ 0 = grind (arith, c.positions_in.ensures, c.if-positions_in-eq0.true) in
-    let size = size-written (regular c.args.a.now) in
-    let room : length (brackets (written (regular c.args.a.now))) ≤ c.args.end = omega arith in
-    search rules
-
 pub lay_repeated-returns-then-positions_in-eq0 : goal.lay_repeated-returns-then-positions_in-eq0
 lay_repeated-returns-then-positions_in-eq0 t c =
     let a = written (regular c.args.a.now) in
     let none : size_in (regular c.args.a.now) ≡ 0 = grind (arith, c.positions_in.ensures, c.if-positions_in-eq0.true) in
     let empty : length (brackets a) ≡ 0 = sym (size-written (regular c.args.a.now)) ∙ none in
     let all : length (brackets (repeated a c.args.low c.args.high)) ≡ 0 = length-repeated a c.args.low c.args.high ∙ ap (λ n. copies_in c.args.low c.args.high * n) empty ∙ mul-zero (copies_in c.args.low c.args.high) in
-    laid_empty (map formula c.args.atoms.now) a (repeated a c.args.low c.args.high) c.args.end c.args.self.now c.lay-piece.new.self c.lay-piece.result (c.lay-piece.result.skipped || (c.args.low == 0)) empty all c.lay-piece.ensures
-    (ap (λ b. b || (c.args.low == 0)) c.lay-piece.ensures.part.skipped ∙ sym (skipped_repeated a c.args.low c.args.high))
+    laid_none (map formula c.args.atoms.now) (repeated a c.args.low c.args.high) c.args.end c.args.self.now (c.can_be_skipped.result || (c.args.low == 0)) all
+    (ap (λ b. b || (c.args.low == 0)) c.can_be_skipped.ensures ∙ sym (skipped_repeated a c.args.low c.args.high))
 
 pub lay_repeated-lay_tail-tail-requires : goal.lay_repeated-lay_tail-tail-requires
 lay_repeated-lay_tail-tail-requires t c =

@@ -24,22 +24,25 @@ invariant-lay_copies-loop-k l =
     × (vec_len l.self.follow ≡ vec_len l.initial.self.follow)
 
 abbrev pub decreases-lay : goal.decreases-lay
-decreases-lay l = 8 * size_of (regular l.r.now)
+decreases-lay l = 8 * size_of (regular l.r.now) + 1
+
+abbrev pub decreases-lay_piece : goal.decreases-lay_piece
+decreases-lay_piece l = 8 * size_of (regular l.r.now)
 
 abbrev pub decreases-lay_in_turn : goal.decreases-lay_in_turn
-decreases-lay_in_turn l = 8 * size_of_all (regulars (map regular l.rs.now)) + 1
+decreases-lay_in_turn l = 8 * size_of_all (regulars (map regular l.rs.now)) + 2
 
 abbrev pub decreases-lay_besides : goal.decreases-lay_besides
-decreases-lay_besides l = 8 * size_of_all (regulars (map regular l.rs.now)) + 1
+decreases-lay_besides l = 8 * size_of_all (regulars (map regular l.rs.now)) + 2
 
 abbrev pub decreases-lay_repeated : goal.decreases-lay_repeated
-decreases-lay_repeated l = 8 * size_of (regular l.a.now) + 3
+decreases-lay_repeated l = 8 * size_of (regular l.a.now) + 4
 
 abbrev pub decreases-lay_tail : goal.decreases-lay_tail
-decreases-lay_tail l = 8 * size_of (regular l.a.now) + 2
+decreases-lay_tail l = 8 * size_of (regular l.a.now) + 3
 
 abbrev pub decreases-lay_optional : goal.decreases-lay_optional
-decreases-lay_optional l = 8 * size_of (regular l.a.now) + 1
+decreases-lay_optional l = 8 * size_of (regular l.a.now) + 2
 
 abbrev pub decreases-lay_copies : goal.decreases-lay_copies
-decreases-lay_copies l = 8 * size_of (regular l.a.now) + 1
+decreases-lay_copies l = 8 * size_of (regular l.a.now) + 2

@@ -1,0 +1,11 @@
+pub mod ElementLemmas
+pub mod KeepingLemmas
+pub mod CrowdingLemmas
+pub mod StepLemmas
+pub mod CopyLemmas
+pub mod PartLemmas
+pub mod ReadyLemmas
+pub mod ListCopyLemmas
+pub mod ReleasingLemmas
+pub mod FoundLemmas
+pub mod CountLemmas

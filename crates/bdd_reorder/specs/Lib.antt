@@ -1,0 +1,5 @@
+pub mod Keeping
+pub mod Crowding
+pub mod Making
+pub mod Copying
+pub mod Counting

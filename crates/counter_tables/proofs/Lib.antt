@@ -1,0 +1,11 @@
+pub mod Listing
+pub mod Meeting
+pub mod Ends
+pub mod Moves
+pub mod Walked
+pub mod Leading
+pub mod Splitting
+pub mod Seating
+pub mod Rowing
+pub mod Tables
+pub mod Making

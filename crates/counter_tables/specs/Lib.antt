@@ -1,0 +1,4 @@
+pub mod Seats
+pub mod Walks
+pub mod Nodes
+pub mod Environments

@@ -1,0 +1,10 @@
+pub mod Limits
+pub mod Listing
+pub mod Meeting
+pub mod Moves
+pub mod Walked
+pub mod Leading
+pub mod SeatNodes
+pub mod Tables
+pub mod Rowing
+pub mod Making

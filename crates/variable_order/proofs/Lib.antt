@@ -1,0 +1,4 @@
+pub mod LevelLemmas
+pub mod SizeLemmas
+pub mod MoveLemmas
+pub mod OneLemmas
