@@ -7,7 +7,7 @@ cd "$(dirname "$0")" || exit 1
 folder=${1:-out/bin}
 logic=dac8208d650f15bf
 # from nothing: processor minutes in all, those in which the last crates and the program are alone, and GB of disk (bench/README.md)
-minutes=186
+minutes=180
 alone=10
 disk=12
 

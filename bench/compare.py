@@ -16,7 +16,7 @@ from reference.game import Game  # noqa: E402
 from reference.talks import answer, lines_of, show  # noqa: E402
 from reference.text import Shelf, Text  # noqa: E402
 
-COMMANDS = ("synth", "run", "counter", "core", "separate", "audit")
+COMMANDS = ("synth", "run", "order", "counter", "core", "separate", "audit")
 DOMAINS = ("boolean", "boolean", "boolean", "Int(0..2)", "Int(-1..1)", "{RED, GREEN, BLUE}")
 ROWS = ("asm ini", "asm alw", "asm alw", "asm alwEv", "gar ini", "gar alw", "gar alw", "gar alw", "gar alwEv", "gar alwEv")
 PATTERN = """pattern responds(cause, effect) {

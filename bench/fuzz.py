@@ -34,7 +34,7 @@ MOST_FOUND = 40
 VERDICT = rb"(realizable K=\d+|unrealizable N=\d+ M=\d+)\n"
 # What goes with a status, as a whole.
 FORMS = {
-    0: rb"(arbiter \d+\n)?" + VERDICT + rb"(.*\n)?|separated N=\d+ M=\d+\n|audit ok \d+\n",
+    0: rb"(arbiter \d+\n)?" + VERDICT + rb"(.*\n)?|separated N=\d+ M=\d+\n|audit ok \d+\n|nodes \d+\n(no better order|order .+\nnodes \d+)\n",
     1: VERDICT + rb"|not separated K=\d+\n|audit broken #\d+ line \d+\n",
     2: re.escape(USAGE).encode() + rb"\n",
     3: rb".*:\d+:\d+: fault \d+ [A-Z][a-zA-Z0-9]+\n",

@@ -19,7 +19,7 @@ Play = namedtuple("Play", "kind words files input")
 
 MAIN = "t.spectra"
 TALKS = ("run", "counter", "audit")
-COMMANDS = (*TALKS, "audit", "synth", "core", "separate")
+COMMANDS = (*TALKS, "audit", "synth", "core", "separate", "order")
 ODD = [
     *(bytes([byte]) for byte in (0, 9, 13, 26, 27, 127, 128, 255)),
     *(b"\xc0\x80", b"\xe2\x82", b"\xed\xa0\x80", b"\xf4\x90\x80\x80", b"\xf0\x9d\x94"),

@@ -1,7 +1,7 @@
 #!/usr/bin/env python3
 """plain.py COMMAND FILE [INPUT]: what the program should write, by plain sets of states.
 
-COMMAND is one of the program's, `layers` or `order`. The input is that of the file INPUT, or else the standard input, of which each
+COMMAND is one of the program's, or `layers`. The input is that of the file INPUT, or else the standard input, of which each
 line is answered before the next is read; `verify` reads it whole. It shares nothing with the crates: a state is some tuples of
 values, a set is a Python set, and each greatest or least set is found by going on until nothing changes (reference/). It is
 slow: try it on texts of a few hundred states. It reads the whole language of docs/LANGUAGE.md, with what FILE imports, and tells
@@ -10,9 +10,6 @@ the fault of a text that is refused.
 `layers` writes Z, and for each goal and rank the layer `y` and its parts `x`, one for each assumption. Goals and
 assumptions count from 0, ranks from 1. A set has a digit for each state: hidden values, inputs and then outputs, each in
 declared order, the first one slowest; a `_` stands where the input changes. The last line has K and who wins.
-
-`order` writes how many different parts the diagrams of the lines have where the variables stand as they are declared, and, if moving
-one variable at a time finds one, a better order with its number. No input is read.
 """
 import os
 import sys
@@ -23,12 +20,11 @@ sys.path.insert(0, str(Path(__file__).resolve().parent))
 
 from reference.game import Game  # noqa: E402
 from reference.layers import round_count, winning  # noqa: E402
-from reference.orders import order  # noqa: E402
 from reference.tables import MOST_BYTES  # noqa: E402
 from reference.talks import input_of, talk  # noqa: E402
 from reference.text import NoText, Shelf, Text  # noqa: E402
 
-COMMANDS = ("synth", "run", "many", "counter", "core", "separate", "audit", "export", "verify", "order", "layers")
+COMMANDS = ("synth", "run", "many", "order", "counter", "core", "separate", "audit", "export", "verify", "layers")
 USAGE = f"""usage: plain.py COMMAND FILE [INPUT]
 COMMAND is one of {' '.join(COMMANDS)}; without INPUT the standard input is read.
 It writes what spectra writes, slowly and without a proof: python3 bench/plain.py run examples/lift.spectra examples/lift.run.in"""
@@ -98,8 +94,6 @@ def main():
     if sys.argv[1] == "layers":
         write_layers(Game(text))
         return 0
-    if sys.argv[1] == "order":
-        return write(order(text))
     return write(talk(sys.argv[1], text, given(sys.argv[1], *sys.argv[3:])))
 
 

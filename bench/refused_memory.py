@@ -30,6 +30,7 @@ RUNS = [
     of_example("synth", "door"), of_example("run", "robot"), of_example("counter", "stuck"), of_example("core", "gate"),
     of_example("separate", "crossing"), of_example("audit", "crossing", 1),
     Run(["gen", "2"], b"arbiter 2\nrealizable K=5\n", 0, (b"", b"arbiter 2\n")),
+    Run(["order", "door.spectra"], b"nodes 10\norder open request\nnodes 9\n", 0, (b"",)),
 ]  # fmt: skip
 
 

@@ -8,14 +8,8 @@ set -euo pipefail
 if [ "${1:-}" = --try ]; then
   exec python3 "$(dirname "$0")/refused_memory.py" "$@"
 fi
-if [ $# -gt 0 ]; then
-  here=$(cd "$(dirname "$0")" && pwd)
-  program=$(realpath "$(command -v "$1")")
-  made=$(mktemp -d)
-  trap 'rm -rf "$made"' EXIT
-else
-  source "$(dirname "$0")/program.sh"
-fi
+asked=${1:-}
+source "$(dirname "$0")/program.sh"
 
 "${CC:-cc}" -O2 -shared -fPIC -o "$made/refuse.so" "$here/refuse.c"
 python3 "$here/refused_memory.py" "$program" "$made/refuse.so"

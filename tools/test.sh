@@ -26,9 +26,15 @@ writes() {
 passes() { "$@" || failed=$((failed + 1)); }
 
 passes python3 tools/tests/kept.py
+reordered() { printf 'nodes 9\norder %s\nnodes 8\n' "$1" | tools/reorder.py tools/tests/reordered.spectra; }
+writes reordered.out 0 reordered "d f e seen c b a"
+writes nothing.out 1 reordered "d f e seen c b"
+unordered() { echo "node budget 2 reached" | tools/reorder.py tools/tests/reordered.spectra; }
+writes nothing.out 1 unordered
 passes python3 bench/fuzz.py --self-test
 if [ ! -x "$SPECTRA" ]; then
   passes python3 tools/tests/patterns.py
+  passes python3 tools/tests/reordered.py
   passes python3 tools/tests/drawn.py
   passes python3 tools/tests/embedded.py
   echo "tools: the rest is skipped, since there is no program at $SPECTRA"
@@ -49,7 +55,7 @@ writes duel-door.out 1 tools/duel.py examples/door.spectra
 begun() { tools/controller.py examples/arbiter.spectra <tools/tests/begun.in; }
 writes begun.out 6 begun
 writes ../../examples/warehouse.txt 0 examples/warehouse.py 13 4
-for tool in controller.py numbered.py duel.py sanity.py draw.py embed.py; do
+for tool in controller.py numbered.py duel.py sanity.py draw.py embed.py reorder.py; do
   writes nothing.out 2 "tools/$tool"
 done
 writes nothing.out 2 examples/warehouse.py fast
@@ -63,6 +69,7 @@ writes late.out 3 late
 passes python3 tools/tests/talks.py
 passes python3 tools/tests/sanity.py
 passes python3 tools/tests/patterns.py "$SPECTRA"
+passes python3 tools/tests/reordered.py "$SPECTRA"
 passes python3 tools/tests/drawn.py "$SPECTRA"
 passes python3 tools/tests/embedded.py "$SPECTRA"
 echo "tools: $failed failed"

@@ -4,6 +4,7 @@ import re
 from .choices import FRESH, answered, begun, noted
 from .game import Game
 from .layers import Verdict
+from .orders import order
 from .rules import first_flaw
 from .tables import NoTable, TooLarge, is_listed, table_for, table_of, text_of
 from .text import Line
@@ -210,6 +211,8 @@ def talk(command, text, given):
     then the status."""
     if command == "separate":
         return separate(text)
+    if command == "order":
+        return order(text)
     game = Game(text)
     if command in ("audit", "verify"):
         return (audit if command == "audit" else verify)(game, given)

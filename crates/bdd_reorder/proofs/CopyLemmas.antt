@@ -12,7 +12,8 @@ use Rattle.bdd_ops.specs.Calls.{KeepsRoots}
 use Rattle.bdd_ops.proofs.DiagramLemmas.{part_of_itself}
 use Rattle.bdd_reorder.specs.declared.memo.Copied.{Copied}
 use Rattle.bdd_reorder.specs.Keeping.{one_at, made_at, KeepsBesides}
-use Rattle.bdd_reorder.specs.Crowding.{IsPartRearranged, IsBit, IsOfPart, IsCrowdedSince}
+use Rattle.bdd_reorder.specs.Crowding.{IsCrowdedSince}
+use Rattle.bdd_reorder.specs.Rearranged.{IsPartRearranged, IsBit, IsOfPart}
 use Rattle.bdd_reorder.specs.Making.{MakesOne, branched}
 use Rattle.bdd_reorder.specs.Copying.{copies_at, IsRight, IsCopy, CopiesPart}
 use Rattle.bdd_reorder.proofs.KeepingLemmas.{one_itself, table_keeps, nothing_besides, keeps_then, besides_then, besides_wider, besides_less}

@@ -8,7 +8,8 @@ use Rattle.spec_model.specs.Diagrams.{Diagram, constant, branch, value, IsPartOf
 use Rattle.node_table.specs.Table.{Table, IsLive, diagram_at}
 use Rattle.bdd_ops.proofs.DiagramLemmas.{part_of_itself}
 use Rattle.bdd_reorder.specs.Copying.{size_of}
-use Rattle.bdd_reorder.specs.Counting.{AreDifferent, IsConstant, IsPartOfOne, HaveParts, IsAmong, IsFound, AreApart, AreFound, FindsParts, FindsAll}
+use Rattle.bdd_reorder.specs.Counting.{AreDifferent, IsConstant, IsPartOfOne, HaveParts}
+use Rattle.bdd_reorder.specs.Searching.{IsAmong, IsFound, AreApart, AreFound, FindsParts, FindsAll}
 use Rattle.bdd_reorder.proofs.ElementLemmas.{contains_first, contains_later, first_or_later, none_in, contains_map, map_contains, all_append}
 
 -- ---- diagrams

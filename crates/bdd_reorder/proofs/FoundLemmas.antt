@@ -4,7 +4,7 @@ use Rattle.std.specs.List.{Contains}
 use Rattle.std.proofs.lemmas.Bool.{false≢true, cases_eq}
 use Rattle.std.proofs.lemmas.List.{get_or_past, get_or-set_same, get_or-set_other}
 use Rattle.std.proofs.lemmas.List.Elements.{Contains-append_left, Contains-append_cases, Contains-push}
-use Rattle.bdd_reorder.specs.Counting.{AreMarked}
+use Rattle.bdd_reorder.specs.Searching.{AreMarked}
 use Rattle.bdd_reorder.proofs.ElementLemmas.{first_or_later, none_in}
 
 -- a number past the flags isn't among them

@@ -12,7 +12,8 @@ use Rattle.bdd_store.specs.State.{IsRoot, roots_at, diagram_of}
 use Rattle.bdd_ops.specs.Contents.{Contents, function_at}
 use Rattle.bdd_ops.specs.Calls.{KeepsRoots}
 use Rattle.bdd_reorder.specs.Keeping.{one_at, times_in, KeepsBesides}
-use Rattle.bdd_reorder.specs.Crowding.{IsOfPart, IsOfCopy, IsCrowdedSince}
+use Rattle.bdd_reorder.specs.Crowding.{IsCrowdedSince}
+use Rattle.bdd_reorder.specs.Rearranged.{IsOfPart, IsOfCopy}
 use Rattle.bdd_reorder.specs.Making.{MakesCopy, MakesCopies, functions_at, diagrams_at}
 use Rattle.bdd_reorder.proofs.ElementLemmas.{contains_first, contains_later, contains_map, map_contains}
 use Rattle.bdd_reorder.proofs.KeepingLemmas.{is_one, one_itself, times-push}
@@ -100,11 +101,13 @@ module _ (s0 s1 : Contents) (levels : List ℕ) (ds : List Diagram) (copies : Li
         meaning = λ n root. ap (λ t. diagram_at t n) table ∙ made.keeps.meaning n root;
       });
       full = λ e.
-          let crowded = made.full (ap (λ (k : StoreFault). Err k) (ap (fault_in h) e)) in
+          let full = made.full (ap (λ (k : StoreFault). Err k) (ap (fault_in h) e)) in
+          let crowded = full.1 in
           let besides : KeepsBesides s0 s1 (IsOfCopy levels all d crowded.0) (λ n. times_in n copies) = record { keeps = keeps; added = added; named = named crowded.0 } in
           record {
             whole = d;
             is_one = is_one;
+            reduced = full.0;
             level = crowded.0;
             crowded = subst (λ (t : Table). IsCrowdedSince s0.state t (IsOfCopy levels all d crowded.0)) (sym table) (crowded_back s0 s1 (IsOfPart levels d crowded.0) (IsOfCopy levels all d crowded.0) (λ n. times_in n copies) (λ f is. inr is) besides whole.state.table crowded.1);
           };

@@ -10,7 +10,7 @@ use Rattle.bdd_ops.specs.Contents.{Contents, function_at}
 use Rattle.bdd_ops.specs.Calls.{KeepsRoots, GivesRoot}
 use Rattle.bdd_reorder.specs.declared.memo.Copied.{Copied}
 use Rattle.bdd_reorder.specs.Keeping.{one_at, made_at, KeepsBesides}
-use Rattle.bdd_reorder.specs.Crowding.{IsPartRearranged}
+use Rattle.bdd_reorder.specs.Rearranged.{IsPartRearranged}
 use Rattle.bdd_reorder.specs.Copying.{copies_at, IsRight, CopiesPart}
 use Rattle.bdd_reorder.proofs.KeepingLemmas.{one_itself, made_named, besides_then, besides_less}
 use Rattle.bdd_reorder.proofs.CopyLemmas.{itself, copies-append, all-append, rights_stay}

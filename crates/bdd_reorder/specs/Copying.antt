@@ -8,7 +8,7 @@ use Rattle.bdd_store.specs.State.{IsRoot}
 use Rattle.bdd_ops.specs.Contents.{Contents, function_at}
 use Rattle.bdd_reorder.specs.declared.memo.Copied.{Copied}
 use Rattle.bdd_reorder.specs.Keeping.{one_at, made_at, KeepsBesides}
-use Rattle.bdd_reorder.specs.Crowding.{IsPartRearranged}
+use Rattle.bdd_reorder.specs.Rearranged.{IsPartRearranged}
 
 -- the list has a level of a store with so many for each level of one with as many as it is long
 pub record FitsLevels (from to : Contents) (levels : List ℕ) : Type 0 where

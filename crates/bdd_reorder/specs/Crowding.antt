@@ -1,10 +1,11 @@
 -- What a budget is filled with where it ends a copy: diagrams that are held, and what one operation on them made so far.
 use Rattle.std.specs.Prelude.{◌≡◌, ◌<◌, ◌⊎◌, ℕ, List, [], ◌∷◌}
 use Rattle.std.specs.List.{AllByRecursion, Contains}
-use Rattle.spec_model.specs.Diagrams.{Diagram, Function, value, shifted, IsPartOf, IsReduced}
+use Rattle.spec_model.specs.Diagrams.{Diagram, Function, value, IsPartOf, IsReduced}
 use Rattle.node_table.specs.Table.{Table, IsLive, diagram_at}
 use Rattle.bdd_store.specs.State.{State, IsRoot, diagram_of, IsFilled}
 use Rattle.bdd_ops.specs.Unfinished.{IsChoiceOfParts}
+use Rattle.bdd_reorder.specs.Rearranged.{IsOfCopy}
 
 -- one operation on diagrams: a level's bit, or a choice
 pub data Running : Type 0 where
@@ -41,35 +42,11 @@ pub record IsCrowdedSince (old : State) (t : Table) (IsNamed : Function → Type
   pub reduced : AllByRecursion IsReduced (arguments_of running)
   pub needed : (n : ℕ) → IsLive t n → (n < 2) ⊎ (StandsIn t (IsHeldSince old IsNamed) n ⊎ IsUnfinishedOf running (diagram_at t n))
 
--- ---- functions that a copy holds
-
-abbrev pub NoFunction : Function → Type 0
-NoFunction f = ⊥
-
--- the function is one of these diagrams', with its levels rearranged
-abbrev pub IsOneRearranged : List ℕ → List Diagram → Function → Type 0
-IsOneRearranged levels ds f = (d : Diagram) × Contains ds d × (f ≡ shifted levels (value d))
-
--- the function is that of a part of the diagram, with its levels rearranged
-abbrev pub IsPartRearranged : List ℕ → Diagram → Function → Type 0
-IsPartRearranged levels whole f = (d : Diagram) × IsPartOf d whole × (f ≡ shifted levels (value d))
-
--- the function is the level's bit
-abbrev pub IsBit : ℕ → Function → Type 0
-IsBit level f = f ≡ (λ s. s level)
-
--- while a part is copied: parts' functions rearranged, and one level's bit
-abbrev pub IsOfPart : List ℕ → Diagram → ℕ → Function → Type 0
-IsOfPart levels whole level f = IsPartRearranged levels whole f ⊎ IsBit level f
-
--- while several diagrams are copied: some of their functions rearranged, those of parts of one of them, and one level's bit
-abbrev pub IsOfCopy : List ℕ → List Diagram → Diagram → ℕ → Function → Type 0
-IsOfCopy levels ds whole level f = IsOneRearranged levels ds f ⊎ IsOfPart levels whole level f
-
 -- The budget is filled by what was kept at first, by rearranged functions of some of these diagrams and of some parts of one
--- of them, by one level's bit at most, and by one operation's unfinished results on these.
+-- of them, which is reduced, by one level's bit at most, and by one operation's unfinished results on these.
 pub record IsCrowdedByCopy (old : State) (t : Table) (levels : List ℕ) (ds : List Diagram) : Type 0 where
   pub whole : Diagram
   pub is_one : Contains ds whole
+  pub reduced : IsReduced whole
   pub level : ℕ
   pub crowded : IsCrowdedSince old t (IsOfCopy levels ds whole level)

@@ -1,14 +1,15 @@
 -- What a step and a copy give and leave.
 use Rattle.std.specs.Prelude.{◌≡◌, ◌+◌, ℕ, List, map, Vec, Result, Err, IfOk, OnErr}
 use Rattle.std.specs.declared.alloc.Global.{Global}
-use Rattle.spec_model.specs.Diagrams.{Diagram, Function, value, ite, shifted}
+use Rattle.spec_model.specs.Diagrams.{Diagram, Function, value, ite, shifted, IsReduced}
 use Rattle.bdd_store.specs.declared.fault.StoreFault.{StoreFault}
 use Rattle.bdd_store.specs.declared.fault.StoreFault.TheVariants as fault
 use Rattle.bdd_store.specs.State.{diagram_of, roots_at, SameRoots}
 use Rattle.bdd_ops.specs.Contents.{Contents, function_at}
 use Rattle.bdd_ops.specs.Calls.{KeepsRoots}
 use Rattle.bdd_reorder.specs.Keeping.{times_in, made_at}
-use Rattle.bdd_reorder.specs.Crowding.{IsCrowdedSince, IsOfPart, IsCrowdedByCopy}
+use Rattle.bdd_reorder.specs.Crowding.{IsCrowdedSince, IsCrowdedByCopy}
+use Rattle.bdd_reorder.specs.Rearranged.{IsOfPart}
 
 -- the functions of several nodes
 abbrev pub functions_at : Contents → List ℕ → List Function
@@ -42,7 +43,7 @@ pub record MakesCopy (old new : Contents) (result : Result ℕ StoreFault) (leve
   pub meaning : IfOk result (λ r. function_at new r ≡ shifted levels (value d))
   pub keeps : KeepsRoots old new
   pub added : (n : ℕ) → roots_at new.state n ≡ roots_at old.state n + made_at n result
-  pub full : result ≡ Err fault.Full → (level : ℕ) × IsCrowdedSince old.state new.state.table (IsOfPart levels d level)
+  pub full : result ≡ Err fault.Full → IsReduced d × ((level : ℕ) × IsCrowdedSince old.state new.state.table (IsOfPart levels d level))
 
 -- high where the level's bit is true, and else low
 abbrev pub branched : ℕ → Function → Function → Function

@@ -1,12 +1,13 @@
 //! Diagrams copied into another store.
 
 ghost use Rattle.std.specs.Prelude.{◌≡◌, ◌<◌, ◌≤◌, ◌+◌, [], ℕ, Err};
-ghost use Rattle.spec_model.specs.Diagrams.{branch};
+ghost use Rattle.spec_model.specs.Diagrams.{branch, IsReduced};
 ghost use Rattle.bdd_store.specs.State.{IsRoot, roots_at, diagram_of, SameRoots};
 ghost use Rattle.bdd_ops.specs.Calls.{KeepsRoots};
 ghost use Rattle.bdd_reorder.specs.Keeping.{times_in, AreRoots};
 ghost use Rattle.bdd_reorder.specs.Making.{MakesCopy, MakesCopies, diagrams_at};
-ghost use Rattle.bdd_reorder.specs.Crowding.{IsCrowdedSince, IsOfPart};
+ghost use Rattle.bdd_reorder.specs.Crowding.{IsCrowdedSince};
+ghost use Rattle.bdd_reorder.specs.Rearranged.{IsOfPart};
 ghost use Rattle.bdd_reorder.specs.Copying.{FitsLevels, CanCopy, CopiesPart};
 
 use crate::memo::Memo;
@@ -60,7 +61,7 @@ fn part(
     requires ready { CanCopy from.old to.old levels.now truth.now memo.old.copies.items }
     requires kept { IsRoot from.old.state a.now }
     ensures copied { CopiesPart from.old.state.table to.old to.new levels.now (diagram_of from.old.state a.now) memo.old.copies.items memo.new.copies.items result }
-    ensures full { result ≡ Err StoreFault.Full → (level : ℕ) × IsCrowdedSince to.old.state to.new.state.table (IsOfPart levels.now (diagram_of from.old.state a.now) level) }
+    ensures full { result ≡ Err StoreFault.Full → IsReduced (diagram_of from.old.state a.now) × ((level : ℕ) × IsCrowdedSince to.old.state to.new.state.table (IsOfPart levels.now (diagram_of from.old.state a.now) level)) }
     ensures from_table { from.new.state.table ≡ from.old.state.table }
     ensures from_roots { SameRoots from.old.state from.new.state }
 {

@@ -4,7 +4,8 @@ ghost use Rattle.std.specs.Prelude.{◌≡◌, [], ◌∷◌, IfOk, OnOk};
 ghost use Rattle.bdd_store.specs.State.{IsRoot, diagram_of, SameRoots};
 ghost use Rattle.bdd_reorder.specs.Keeping.{AreRoots};
 ghost use Rattle.bdd_reorder.specs.Making.{diagrams_at};
-ghost use Rattle.bdd_reorder.specs.Counting.{AreFound, FindsParts, FindsAll, HaveParts};
+ghost use Rattle.bdd_reorder.specs.Counting.{HaveParts};
+ghost use Rattle.bdd_reorder.specs.Searching.{AreFound, FindsParts, FindsAll};
 
 use crate::found::Found;
 use bdd_ops::{Diagrams, OutOfMemory, Root, Split, StoreFault};

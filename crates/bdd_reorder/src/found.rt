@@ -29,7 +29,7 @@ pub struct Found {
 
 impl Model for Found {
     ghost use Rattle.std.specs.Prelude.{ℕ, List};
-    ghost use Rattle.bdd_reorder.specs.Counting.{AreMarked};
+    ghost use Rattle.bdd_reorder.specs.Searching.{AreMarked};
 
     ghost Value = { List ℕ };
 

@@ -4,7 +4,7 @@ ghost use Rattle.std.specs.Prelude.{◌<◌};
 ghost use Rattle.spec_model.specs.Diagrams.{ite};
 ghost use Rattle.bdd_store.specs.State.{IsRoot};
 ghost use Rattle.bdd_ops.specs.Contents.{function_at};
-ghost use Rattle.bdd_reorder.specs.Crowding.{NoFunction, IsBit};
+ghost use Rattle.bdd_reorder.specs.Rearranged.{NoFunction, IsBit};
 ghost use Rattle.bdd_reorder.specs.Making.{MakesOne, branched};
 
 use bdd_ops::{Diagrams, Root, StoreFault};

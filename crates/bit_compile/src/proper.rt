@@ -20,8 +20,9 @@ use game_values::seen::At;
 use regions::Halt;
 use std::alloc::Global;
 
-/// Where the product is true, and the bits at this place of a state are some value's code.
-fn and_some_value(
+/// The diagram that is true where the product is, and the bits at this place of a state, present or next, are some value's
+/// code. Refusals are those of `compile`, and leave what was kept.
+pub fn and_some_value(
     diagrams: &mut Diagrams,
     product: &Root,
     codes: &Codes,

@@ -3,7 +3,7 @@ use Rattle.std.specs.Prelude.{◌≡◌, ℕ, ◌≤◌, List, [], Option, None,
 use Rattle.std.specs.Str.Parse.{IsNumeral, digits_value}
 use Rattle.clap.specs.Words.{App, Rule, Text, fault_of, first_of, matches_of, new_app, new_rule, with_rule}
 use Rattle.command_words.specs.declared.words.Command.{Command}
-use Rattle.command_words.specs.declared.words.Command.TheVariants.{Synth, Run, Many, Core, Separate, Counter, Audit, Export, Verify}
+use Rattle.command_words.specs.declared.words.Command.TheVariants.{Synth, Run, Many, Order, Core, Separate, Counter, Audit, Export, Verify}
 
 -- ---- what `clap` reads: `spectra COMMAND FILE [--nodes N]`
 
@@ -32,6 +32,7 @@ abbrev pub word_of : Command → Text
 word_of Synth = codes "synth"
 word_of Run = codes "run"
 word_of Many = codes "many"
+word_of Order = codes "order"
 word_of Core = codes "core"
 word_of Separate = codes "separate"
 word_of Counter = codes "counter"

@@ -19,6 +19,8 @@ pub enum Command {
     Run,
     /// To write the verdict and, where the system wins, to answer the lines of many sessions.
     Many,
+    /// To write how large the diagrams of the lines are, and a better order of the variables where one is found.
+    Order,
     /// To write the verdict and, where the environment wins, the guarantees of an unrealizable core.
     Core,
     /// To write whether the assumptions keep the system from a guarantee that can never be met.
@@ -58,6 +60,7 @@ fn command_of(word: &str) -> Option<Command>
         "synth" => Some(Command::Synth),
         "run" => Some(Command::Run),
         "many" => Some(Command::Many),
+        "order" => Some(Command::Order),
         "core" => Some(Command::Core),
         "separate" => Some(Command::Separate),
         "counter" => Some(Command::Counter),

@@ -5,6 +5,7 @@ ghost use Rattle.sp_outside.specs.Causes.{Rose};
 ghost use Rattle.spec_model.specs.Syntax.{Specification};
 ghost use Rattle.strategy_parts.specs.Counts.{HasFewGoals};
 ghost use Rattle.controller.specs.Objects.{IsFresh, game_of, Stands, InEachPlay};
+ghost use Rattle.session_lines.specs.HowOften.{ReadsForLines};
 ghost use Rattle.session_lines.specs.Views.{AreFor, AreUnread};
 ghost use Rattle.session.specs.Strategies.{rounds_of, IsOf};
 ghost use Rattle.many_sessions.specs.Seats.{IsNewFor};
@@ -55,7 +56,8 @@ impl ManyEnd {
 ///
 /// Each line is answered before the input is read again, by the session's number, a space, and the output that the system's
 /// strategy chooses; `refused` where no input reads; or `assumption broken #` and a line's number. The last two end the
-/// session, whose later lines are answered `ended`. No session is told anything else than it is told alone.
+/// session, whose later lines are answered `ended`. No session is told anything else than it is told alone. Each read of the input
+/// takes at least one byte, but for one that finds the end or fails, and no more is taken than `limit` lines and one line's room.
 pub fn many_lines<G: Regions, I: Source, O: Sink>(
     many: &mut Many,
     lines: &mut Lines,
@@ -73,6 +75,7 @@ pub fn many_lines<G: Regions, I: Source, O: Sink>(
     ensures talk { (s : Specification) → AreFor lines.old s → IsOf G.kept play.old s →
         InEachPlay G.kept play.old (λ z l h b m. ManyTalk s (game_of G.kept play.old) l (rounds_of play.old) limit (I.left input.old) (I.left input.new) (O.written output.old) (O.written output.new)
         (Rose (I.faults input.old) (I.faults input.new)) (Rose (O.faults output.old) (O.faults output.new)) result) }
+    ensures reads { ReadsForLines limit (I.left input.old) (I.left input.new) (I.reads input.old) (I.reads input.new) }
     ensures stands { Stands G.kept play.new }
     ensures later_in { I.faults input.old ≤ I.faults input.new }
     ensures later_out { O.faults output.old ≤ O.faults output.new }

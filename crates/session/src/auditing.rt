@@ -7,6 +7,7 @@ ghost use Rattle.spec_model.specs.Values.{is_assignment};
 ghost use Rattle.spec_model.specs.Rules.{Run};
 ghost use Rattle.trace_planes.specs.Audits.{room_of};
 ghost use Rattle.session_lines.specs.Room.{domains};
+ghost use Rattle.session_lines.specs.HowOften.{ReadsLines, ReadsForLines, ReadsOneMore};
 ghost use Rattle.session_lines.specs.Views.{AreForLogs, AreUnread, KeepsTables, KeepsReader, pending_of, line_of, ended_of, read_of, wanted_variables};
 ghost use Rattle.session.specs.AuditTalks.{AuditTalk};
 ghost use Rattle.session.specs.Audits.{IsAuditOf, Serves, IsTold, IsPushedAs, IsTaken, HasRead, ReadsOn};
@@ -86,6 +87,8 @@ fn turn<I: Source>(
     requires few { count + 1 < 18446744073709551616 }
     ensures reads_on { (s : Specification) (limit : ℕ) (left : Option (List ℕ)) → count < limit → AreForLogs lines.old s → HasRead s audit.old (ended_of lines.old) left (I.left input.old) (pending_of lines.old) count →
         ReadsOn s audit.new limit (ended_of lines.new) left (I.left input.new) (pending_of lines.new) count (Rose (I.faults input.old) (I.faults input.new)) result }
+    ensures reads { (left : Option (List ℕ)) (reads : ℕ) → ReadsLines count (ended_of lines.old) (pending_of lines.old) left (I.left input.old) reads (I.reads input.old) →
+        ReadsOneMore count (ended_of lines.new) (pending_of lines.new) left (I.left input.new) reads (I.reads input.new) result }
     ensures keeps { KeepsTables lines.old lines.new }
     ensures later { I.faults input.old ≤ I.faults input.new }
 {
@@ -99,7 +102,8 @@ fn turn<I: Source>(
 
 /// Audits the positions of the lines of the input, at most `limit` of them, and says how that ended. It takes no memory.
 ///
-/// A position that breaks a line comes before a line refused, the input's fault and the limit.
+/// A position that breaks a line comes before a line refused, the input's fault and the limit. Each read of the input takes at
+/// least one byte, but for one that finds the end or fails, and no more is taken than `limit` lines and one line's room.
 pub fn audit_lines<I: Source>(
     lines: &mut Lines,
     audit: &mut Audit,
@@ -110,6 +114,7 @@ pub fn audit_lines<I: Source>(
     requires one_specification { (s : Specification) × AreForLogs lines.old s × IsAuditOf audit.old s [] }
     ensures talk { (s : Specification) → AreForLogs lines.old s → IsAuditOf audit.old s [] →
         AuditTalk s limit (I.left input.old) (I.left input.new) (Rose (I.faults input.old) (I.faults input.new)) result }
+    ensures reads { ReadsForLines limit (I.left input.old) (I.left input.new) (I.reads input.old) (I.reads input.new) }
     ensures later { I.faults input.old ≤ I.faults input.new }
 {
     for count in 0..limit {

@@ -13,6 +13,7 @@ ghost use Rattle.gr1_law.specs.Counter.{CounterMemory};
 ghost use Rattle.counterstrategy.specs.Objects.{IsFresh, HasGiven, given_by, game_of, Stands, InEachPlay, Gives, GoesOn, HoldsTheSame, note_data};
 ghost use Rattle.session_lines.specs.Room.{domains};
 ghost use Rattle.session_lines.specs.Shown.{show};
+ghost use Rattle.session_lines.specs.HowOften.{ReadsForLines};
 ghost use Rattle.session_lines.specs.Views.{AreFor, AreUnread, KeepsTables, KeepsReader, names_of, wanted_variables, shown_variables, read_of, shown_of};
 ghost use Rattle.session.specs.Exchanges.{RepliesTo};
 ghost use Rattle.session.specs.Protocols.{Suits, Serves};
@@ -179,8 +180,9 @@ impl<G: Regions> Protocol<Alone> for Counterstrategy<G> {
 /// Writes the first input of the environment's strategy, and answers each line of the input, at most `limit` of them, by the
 /// note of the position that it completes and the next input; and says how the talk ended. It takes no memory.
 ///
-/// Each line is answered before the input is read again. The order for one line: the input's fault, the line refused, the
-/// guarantee or monitor's line broken. The lines are turned round: what they wanted is shown.
+/// Each line is answered before the input is read again. Each read takes at least one byte, but for one that finds the end or
+/// fails, and no more is taken than `limit` lines and one line's room. The order for one line: the input's fault, the line
+/// refused, the guarantee or monitor's line broken. The lines are turned round: what they wanted is shown.
 pub fn counter_lines<G: Regions, I: Source, O: Sink>(
     lines: &mut Lines,
     play: &mut Counterstrategy<G>,
@@ -195,6 +197,7 @@ pub fn counter_lines<G: Regions, I: Source, O: Sink>(
     ensures talk { (s : Specification) → AreFor lines.old s → IsCounterOf G.kept play.old s →
         CounterTalk s (shifts_of play.old) (denials_of G.kept play.old) limit (I.left input.old) (I.left input.new) (O.written output.old) (O.written output.new)
         (Rose (I.faults input.old) (I.faults input.new)) (Rose (O.faults output.old) (O.faults output.new)) result }
+    ensures reads { ReadsForLines limit (I.left input.old) (I.left input.new) (I.reads input.old) (I.reads input.new) }
     ensures stands { Stands G.kept play.new }
     ensures later_in { I.faults input.old ≤ I.faults input.new }
     ensures later_out { O.faults output.old ≤ O.faults output.new }

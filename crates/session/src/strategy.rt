@@ -10,6 +10,7 @@ ghost use Rattle.gr1_law.specs.Choice.{Memory};
 ghost use Rattle.regions.specs.Rules.{output_count};
 ghost use Rattle.controller.specs.Objects.{IsFresh, game_of, Stands, InEachPlay, GoesOn, HoldsTheSame};
 ghost use Rattle.session_lines.specs.Room.{domains};
+ghost use Rattle.session_lines.specs.HowOften.{ReadsForLines};
 ghost use Rattle.session_lines.specs.Views.{AreFor, AreUnread, KeepsTables, KeepsReader, wanted_variables, read_of, shown_of};
 ghost use Rattle.session.specs.Exchanges.{RepliesTo};
 ghost use Rattle.session.specs.Protocols.{Suits, Serves};
@@ -115,8 +116,9 @@ impl<G: Regions> Protocol<Alone> for Controller<G> {
 /// Answers the lines of the input by the system's strategy, at most `limit` of them, and says how the talk ended. It takes
 /// no memory.
 ///
-/// Each line is answered before the input is read again. The order for one line: the input's fault, the line refused, the
-/// assumption broken.
+/// Each line is answered before the input is read again. Each read takes at least one byte, but for one that finds the end or
+/// fails, and no more is taken than `limit` lines and one line's room. The order for one line: the input's fault, the line
+/// refused, the assumption broken.
 pub fn run_lines<G: Regions, I: Source, O: Sink>(
     lines: &mut Lines,
     play: &mut Controller<G>,
@@ -131,6 +133,7 @@ pub fn run_lines<G: Regions, I: Source, O: Sink>(
     ensures talk { (s : Specification) → AreFor lines.old s → IsOf G.kept play.old s →
         RunTalk s (rounds_of play.old) limit (I.left input.old) (I.left input.new) (O.written output.old) (O.written output.new)
         (Rose (I.faults input.old) (I.faults input.new)) (Rose (O.faults output.old) (O.faults output.new)) result }
+    ensures reads { ReadsForLines limit (I.left input.old) (I.left input.new) (I.reads input.old) (I.reads input.new) }
     ensures stands { Stands G.kept play.new }
     ensures later_in { I.faults input.old ≤ I.faults input.new }
     ensures later_out { O.faults output.old ≤ O.faults output.new }

@@ -3,6 +3,7 @@
 ghost use Rattle.std.specs.Prelude.{◌≡◌, ◌+◌, ◌<◌, ◌≤◌, List, ℕ, Option};
 ghost use Rattle.sp_outside.specs.Causes.{Rose};
 ghost use Rattle.spec_model.specs.Syntax.{Specification};
+ghost use Rattle.session_lines.specs.HowOften.{ReadsLines, ReadsForLines, ReadsOneMore};
 ghost use Rattle.session_lines.specs.Views.{AreUnread, KeepsTables, KeepsReader, pending_of, line_of, ended_of};
 ghost use Rattle.session.specs.Exchanges.{SoFar, IsMet, GoesOn, HasEnded};
 ghost use Rattle.session.specs.Protocols.{Suits, Serves};
@@ -68,6 +69,8 @@ fn turn<W, P: Protocol<W>, I: Source, O: Sink>(
         SoFar (P.terms s) (P.stands play.old beside.old s) first (ended_of lines.old) left (I.left input.old) written (O.written output.old) (pending_of lines.old) count →
         GoesOn (P.terms s) (P.stands play.new beside.new s) first limit (ended_of lines.new) left (I.left input.new) written (O.written output.new)
         (Rose (I.faults input.old) (I.faults input.new)) (Rose (O.faults output.old) (O.faults output.new)) (pending_of lines.new) count result }
+    ensures reads { (left : Option (List ℕ)) (reads : ℕ) → ReadsLines count (ended_of lines.old) (pending_of lines.old) left (I.left input.old) reads (I.reads input.old) →
+        ReadsOneMore count (ended_of lines.new) (pending_of lines.new) left (I.left input.new) reads (I.reads input.new) result }
     ensures keeps { KeepsTables lines.old lines.new }
     ensures later_in { I.faults input.old ≤ I.faults input.new }
     ensures later_out { O.faults output.old ≤ O.faults output.new }
@@ -95,6 +98,7 @@ fn exchange<W, P: Protocol<W>, I: Source, O: Sink>(
         SoFar (P.terms s) (P.stands play.old beside.old s) first (ended_of lines.old) left (I.left input.old) written (O.written output.old) (pending_of lines.old) 0 →
         HasEnded (P.terms s) (P.stands play.new beside.new s) first limit left (I.left input.new) written (O.written output.new)
         (Rose (I.faults input.old) (I.faults input.new)) (Rose (O.faults output.old) (O.faults output.new)) result }
+    ensures reads { ReadsForLines limit (I.left input.old) (I.left input.new) (I.reads input.old) (I.reads input.new) }
     ensures later_in { I.faults input.old ≤ I.faults input.new }
     ensures later_out { O.faults output.old ≤ O.faults output.new }
 {
@@ -108,8 +112,9 @@ fn exchange<W, P: Protocol<W>, I: Source, O: Sink>(
 
 /// Answers the lines of the input, at most `limit` of them, and says how the talk ended. It takes no memory.
 ///
-/// Each line is answered before the input is read again. The order for one line: the input's fault, the line refused, the
-/// line broken.
+/// Each line is answered before the input is read again. Each read takes at least one byte, but for one that finds the end or
+/// fails, and no more is taken than `limit` lines and one line's room. The order for one line: the input's fault, the line
+/// refused, the line broken.
 pub fn talk<W, P: Protocol<W>, I: Source, O: Sink>(
     lines: &mut Lines,
     play: &mut P,
@@ -123,6 +128,7 @@ pub fn talk<W, P: Protocol<W>, I: Source, O: Sink>(
     ensures talk { (s : Specification) (first : P.State) → Suits lines.old (P.terms s) → P.begins play.old beside.old s first →
         HasEnded (P.terms s) (P.stands play.new beside.new s) first limit (I.left input.old) (I.left input.new) (O.written output.old) (O.written output.new)
         (Rose (I.faults input.old) (I.faults input.new)) (Rose (O.faults output.old) (O.faults output.new)) result }
+    ensures reads { ReadsForLines limit (I.left input.old) (I.left input.new) (I.reads input.old) (I.reads input.new) }
     ensures later_in { I.faults input.old ≤ I.faults input.new }
     ensures later_out { O.faults output.old ≤ O.faults output.new }
 {

@@ -114,8 +114,8 @@ told taken.TooLong ended given before got line after left handed so_far gives at
 told taken.Finish ended given before got line after left handed so_far gives at_end = (at_end gives.0, all_told taken.Finish ended given before got line after handed so_far gives)
 told taken.Failed ended given before got line after left handed so_far gives at_end = all_told taken.Failed ended given before got line after handed so_far gives
 
-pub asked : (was ended : Bool) (left0 left1 left2 : Option (List ℕ)) (handed : List (List ℕ)) (before line after : List ℕ) (what : Taken) → Hands was left0 left1 handed before →
-    (was ≡ false → Takes left1 left2 ended before line after what) → (was ≡ true → (what ≡ taken.Finish) × (left2 ≡ left1)) → Asked what ended left0 left2 handed line after
+pub asked : {r s : ℕ} (was ended : Bool) (left0 left1 left2 : Option (List ℕ)) (handed : List (List ℕ)) (before line after : List ℕ) (what : Taken) → Hands was left0 left1 handed before →
+    (was ≡ false → Takes left1 left2 r s ended before line after what) → (was ≡ true → (what ≡ taken.Finish) × (left2 ≡ left1)) → Asked what ended left0 left2 handed line after
 asked false ended left0 left1 left2 handed before line after what so takes over =
     let t = takes refl in
     record {

@@ -2,6 +2,7 @@ mod Assigned
 mod Feeds
 mod GivenValues
 pub mod HandingLemmas
+pub mod HowOften
 mod InOrder
 mod OneReading
 mod Printing

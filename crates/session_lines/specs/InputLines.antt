@@ -7,6 +7,10 @@ use Rattle.std.specs.Str.Lines.{strip_carriage_return}
 abbrev pub most_bytes : ℕ
 most_bytes = 65536
 
+-- how many bytes a line and its line feed may have
+abbrev pub line_room : ℕ
+line_room = 65537
+
 -- the text of a line, or nothing where it is too long
 abbrev pub Line : Type 0
 Line = Option (List ℕ)

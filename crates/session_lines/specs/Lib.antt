@@ -3,6 +3,7 @@ pub mod Reading
 pub mod Beginning
 pub mod InputLines
 pub mod Pieces
+pub mod HowOften
 pub mod Taking
 pub mod Room
 pub mod Handing

@@ -92,9 +92,9 @@ impl Lines {
     }
 
     /// Takes the next line of the input, which is then at hand. The input is read only where no whole line is there, and never
-    /// once it gave its end. It takes no memory.
+    /// once it gave its end; each read takes at least one byte, but for one that finds the end or fails. It takes no memory.
     pub fn next_line<I: Source>(&mut self, input: &mut I) -> Taken
-        ensures takes { ended_of self.old ≡ false → Takes (I.left input.old) (I.left input.new) (ended_of self.new) (pending_of self.old) (line_of self.new) (pending_of self.new) result }
+        ensures takes { ended_of self.old ≡ false → Takes (I.left input.old) (I.left input.new) (I.reads input.old) (I.reads input.new) (ended_of self.new) (pending_of self.old) (line_of self.new) (pending_of self.new) result }
         ensures over { ended_of self.old ≡ true → (result ≡ Taken.Finish) × (input.new ≡ input.old) × (self.new ≡ self.old) }
         ensures keeps { KeepsTables self.old self.new }
         ensures moves { KeepsMoves self.old self.new }

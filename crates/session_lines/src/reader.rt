@@ -3,7 +3,7 @@
 ghost use Rattle.std.specs.Prelude.{◌≡◌, ◌≢◌, ◌+◌, ◌-◌, ◌<◌, ◌≤◌, [], ℕ, Some, None, Err, true, false, length, take, drop, vec_len, slice_index, IfSome, IfNone, IfOk, OnErr};
 ghost use Rattle.std.specs.Io.KnownBytes.{Keeps, Consumes, IsAtEnd};
 ghost use Rattle.std.specs.Str.Lines.{strip_carriage_return};
-ghost use Rattle.sp_outside.specs.Causes.{Rose, HasCause};
+ghost use Rattle.sp_outside.specs.Causes.{Rose, HasCause, one_more};
 
 use sp_outside::{Failed, OutOfMemory, Source};
 use std::alloc::Global;
@@ -88,10 +88,10 @@ fn read_behind<I: Source>(buffer: &mut [u8], end: usize, input: &mut I) -> Resul
     requires { end < length buffer.old }
     ensures within { IfOk result (λ n. end + n ≤ length buffer.new) }
     ensures front { take end buffer.new ≡ take end buffer.old }
-    ensures taken_from { IfOk result (λ n. Consumes (I.left input.old) (I.left input.new) (take n (drop end buffer.new))) }
-    ensures at_end { IfOk result (λ n. n ≡ 0 → IsAtEnd (I.left input.new)) }
+    ensures moved { IfOk result (λ n. Consumes (I.left input.old) (I.left input.new) (take n (drop end buffer.new)) × (n ≡ 0 → IsAtEnd (I.left input.new))) }
     ensures none { OnErr result (Keeps (I.left input.old) (I.left input.new)) }
     ensures cause { HasCause (I.faults input.old) (I.faults input.new) result }
+    ensures once { I.reads input.new ≡ one_more (I.reads input.old) }
 {
     input.read(&mut buffer[end..])
 }
@@ -174,6 +174,7 @@ impl Reader {
         ensures at_end { IfOk result (λ n. n ≡ 0 → IsAtEnd (I.left input.new)) }
         ensures none { OnErr result (Grows (I.left input.old) (I.left input.new) (reader_pending self.old) (reader_pending self.new) 0) }
         ensures cause { HasCause (I.faults input.old) (I.faults input.new) result }
+        ensures once { I.reads input.new ≡ one_more (I.reads input.old) }
         ensures end { self.new.ended ≡ self.old.ended }
     {
         self.move_to_front();
@@ -184,9 +185,10 @@ impl Reader {
     }
 
     /// Hands out the next line of the input, and takes more of the input only where no whole line is there. Once the input
-    /// gave its end it isn't read, and nothing changes. It takes no memory.
+    /// gave its end it isn't read, and nothing changes. Each read takes at least one byte, but for one that finds the end or
+    /// fails. It takes no memory.
     pub fn next_line<I: Source>(&mut self, input: &mut I) -> Taken
-        ensures takes { self.old.ended ≡ false → Takes (I.left input.old) (I.left input.new) self.new.ended (reader_pending self.old) (reader_line self.new) (reader_pending self.new) result }
+        ensures takes { self.old.ended ≡ false → Takes (I.left input.old) (I.left input.new) (I.reads input.old) (I.reads input.new) self.new.ended (reader_pending self.old) (reader_line self.new) (reader_pending self.new) result }
         ensures over { self.old.ended ≡ true → (result ≡ Taken.Finish) × (input.new ≡ input.old) × (self.new ≡ self.old) }
         ensures later { I.faults input.old ≤ I.faults input.new }
         ensures cause { result ≡ Taken.Failed → Rose (I.faults input.old) (I.faults input.new) }
@@ -200,7 +202,7 @@ impl Reader {
     // Hands out the next line of an input that hasn't given its end. Each turn takes at least one byte, or ends.
     fn take_line<I: Source>(&mut self, input: &mut I) -> Taken
         requires { self.old.ended ≡ false }
-        ensures takes { Takes (I.left input.old) (I.left input.new) self.new.ended (reader_pending self.old) (reader_line self.new) (reader_pending self.new) result }
+        ensures takes { Takes (I.left input.old) (I.left input.new) (I.reads input.old) (I.reads input.new) self.new.ended (reader_pending self.old) (reader_line self.new) (reader_pending self.new) result }
         ensures later { I.faults input.old ≤ I.faults input.new }
         ensures cause { result ≡ Taken.Failed → Rose (I.faults input.old) (I.faults input.new) }
     {

@@ -7,15 +7,15 @@ use Rattle.spec_model.specs.Syntax.{Specification}
 use Rattle.spec_model.specs.Games.{GameData}
 use Rattle.spec_model.specs.Sets.{all_states}
 use Rattle.spec_model.specs.WellTyped.{WellTyped}
-use Rattle.spec_model.specs.Needs.{bits_of, need_of, AskedFrom}
+use Rattle.spec_model.specs.Needs.{need_of, AskedFrom}
 use Rattle.regions.specs.declared.types.Halt.{Halt}
 use Rattle.regions.specs.declared.types.Halt.TheVariants.{Budget, Memory}
 use Rattle.regions.specs.Kept.{Kept, IsSameGame, Stays, Jam, meaning_of, weigh, weight}
 use Rattle.hidden_game.specs.GameOf.{game_of}
-use Rattle.hidden_game.proofs.FewBits.{bits_few, needs_grow, part_needs}
+use Rattle.hidden_game.proofs.FewBits.{part_needs}
 use Rattle.region_bdd.specs.declared.slots.BddRegion.{BddRegion}
 use Rattle.region_bdd.specs.declared.slots.BddMove.{BddMove}
-use Rattle.region_bdd.specs.Needs.{bits_of_game, need_of_game}
+use Rattle.region_bdd.specs.Needs.{need_of_game}
 use Rattle.region_bdd.specs.Seen.{seen}
 use Rattle.region_bdd.specs.Crowding.{IsHeldAt, IsTooSmall}
 use Rattle.region_bdd.specs.declared.object.RegionBdd.{RegionBdd}
@@ -30,6 +30,7 @@ use Rattle.gr1_sys.specs.Told as sys
 use Rattle.gr1_env.specs.Told as env
 use Rattle.strategy_parts.specs.Told as strategy
 use Rattle.strategy_parts.specs.Told.{Tale}
+use Rattle.spec_order.proofs.FillLemmas.{game_needs}
 use Rattle.core_min.specs.declared.fault.CoreFault.{CoreFault}
 use Rattle.core_min.specs.declared.fault.CoreFault.TheVariants as faults
 use Rattle.core_min.specs.Judges.{IsCause}
@@ -90,9 +91,6 @@ pub solved_later : {G R M : Type 0} {ghosts : Ghosts G R M} (old mid new : Kept 
 solved_later old mid new solved still is = record { layers = is.layers; free = is.free; of_one_moment = λ nothing. is.of_one_moment (still nothing) }
 
 -- ---- the need of a game and of its specification
-
-pub game_needs : (s : Specification) → need_of_game (game_of s) ≤ need_of s
-game_needs s = needs_grow (bits_of_game (game_of s)) (bits_of s) (let few = bits_few s in omega (arith, few))
 
 pub below_game : (s : Specification) (g : GameData) → g ≡ game_of s → (budget : ℕ) → budget < need_of_game g → budget < need_of s
 below_game s g is budget short = let here = ap need_of_game is in let more = game_needs s in omega (arith, short, here, more)

@@ -7,7 +7,8 @@
 //! Contract: `verdict`, whose numbers are true of all plays, and whose strategy is fresh and of that specification; `numbers`
 //! says the same and makes no strategy. `core_of` gives what is left of the guarantees of an unrealizable specification, tried
 //! in text order, and that it is a core; `separated` judges the specification whose one guarantee can never be met. Over any
-//! regions `solve_game` finds the winner's layers, and `system_play` and `environment_play` make its strategy of them.
+//! regions `solve_game` finds the winner's layers, and `system_play` and `environment_play` make its strategy of them. The call
+//! of `spec_order` is named here too.
 //! Path: specification → game → regions → layers → strategy → **verdict** → lines.
 #![tactic(auto)]
 
@@ -32,3 +33,4 @@ pub use playing::{environment_play, system_play};
 pub use separation::{Separation, separated};
 pub use solving::{Solved, game_numbers, solve_game};
 pub use space::Space;
+pub use spec_order::{Better, OrderFault, OrderReport, order_of};

@@ -1,5 +1,5 @@
 -- What is taken of an input, piece by piece.
-use Rattle.std.proofs.Common.{◌≡◌, ℕ, ◌+◌, ◌-◌, ◌≤◌, ◌<◌, List, ◌++◌, length, take, drop, Option, None, Some, sym, ap, subst, ◌∙◌, arith, append_assoc, take-append-drop, length-take}
+use Rattle.std.proofs.Common.{◌≡◌, ℕ, ◌+◌, ◌≤◌, ◌<◌, List, ◌++◌, length, take, drop, Option, None, Some, sym, ap, subst, ◌∙◌, arith, append_assoc, take-append-drop, length-take}
 use Rattle.std.proofs.lemmas.List.{take-append-le, take-take, drop-append-le, take_at, take_all}
 use Rattle.std.proofs.Math.Seq.{take-append-add}
 use Rattle.std.specs.Io.KnownBytes.{Consumes}
@@ -44,3 +44,12 @@ filled a b c before buf rest start end count begun within long full front first 
     let parts : before ++ drop start (take end buf) ≡ buf =
     ap (λ (l : List ℕ). before ++ drop start l) all ∙ ap (λ (l : List ℕ). l ++ drop start buf) (sym front) ∙ take-append-drop start buf in
     subst (Consumes a c) (parts ∙ sym cut) (consumes_both a b c before (drop start (take end buf)) first second)
+
+-- likewise where it is filled up to a place, and cut there
+pub filled_part : (a b c : Option (List ℕ)) (before buf rest : List ℕ) (start end count : ℕ) → start ≤ end → end ≤ length buf → count ≡ length buf → take start buf ≡ before
+    → Consumes a b before → Consumes b c (drop start (take end buf)) → Consumes a c (take end (take count (buf ++ rest)))
+filled_part a b c before buf rest start end count begun within long front first second =
+    let cut : take count (buf ++ rest) ≡ buf = take_at buf rest count (sym long) in
+    let parts : before ++ drop start (take end buf) ≡ take end buf =
+    ap (λ (l : List ℕ). l ++ drop start (take end buf)) (sym (take-take start end buf begun ∙ front)) ∙ take-append-drop start (take end buf) in
+    subst (Consumes a c) (parts ∙ sym (ap (take end) cut)) (consumes_both a b c before (drop start (take end buf)) first second)

@@ -1,6 +1,6 @@
 -- What those who ask a shelf for a part of a file learn of it, and what is taken of an input.
 use Rattle.std.specs.Io.KnownBytes.{Consumes, IsAtEnd}
-use Rattle.std.specs.Prelude.{◌≡◌, ℕ, ◌-◌, ◌<◌, ◌≤◌, List, [], length, take, drop, Option, None, Some, Result, Ok, Err}
+use Rattle.std.specs.Prelude.{◌≡◌, ℕ, ◌+◌, ◌-◌, ◌<◌, ◌≤◌, min, List, [], length, take, drop, Option, None, Some, Result, Ok, Err}
 
 -- the bytes are the first of the file, as many as the limit lets; where there is no file, it lets none
 abbrev pub IsFrontOf : Option (Option (List ℕ)) → ℕ → List ℕ → Type 0
@@ -27,3 +27,16 @@ pub record TakesUpTo (limit : ℕ) (left_old left_new : Option (List ℕ)) (byte
   pub taken : Consumes left_old left_new bytes
   pub within : length bytes ≤ limit
   pub whole : length bytes < limit → IsAtEnd left_new
+
+-- At most so many bytes were taken of an input, and it was read at most once for each of them and `idle` times more: each
+-- other read took at least one byte.
+pub record ReadsUpTo (most idle : ℕ) (left_old left_new : Option (List ℕ)) (reads_old reads_new : ℕ) : Type 0 where
+  pub given : List ℕ
+  pub taken_from : Consumes left_old left_new given
+  pub within : length given ≤ most
+  pub each : reads_new ≤ reads_old + (length given + idle)
+
+-- how many reads took no byte where so much room was to be filled: none where it was, or the one that found the end, or failed
+abbrev pub idle_in : {E : Type 0} → (room : ℕ) → Result ℕ E → ℕ
+idle_in room (Ok end) = min 1 (room - end)
+idle_in room (Err e) = 1

@@ -6,6 +6,7 @@ use Rattle.std.specs.Io.KnownBytes.{Appends}
 use Rattle.sp_outside.specs.Causes.{Rose}
 use Rattle.sp_outside.specs.Written.{AppendsFront}
 use Rattle.spec_model.specs.Syntax.{Specification}
+use Rattle.session_lines.specs.HowOften.{ReadsForLines}
 use Rattle.session.specs.declared.talking.End.{End}
 use Rattle.spec_model.specs.Games.{GameData}
 use Rattle.session.proofs.RunTalks.{weaker}
@@ -21,13 +22,13 @@ use Rattle.spectra_talks.specs.Sessions.{most_positions, Talk, Closes, whole, cu
 
 -- nothing was done: no memory was given
 pub nothing_done : (m : Moment) → WantsMemory m m Memory
-nothing_done m = record { is = refl; nothing_written = Appends-nil m.written; unread = record { left = refl; faults = refl } }
+nothing_done m = record { is = refl; nothing_written = Appends-nil m.written; unread = record { left = refl; reads = refl; faults = refl } }
 
 -- a line that is written is said, where it is the one that is due
 pub is_said : {O : Type 0} (written : O → Option (List ℕ)) (faults : O → ℕ) (e : Ending) (given : List ℕ) (status : Status) (old new : O) → given ≡ line_of e →
     OverOutput written faults old new (λ before after. Writes given (status_of e) before after status) → IsSaid written faults e old new status
-is_said written faults e given status old new same writes = λ left n.
-    inl (subst (λ (l : List ℕ). Writes l (status_of e) (moment left (written old) n (faults old)) (moment left (written new) n (faults new)) status) same (writes left n))
+is_said written faults e given status old new same writes = λ left r n.
+    inl (subst (λ (l : List ℕ). Writes l (status_of e) (moment left (written old) r n (faults old)) (moment left (written new) r n (faults new)) status) same (writes left r n))
 
 -- what was told of the last line closes the session
 pub closes_by : {X T E : Type 0} (ending_of : X → Ending) (end is : X) → end ≡ is → (before after : Option (List ℕ)) (rose : Type 0) (result : Result T E) (status : Status) →
@@ -49,11 +50,11 @@ closes_later last before after rose rose' _ from (whole is) = whole is
 closes_later last before after rose rose' _ from (cut part is) = cut part (from is)
 
 -- The verdict line, a talk and its last line are a session. Where the output's count rose in the talk, it rose in the session.
-pub session_held : (verdict : Ending) (Talks : Talk) (ending_of : End → Ending) (left left' written greeted talked written' : Option (List ℕ)) (reads reads' writes writes1 writes2 writes' : ℕ) (end : End) (status : Status) →
-    ((rose rose' : Type 0) → (rose → rose') → Talks left left' greeted talked (Rose reads reads') rose end → Talks left left' greeted talked (Rose reads reads') rose' end) → Appends written greeted (line_of verdict) →
-    Talks left left' greeted talked (Rose reads reads') (Rose writes1 writes2) end → Closes (ending_of end) talked written' (Rose writes2 writes') status → writes ≤ writes1 → writes1 ≤ writes2 → writes2 ≤ writes' →
-    HoldsSession verdict Talks ending_of (moment left written reads writes) (moment left' written' reads' writes') status
-session_held verdict Talks ending_of left left' written greeted talked written' reads reads' writes writes1 writes2 writes' end status weaker told talk closes first second third =
+pub session_held : (verdict : Ending) (Talks : Talk) (ending_of : End → Ending) (left left' written greeted talked written' : Option (List ℕ)) (reads reads' failed failed' writes writes1 writes2 writes' : ℕ) (end : End) (status : Status) →
+    ((rose rose' : Type 0) → (rose → rose') → Talks left left' greeted talked (Rose failed failed') rose end → Talks left left' greeted talked (Rose failed failed') rose' end) → Appends written greeted (line_of verdict) →
+    Talks left left' greeted talked (Rose failed failed') (Rose writes1 writes2) end → ReadsForLines most_positions left left' reads reads' → Closes (ending_of end) talked written' (Rose writes2 writes') status → writes ≤ writes1 → writes1 ≤ writes2 → writes2 ≤ writes' →
+    HoldsSession verdict Talks ending_of (moment left written reads failed writes) (moment left' written' reads' failed' writes') status
+session_held verdict Talks ending_of left left' written greeted talked written' reads reads' failed failed' writes writes1 writes2 writes' end status weaker told talk for_lines closes first second third =
     session
     (record {
       end = end;
@@ -61,6 +62,7 @@ session_held verdict Talks ending_of left left' written greeted talked written' 
       talked = talked;
       verdict_line = told;
       talk = weaker (Rose writes1 writes2) (Rose writes writes') (rose_between writes writes1 writes2 writes' first third) talk;
+      reads = for_lines;
       closes = closes_later (ending_of end) talked written' (Rose writes2 writes') (Rose writes writes') status (rose_between writes writes2 writes' writes' (omega (arith, first, second)) (omega arith)) closes;
     })
 

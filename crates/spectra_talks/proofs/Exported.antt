@@ -33,9 +33,9 @@ module _ (s : Specification) (says : Ending) (is_large : Type 0) (before after :
   exports_too is_larger more (no_memory wants) = no_memory wants
 
 -- nothing is written where no memory was given
-pub nothing_said : (s : Specification) (says : Ending) (is_large : Type 0) (left : Option (List ℕ)) (read_faults : ℕ) (out : Option (List ℕ)) (write_faults : ℕ) →
-    Exports s says is_large (moment left out read_faults write_faults) (moment left out read_faults write_faults) Memory
-nothing_said s says is_large left read_faults out write_faults = no_memory (record { is = refl; nothing_written = Appends-nil out; unread = record { left = refl; faults = refl } })
+pub nothing_said : (s : Specification) (says : Ending) (is_large : Type 0) (left : Option (List ℕ)) (reads read_faults : ℕ) (out : Option (List ℕ)) (write_faults : ℕ) →
+    Exports s says is_large (moment left out reads read_faults write_faults) (moment left out reads read_faults write_faults) Memory
+nothing_said s says is_large left reads read_faults out write_faults = no_memory (record { is = refl; nothing_written = Appends-nil out; unread = record { left = refl; reads = refl; faults = refl } })
 
 -- ---- what `verify` says of a table that meets its rules
 

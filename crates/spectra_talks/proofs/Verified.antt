@@ -17,7 +17,7 @@ use Rattle.spectra_talks.specs.Streams.{Moment, moment, whole, cut, Ends, WantsM
 use Rattle.spectra_talks.specs.Offered.{IsSaid}
 use Rattle.spectra_talks.specs.Sessions as sessions
 use Rattle.spectra_talks.specs.Sessions.{Closes}
-use Rattle.sp_outside.specs.Parts.{TakesUpTo}
+use Rattle.sp_outside.specs.Parts.{TakesUpTo, ReadsUpTo}
 use Rattle.spectra_talks.specs.Verifying.{most_taken, checked, of_table, verify_ending, WinsIfVerified, Verifies, told, not_taken, without_room}
 
 -- ---- what is verified
@@ -54,27 +54,30 @@ pub line_closes : (e : Ending) (before after : Moment) (status : Status) → End
 line_closes e before after _ (whole unread is) = sessions.whole is
 line_closes e before after _ (cut unread part rose) = sessions.cut part rose
 
-module _ {O : Type 0} (written : O → Option (List ℕ)) (faults : O → ℕ) (s : Specification) (old new : O) (status : Status) (left left' : Option (List ℕ)) (reads reads' : ℕ) where
+module _ {O : Type 0} (written : O → Option (List ℕ)) (faults : O → ℕ) (s : Specification) (old new : O) (status : Status) (left left' : Option (List ℕ)) (reads reads' failed failed' : ℕ)
+    (in_turns : ReadsUpTo most_taken 1 left left' reads reads') where
   abbrev before : Moment
-  before = moment left (written old) reads (faults old)
+  before = moment left (written old) reads failed (faults old)
 
   abbrev after : Moment
-  after = moment left' (written new) reads' (faults new)
+  after = moment left' (written new) reads' failed' (faults new)
+
+  -- where the input has no part in it
+  abbrev told_after : Moment
+  told_after = moment left (written new) reads failed (faults new)
 
   -- the end of its check is told of what was taken
   pub end_told : (bytes : List ℕ) → TakesUpTo most_taken left left' bytes → WinsIfVerified s (verify_ending s bytes) → IsSaid written faults (verify_ending s bytes) old new status → Verifies s before after status
-  end_told bytes taken wins said = by (said left reads)
+  end_told bytes taken wins said = by (said left reads failed)
     where
-      by : Ends (verify_ending s bytes) (moment left (written old) reads (faults old)) (moment left (written new) reads (faults new)) status ⊎ WantsMemory (moment left (written old) reads (faults old)) (moment left (written new) reads (faults new)) status
-          → Verifies s before after status
-      by (inl ends) = told bytes taken wins (line_closes (verify_ending s bytes) (moment left (written old) reads (faults old)) (moment left (written new) reads (faults new)) status ends)
-      by (inr wants) = without_room wants.is wants.nothing_written
+      by : Ends (verify_ending s bytes) before told_after status ⊎ WantsMemory before told_after status → Verifies s before after status
+      by (inl ends) = told bytes taken in_turns wins (line_closes (verify_ending s bytes) before told_after status ends)
+      by (inr wants) = without_room in_turns wants.is wants.nothing_written
 
   -- or that the input failed
-  pub fault_told : Rose reads reads' → IsSaid written faults input_fault old new status → Verifies s before after status
-  fault_told rose said = by (said left reads)
+  pub fault_told : Rose failed failed' → IsSaid written faults input_fault old new status → Verifies s before after status
+  fault_told rose said = by (said left reads failed)
     where
-      by : Ends input_fault (moment left (written old) reads (faults old)) (moment left (written new) reads (faults new)) status ⊎ WantsMemory (moment left (written old) reads (faults old)) (moment left (written new) reads (faults new)) status
-          → Verifies s before after status
-      by (inl ends) = not_taken rose (line_closes input_fault (moment left (written old) reads (faults old)) (moment left (written new) reads (faults new)) status ends)
-      by (inr wants) = without_room wants.is wants.nothing_written
+      by : Ends input_fault before told_after status ⊎ WantsMemory before told_after status → Verifies s before after status
+      by (inl ends) = not_taken in_turns rose (line_closes input_fault before told_after status ends)
+      by (inr wants) = without_room in_turns wants.is wants.nothing_written

@@ -42,6 +42,21 @@ core_text core = codes "core " ++ (decimal (length core) ++ (10 ∷ numbers_text
 abbrev pub arbiter_line : ℕ → List ℕ
 arbiter_line clients = codes "arbiter " ++ (decimal clients ++ 10 ∷ [])
 
+-- ---- orders of the variables
+
+-- how many parts there are
+abbrev pub nodes_text : ℕ → List ℕ
+nodes_text nodes = codes "nodes " ++ (decimal nodes ++ 10 ∷ [])
+
+-- the names, each behind a blank
+abbrev pub names_text : List (List ℕ) → List ℕ
+names_text [] = []
+names_text (name ∷ names) = 32 ∷ (name ++ names_text names)
+
+-- an order, by the names
+abbrev pub order_text : List (List ℕ) → List ℕ
+order_text names = codes "order" ++ (names_text names ++ 10 ∷ [])
+
 -- ---- endings
 
 -- How a run ends that neither the output nor memory cuts short.
@@ -57,6 +72,8 @@ pub data Ending : Type 0 where
   separated : (n m : ℕ) → Ending
   not_separated : (k : ℕ) → Ending
   node_budget : (nodes : ℕ) → Ending
+  no_better_order : (nodes : ℕ) → Ending
+  better_order : (nodes : ℕ) (names : List (List ℕ)) (fewer : ℕ) → Ending
   all_answered : Ending
   broken : (line : ℕ) → Ending
   bad_line : (line : ℕ) → Ending
@@ -86,6 +103,8 @@ row (with_core n m core) = (unrealizable_text n m ++ core_text core, Done)
 row (separated n m) = (codes "separated N=" ++ (decimal n ++ (codes " M=" ++ (decimal m ++ 10 ∷ []))), Done)
 row (not_separated k) = (codes "not separated K=" ++ (decimal k ++ 10 ∷ []), Other)
 row (node_budget nodes) = (codes "node budget " ++ (decimal nodes ++ codes " reached\n"), Budget)
+row (no_better_order nodes) = (codes "nodes " ++ (decimal nodes ++ codes "\nno better order\n"), Done)
+row (better_order nodes names fewer) = (nodes_text nodes ++ (order_text names ++ nodes_text fewer), Done)
 row all_answered = ([], Done)
 row (broken line) = (codes "assumption broken #" ++ (decimal line ++ codes "\n"), Assumption)
 row (bad_line line) = (codes "line " ++ (decimal line ++ codes " refused\n"), BadLine)

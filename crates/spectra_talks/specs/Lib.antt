@@ -2,6 +2,7 @@ pub mod Endings
 pub mod Numbers
 pub mod Streams
 pub mod Offered
+pub mod Orders
 pub mod Verifying
 pub mod Exporting
 pub mod Sessions

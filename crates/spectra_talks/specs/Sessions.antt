@@ -4,6 +4,7 @@ use Rattle.std.specs.Io.KnownBytes.{Appends}
 use Rattle.sp_outside.specs.Causes.{Rose}
 use Rattle.sp_outside.specs.Written.{AppendsFront}
 use Rattle.spec_model.specs.Syntax.{Specification}
+use Rattle.session_lines.specs.HowOften.{ReadsForLines}
 use Rattle.session.specs.declared.talking.End.{End}
 use Rattle.session.specs.declared.talking.End.TheVariants as ends
 use Rattle.session.specs.declared.auditing.AuditEnd.{AuditEnd}
@@ -34,13 +35,14 @@ module _ (last : Ending) (before after : Option (List ℕ)) (rose_out : Type 0) 
     cut : AppendsFront before after (line_of last) → rose_out → Closes OutputFault
 
 module _ (verdict : Ending) (Talks : Talk) (ending_of : End → Ending) (before after : Moment) where
-  -- The session: the verdict line was written, then a talk was held, and its end was told.
+  -- The session: the verdict line was written, then a talk was held, for whose lines the input was read, and its end was told.
   pub record IsSession (status : Status) : Type 0 where
     pub end : End
     pub greeted : Option (List ℕ)
     pub talked : Option (List ℕ)
     pub verdict_line : Appends before.written greeted (line_of verdict)
     pub talk : Talks before.left after.left greeted talked (Rose before.read_faults after.read_faults) (Rose before.write_faults after.write_faults) end
+    pub reads : ReadsForLines most_positions before.left after.left before.reads after.reads
     pub closes : Closes (ending_of end) talked after.written (Rose before.write_faults after.write_faults) status
 
   -- a session was held, or the output failed at the verdict line and the input was not read
@@ -92,8 +94,9 @@ audit_ending_after (audits.BadLine n) = bad_line n
 audit_ending_after audits.StateLimit = state_limit
 audit_ending_after audits.ReadFault = input_fault
 
--- The log was read, and the end of its audit was told.
+-- The log was read, line by line, and the end of its audit was told.
 pub record Audits (s : Specification) (before after : Moment) (status : Status) : Type 0 where
   pub end : AuditEnd
   pub talk : AuditTalk s most_positions before.left after.left (Rose before.read_faults after.read_faults) end
+  pub reads : ReadsForLines most_positions before.left after.left before.reads after.reads
   pub closes : Closes (audit_ending_after end) before.written after.written (Rose before.write_faults after.write_faults) status

@@ -7,23 +7,26 @@ use Rattle.spectra_talks.specs.declared.status.Status.{Status}
 use Rattle.spectra_talks.specs.declared.status.Status.TheVariants.{OutputFault, Memory}
 use Rattle.spectra_talks.specs.Endings.{Ending, line_of, status_of}
 
--- What is told of the input and the output: the bytes to come, the bytes written, and how often each of them failed.
+-- What is told of the input and the output: the bytes to come, the bytes written, how often the input was read, and how often
+-- each of them failed.
 pub record Moment : Type 0 where
   pub left : Option (List ℕ)
   pub written : Option (List ℕ)
+  pub reads : ℕ
   pub read_faults : ℕ
   pub write_faults : ℕ
 
-abbrev pub moment : (left written : Option (List ℕ)) (read_faults write_faults : ℕ) → Moment
-moment left written read_faults write_faults = record { left = left; written = written; read_faults = read_faults; write_faults = write_faults }
+abbrev pub moment : (left written : Option (List ℕ)) (reads read_faults write_faults : ℕ) → Moment
+moment left written reads read_faults write_faults = record { left = left; written = written; reads = reads; read_faults = read_faults; write_faults = write_faults }
 
 -- the moment of an input and an output, by what each of the two tells
-abbrev pub moments : {I O : Type 0} → (I → Option (List ℕ)) → (O → Option (List ℕ)) → (I → ℕ) → (O → ℕ) → I → O → Moment
-moments left written read_faults write_faults input output = moment (left input) (written output) (read_faults input) (write_faults output)
+abbrev pub moments : {I O : Type 0} → (I → Option (List ℕ)) → (O → Option (List ℕ)) → (I → ℕ) → (I → ℕ) → (O → ℕ) → I → O → Moment
+moments left written reads read_faults write_faults input output = moment (left input) (written output) (reads input) (read_faults input) (write_faults output)
 
 -- the input was not read
 pub record IsUnread (before after : Moment) : Type 0 where
   pub left : after.left ≡ before.left
+  pub reads : after.reads ≡ before.reads
   pub faults : after.read_faults ≡ before.read_faults
 
 module _ (line : List ℕ) (expected : Status) (before after : Moment) where

@@ -2,7 +2,7 @@
 use Rattle.std.specs.Prelude.{◌≡◌, ℕ, List, [], Option, Some, None}
 use Rattle.std.specs.Io.KnownBytes.{Appends}
 use Rattle.sp_outside.specs.Causes.{Rose}
-use Rattle.sp_outside.specs.Parts.{TakesUpTo}
+use Rattle.sp_outside.specs.Parts.{TakesUpTo, ReadsUpTo}
 use Rattle.spec_model.specs.Syntax.{Specification}
 use Rattle.spec_model.specs.Moves.{rules_of}
 use Rattle.spec_model.specs.Realizable.{IsRealizable}
@@ -49,10 +49,14 @@ WinsIfVerified s (verified_environment n m) = IsUnrealizable (rules_of s) n m
 WinsIfVerified s _ = Unit {0}
 
 module _ (s : Specification) (before after : Moment) where
+  -- each read of the input but one took at least one byte
+  abbrev pub ReadsTable : Type 0
+  ReadsTable = ReadsUpTo most_taken 1 before.left after.left before.reads after.reads
+
   -- The input was taken, and the end of its check was told; or the input failed, which was told; or no memory was given, and
   -- nothing is written, however much was taken.
   pub data Verifies : Status → Type 0 where
-    told : {status : Status} (bytes : List ℕ) → TakesUpTo most_taken before.left after.left bytes → WinsIfVerified s (verify_ending s bytes) →
+    told : {status : Status} (bytes : List ℕ) → TakesUpTo most_taken before.left after.left bytes → ReadsTable → WinsIfVerified s (verify_ending s bytes) →
         Closes (verify_ending s bytes) before.written after.written (Rose before.write_faults after.write_faults) status → Verifies status
-    not_taken : {status : Status} → Rose before.read_faults after.read_faults → Closes input_fault before.written after.written (Rose before.write_faults after.write_faults) status → Verifies status
-    without_room : {status : Status} → status ≡ Memory → Appends before.written after.written [] → Verifies status
+    not_taken : {status : Status} → ReadsTable → Rose before.read_faults after.read_faults → Closes input_fault before.written after.written (Rose before.write_faults after.write_faults) status → Verifies status
+    without_room : {status : Status} → ReadsTable → status ≡ Memory → Appends before.written after.written [] → Verifies status

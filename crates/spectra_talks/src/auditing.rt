@@ -48,7 +48,7 @@ fn room_for(alloc: Global, spec: &Spec, game: Game) -> Result<Room, OutOfMemory>
 fn read_log<I: Source, O: Sink>(room: Room, input: &mut I, output: &mut O) -> Status
     requires unread { AreUnread room.lines }
     requires one_specification { (s : Specification) × AreForLogs room.lines s × IsAuditOf room.audit s [] }
-    ensures { let at = moments I.left O.written I.faults O.faults in
+    ensures { let at = moments I.left O.written I.reads I.faults O.faults in
         (s : Specification) → AreForLogs room.lines s → IsAuditOf room.audit s [] → Audits s (at input.old output.old) (at input.new output.new) result }
 {
     let Room {
@@ -68,7 +68,7 @@ pub fn audit<I: Source, O: Sink>(
     output: &mut O,
 ) -> Status
     requires typed { WellTyped (spec_data spec.now) }
-    ensures { let at = moments I.left O.written I.faults O.faults in
+    ensures { let at = moments I.left O.written I.reads I.faults O.faults in
         Audits (spec_data spec.now) (at input.old output.old) (at input.new output.new) result ⊎ WantsMemory (at input.old output.old) (at input.new output.new) result }
 {
     let Ok(game) = expand(alloc, spec) else {

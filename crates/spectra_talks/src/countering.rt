@@ -53,7 +53,7 @@ fn exchange<G: Regions, I: Source, O: Sink>(
     requires fresh { IsFresh play.old × HasPlayedNothing G.kept play.old }
     requires stands { Stands G.kept play.old }
     requires one_specification { (s : Specification) × AreFor lines.old s × IsCounterOf G.kept play.old s }
-    ensures holds { let at = moments I.left O.written I.faults O.faults in
+    ensures holds { let at = moments I.left O.written I.reads I.faults O.faults in
         (s : Specification) → AreFor lines.old s → IsCounterOf G.kept play.old s → Counters s (shifts_of play.old) (denials_of G.kept play.old) (at input.old output.old) (at input.new output.new) result }
     ensures stands { Stands G.kept play.new }
 {
@@ -78,7 +78,7 @@ fn held<G: Regions + Drop, I: Source, O: Sink>(
     requires fresh { IsFresh play × HasPlayedNothing G.kept play }
     requires stands { Stands G.kept play }
     requires one_specification { (s : Specification) × AreFor room.lines s × IsCounterOf G.kept play s }
-    ensures { let at = moments I.left O.written I.faults O.faults in
+    ensures { let at = moments I.left O.written I.reads I.faults O.faults in
         (s : Specification) → AreFor room.lines s → IsCounterOf G.kept play s → Counters s (shifts_of play) (denials_of G.kept play) (at input.old output.old) (at input.new output.new) result }
 {
     let Room { verdict, mut lines } = room;
@@ -104,7 +104,7 @@ pub fn counter<G: Regions + Drop, I: Source, O: Sink>(
     requires plays { IsCounterOf G.kept play (spec_data spec.now) }
     requires shifts { n ≡ shifts_of play }
     requires denials { m ≡ denials_of G.kept play }
-    ensures holds { let at = moments I.left O.written I.faults O.faults in
+    ensures holds { let at = moments I.left O.written I.reads I.faults O.faults in
         Counters (spec_data spec.now) n m (at input.old output.old) (at input.new output.new) result ⊎ WantsMemory (at input.old output.old) (at input.new output.new) result }
 {
     match room_for(alloc, spec, n, m) {

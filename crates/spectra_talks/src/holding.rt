@@ -55,7 +55,7 @@ fn exchange<G: Regions, I: Source, O: Sink>(
     requires fresh { IsFresh play.old }
     requires stands { Stands G.kept play.old }
     requires one_specification { (s : Specification) × AreFor lines.old s × IsOf G.kept play.old s }
-    ensures holds { let at = moments I.left O.written I.faults O.faults in
+    ensures holds { let at = moments I.left O.written I.reads I.faults O.faults in
         (s : Specification) → AreFor lines.old s → IsOf G.kept play.old s → Holds s (rounds_of play.old) (at input.old output.old) (at input.new output.new) result }
     ensures stands { Stands G.kept play.new }
 {
@@ -80,7 +80,7 @@ fn held<G: Regions + Drop, I: Source, O: Sink>(
     requires fresh { IsFresh play }
     requires stands { Stands G.kept play }
     requires one_specification { (s : Specification) × AreFor room.lines s × IsOf G.kept play s }
-    ensures { let at = moments I.left O.written I.faults O.faults in
+    ensures { let at = moments I.left O.written I.reads I.faults O.faults in
         (s : Specification) → AreFor room.lines s → IsOf G.kept play s → Holds s (rounds_of play) (at input.old output.old) (at input.new output.new) result }
 {
     let Room { verdict, mut lines } = room;
@@ -104,7 +104,7 @@ pub fn hold<G: Regions + Drop, I: Source, O: Sink>(
     requires stands { Stands G.kept play }
     requires plays { IsOf G.kept play (spec_data spec.now) }
     requires rounds { k ≡ rounds_of play }
-    ensures holds { let at = moments I.left O.written I.faults O.faults in
+    ensures holds { let at = moments I.left O.written I.reads I.faults O.faults in
         Holds (spec_data spec.now) k (at input.old output.old) (at input.new output.new) result ⊎ WantsMemory (at input.old output.old) (at input.new output.new) result }
 {
     match room_for(alloc, spec, k) {

@@ -76,7 +76,7 @@ fn exchange<G: Regions, I: Source, O: Sink>(
     requires few { HasFewGoals (game_of G.kept play.old) }
     requires plays { IsFresh play.old × Stands G.kept play.old }
     requires one_specification { (s : Specification) × AreFor room.old.lines s × IsOf G.kept play.old s }
-    ensures holds { let at = moments I.left O.written I.faults O.faults in
+    ensures holds { let at = moments I.left O.written I.reads I.faults O.faults in
         (s : Specification) → AreFor room.old.lines s → IsOf G.kept play.old s → Hosts s (game_of G.kept play.old) (rounds_of play.old) (at input.old output.old) (at input.new output.new) result }
     ensures stands { Stands G.kept play.new }
 {
@@ -103,7 +103,7 @@ fn hosted<G: Regions + Drop, I: Source, O: Sink>(
     requires few { HasFewGoals (game_of G.kept play) }
     requires plays { IsFresh play × Stands G.kept play }
     requires one_specification { (s : Specification) × AreFor room.lines s × IsOf G.kept play s }
-    ensures { let at = moments I.left O.written I.faults O.faults in
+    ensures { let at = moments I.left O.written I.reads I.faults O.faults in
         (s : Specification) → AreFor room.lines s → IsOf G.kept play s → Hosts s (game_of G.kept play) (rounds_of play) (at input.old output.old) (at input.new output.new) result }
 {
     let mut room = room;
@@ -128,7 +128,7 @@ pub fn host<G: Regions + Drop, I: Source, O: Sink>(
     requires agrees { IsOf G.kept play (spec_data spec.now) }
     requires game { game_of G.kept play ≡ game_meant (spec_data spec.now) }
     requires rounds { k ≡ rounds_of play }
-    ensures holds { let at = moments I.left O.written I.faults O.faults in
+    ensures holds { let at = moments I.left O.written I.reads I.faults O.faults in
         Hosts (spec_data spec.now) (game_meant (spec_data spec.now)) k (at input.old output.old) (at input.new output.new) result ⊎ WantsMemory (at input.old output.old) (at input.new output.new) result }
 {
     match room_for(alloc, spec, k) {

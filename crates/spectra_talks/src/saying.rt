@@ -1,13 +1,16 @@
 //! The lines that may be written last, each with its status: one function a row.
 
-ghost use Rattle.std.specs.Prelude.{◌≡◌, ◌++◌, [], ◌∷◌, IfOk, codes, string_bytes};
+ghost use Rattle.std.specs.Prelude.{◌≡◌, ◌++◌, [], ◌∷◌, IfOk, codes, map, string_bytes};
 ghost use Rattle.std.specs.Fmt.{decimal};
-ghost use Rattle.spectra_talks.specs.Endings.{line_of, usage, no_file, shelf_fault, refused, realizable, unrealizable, realizable_instead, with_core, separated, not_separated, node_budget, verified_system, verified_environment, not_verified, exported, table_refused, size_limit, input_fault, arbiter_line as arbiter_line_lem};
+ghost use Rattle.spec_model.specs.Views.{variable_data};
+ghost use Rattle.spectra_talks.specs.Endings.{line_of, nodes_text, order_text, usage, no_file, shelf_fault, refused, realizable, unrealizable, realizable_instead, with_core, separated, not_separated, node_budget, no_better_order, better_order, verified_system, verified_environment, not_verified, exported, table_refused, size_limit, input_fault, arbiter_line as arbiter_line_lem};
+ghost use Rattle.spectra_talks.specs.Orders.{name_at, names_by};
 ghost use Rattle.spectra_talks.specs.Streams.{Writes, Ends};
 ghost use Rattle.spectra_talks.specs.Offered.{IsSaid, OverOutput};
 
 use crate::status::Status;
 use sp_outside::{OutOfMemory, Sink, write_line};
+use spec_model::value::Var;
 use spectra_trees::faults::fault_text;
 use std::alloc::Global;
 
@@ -191,6 +194,83 @@ pub fn say_not_separated<O: Sink>(alloc: Global, k: u64, output: &mut O) -> Stat
 {
     match format!(in alloc; "not separated K={k}\n") {
         Ok(line) => say(output, line.as_bytes(), Status::Other),
+        Err(_) => Status::Memory,
+    }
+}
+
+// ---- orders of the variables
+
+// How many parts there are.
+fn nodes_line(alloc: Global, nodes: u32) -> Result<String, OutOfMemory>
+    ensures { IfOk result (λ line. string_bytes line ≡ nodes_text nodes) }
+{
+    format!(in alloc; "nodes {nodes}\n")
+}
+
+// The name of the variable of this number.
+fn name_of(vars: &[Var], number: u32) -> &str
+    ensures { result.now ≡ name_at (map variable_data vars.now) number }
+{
+    match vars.get(number as usize) {
+        Some(var) => &var.name,
+        None => "",
+    }
+}
+
+// The names of the variables in this order.
+fn order_line(alloc: Global, vars: &[Var], order: &[u32]) -> Result<String, OutOfMemory>
+    ensures { IfOk result (λ line. string_bytes line ≡ order_text (names_by (map variable_data vars.now) order.now)) }
+{
+    let mut line = String::from_str(alloc, "order")?;
+    for &number in order {
+        line.push_str(" ")?;
+        line.push_str(name_of(vars, number))?;
+    }
+    line.push_str("\n")?;
+    Ok(line)
+}
+
+// How many parts there are, a better order, and how many there are under it.
+fn order_lines(
+    alloc: Global,
+    vars: &[Var],
+    nodes: u32,
+    order: &[u32],
+    fewer: u32,
+) -> Result<String, OutOfMemory>
+    ensures { IfOk result (λ text. string_bytes text ≡ line_of (better_order nodes (names_by (map variable_data vars.now) order.now) fewer)) }
+{
+    let mut text = nodes_line(alloc, nodes)?;
+    let names = order_line(alloc, vars, order)?;
+    text.push_str(&names)?;
+    let last = nodes_line(alloc, fewer)?;
+    text.push_str(&last)?;
+    Ok(text)
+}
+
+/// Says how many parts there are, and that no better order is found.
+pub fn say_no_better_order<O: Sink>(alloc: Global, nodes: u32, output: &mut O) -> Status
+    ensures { IsSaid O.written O.faults (no_better_order nodes) output.old output.new result }
+{
+    match format!(in alloc; "nodes {nodes}\nno better order\n") {
+        Ok(lines) => say(output, lines.as_bytes(), Status::Done),
+        Err(_) => Status::Memory,
+    }
+}
+
+/// Says how many parts there are, in which order of the variables, given by their numbers, there are fewer, and how many.
+pub fn say_better_order<O: Sink>(
+    alloc: Global,
+    vars: &[Var],
+    nodes: u32,
+    order: &[u32],
+    fewer: u32,
+    output: &mut O,
+) -> Status
+    ensures { IsSaid O.written O.faults (better_order nodes (names_by (map variable_data vars.now) order.now) fewer) output.old output.new result }
+{
+    match order_lines(alloc, vars, nodes, order, fewer) {
+        Ok(lines) => say(output, lines.as_bytes(), Status::Done),
         Err(_) => Status::Memory,
     }
 }

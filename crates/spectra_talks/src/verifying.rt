@@ -79,7 +79,7 @@ pub fn verify<I: Source, O: Sink>(
     output: &mut O,
 ) -> Status
     requires typed { WellTyped (spec_data spec.now) }
-    ensures { let at = moments I.left O.written I.faults O.faults in
+    ensures { let at = moments I.left O.written I.reads I.faults O.faults in
         Verifies (spec_data spec.now) (at input.old output.old) (at input.new output.new) result }
 {
     what_is_verified_wins();

@@ -16,11 +16,12 @@ use Rattle.command_words.specs.declared.words.Command.{Command}
 use Rattle.command_words.specs.declared.words.Command.TheVariants.{Synth, Verify}
 use Rattle.command_words.specs.Commands.{Asks, AsksArbiter}
 use Rattle.spec_gen.specs.Arbiter.{arbiter_text}
+use Rattle.spec_order.specs.declared.report.Better.{Better}
 use Rattle.spectra_talks.specs.declared.status.Status.{Status}
 use Rattle.spectra_talks.specs.declared.status.Status.TheVariants.{Done, Other, Words, Refused, Assumption, Budget, BadLine, ShelfFault, InputFault, OutputFault, Memory, NoFile, Limit, TableRefused, SizeLimit}
 use Rattle.spectra_talks.specs.Endings.{Ending, status_of, realizable, unrealizable, verified_system, verified_environment, input_fault}
 use Rattle.spectra_talks.specs.Streams.{Moment, Writes, Ends, whole, cut, WantsMemory}
-use Rattle.spectra_top.specs.Top.{headed, no_room, Stops, Decides, ServesTrees, ServesTree, ServesText, ServesFile, ServesWords, ServesArbiter, arbiter_name, HasCause, StopsBelowLine, StopsAtTable, IsCaused}
+use Rattle.spectra_top.specs.Top.{headed, no_room, Stops, Decides, ServesTrees, ServesTree, ServesText, ServesFile, ServesWords, ServesArbiter, arbiter_name, order_ending, HasCause, StopsBelowLine, StopsAtTable, IsCaused}
 use Rattle.spectra_talks.specs.Sessions as sessions
 use Rattle.spectra_talks.specs.Verifying as tables
 use Rattle.spectra_talks.specs.Exporting as exports
@@ -106,14 +107,18 @@ module _ (failed wanted : Type 0) (before after : Moment) (of_wanting : WantsMem
   by_table s (Some t) = by_check t (check_end (game_of s) t)
 
   by_verifying : (s : Specification) (status : Status) → (Appends before.written after.written [] → wanted) → Verifies s before after status → Caused status
-  by_verifying s status of_table' (tables.told bytes taken wins closes) = by_closing (verify_ending s bytes) before.written status (by_table s (table_in s bytes)) closes
-  by_verifying s status of_table' (tables.not_taken rose closes) = by_closing input_fault before.written status rose closes
-  by_verifying s status of_table' (tables.without_room is nothing) = subst Caused (sym is) (of_table' nothing)
+  by_verifying s status of_table' (tables.told bytes taken reads wins closes) = by_closing (verify_ending s bytes) before.written status (by_table s (table_in s bytes)) closes
+  by_verifying s status of_table' (tables.not_taken reads rose closes) = by_closing input_fault before.written status rose closes
+  by_verifying s status of_table' (tables.without_room reads is nothing) = subst Caused (sym is) (of_table' nothing)
 
   by_export : (s : Specification) (says : Ending) (is_large : Type 0) (status : Status) → Exports s says is_large before after status → Caused status
   by_export s says is_large status (exports.written text is writes) = by_writing _ Done status tt writes
   by_export s says is_large status (exports.large passes writes) = by_writing _ SizeLimit status tt writes
   by_export s says is_large status (exports.no_memory wants) = by_wanting status wants
+
+  by_order : (s : Specification) (nodes : ℕ) (better : Option Better) → Caused (status_of (order_ending s nodes better))
+  by_order s nodes None = tt
+  by_order s nodes (Some better) = tt
 
   module _ (command : Command) (nodes : ℕ) (at_table : command ≡ Verify → Appends before.written after.written [] → wanted) where
     by_deciding : (s : Specification) (status : Status) → Decides command nodes s before after status → Caused status
@@ -130,6 +135,8 @@ module _ (failed wanted : Type 0) (before after : Moment) (of_wanting : WantsMem
     by_deciding s status (top.exports k is wins export) = by_export s (verified_system k) (IsLargeForSystem s k) status export
     by_deciding s status (top.exports_counter n m is loses export) = by_export s (verified_environment n m) (IsLargeForEnvironment s n m) status export
     by_deciding s status (top.verifies is read) = by_verifying s status (at_table is) read
+    by_deciding s status (top.orders report is few found writes) = by_writing _ (status_of (order_ending s report.nodes report.better)) status (by_order s report.nodes report.better) writes
+    by_deciding s status (top.orders_not is many writes) = by_writing _ SizeLimit status tt writes
     by_deciding s status (top.budget decides short filled writes) = by_writing _ Budget status tt writes
     by_deciding s status (top.no_memory wants) = by_wanting status wants
 

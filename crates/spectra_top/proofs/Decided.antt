@@ -1,5 +1,5 @@
 -- What is done for a specification and a file, from what was done for its parts.
-use Rattle.std.proofs.Common.{◌≡◌, ◌<◌, ◌≤◌, ◌⊎◌, ℕ, List, [], ◌∷◌, ◌++◌, length, min, take, get_or, slice_get, Option, Some, inl, inr, ap, sym, subst, ◌∙◌, arith}
+use Rattle.std.proofs.Common.{◌≡◌, ◌<◌, ◌≤◌, ◌⊎◌, ℕ, List, [], ◌∷◌, ◌++◌, length, min, take, get_or, slice_get, Option, Some, Result, Err, ◌↔◌, inl, inr, ap, sym, subst, ◌∙◌, arith}
 use Rattle.std.proofs.lemmas.Bool.{cases_lt}
 use Rattle.std.proofs.lemmas.List.{get_or_past}
 use Rattle.sp_outside.specs.Files.{Files}
@@ -14,17 +14,22 @@ use Rattle.hidden_game.specs.GameOf.{game_of}
 use Rattle.solve.specs.Crowded.{Crowded}
 use Rattle.solve.specs.Budgets.{MayHalt, MayHaltInTurn}
 use Rattle.solve.specs.Winners.{IsWonBySystem, IsWonByEnvironment}
+use Rattle.spec_order.specs.declared.report.OrderReport.{OrderReport}
+use Rattle.spec_order.specs.declared.fault.OrderFault.{OrderFault}
+use Rattle.spec_order.specs.declared.fault.OrderFault.TheVariants as faults
+use Rattle.spec_order.specs.Reports.{IsReport}
+use Rattle.spec_order.specs.Crowded.{CrowdedOrder}
 use Rattle.command_words.specs.declared.words.Command.{Command}
-use Rattle.command_words.specs.declared.words.Command.TheVariants.{Synth, Run, Many, Core, Separate, Counter, Audit}
+use Rattle.command_words.specs.declared.words.Command.TheVariants.{Synth, Run, Many, Order, Core, Separate, Counter, Audit}
 use Rattle.command_words.specs.Commands.{AskNothing}
 use Rattle.spec_gen.specs.Arbiter.{arbiter_text}
 use Rattle.spectra_files.specs.declared.reading.NoTree.{NoTree}
 use Rattle.spectra_files.specs.declared.reading.NoTree.TheVariants as files
 use Rattle.spectra_files.specs.declared.reading.Stop.{Stop}
 use Rattle.spectra_talks.specs.declared.status.Status.{Status}
-use Rattle.spectra_talks.specs.Endings.{Ending, usage, no_file, shelf_fault, refused, realizable, unrealizable, realizable_instead, with_core, separated, not_separated, arbiter_line}
+use Rattle.spectra_talks.specs.Endings.{Ending, usage, no_file, shelf_fault, refused, realizable, unrealizable, realizable_instead, with_core, separated, not_separated, node_budget, size_limit, arbiter_line}
 use Rattle.spectra_talks.specs.Streams.{Moment, Ends, WantsMemory}
-use Rattle.spectra_top.specs.Top.{Heads, solved_for, AreFilled, won, held, hosted, lost, won_instead, countered, has_core, separates, separates_not, audits, Stops, Solves, Decides, ServesTrees, ServesTree, ServesText, ServesFile, ServesWords, ServesArbiter, arbiter_name}
+use Rattle.spectra_top.specs.Top.{Heads, solved_for, AreFilled, won, held, hosted, lost, won_instead, countered, has_core, separates, separates_not, audits, orders, orders_not, HasFewVariables, order_ending, Stops, Solves, Decides, ServesTrees, ServesTree, ServesText, ServesFile, ServesWords, ServesArbiter, arbiter_name}
 use Rattle.spectra_top.specs.Saying.{SaysNoVerdict, SaysStop}
 use Rattle.spectra_talks.specs.Sessions.{Holds, Counters, Audits}
 use Rattle.spectra_talks.specs.Hosting.{Hosts}
@@ -95,11 +100,29 @@ module _ (command : Command) (nodes : ℕ) (s : Specification) (before after : M
   is_audited is (inl audit) = audits is audit
   is_audited is (inr wants) = top.no_memory wants
 
+  pub is_ordered : (report : OrderReport) → command ≡ Order → HasFewVariables s → IsReport s report → Ends (order_ending s report.nodes report.better) before after status ⊎ WantsMemory before after status → Decides command nodes s before after status
+  is_ordered report is few found (inl writes) = orders report is few found writes
+  is_ordered report is few found (inr wants) = top.no_memory wants
+
+  pub has_too_many : command ≡ Order → 32 < length s.variables → Ends size_limit before after status ⊎ WantsMemory before after status → Decides command nodes s before after status
+  has_too_many is many (inl writes) = orders_not is many writes
+  has_too_many is many (inr wants) = top.no_memory wants
+
+  pub budget_said : Solves command → nodes < need_of (solved_for command s) → AreFilled command nodes s → Ends (node_budget nodes) before after status ⊎ WantsMemory before after status → Decides command nodes s before after status
+  budget_said makes few filled (inl writes) = top.budget makes few filled writes
+  budget_said makes few filled (inr wants) = top.no_memory wants
+
   -- there is no verdict
   pub not_decided : (halt : Halt) → Solves command → IsUndecided command nodes s halt → SaysNoVerdict halt nodes before after status → Decides command nodes s before after status
-  not_decided Budget decides short (inl writes) = top.budget decides short.0 short.1 writes
-  not_decided Budget decides short (inr wants) = top.no_memory wants
+  not_decided Budget decides short said = budget_said decides short.0 short.1 said
   not_decided NoMemory decides short wants = top.no_memory wants
+
+-- where it is not said that there are too many variables, there are few
+pub few_variables : (s : Specification) (result : Result OrderReport OrderFault) → (result ≡ Err faults.Limit) ↔ (32 < length s.variables) → (result ≡ Err faults.Limit → ⊥) → HasFewVariables s
+few_variables s result limit is_not = elim (cases_lt 32 (length s.variables)) [
+  | inl many ↦ absurd (is_not (limit.1 many))
+  | inr few ↦ few
+]
 
 -- what is served for the command that it is
 pub served_as : (command is : Command) → command ≡ is → (nodes : ℕ) (s : Specification) (before after : Moment) (status : Status) → Decides is nodes s before after status → Decides command nodes s before after status

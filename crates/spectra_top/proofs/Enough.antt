@@ -7,12 +7,14 @@ use Rattle.spec_model.specs.Needs.{need_of, AskedFrom, Tried}
 use Rattle.hidden_game.specs.GameOf.{game_of}
 use Rattle.hidden_game.proofs.FewBits.{part_needs}
 use Rattle.solve.specs.Crowded.{Crowded}
+use Rattle.spec_order.specs.declared.report.Better.{Better}
+use Rattle.spec_order.specs.Crowded.{CrowdedOrder}
 use Rattle.session.specs.declared.talking.End.{End}
 use Rattle.session.specs.declared.talking.End.TheVariants as ends
 use Rattle.session.specs.declared.auditing.AuditEnd.{AuditEnd}
 use Rattle.session.specs.declared.auditing.AuditEnd.TheVariants as audits
 use Rattle.command_words.specs.declared.words.Command.{Command}
-use Rattle.command_words.specs.declared.words.Command.TheVariants.{Synth, Run, Many, Core, Separate, Counter, Audit, Export, Verify}
+use Rattle.command_words.specs.declared.words.Command.TheVariants.{Synth, Run, Many, Order, Core, Separate, Counter, Audit, Export, Verify}
 use Rattle.spectra_talks.specs.declared.status.Status.{Status}
 use Rattle.spectra_talks.specs.declared.status.Status.TheVariants.{Budget}
 use Rattle.spectra_talks.specs.Endings.{Ending, status_of, verified_system, verified_environment, input_fault}
@@ -28,7 +30,7 @@ use Rattle.table_check.specs.declared.checking.CheckEnd.{CheckEnd}
 use Rattle.table_check.specs.declared.checking.CheckEnd.TheVariants.{Sound, Flaw, Limit as SizeLimit}
 use Rattle.table_check.specs.Ends.{check_end}
 use Rattle.spectra_talks.specs.Sessions.{Talk, Closes, HoldsSession, session, cut_at_once, ending_after, counter_ending_after, audit_ending_after}
-use Rattle.spectra_top.specs.Top.{Decides, solved_for, AreFilled}
+use Rattle.spectra_top.specs.Top.{Decides, solved_for, AreFilled, order_ending}
 use Rattle.spectra_top.specs.Budgets.{NeverFilled, NeverRunsOut}
 use Rattle.spectra_top.specs.Top as top
 
@@ -49,12 +51,16 @@ tried_needs s t (inr asked) = asked_needs s t (guarantees_of s) (guarantees_of s
 abbrev CrowdedIsFew : Type 0
 CrowdedIsFew = (s : Specification) (n : ℕ) → Crowded (game_of s) n → n < need_of s
 
-module _ (crowded_few : CrowdedIsFew) where
+abbrev CrowdedOrderIsFew : Type 0
+CrowdedOrderIsFew = (s : Specification) (n : ℕ) → CrowdedOrder s n → n < need_of s
+
+module _ (crowded_few : CrowdedIsFew) (order_few : CrowdedOrderIsFew) where
   never : (nodes : ℕ) (s : Specification) → need_of s ≤ nodes → ¬ Crowded (game_of s) nodes
   never nodes s enough_nodes crowded = absurd (let few = crowded_few s nodes crowded in omega (arith, few, enough_nodes))
 
   pub never_filled : (command : Command) (nodes : ℕ) (s : Specification) → NeverFilled command nodes s
   never_filled Core nodes s enough_nodes filled = never nodes filled.0 (let more = tried_needs s filled.0 filled.1 in omega (arith, more, enough_nodes)) filled.2
+  never_filled Order nodes s enough_nodes filled = absurd (let few = order_few s nodes filled.1 in omega (arith, few, enough_nodes))
   never_filled Synth nodes s enough_nodes filled = never nodes s enough_nodes filled
   never_filled Run nodes s enough_nodes filled = never nodes s enough_nodes filled
   never_filled Many nodes s enough_nodes filled = never nodes s enough_nodes filled
@@ -120,14 +126,18 @@ module _ (before after : Moment) where
   by_table s (Some t) = by_check t (check_end (game_of s) t)
 
   by_verifying : (s : Specification) (status : Status) → Verifies s before after status → IsOther status
-  by_verifying s status (tables.told bytes taken wins closes) = by_closing (verify_ending s bytes) before.written after.written (Rose before.write_faults after.write_faults) status (by_table s (table_in s bytes)) closes
-  by_verifying s status (tables.not_taken rose closes) = by_closing input_fault before.written after.written (Rose before.write_faults after.write_faults) status tt closes
-  by_verifying s status (tables.without_room is nothing) = subst IsOther (sym is) tt
+  by_verifying s status (tables.told bytes taken reads wins closes) = by_closing (verify_ending s bytes) before.written after.written (Rose before.write_faults after.write_faults) status (by_table s (table_in s bytes)) closes
+  by_verifying s status (tables.not_taken reads rose closes) = by_closing input_fault before.written after.written (Rose before.write_faults after.write_faults) status tt closes
+  by_verifying s status (tables.without_room reads is nothing) = subst IsOther (sym is) tt
 
   by_export : (s : Specification) (says : Ending) (is_large : Type 0) (status : Status) → Exports s says is_large before after status → IsOther status
   by_export s says is_large status (exports.written text is writes) = by_writing _ _ status tt writes
   by_export s says is_large status (exports.large passes writes) = by_writing _ _ status tt writes
   by_export s says is_large status (exports.no_memory wants) = by_wanting status wants
+
+  by_order : (s : Specification) (nodes : ℕ) (better : Option Better) → IsOther (status_of (order_ending s nodes better))
+  by_order s nodes None = tt
+  by_order s nodes (Some better) = tt
 
   module _ (command : Command) (nodes : ℕ) (s : Specification) (not_filled : ¬ AreFilled command nodes s) where
     decided : (status : Status) → Decides command nodes s before after status → IsOther status
@@ -144,6 +154,8 @@ module _ (before after : Moment) where
     decided status (top.exports k is by export) = by_export s (verified_system k) (IsLargeForSystem s k) status export
     decided status (top.exports_counter n m is by export) = by_export s (verified_environment n m) (IsLargeForEnvironment s n m) status export
     decided status (top.verifies is read) = by_verifying s status read
+    decided status (top.orders report is few found ends) = by_writing _ _ status (by_order s report.nodes report.better) ends
+    decided status (top.orders_not is many ends) = by_writing _ _ status tt ends
     decided status (top.budget other few filled ends) = absurd (not_filled filled)
     decided status (top.no_memory wants) = by_wanting status wants
 

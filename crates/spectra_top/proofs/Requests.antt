@@ -2,7 +2,7 @@
 use Rattle.std.proofs.Common.{◌≡◌, ◌≤◌, ℕ, List, Option, Some, None, sum, refl, sym, ap, arith, ◌∙◌}
 use Rattle.std.specs.Str.Parse.{digits_value}
 use Rattle.command_words.specs.declared.words.Command.{Command}
-use Rattle.command_words.specs.declared.words.Command.TheVariants.{Synth, Run, Many, Core, Separate, Counter, Audit, Export, Verify}
+use Rattle.command_words.specs.declared.words.Command.TheVariants.{Synth, Run, Many, Order, Core, Separate, Counter, Audit, Export, Verify}
 use Rattle.command_words.specs.Commands.{Asks, AsksArbiter, IsBudget, word_of, arbiter_word}
 
 -- the codes of each word have another sum
@@ -10,6 +10,7 @@ abbrev sum_of : Command → ℕ
 sum_of Synth = 566
 sum_of Run = 341
 sum_of Many = 437
+sum_of Order = 540
 sum_of Core = 425
 sum_of Separate = 853
 sum_of Counter = 768
@@ -21,6 +22,7 @@ summed : (command : Command) → sum (word_of command) ≡ sum_of command
 summed Synth = refl
 summed Run = refl
 summed Many = refl
+summed Order = refl
 summed Core = refl
 summed Separate = refl
 summed Counter = refl
@@ -32,6 +34,7 @@ one_sum : (command other : Command) → sum_of command ≡ sum_of other → comm
 one_sum Synth Synth same = refl
 one_sum Run Run same = refl
 one_sum Many Many same = refl
+one_sum Order Order same = refl
 one_sum Core Core same = refl
 one_sum Separate Separate same = refl
 one_sum Counter Counter same = refl
@@ -72,6 +75,7 @@ no_arbiter_word command same = no_sum command (sym (summed command) ∙ ap sum s
     no_sum Synth is = absurd (omega arith)
     no_sum Run is = absurd (omega arith)
     no_sum Many is = absurd (omega arith)
+    no_sum Order is = absurd (omega arith)
     no_sum Core is = absurd (omega arith)
     no_sum Separate is = absurd (omega arith)
     no_sum Counter is = absurd (omega arith)

@@ -1,5 +1,5 @@
 -- What the program does for words and files.
-use Rattle.std.specs.Prelude.{◌≡◌, ◌⊎◌, ◌<◌, ◌≤◌, ℕ, List, [], ◌∷◌, ◌++◌, get_or, codes, Option, Some, None}
+use Rattle.std.specs.Prelude.{◌≡◌, ◌⊎◌, ◌<◌, ◌≤◌, ℕ, List, [], ◌∷◌, ◌++◌, length, get_or, codes, Option, Some, None}
 use Rattle.std.specs.Io.KnownBytes.{Appends}
 use Rattle.sp_outside.specs.Causes.{Rose}
 use Rattle.sp_outside.specs.Written.{AppendsFront}
@@ -13,14 +13,19 @@ use Rattle.spectra_types.specs.Meanings.{faults_of, Means}
 use Rattle.hidden_game.specs.GameOf.{game_of}
 use Rattle.solve.specs.Winners.{IsWonBySystem, IsWonByEnvironment}
 use Rattle.solve.specs.Crowded.{Crowded}
+use Rattle.spec_order.specs.declared.report.Better.{Better}
+use Rattle.spec_order.specs.declared.report.OrderReport.{OrderReport}
+use Rattle.spec_order.specs.Reports.{IsReport}
+use Rattle.spec_order.specs.Crowded.{CrowdedOrder}
 use Rattle.spec_gen.specs.Arbiter.{arbiter_text}
 use Rattle.command_words.specs.declared.words.Command.{Command}
-use Rattle.command_words.specs.declared.words.Command.TheVariants.{Synth, Run, Many, Core, Separate, Counter, Audit, Export, Verify}
+use Rattle.command_words.specs.declared.words.Command.TheVariants.{Synth, Run, Many, Order, Core, Separate, Counter, Audit, Export, Verify}
 use Rattle.command_words.specs.Commands.{Asks, AsksArbiter, AskNothing}
 use Rattle.spectra_talks.specs.declared.status.Status.{Status}
 use Rattle.spectra_talks.specs.declared.status.Status.TheVariants.{Words, Refused, ShelfFault, InputFault, OutputFault, Memory, NoFile}
-use Rattle.spectra_talks.specs.Endings.{Ending, IsUnlessCut, IsUnlessFault, usage, no_file, shelf_fault, refused, realizable, unrealizable, realizable_instead, with_core, separated, not_separated, node_budget, arbiter_line}
+use Rattle.spectra_talks.specs.Endings.{Ending, IsUnlessCut, IsUnlessFault, usage, no_file, shelf_fault, refused, realizable, unrealizable, realizable_instead, with_core, separated, not_separated, node_budget, no_better_order, better_order, size_limit, arbiter_line}
 use Rattle.spectra_talks.specs.Streams.{Moment, IsUnread, Ends, WantsMemory}
+use Rattle.spectra_talks.specs.Orders.{names_by}
 use Rattle.spectra_talks.specs.Sessions.{Holds, Counters, Audits}
 use Rattle.spectra_talks.specs.Hosting.{Hosts}
 use Rattle.spectra_talks.specs.Verifying.{Verifies}
@@ -54,29 +59,41 @@ module _ (line : List ℕ) (Does : (before after : Moment) → Status → Type 0
 
 -- ---- what is done for a command, with so many nodes
 
--- the specification that a command solves: `separate` the one whose one guarantee can never be met
+-- the specification that a command is about: for `separate` the one whose one guarantee can never be met
 abbrev pub solved_for : Command → Specification → Specification
 solved_for Separate s = forced s
 solved_for _ s = s
 
--- the commands that solve one, and so need nodes
+-- the commands that make diagrams of its game, and so need nodes
 abbrev pub Solves : Command → Type 0
 Solves Audit = ⊥
 Solves Verify = ⊥
 Solves _ = Unit {0}
 
--- named sets of its game fill so many nodes; for `core`, those of one that trying the guarantees asks about
+-- `order` is for at most so many declared variables
+abbrev pub HasFewVariables : Specification → Type 0
+HasFewVariables s = length s.variables ≤ 32
+
+-- Named sets of its game fill so many nodes; for `core`, those of one that trying the guarantees asks about. For `order` it is the
+-- functions of its lines that do, under an order that is tried.
 abbrev pub AreFilled : Command → (nodes : ℕ) → Specification → Type 0
+AreFilled Order nodes s = HasFewVariables s × CrowdedOrder s nodes
 AreFilled Core nodes s = (part : Specification) × Tried s part × Crowded (game_of part) nodes
 AreFilled command nodes s = Crowded (game_of (solved_for command s)) nodes
+
+-- what is said of how large the diagrams of the lines are, and of a better order of the variables, by their names
+abbrev pub order_ending : Specification → (nodes : ℕ) → Option Better → Ending
+order_ending s nodes None = no_better_order nodes
+order_ending s nodes (Some better) = better_order nodes (names_by s.variables better.order.items) better.nodes
 
 module _ (command : Command) (nodes : ℕ) where
   -- By who wins. `synth` writes the verdict, and so do `run`, `many`, `counter` and `core` where the other side wins than they are
   -- for. Where the system wins, `run` holds a session, and `many` as many as the input has; where the environment does, `counter`
   -- holds one, and `core` writes what trying the guarantees in order leaves, which is a core. `export` writes the table of the side
   -- that wins. `separate` says who wins with a guarantee that can never be met alone. `audit` reads a log, whoever wins, and
-  -- `verify` a table, so that the nodes never run out there. They run out only where there are fewer than the specification that is
-  -- solved needs, and named sets of its game fill them.
+  -- `verify` a table, so that the nodes never run out there. `order` says how large the diagrams of the lines are, and a better
+  -- order of the variables where moving one at a time finds one; where there are more variables than it is for, it says so. The
+  -- nodes run out only where there are fewer than the specification needs, and named sets of its game fill them.
   module _ (s : Specification) (before after : Moment) where
     pub data Decides : Status → Type 0 where
       won : {status : Status} (k : ℕ) → command ≡ Synth → IsWonBySystem s k → Ends (realizable k) before after status → Decides status
@@ -92,6 +109,8 @@ module _ (command : Command) (nodes : ℕ) where
       exports : {status : Status} (k : ℕ) → command ≡ Export → IsWonBySystem s k → ExportsSystem s k before after status → Decides status
       exports_counter : {status : Status} (n m : ℕ) → command ≡ Export → IsWonByEnvironment s n m → ExportsEnvironment s n m before after status → Decides status
       verifies : {status : Status} → command ≡ Verify → Verifies s before after status → Decides status
+      orders : {status : Status} (report : OrderReport) → command ≡ Order → HasFewVariables s → IsReport s report → Ends (order_ending s report.nodes report.better) before after status → Decides status
+      orders_not : {status : Status} → command ≡ Order → 32 < length s.variables → Ends size_limit before after status → Decides status
       budget : {status : Status} → Solves command → nodes < need_of (solved_for command s) → AreFilled command nodes s → Ends (node_budget nodes) before after status → Decides status
       no_memory : {status : Status} → WantsMemory before after status → Decides status
 

@@ -11,6 +11,7 @@ ghost use Rattle.spectra_talks.specs.Offered.{OverOutput};
 ghost use Rattle.spectra_top.specs.Top.{Decides};
 ghost use Rattle.spectra_top.specs.Saying.{SaysNoVerdict};
 
+use crate::ordering::serve_order;
 use command_words::{Command, Request};
 use regions::Halt;
 use solve::{Numbers, Separation, Verdict, core_of_lost, separated, whole_numbers, whole_verdict};
@@ -62,7 +63,7 @@ fn serve_run<I: Source, O: Sink>(
 ) -> Status
     requires typed { WellTyped (spec_data spec.now) }
     requires budget { 2 ≤ nodes }
-    ensures { let at = moments I.left O.written I.faults O.faults in
+    ensures { let at = moments I.left O.written I.reads I.faults O.faults in
         Decides commands.Run nodes (spec_data spec.now) (at input.old output.old) (at input.new output.new) result }
 {
     match whole_verdict(alloc, spec, nodes) {
@@ -85,7 +86,7 @@ fn serve_many<I: Source, O: Sink>(
 ) -> Status
     requires typed { WellTyped (spec_data spec.now) }
     requires budget { 2 ≤ nodes }
-    ensures { let at = moments I.left O.written I.faults O.faults in
+    ensures { let at = moments I.left O.written I.reads I.faults O.faults in
         Decides commands.Many nodes (spec_data spec.now) (at input.old output.old) (at input.new output.new) result }
 {
     match whole_verdict(alloc, spec, nodes) {
@@ -108,7 +109,7 @@ fn serve_counter<I: Source, O: Sink>(
 ) -> Status
     requires typed { WellTyped (spec_data spec.now) }
     requires budget { 2 ≤ nodes }
-    ensures { let at = moments I.left O.written I.faults O.faults in
+    ensures { let at = moments I.left O.written I.reads I.faults O.faults in
         Decides commands.Counter nodes (spec_data spec.now) (at input.old output.old) (at input.new output.new) result }
 {
     match whole_verdict(alloc, spec, nodes) {
@@ -197,7 +198,7 @@ pub fn serve_specification<I: Source, O: Sink>(
     requires typed { WellTyped (spec_data spec.now) }
     requires room { HasRoomForOne (spec_data spec.now) }
     requires budget { 2 ≤ request.nodes }
-    ensures { let at = moments I.left O.written I.faults O.faults in
+    ensures { let at = moments I.left O.written I.reads I.faults O.faults in
         Decides request.entry.command request.entry.nodes (spec_data spec.now) (at input.old output.old) (at input.new output.new) result }
 {
     let nodes = request.nodes;
@@ -205,6 +206,7 @@ pub fn serve_specification<I: Source, O: Sink>(
         Command::Synth => serve_synth(alloc, spec, nodes, output),
         Command::Run => serve_run(alloc, spec, nodes, input, output),
         Command::Many => serve_many(alloc, spec, nodes, input, output),
+        Command::Order => serve_order(alloc, spec, nodes, output),
         Command::Core => serve_core(alloc, spec, nodes, output),
         Command::Separate => serve_separate(alloc, spec, nodes, output),
         Command::Counter => serve_counter(alloc, spec, nodes, input, output),

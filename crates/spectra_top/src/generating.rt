@@ -27,7 +27,7 @@ fn serve_below<F: Shelf, I: Source, O: Sink>(
     output: &mut O,
 ) -> Status
     requires budget { 2 ≤ nodes }
-    ensures serves { let at = moments I.left O.written I.faults O.faults in
+    ensures serves { let at = moments I.left O.written I.reads I.faults O.faults in
         Heads line.now (λ before after. ServesText commands.Synth nodes (told_file (F.holds shelf.old)) (Rose (F.faults shelf.old) (F.faults shelf.new)) arbiter_name before after text.now)
         (at input.old output.old) (at input.new output.new) result }
     ensures keeps { F.holds shelf.new ≡ F.holds shelf.old }
@@ -55,7 +55,7 @@ fn serve_arbiter_text<F: Shelf, I: Source, O: Sink>(
 ) -> Status
     requires budget { 2 ≤ nodes }
     requires text { text.now ≡ arbiter_text clients }
-    ensures serves { let at = moments I.left O.written I.faults O.faults in
+    ensures serves { let at = moments I.left O.written I.reads I.faults O.faults in
         ServesArbiter (told_file (F.holds shelf.old)) (Rose (F.faults shelf.old) (F.faults shelf.new)) clients nodes (at input.old output.old) (at input.new output.new) result }
     ensures keeps { F.holds shelf.new ≡ F.holds shelf.old }
 {
@@ -75,7 +75,7 @@ pub fn serve_arbiter<F: Shelf, I: Source, O: Sink>(
     output: &mut O,
 ) -> Status
     requires budget { 2 ≤ nodes }
-    ensures serves { let at = moments I.left O.written I.faults O.faults in
+    ensures serves { let at = moments I.left O.written I.reads I.faults O.faults in
         ServesArbiter (told_file (F.holds shelf.old)) (Rose (F.faults shelf.old) (F.faults shelf.new)) clients nodes (at input.old output.old) (at input.new output.new) result }
     ensures keeps { F.holds shelf.new ≡ F.holds shelf.old }
 {

@@ -11,6 +11,7 @@ ghost use Rattle.spectra_talks.specs.Streams.{Moment};
 ghost use Rattle.spectra_top.specs.Budgets.{NeverFilled, NeverRunsOut};
 
 use solve::crowded_only_below_the_need;
+use spec_order::laws::crowded_orders_only_below_the_need;
 use spectra_types::faultless_files_are_well_typed;
 
 /// Over told files no text means two specifications.
@@ -33,4 +34,5 @@ pub fn enough_nodes_never_run_out()
     ensures decided { (command : Command) (nodes : ℕ) (s : Specification) (before after : Moment) → NeverRunsOut command nodes s before after }
 {
     crowded_only_below_the_need();
+    crowded_orders_only_below_the_need();
 }

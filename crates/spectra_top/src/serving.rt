@@ -60,7 +60,7 @@ fn serve_trees<I: Source, O: Sink>(
     requires budget { 2 ≤ request.nodes }
     requires few { length names.now ≤ 1_048_576 }
     requires shaped { All IsShaped (map tree_data trees.now) }
-    ensures { let at = moments I.left O.written I.faults O.faults in
+    ensures { let at = moments I.left O.written I.reads I.faults O.faults in
         ServesTrees request.entry.command request.entry.nodes request.entry.file.now (at input.old output.old) (at input.new output.new)
         (map string_bytes names.now) (map tree_data trees.now) result }
 {
@@ -92,7 +92,7 @@ fn serve_tree<F: Shelf, I: Source, O: Sink>(
 ) -> Status
     requires budget { 2 ≤ request.nodes }
     requires shaped { IsShaped (tree_data main) }
-    ensures serves { let at = moments I.left O.written I.faults O.faults in
+    ensures serves { let at = moments I.left O.written I.reads I.faults O.faults in
         ServesTree request.entry.command request.entry.nodes (told_file (F.holds shelf.old)) (Rose (F.faults shelf.old) (F.faults shelf.new)) request.entry.file.now
         (at input.old output.old) (at input.new output.new) (tree_data main) result }
     ensures later { F.faults shelf.old ≤ F.faults shelf.new }
@@ -123,7 +123,7 @@ pub fn serve_text<F: Shelf, I: Source, O: Sink>(
     output: &mut O,
 ) -> Status
     requires budget { 2 ≤ request.nodes }
-    ensures serves { let at = moments I.left O.written I.faults O.faults in
+    ensures serves { let at = moments I.left O.written I.reads I.faults O.faults in
         ServesText request.entry.command request.entry.nodes (told_file (F.holds shelf.old)) (Rose (F.faults shelf.old) (F.faults shelf.new)) request.entry.file.now
         (at input.old output.old) (at input.new output.new) text.now result }
     ensures keeps { F.holds shelf.new ≡ F.holds shelf.old }
@@ -150,7 +150,7 @@ pub fn serve_file<F: Shelf, I: Source, O: Sink>(
     output: &mut O,
 ) -> Status
     requires budget { 2 ≤ request.nodes }
-    ensures serves { let at = moments I.left O.written I.faults O.faults in
+    ensures serves { let at = moments I.left O.written I.reads I.faults O.faults in
         ServesFile request.entry.command request.entry.nodes (told_file (F.holds shelf.old)) (Rose (F.faults shelf.old) (F.faults shelf.new)) request.entry.file.now
         (at input.old output.old) (at input.new output.new) result }
     ensures keeps { F.holds shelf.new ≡ F.holds shelf.old }

@@ -22,8 +22,6 @@ mod laws;
 mod passing;
 mod plain;
 mod run_state;
-#[cfg(test)]
-mod tests;
 mod walk;
 mod workspace;
 

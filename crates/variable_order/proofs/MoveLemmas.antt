@@ -10,14 +10,17 @@ use Rattle.bdd_store.specs.declared.fault.StoreFault.TheVariants as fault
 use Rattle.bdd_store.specs.State.{IsRoot}
 use Rattle.bdd_ops.specs.Contents.{Contents}
 use Rattle.bdd_reorder.specs.Keeping.{KeepsBesides, AreRoots}
-use Rattle.bdd_reorder.specs.Crowding.{IsOfCopy, IsCrowdedByCopy}
+use Rattle.bdd_reorder.specs.Crowding.{IsCrowdedByCopy}
+use Rattle.bdd_reorder.specs.Rearranged.{IsOfCopy}
 use Rattle.bdd_reorder.specs.Making.{functions_at, diagrams_at}
 use Rattle.bdd_reorder.proofs.CrowdingLemmas.{all_wider, crowded_back}
 use Rattle.bdd_reorder.proofs.ListCopyLemmas.{diagrams_stay}
 use Rattle.bdd_reorder.proofs.ElementLemmas.{got}
 use Rattle.variable_order.specs.Levels.{slots_of, levels_under, IsOrder}
-use Rattle.variable_order.specs.Sizes.{HasNodes, FitsSlots, Stays}
-use Rattle.variable_order.specs.Climbing.{moved, IsMove, IsBefore, HasAtLeast, IsBest, IsFirstWith, IsKnown, KnowsBest, IsCrowdedByMove}
+use Rattle.variable_order.specs.Sizes.{HasNodes}
+use Rattle.variable_order.specs.Stores.{FitsSlots, Stays}
+use Rattle.variable_order.specs.Climbing.{moved, IsMove, IsBefore, HasAtLeast, IsBest, IsFirstWith, IsKnown, KnowsBest}
+use Rattle.variable_order.specs.CrowdedClimbs.{IsCrowdedByMove}
 use Rattle.variable_order.proofs.SizeLemmas.{values_at}
 
 -- a moved slot is still in the order, once
@@ -32,7 +35,7 @@ pub crowded_stays : (old mid : Contents) (t : Table) (levels : List ℕ) (ds : L
 crowded_stays old mid t levels ds stays c =
     let N = IsOfCopy levels ds c.whole c.level in
     let besides : KeepsBesides old mid N (λ n. 0) = record { keeps = stays.keeps; added = λ n. (let same = stays.roots n in omega (arith, same)); named = λ n some. absurd (omega (arith, some)) } in
-    record { whole = c.whole; is_one = c.is_one; level = c.level; crowded = crowded_back old mid N N (λ n. 0) (λ f is. is) besides t c.crowded }
+    record { whole = c.whole; is_one = c.is_one; reduced = c.reduced; level = c.level; crowded = crowded_back old mid N N (λ n. 0) (λ f is. is) besides t c.crowded }
 
 module _ (fixed : ℕ) (widths : List ℕ) (fs : List Function) (order : List ℕ) (n i j : ℕ) where
   -- what comes before the next move is before this one, or is this one

@@ -10,7 +10,8 @@ use Rattle.bdd_reorder.specs.Making.{functions_at, diagrams_at}
 use Rattle.bdd_reorder.specs.Counting.{HaveParts}
 use Rattle.bdd_reorder.specs.Copying.{FitsLevels}
 use Rattle.variable_order.specs.Levels.{levels_under, IsOrder}
-use Rattle.variable_order.specs.Sizes.{HasNodes, FitsSlots}
+use Rattle.variable_order.specs.Sizes.{HasNodes}
+use Rattle.variable_order.specs.Stores.{FitsSlots}
 use Rattle.variable_order.proofs.LevelLemmas.{length_under, below_under, same_total}
 
 -- the list of levels fits both stores

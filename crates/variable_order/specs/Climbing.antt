@@ -1,11 +1,7 @@
 -- Moving one slot at a time to where it helps most.
 use Rattle.std.specs.Prelude.{◌≡◌, ◌≢◌, ◌<◌, ◌≤◌, ◌⊎◌, ℕ, suc, Option, Some, None, List, length, slice_index_or}
 use Rattle.std.specs.List.{insert, remove}
-use Rattle.spec_model.specs.Diagrams.{Diagram, Function}
-use Rattle.node_table.specs.Table.{Table}
-use Rattle.bdd_store.specs.State.{State}
-use Rattle.bdd_reorder.specs.Crowding.{IsCrowdedByCopy}
-use Rattle.variable_order.specs.Levels.{levels_under}
+use Rattle.spec_model.specs.Diagrams.{Function}
 use Rattle.variable_order.specs.Sizes.{HasNodes}
 
 -- the order with one slot taken out at a place and put in so that it stands at another
@@ -63,17 +59,3 @@ module _ (fixed : ℕ) (widths : List ℕ) (fs : List Function) where
   pub record KnowsBest (order : List ℕ) (n : ℕ) (i j : ℕ) (m : ℕ) (move : Option (ℕ × ℕ)) : Type 0 where
     pub least : (k l : ℕ) → IsMove fixed order k l → IsBefore k l i j → HasAtLeast order m k l
     pub known : IsKnown order n m move
-
--- copying under the order after some move fills the budget
-pub record IsCrowdedByMove (old : State) (t : Table) (fixed : ℕ) (widths : List ℕ) (ds : List Diagram) (order : List ℕ) : Type 0 where
-  pub i : ℕ
-  pub j : ℕ
-  pub move : IsMove fixed order i j
-  pub crowded : IsCrowdedByCopy old t (levels_under widths (moved order i j)) ds
-
--- copying under an order that a climb considers fills the budget
-pub record IsCrowdedByClimb (old : State) (t : Table) (fixed : ℕ) (widths : List ℕ) (fs : List Function) (ds : List Diagram) (start : List ℕ) (n : ℕ) : Type 0 where
-  pub order : List ℕ
-  pub k : ℕ
-  pub reached : Reaches fixed widths fs start n order k
-  pub crowded : IsCrowdedByMove old t fixed widths ds order

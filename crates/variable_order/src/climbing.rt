@@ -4,8 +4,9 @@ ghost use Rattle.std.specs.Prelude.{◌≡◌, ◌≤◌, IfOk, Err, length};
 ghost use Rattle.bdd_reorder.specs.Keeping.{AreRoots};
 ghost use Rattle.bdd_reorder.specs.Making.{functions_at, diagrams_at};
 ghost use Rattle.variable_order.specs.Levels.{IsOrder};
-ghost use Rattle.variable_order.specs.Sizes.{FitsSlots, Stays};
-ghost use Rattle.variable_order.specs.Climbing.{IsClimb, IsCrowdedByClimb};
+ghost use Rattle.variable_order.specs.Stores.{FitsSlots, Stays};
+ghost use Rattle.variable_order.specs.Climbing.{IsClimb};
+ghost use Rattle.variable_order.specs.CrowdedClimbs.{IsCrowdedByClimb};
 
 use crate::rounds::{best_move, moved};
 use bdd_ops::{Diagrams, Root, StoreFault};

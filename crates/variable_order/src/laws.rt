@@ -14,3 +14,8 @@ pub fn one_number_of_parts()
 pub fn a_climb_goes_down()
     ensures { (fixed : ℕ) (widths start last : List ℕ) (fs : List Function) (n k : ℕ) → HasNodes widths fs start n → IsClimb fixed widths fs start n last k → HasNodes widths fs last k × (((last ≡ start) × (k ≡ n)) ⊎ (k < n)) }
 {}
+
+/// All climbs from one order end at one order, with as many parts.
+pub fn a_climb_ends_at_one_order()
+    ensures { (fixed : ℕ) (widths start last other : List ℕ) (fs : List Function) (n k l : ℕ) → IsClimb fixed widths fs start n last k → IsClimb fixed widths fs start n other l → (last ≡ other) × (k ≡ l) }
+{}

@@ -4,8 +4,9 @@ ghost use Rattle.std.specs.Prelude.{◌≡◌, ◌<◌, ◌≤◌, ◌+◌, IfOk
 ghost use Rattle.bdd_reorder.specs.Keeping.{AreRoots};
 ghost use Rattle.bdd_reorder.specs.Making.{functions_at, diagrams_at};
 ghost use Rattle.variable_order.specs.Levels.{IsOrder};
-ghost use Rattle.variable_order.specs.Sizes.{FitsSlots, Stays};
-ghost use Rattle.variable_order.specs.Climbing.{moved as moved_lem, IsBest, IsKnown, KnowsBest, IsCrowdedByMove};
+ghost use Rattle.variable_order.specs.Stores.{FitsSlots, Stays};
+ghost use Rattle.variable_order.specs.Climbing.{moved as moved_lem, IsBest, IsKnown, KnowsBest};
+ghost use Rattle.variable_order.specs.CrowdedClimbs.{IsCrowdedByMove};
 
 use crate::sizes::nodes_under;
 use bdd_ops::{Diagrams, Root, StoreFault};

@@ -5,7 +5,8 @@ ghost use Rattle.bdd_reorder.specs.Keeping.{AreRoots};
 ghost use Rattle.bdd_reorder.specs.Making.{functions_at, diagrams_at};
 ghost use Rattle.bdd_reorder.specs.Crowding.{IsCrowdedByCopy};
 ghost use Rattle.variable_order.specs.Levels.{levels_under, IsOrder};
-ghost use Rattle.variable_order.specs.Sizes.{FitsSlots, Stays, HasNodes};
+ghost use Rattle.variable_order.specs.Sizes.{HasNodes};
+ghost use Rattle.variable_order.specs.Stores.{FitsSlots, Stays};
 
 use crate::levels::levels_under;
 use bdd_ops::{Diagrams, Root, StoreFault};

@@ -49,6 +49,8 @@ impl Source for Metered<MemorySource> {
 
     ghost faults = { λ s. (source_plan s.inner).faults };
 
+    ghost reads = { λ s. (source_plan s.inner).calls };
+
     fn read(&mut self, buf: &mut [u8]) -> Result<usize, Failed> {
         let room = buf.len().min(self.most);
         let moved = self.inner.read(&mut buf[..room]);

@@ -7,7 +7,8 @@ use Rattle.bdd_ops.specs.declared.split.Split.{Split}
 use Rattle.bdd_ops.specs.Contents.{function_at}
 use Rattle.bdd_ops.specs.Splits.{SplitsAt}
 use Rattle.bdd_reorder.specs.declared.memo.Copied.{Copied}
-use Rattle.bdd_reorder.specs.Crowding.{IsCrowdedSince, IsOfPart}
+use Rattle.bdd_reorder.specs.Crowding.{IsCrowdedSince}
+use Rattle.bdd_reorder.specs.Rearranged.{IsOfPart}
 use Rattle.bdd_reorder.specs.Copying.{size_of, IsCopy, CanCopy, CopiesPart}
 use Rattle.bdd_reorder.proofs.ElementLemmas.{all_at, got}
 use Rattle.bdd_reorder.proofs.StepLemmas.{err_is}
@@ -23,7 +24,7 @@ both-returns-in_err-low-clause-full t c = λ e.
     let from = c.args.from.now.state in
     let split = c.args.split.now in
     first_crowded from.table c.args.to.now c.part.new.to c.args.levels.now split.level (diagram_of from split.low) (diagram_of from split.high) c.args.memo.now.copies.items c.part.new.memo.copies.items
-    (c.in_err-low.ensures.full (err_is c.from_residual.result c.in_err-low.field-0.0 c.from_residual.ensures.1 ∙ e))
+    (c.in_err-low.ensures.full (err_is c.from_residual.result c.in_err-low.field-0.0 c.from_residual.ensures.1 ∙ e)).1
 
 pub both-part-requires-2 : goal.both-part-requires-2
 both-part-requires-2 t c =
@@ -89,7 +90,7 @@ both-returns-in-Err-clause-full t c = λ e.
     let before = c.args.memo.now.copies.items in
     let c1 = c.part.new.memo.copies.items in
     let c2 = c.part-2.new.memo.copies.items in
-    let crowded : (bit : ℕ) × IsCrowdedSince s1.state s2.state.table (IsOfPart levels (diagram_of from split.high) bit) = subst (λ (t : Table). (bit : ℕ) × IsCrowdedSince s1.state s2.state.table (IsOfPart levels (diagram_at t split.high) bit)) c.part.ensures.from_table (c.in-Err.ensures.full e) in
+    let crowded : (bit : ℕ) × IsCrowdedSince s1.state s2.state.table (IsOfPart levels (diagram_of from split.high) bit) = subst (λ (t : Table). (bit : ℕ) × IsCrowdedSince s1.state s2.state.table (IsOfPart levels (diagram_at t split.high) bit)) c.part.ensures.from_table (c.in-Err.ensures.full e).1 in
     second_crowded from.table c.args.to.now s1 levels split.level (diagram_of from split.low) (diagram_of from split.high) before c1 c.in_ok-low.low c.in_ok-low.ensures.copied s2 c2 c.release-in-Err.new.self c.release-in-Err.ensures.table crowded
 
 -- ---- one part
@@ -158,7 +159,10 @@ part-returns-clause-full t c = λ e.
     subst (λ (o : Option Split). MatchOption o ((b : Bool) × (d ≡ constant b)) (λ x. SplitsAt from.table.levels x.level d (diagram_of next x.low) (diagram_of next x.high))) c.in-Some-2.is c.in_ok-split.ensures.split in
     let full = c.remember.ensures.full e in
     let crowded = c.both-made.ensures.full full.0 in (
-      crowded.0,
-      subst (λ (x : Diagram). IsCrowdedSince c.args.to.now.state c.remember.new.to.state.table (IsOfPart levels x crowded.0)) (sym splits.diagram)
-          (subst (λ (t : Table). IsCrowdedSince c.args.to.now.state t (IsOfPart levels (branch split.level (diagram_of next split.low) (diagram_of next split.high)) crowded.0)) (sym full.1) crowded.1),
+      splits.reduced,
+      (
+        crowded.0,
+        subst (λ (x : Diagram). IsCrowdedSince c.args.to.now.state c.remember.new.to.state.table (IsOfPart levels x crowded.0)) (sym splits.diagram)
+            (subst (λ (t : Table). IsCrowdedSince c.args.to.now.state t (IsOfPart levels (branch split.level (diagram_of next split.low) (diagram_of next split.high)) crowded.0)) (sym full.1) crowded.1),
+      ),
     )

@@ -7,7 +7,7 @@ use Rattle.bdd_store.specs.State.{IsRoot, diagram_of}
 use Rattle.bdd_ops.specs.declared.split.Split.{Split}
 use Rattle.bdd_ops.specs.Splits.{SplitsAt}
 use Rattle.bdd_reorder.specs.Copying.{size_of}
-use Rattle.bdd_reorder.specs.Counting.{AreFound, FindsParts, FindsAll}
+use Rattle.bdd_reorder.specs.Searching.{AreFound, FindsParts, FindsAll}
 use Rattle.bdd_reorder.proofs.CountLemmas.{found_before, found_constant, found_branch, found_none, found_one_more, on_ok}
 use Rattle.bdd_reorder.proofs.counting.+walks.Goals as goal
 

@@ -1,6 +1,6 @@
 use Rattle.std.proofs.Common.{List, ℕ, [], subst, sym}
 use Rattle.bdd_reorder.specs.Making.{diagrams_at}
-use Rattle.bdd_reorder.specs.Counting.{AreFound, FindsAll}
+use Rattle.bdd_reorder.specs.Searching.{AreFound, FindsAll}
 use Rattle.bdd_reorder.proofs.CountLemmas.{nothing_found, counted_ok}
 use Rattle.bdd_reorder.proofs.counting.count.Goals as goal
 

@@ -4,7 +4,7 @@ use Rattle.spec_model.specs.Diagrams.{Diagram}
 use Rattle.node_table.specs.Table.{Table, diagram_at}
 use Rattle.bdd_store.specs.State.{IsRoot, diagram_of}
 use Rattle.bdd_reorder.specs.Making.{diagrams_at}
-use Rattle.bdd_reorder.specs.Counting.{AreFound, FindsParts, FindsAll}
+use Rattle.bdd_reorder.specs.Searching.{AreFound, FindsParts, FindsAll}
 use Rattle.bdd_reorder.proofs.ElementLemmas.{all_at, take_next, take_all}
 use Rattle.bdd_reorder.proofs.CountLemmas.{found_none, found_one_more}
 use Rattle.bdd_reorder.proofs.counting.walk_all.Goals as goal

@@ -1,7 +1,7 @@
 use Rattle.std.proofs.Common.{◌≡◌, take}
 use Rattle.bdd_store.specs.State.{SameRoots}
 use Rattle.bdd_reorder.specs.Making.{diagrams_at}
-use Rattle.bdd_reorder.specs.Counting.{FindsAll}
+use Rattle.bdd_reorder.specs.Searching.{FindsAll}
 use Rattle.bdd_reorder.proofs.counting.walk_all.Given as goal
 
 -- the parts of the first diagrams are found

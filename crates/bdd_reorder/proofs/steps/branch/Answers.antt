@@ -2,7 +2,7 @@ use Rattle.std.proofs.Common.{◌≡◌, refl, ap, subst, Result, ℕ}
 use Rattle.bdd_store.specs.declared.fault.StoreFault.{StoreFault}
 use Rattle.spec_model.specs.Diagrams.{Bits, value, ite}
 use Rattle.bdd_ops.specs.Contents.{function_at}
-use Rattle.bdd_reorder.specs.Crowding.{NoFunction, IsBit}
+use Rattle.bdd_reorder.specs.Rearranged.{NoFunction, IsBit}
 use Rattle.bdd_reorder.specs.Making.{MakesOne, branched}
 use Rattle.bdd_reorder.proofs.StepLemmas.{given_back, fails_wider, err_is}
 use Rattle.bdd_reorder.proofs.steps.branch.Goals as goal

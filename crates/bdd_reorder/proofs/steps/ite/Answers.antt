@@ -1,4 +1,4 @@
-use Rattle.bdd_reorder.specs.Crowding.{NoFunction}
+use Rattle.bdd_reorder.specs.Rearranged.{NoFunction}
 use Rattle.bdd_reorder.proofs.StepLemmas.{Reclaims, choice_again}
 use Rattle.bdd_reorder.proofs.steps.ite.Goals as goal
 

@@ -1,6 +1,7 @@
 use Rattle.std.proofs.Common.{◌≡◌}
 use Rattle.spec_model.specs.Diagrams.{Bits, Diagram, value}
-use Rattle.bdd_reorder.specs.Crowding.{bit, NoFunction}
+use Rattle.bdd_reorder.specs.Crowding.{bit}
+use Rattle.bdd_reorder.specs.Rearranged.{NoFunction}
 use Rattle.bdd_reorder.proofs.StepLemmas.{Reclaims, at_once, again}
 use Rattle.bdd_reorder.proofs.steps.var.Goals as goal
 

@@ -1,4 +1,6 @@
-use Rattle.std.proofs.Common.{◌≡◌, refl, arith}
+use Rattle.std.proofs.Common.{◌≡◌, ◌+◌, refl, arith}
+use Rattle.sp_outside.proofs.HowOften.{none_read}
+use Rattle.session_lines.proofs.HowOften.{pending_within, for_lines, for_more_lines}
 use Rattle.session.proofs.Fitting.{over_after, kept_on}
 use Rattle.session.proofs.Turns.{rose_earlier}
 use Rattle.session.proofs.Logging.{room_at_first, nothing_read, at_limit, audit_weaker}
@@ -9,6 +11,7 @@ loop-count-init g c =
     let of = c.requires.one_specification.2 in
     record {
       so = λ s left suits so. so;
+      reads = none_read _ _ _ _;
       room = room_at_first c.args.audit.now of.0 of.2;
       keeps = record { names = refl; wanted = refl; shown = refl };
       later = omega arith;
@@ -34,6 +37,7 @@ loop-count-preserved g c =
     let one = inv.so some.0 _ some.1 (nothing_read some.0 c.args.audit.now _ c.args.lines.now c.requires.unread some.2) in
     record {
       so = λ s left suits so. (c.in_default.ensures.reads_on s c.args.limit left c.loop-count-test.true (over_after c.args.lines.now c.loop-count.lines _ _ _ suits inv.keeps) (inv.so s left suits so)).0;
+      reads = c.in_default.ensures.reads _ _ inv.reads;
       room = (c.in_default.ensures.reads_on some.0 c.args.limit _ c.loop-count-test.true (over_after c.args.lines.now c.loop-count.lines _ _ _ some.1 inv.keeps) one).1;
       keeps = kept_on c.args.lines.now c.loop-count.lines c.turn.new.lines inv.keeps c.turn.ensures.keeps;
       later = omega (arith, inv.later, c.turn.ensures.later);
@@ -58,3 +62,13 @@ returns-clause-talk g c = λ s suits of.
     let so = inv.so s _ suits (nothing_read s c.args.audit.now _ c.args.lines.now c.requires.unread of) in
     let reached : c.loop-count.count ≡ c.args.limit = omega (arith, c.loop-count-test.false, c.loop-count.auto.count-end) in
     at_limit s c.loop-count.audit c.args.limit c.loop-count.count _ _ _ _ _ c.told.result reached so (c.told.ensures s so.log so.stands)
+
+pub returns-in-Some-clause-reads : goal.returns-in-Some-clause-reads
+returns-in-Some-clause-reads g c =
+    let below = c.loop-count-test.true in
+    for_more_lines (c.loop-count.count + 1) c.args.limit _ _ _ _ (omega (arith, below)) (c.in-Some.ensures.reads _ _ c.loop-count.invariant.reads)
+
+pub returns-clause-reads : goal.returns-clause-reads
+returns-clause-reads g c =
+    let reached : c.loop-count.count ≡ c.args.limit = omega (arith, c.loop-count-test.false, c.loop-count.auto.count-end) in
+    for_more_lines c.loop-count.count c.args.limit _ _ _ _ (omega (arith, reached)) (for_lines _ _ _ _ _ _ _ (pending_within c.loop-count.lines) c.loop-count.invariant.reads)

@@ -1,4 +1,5 @@
 use Rattle.std.proofs.Common.{◌∙◌, arith}
+use Rattle.sp_outside.proofs.HowOften.{none_read}
 use Rattle.session.proofs.Fitting.{over_after}
 use Rattle.session.proofs.Turns.{begun, cut_at_once, ended_since}
 use Rattle.session.proofs.talking.talk.Goals as goal
@@ -29,3 +30,6 @@ pub returns-in-Err-clause-talk : goal.returns-in-Err-clause-talk
 returns-in-Err-clause-talk g c = λ s first suits stands.
     let opened = c.in-Err.ensures.opens s first suits stands in
     cut_at_once _ _ first _ _ _ _ _ c.requires.unread.not_ended c.requires.unread.pending opened.text opened.next opened.opens opened.stands _ _ _ c.in-Err.ensures.cause.failed opened.part
+
+pub returns-in-Err-clause-reads : goal.returns-in-Err-clause-reads
+returns-in-Err-clause-reads g c = none_read _ _ _ _

@@ -13,12 +13,12 @@ returns-in-Ok-clause-exports g c =
     let says = verified_system c.args.k in
     let made = c.in-Ok.ensures.table in
     let sound = system_verified s c.args.k (table_data c.in-Ok.table) made.0 made.1 made.2.rounds made.2.few_inputs made.2.sound in
-    λ left faults. exports_too s says (HasLongText s says) _ _ _ (IsLargeForSystem s c.args.k) (λ long. inr (inr long)) (c.write_table.ensures says sound left faults)
+    λ left reads faults. exports_too s says (HasLongText s says) _ _ _ (IsLargeForSystem s c.args.k) (λ long. inr (inr long)) (c.write_table.ensures says sound left reads faults)
 
 pub returns-in-Err-Limit-clause-exports : goal.returns-in-Err-Limit-clause-exports
-returns-in-Err-Limit-clause-exports g c = λ left faults.
+returns-in-Err-Limit-clause-exports g c = λ left reads faults.
     let s = spec_data c.args.spec.now in
-    limit_said s (verified_system c.args.k) (IsLargeForSystem s c.args.k) _ _ _ (large_for_system g.G.Regions.kept s c.args.k c.args.play.now c.requires.play (c.in-Err-Limit.ensures.limit c.in-Err-Limit.field-0-is)) (c.say_size_limit.ensures left faults)
+    limit_said s (verified_system c.args.k) (IsLargeForSystem s c.args.k) _ _ _ (large_for_system g.G.Regions.kept s c.args.k c.args.play.now c.requires.play (c.in-Err-Limit.ensures.limit c.in-Err-Limit.field-0-is)) (c.say_size_limit.ensures left reads faults)
 
 pub returns-in-Err-Memory-clause-exports : goal.returns-in-Err-Memory-clause-exports
-returns-in-Err-Memory-clause-exports g c = λ left faults. let s = spec_data c.args.spec.now in nothing_said s (verified_system c.args.k) (IsLargeForSystem s c.args.k) left faults (g.O.Sink.written c.args.output.now) (g.O.Sink.faults c.args.output.now)
+returns-in-Err-Memory-clause-exports g c = λ left reads faults. let s = spec_data c.args.spec.now in nothing_said s (verified_system c.args.k) (IsLargeForSystem s c.args.k) left reads faults (g.O.Sink.written c.args.output.now) (g.O.Sink.faults c.args.output.now)

@@ -17,7 +17,7 @@ returns-in-Ok-clause-holds g c =
     let there = c.requires.plays.1 in
     let line : c.as_bytes.result.now ≡ line_of (realizable k) = c.as_bytes.ensures.value ∙ c.requires.verdict in
     λ s for_spec is_of.
-    session_held (realizable k) (ManyTalks s (game_of kept play) k) ending_after _ _ _ _ _ _ _ _ _ _ _ _ _ _ (λ rose rose' from talk. hosted_weaker s (game_of kept play) k _ _ _ _ _ rose rose' _ from talk)
+    session_held (realizable k) (ManyTalks s (game_of kept play) k) ending_after _ _ _ _ _ _ _ _ _ _ _ _ _ _ _ _ (λ rose rose' from talk. hosted_weaker s (game_of kept play) k _ _ _ _ _ rose rose' _ from talk)
     (subst (λ (l : List ℕ). Appends (g.O.Sink.written c.args.output.now) (g.O.Sink.written c.write_line.new.output) l) line c.in-Ok.ensures.whole)
     (record {
       winning_states = there.0;
@@ -27,10 +27,10 @@ returns-in-Ok-clause-holds g c =
       same = sym c.end_told.ensures;
       talk = c.many_lines-end.ensures.talk s for_spec is_of there.0 there.1 there.2 there.3 there.4 there.5;
     })
-    c.close.ensures.closes c.write_line.ensures.cause.later c.many_lines-end.ensures.later_out c.close.ensures.later
+    c.many_lines-end.ensures.reads c.close.ensures.closes c.write_line.ensures.cause.later c.many_lines-end.ensures.later_out c.close.ensures.later
 
 pub returns-in-Err-clause-holds : goal.returns-in-Err-clause-holds
 returns-in-Err-clause-holds g c =
     let line : c.as_bytes.result.now ≡ line_of (realizable (rounds_of c.args.play.now)) = c.as_bytes.ensures.value ∙ c.requires.verdict in
     λ s for_spec is_of.
-    cut_at_once (record { left = refl; faults = refl }) (subst (λ (l : List ℕ). AppendsFront (g.O.Sink.written c.args.output.now) (g.O.Sink.written c.write_line.new.output) l) line c.in-Err.ensures.part) c.in-Err.ensures.cause.failed
+    cut_at_once (record { left = refl; reads = refl; faults = refl }) (subst (λ (l : List ℕ). AppendsFront (g.O.Sink.written c.args.output.now) (g.O.Sink.written c.write_line.new.output) l) line c.in-Err.ensures.part) c.in-Err.ensures.cause.failed

@@ -2,4 +2,4 @@ use Rattle.std.proofs.Common.{inl}
 use Rattle.spectra_talks.proofs.saying.say_size_limit.Goals as goal
 
 pub returns : goal.returns
-returns g c = λ left faults. inl (c.say.ensures left faults)
+returns g c = λ left reads faults. inl (c.say.ensures left reads faults)

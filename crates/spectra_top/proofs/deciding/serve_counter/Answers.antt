@@ -6,7 +6,7 @@ use Rattle.spectra_top.proofs.deciding.serve_counter.Goals as goal
 pub returns-in-Ok-Realizable : goal.returns-in-Ok-Realizable
 returns-in-Ok-Realizable g c =
     let h = rw c.in-Ok-Realizable.field-0-is at c.in-Ok-Realizable.ensures in
-    is_kept _ _ _ _ _ _ _ (inr refl) h.verdict.0 (c.say_realizable_instead.ensures _ _)
+    is_kept _ _ _ _ _ _ _ (inr refl) h.verdict.0 (c.say_realizable_instead.ensures _ _ _)
 
 pub counter-requires : goal.counter-requires
 counter-requires g c =
@@ -20,4 +20,4 @@ returns-in-Ok-Unrealizable g c =
     is_countered _ _ _ _ _ _ _ _ refl h.verdict.0 c.counter.ensures.holds
 
 pub returns-in-Err : goal.returns-in-Err
-returns-in-Err g c = not_decided _ _ _ _ _ _ _ tt (by_solving Counter _ _ (λ filled. filled) _ c.in-Err.ensures.cause) (c.say_no_verdict.ensures _ _)
+returns-in-Err g c = not_decided _ _ _ _ _ _ _ tt (by_solving Counter _ _ (λ filled. filled) _ c.in-Err.ensures.cause) (c.say_no_verdict.ensures _ _ _)

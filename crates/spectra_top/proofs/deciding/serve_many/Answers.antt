@@ -17,7 +17,7 @@ returns-in-Ok-Realizable g c =
 pub returns-in-Ok-Unrealizable : goal.returns-in-Ok-Unrealizable
 returns-in-Ok-Unrealizable g c =
     let h = rw c.in-Ok-Unrealizable.field-0-is at c.in-Ok-Unrealizable.ensures in
-    is_lost _ _ _ _ _ _ _ _ (inr (inr refl)) h.verdict.0 (c.say_unrealizable.ensures _ _)
+    is_lost _ _ _ _ _ _ _ _ (inr (inr refl)) h.verdict.0 (c.say_unrealizable.ensures _ _ _)
 
 pub returns-in-Err : goal.returns-in-Err
-returns-in-Err g c = not_decided _ _ _ _ _ _ _ tt (by_solving Many _ _ (λ filled. filled) _ c.in-Err.ensures.cause) (c.say_no_verdict.ensures _ _)
+returns-in-Err g c = not_decided _ _ _ _ _ _ _ tt (by_solving Many _ _ (λ filled. filled) _ c.in-Err.ensures.cause) (c.say_no_verdict.ensures _ _ _)

@@ -10,4 +10,4 @@ returns-in-Ok-clause-serves g c =
 
 pub returns-in-Err-clause-serves : goal.returns-in-Err-clause-serves
 returns-in-Err-clause-serves g c =
-    file_stopped _ _ _ _ _ _ (told_file (g.F.Shelf.holds c.args.shelf.now)) _ (stop_said _ _ _ _ _ _ c.in-Err.why c.in-Err.ensures.fault (c.say_stop.ensures _ _))
+    file_stopped _ _ _ _ _ _ (told_file (g.F.Shelf.holds c.args.shelf.now)) _ (stop_said _ _ _ _ _ _ c.in-Err.why c.in-Err.ensures.fault (c.say_stop.ensures _ _ _))

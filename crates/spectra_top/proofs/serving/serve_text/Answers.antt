@@ -9,7 +9,7 @@ returns-in-Ok-clause-serves g c = top.of_tree _ c.in-Ok.ensures.reads c.serve_tr
 pub returns-in-Err-Refused-clause-serves : goal.returns-in-Err-Refused-clause-serves
 returns-in-Err-Refused-clause-serves g c =
     let h = rw c.in-Err-Refused.field-0-is at c.in-Err-Refused.ensures in
-    text_refused _ _ _ _ _ _ _ _ _ _ _ _ h.fault (c.say_fault.ensures _ _)
+    text_refused _ _ _ _ _ _ _ _ _ _ _ _ h.fault (c.say_fault.ensures _ _ _)
 
 pub returns-in-Err-Memory-clause-serves : goal.returns-in-Err-Memory-clause-serves
 returns-in-Err-Memory-clause-serves g c = top.no_memory (nothing_done _)

@@ -50,4 +50,4 @@ returns-in-Err-clause-serves g c =
     (ap (map string_bytes) c.deref.ensures.value) c.in-Err.ensures.stops in
     let within = stop_within string_bytes c.in-Ok.names.items _ _ c.in-Err.stop stops in
     let named = named_at string_bytes c.in-Ok.names.items c.in-Err.stop.number c.index.result.now within c.index.ensures in
-    tree_stops _ _ _ _ _ _ _ _ (tree_data c.args.main) (map string_bytes c.in-Ok.names.items) c.in-Err.stop (string_bytes c.index.result.now) c.in-Ok.ensures stops named (rw c.deref-in-Err.ensures at (c.say_stop.ensures (g.I.Source.left c.args.input.now) (g.I.Source.faults c.args.input.now)))
+    tree_stops _ _ _ _ _ _ _ _ (tree_data c.args.main) (map string_bytes c.in-Ok.names.items) c.in-Err.stop (string_bytes c.index.result.now) c.in-Ok.ensures stops named (rw c.deref-in-Err.ensures at (c.say_stop.ensures (g.I.Source.left c.args.input.now) (g.I.Source.reads c.args.input.now) (g.I.Source.faults c.args.input.now)))

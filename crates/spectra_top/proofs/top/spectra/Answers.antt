@@ -44,7 +44,7 @@ pub returns-in-Ok-Some-OfArbiter-clause-causes : goal.returns-in-Ok-Some-OfArbit
 returns-in-Ok-Some-OfArbiter-clause-causes g c = is_caused _ _ _ _ _ _ (returns-in-Ok-Some-OfArbiter-clause-serves g c)
 
 pub returns-in-Ok-None-clause-serves : goal.returns-in-Ok-None-clause-serves
-returns-in-Ok-None-clause-serves g c = let h = rw c.in-Ok-None.field-0-is at c.in-Ok-None.ensures in usage_said _ _ _ _ _ _ h.nothing (c.say_usage.ensures (g.I.Source.left c.args.input.now) (g.I.Source.faults c.args.input.now))
+returns-in-Ok-None-clause-serves g c = let h = rw c.in-Ok-None.field-0-is at c.in-Ok-None.ensures in usage_said _ _ _ _ _ _ h.nothing (c.say_usage.ensures (g.I.Source.left c.args.input.now) (g.I.Source.reads c.args.input.now) (g.I.Source.faults c.args.input.now))
 
 pub returns-in-Ok-None-clause-decides : goal.returns-in-Ok-None-clause-decides
 returns-in-Ok-None-clause-decides g c = decides_what_reads _ _ _ _ _ _ (returns-in-Ok-None-clause-serves g c)

@@ -4,7 +4,8 @@ use Rattle.spec_model.specs.Diagrams.{Diagram, Function}
 use Rattle.bdd_store.specs.declared.fault.StoreFault.{StoreFault}
 use Rattle.bdd_reorder.specs.Making.{functions_at, diagrams_at}
 use Rattle.variable_order.specs.Levels.{slots_of, IsOrder}
-use Rattle.variable_order.specs.Climbing.{moved, IsBest, IsFirstWith, Reaches, starts, next, IsCrowdedByMove}
+use Rattle.variable_order.specs.Climbing.{moved, IsBest, IsFirstWith, Reaches, starts, next}
+use Rattle.variable_order.specs.CrowdedClimbs.{IsCrowdedByMove}
 use Rattle.variable_order.proofs.MoveLemmas.{stay_functions, stay_diagrams, stay_roots, stay_fits, stays_none, stays_then, handed_full, crowded_move_stays, moved_order, known_same, known_first}
 use Rattle.variable_order.proofs.climbing.climb.Goals as goal
 

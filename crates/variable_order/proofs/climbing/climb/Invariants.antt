@@ -1,7 +1,7 @@
 use Rattle.std.proofs.Common.{◌≤◌, length}
 use Rattle.bdd_reorder.specs.Making.{functions_at}
 use Rattle.variable_order.specs.Levels.{IsOrder}
-use Rattle.variable_order.specs.Sizes.{Stays}
+use Rattle.variable_order.specs.Stores.{Stays}
 use Rattle.variable_order.specs.Climbing.{Reaches}
 use Rattle.variable_order.proofs.climbing.climb.Given as goal
 

@@ -1,5 +1,5 @@
 use Rattle.bdd_reorder.specs.Making.{functions_at}
-use Rattle.variable_order.specs.Sizes.{Stays}
+use Rattle.variable_order.specs.Stores.{Stays}
 use Rattle.variable_order.specs.Climbing.{KnowsBest}
 use Rattle.variable_order.proofs.rounds.best_move.Given as goal
 

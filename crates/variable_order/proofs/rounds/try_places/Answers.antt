@@ -2,7 +2,8 @@ use Rattle.std.proofs.Common.{◌≤◌, ◌+◌, List, Err, length, ap, sym, su
 use Rattle.spec_model.specs.Diagrams.{Diagram, Function}
 use Rattle.bdd_store.specs.declared.fault.StoreFault.{StoreFault}
 use Rattle.bdd_reorder.specs.Making.{functions_at, diagrams_at}
-use Rattle.variable_order.specs.Climbing.{KnowsBest, IsCrowdedByMove}
+use Rattle.variable_order.specs.Climbing.{KnowsBest}
+use Rattle.variable_order.specs.CrowdedClimbs.{IsCrowdedByMove}
 use Rattle.variable_order.proofs.MoveLemmas.{stay_functions, stay_diagrams, stays_then, handed_full, crowded_move_stays, known_row}
 use Rattle.variable_order.proofs.rounds.try_places.Goals as goal
 

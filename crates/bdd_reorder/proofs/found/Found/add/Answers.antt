@@ -1,5 +1,5 @@
 use Rattle.std.proofs.Common.{◌<◌, ◌∙◌, ◌++◌, ◌∷◌, [], ap, length, arith, sym, subst, List, ℕ, true, slice_set}
-use Rattle.bdd_reorder.specs.Counting.{AreMarked}
+use Rattle.bdd_reorder.specs.Searching.{AreMarked}
 use Rattle.bdd_reorder.proofs.FoundLemmas.{marked_more}
 use Rattle.bdd_reorder.proofs.found.Found.add.Goals as goal
 

@@ -1,6 +1,6 @@
 use Rattle.std.proofs.Common.{◌≤◌, length, arith, subst, List, ℕ}
 use Rattle.std.proofs.lemmas.Bool.Decides.{nat_tests}
-use Rattle.bdd_reorder.specs.Counting.{AreMarked}
+use Rattle.bdd_reorder.specs.Searching.{AreMarked}
 use Rattle.bdd_reorder.proofs.FoundLemmas.{not_past}
 use Rattle.bdd_reorder.proofs.found.Found.has.Goals as goal
 

@@ -34,7 +34,7 @@ returns-clause-grows g c =
     record {
       got = take n (drop r.end new);
       count = omega (arith, length-take n (drop r.end new), length-drop r.end new, c.in_ok-count.ensures.within);
-      taken_from = c.in_ok-count.ensures.taken_from;
+      taken_from = c.in_ok-count.ensures.moved.0;
       behind =
           ap (λ (l : List ℕ). take ((r.end + n) - r.start) (drop r.start l)) filled
           ∙ grown r.buffer.items new r.start r.end n c.move_to_front.ensures.front (c.in_ok-count.ensures.front ∙ ap (take r.end) c.deref_mut.ensures.value)

@@ -1,4 +1,5 @@
 use Rattle.std.proofs.Common.{◌≡◌, ℕ, ◌+◌, ◌-◌, ◌<◌, ◌≤◌, Bool, true, false, List, [], ◌∷◌, ◌++◌, length, drop, Some, slice_index, ap, sym, subst, ◌∙◌, arith, length-take, length-drop, length-append, append_assoc}
+use Rattle.std.proofs.KnownBytes.{Consumes-nil}
 use Rattle.std.proofs.lemmas.List.{nil_from_length, append-nil}
 use Rattle.session_lines.specs.InputLines.{input_lines}
 use Rattle.session_lines.specs.Taking.{GivesLine}
@@ -6,11 +7,22 @@ use Rattle.session_lines.specs.declared.reader.Taken.TheVariants as taken
 use Rattle.session_lines.specs.Pieces.{reader_pending, reader_line, HasNoFeed, HasNoFeedBelow}
 use Rattle.session_lines.specs.declared.reader.Reader.{Reader}
 use Rattle.session_lines.proofs.Feeds.{first_line, open_lines, no_line, too_long, consumes_more, consumes_none, still_none, finished}
+use Rattle.session_lines.proofs.HowOften.{spent_at_end, spent_at_fault, line_taken, none_taken, rest_taken}
 use Rattle.session_lines.proofs.reader.Reader.take_line.Goals as goal
 
 -- how much is there
 count : (r : Reader) → length (reader_pending r) ≡ r.end - r.start
 count r = omega (arith, length-take (r.end - r.start) (drop r.start r.buffer.items), length-drop r.start r.buffer.items, r.buffer.ok.0, r.room, r.within, r.ordered)
+
+pub loop-at-init : goal.loop-at-init
+loop-at-init g c =
+    record {
+      came = ([], Consumes-nil _, sym (append-nil _), omega arith);
+      within = omega arith;
+      none_before = λ k below. absurd (omega (arith, below));
+      open_still = c.requires;
+      later = omega arith;
+    }
 
 pub returns-in-Some-clause-takes : goal.returns-in-Some-clause-takes
 returns-in-Some-clause-takes g c =
@@ -36,6 +48,8 @@ returns-in-Some-clause-takes g c =
       taken_from = came.1;
       at_end = λ is. absurd (cc);
       gives = subst (λ (e : Bool). GivesLine taken.Line e (reader_pending c.args.self.now) came.0 (reader_line new) (reader_pending new)) (sym open_now) gives;
+      each = omega (arith, came.3);
+      within = line_taken (reader_pending c.args.self.now) came.0 p (reader_pending new) at came.2 rest short;
     }
 
 pub returns-then-looked-gt-MOST_BYTES-clause-takes :
@@ -50,6 +64,8 @@ returns-then-looked-gt-MOST_BYTES-clause-takes g c =
       taken_from = came.1;
       at_end = let open_still = c.loop-at.invariant.open_still in λ is. absurd (cc);
       gives = (came.2, λ at_end later. too_long at_end p later plain long);
+      each = omega (arith, came.3);
+      within = none_taken (reader_pending c.args.self.now) came.0 p came.2;
     }
 
 pub returns-in-Ok-eq0-clause-takes : goal.returns-in-Ok-eq0-clause-takes
@@ -75,6 +91,8 @@ returns-in-Ok-eq0-clause-takes g c =
       taken_from = consumes_none _ _ _ came.0 more.got came.1 more.taken_from none;
       at_end = λ is. c.in-Ok-eq0.ensures.at_end c.in-Ok-eq0.field-0-test;
       gives = subst (λ (e : Bool). GivesLine c.finish.result e old came.0 (reader_line new) (reader_pending new)) (sym finish.end) gives;
+      each = spent_at_end new.ended c.finish.result came.0 _ _ _ finish.end came.3 c.in-Ok-eq0.ensures.once;
+      within = rest_taken old came.0 (reader_pending new) short;
     }
 
 pub loop-at-preserved : goal.loop-at-preserved
@@ -87,7 +105,7 @@ loop-at-preserved g c =
     let plain : HasNoFeed p = subst HasNoFeed c.pending.ensures c.in_default.ensures.none in
     let size = count c.loop-at.self in
     record {
-      came = (came.0 ++ more.got, consumes_more _ _ _ came.0 more.got came.1 more.taken_from, all);
+      came = (came.0 ++ more.got, consumes_more _ _ _ came.0 more.got came.1 more.taken_from, all, omega (arith, came.3, c.in-Ok.ensures.once, more.count, length-append came.0 more.got));
       within = omega (arith, size, ap length more.behind, length-append p more.got);
       none_before = λ k below. let here : k < length p = omega (arith, size, below) in λ is. still_none p more.got plain k here (ap (λ (l : List ℕ). slice_index l k) (sym more.behind) ∙ is);
       open_still = c.in-Ok.ensures.end ∙ c.loop-at.invariant.open_still;
@@ -101,6 +119,7 @@ returns-in-Err-clause-takes g c =
     let came = c.loop-at.invariant.came in
     let more = c.in-Err.ensures.none in
     let none : more.got ≡ [] = nil_from_length more.got more.count in
+    let all : reader_pending c.read_more.new.self ≡ old ++ (came.0 ++ more.got) = more.behind ∙ ap (λ (l : List ℕ). l ++ more.got) came.2 ∙ append_assoc old came.0 more.got in
     let same : reader_pending c.read_more.new.self ≡ p = more.behind ∙ ap (λ (l : List ℕ). p ++ l) none ∙ append-nil p in
     let plain : HasNoFeed p = subst HasNoFeed c.pending.ensures c.in_default.ensures.none in
     let short : length p ≤ 65536 = omega (arith, count c.loop-at.self, c.if-looked-gt-MOST_BYTES.false) in
@@ -108,5 +127,7 @@ returns-in-Err-clause-takes g c =
       got = came.0 ++ more.got;
       taken_from = consumes_more _ _ _ came.0 more.got came.1 more.taken_from;
       at_end = let open_now = c.in-Err.ensures.end ∙ c.loop-at.invariant.open_still in λ is. absurd (cc);
-      gives = (more.behind ∙ ap (λ (l : List ℕ). l ++ more.got) came.2 ∙ append_assoc old came.0 more.got, ap (input_lines false) same ∙ open_lines false p plain ∙ no_line p short);
+      each = spent_at_fault c.read_more.new.self.ended came.0 more.got _ _ _ came.3 c.in-Err.ensures.once;
+      within = none_taken old (came.0 ++ more.got) (reader_pending c.read_more.new.self) all;
+      gives = (all, ap (input_lines false) same ∙ open_lines false p plain ∙ no_line p short);
     }

@@ -1,3 +1,0 @@
-pub mod CodedGames
-pub mod JudgedGame
-pub mod FollowerGame
