@@ -209,9 +209,10 @@ def of_many(some, stock):
 
 def proper(some, says, command):
     """A line that assigns what the command reads."""
-    wanted = {"run": ("env",), "counter": ("sys", "aux", "monitor"), "audit": ("env", "sys", "aux", "monitor")}[command]
+    system = ("sys", "aux", "monitor")
+    wanted = {"run": ("env",), "many": ("env",), "counter": system, "audit": ("env", *system)}.get(command, ())
     items = [f"{name}={shown(some.choice(list(domain)))}" for name, owner, domain in says.variables if owner in wanted]
-    return " ".join(items)
+    return " ".join(([str(some.randrange(6))] if command == "many" else []) + items)
 
 
 def spoiled(some, line):

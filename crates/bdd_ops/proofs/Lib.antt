@@ -3,6 +3,8 @@ pub mod ReadingLemmas
 pub mod DiagramLemmas
 pub mod StepLemmas
 pub mod ChoiceLemmas
+pub mod FrameLemmas
+pub mod ChoiceFrameLemmas
 pub mod JoinLemmas
 pub mod OverLemmas
 pub mod QuantifiedLemmas
@@ -11,7 +13,10 @@ pub mod CallLemmas
 pub mod ListLemmas
 pub mod ListCallLemmas
 pub mod ShiftLemmas
+pub mod MovedFrameLemmas
 pub mod PathLemmas
 pub mod RowLemmas
+pub mod LeavingLemmas
 pub mod FirstLemmas
 pub mod SplitLemmas
+pub mod SearchLemmas

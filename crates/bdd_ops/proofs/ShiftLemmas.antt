@@ -44,10 +44,6 @@ shift_later old new list a part Any grows live within is =
     let of_levels : IsShift new.state.table.levels (list_at new list) (diagram_of old.state part) = subst (λ (n : ℕ). IsShift n (list_at new list) (diagram_of old.state part)) (sym grows.keeps.levels) of_lists in
     subst (λ (d : Diagram). IsShift new.state.table.levels (list_at new list) d) (sym (grows.keeps.meaning part live)) of_levels
 
--- a live node keeps its level
-pub level_stays : (old new : Contents) (n : ℕ) → KeepsEdges old.state new.state → IsEdge old.state n → level_at new n ≡ level_at old n
-level_stays old new n keeps live = ap (λ k. level_of k (diagram_of new.state n)) keeps.levels ∙ ap (level_of old.state.table.levels) (keeps.meaning n live)
-
 -- a node that is no constant reads its level
 pub reads_own : (levels : ℕ) (d : Diagram) → level_of levels d < levels → Reads (level_of levels d) d
 reads_own levels (constant b) before = omega arith

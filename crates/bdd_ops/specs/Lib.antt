@@ -6,4 +6,7 @@ pub mod Calls
 pub mod Paths
 pub mod Reading
 pub mod Together
+pub mod Searching
 pub mod Splits
+pub mod Frames
+pub mod MovedFrames

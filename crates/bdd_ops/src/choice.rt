@@ -1,11 +1,13 @@
 //! The choice between two edges by a third.
 
-ghost use Rattle.std.specs.Prelude.{◌≡◌, ◌<◌, IfOk, MatchOption};
+ghost use Rattle.std.specs.Prelude.{◌≡◌, ◌<◌, [], IfOk, MatchOption};
 ghost use Rattle.bdd_store.specs.State.{IsEdge, diagram_of, IsFull};
 ghost use Rattle.bdd_ops.specs.Contents.{function_at};
 ghost use Rattle.bdd_ops.specs.Steps.{IsChoice, IsChoiceOfParts, Grows, level_at};
+ghost use Rattle.bdd_ops.specs.Frames.{AreLive, Chooses, AsksChoice, AreHalves, IsAnswered, GivesChoice};
 
 use crate::diagrams::Diagrams;
+use crate::frames::{Choice, Frame, Turn, Waits, push, waiting, waiting_high};
 use bdd_store::{Edge, StoreFault};
 
 impl Diagrams {
@@ -31,6 +33,116 @@ impl Diagrams {
         }
     }
 
+    /// The choice, where it is known without its parts.
+    fn known_choice(&self, asked: Choice) -> Option<Edge>
+        requires { AreLive self.now asked }
+        ensures { MatchOption result (level_at self.now asked.a.0 < self.now.state.table.levels) (λ e. Chooses self.now asked e.0) }
+    {
+        match self.choice_at_once(asked.a, asked.b, asked.c) {
+            Some(edge) => Some(edge),
+            None => self.recall_choice(asked.a, asked.b, asked.c),
+        }
+    }
+
+    /// The answer where it is known, and else the low part, for which a frame more waits.
+    fn ask_choice(
+        &self,
+        frames: &mut Vec<Frame<Choice>>,
+        asked: Choice,
+    ) -> Result<Turn<Choice>, StoreFault>
+        requires { AreLive self.now asked }
+        ensures asks { IfOk result (λ turn. AsksChoice self.now asked frames.old.items frames.new.items turn) }
+        ensures memory { result ≡ Err StoreFault.Full → ⊥ }
+    {
+        if let Some(edge) = self.known_choice(asked) {
+            return Ok(Turn::Given(edge));
+        }
+        let level = self.earlier(self.earlier(self.level(asked.a), asked.b), asked.c);
+        let (a_low, a_high) = self.parts_at(asked.a, level);
+        let (b_low, b_high) = self.parts_at(asked.b, level);
+        let (c_low, c_high) = self.parts_at(asked.c, level);
+        let low = Choice {
+            a: a_low,
+            b: b_low,
+            c: c_low,
+        };
+        let high = Choice {
+            a: a_high,
+            b: b_high,
+            c: c_high,
+        };
+        push(frames, waiting(asked, level, high))?;
+        Ok(Turn::Ask(low))
+    }
+
+    /// The choice whose two parts have these answers.
+    fn join_choice(
+        &mut self,
+        asked: Choice,
+        level: u32,
+        low: Edge,
+        high: Edge,
+    ) -> Result<Edge, StoreFault>
+        requires { AreHalves self.old level asked low.0 high.0 }
+        ensures choice { IfOk result (λ e. Chooses self.new asked e.0) }
+        ensures grows { Grows self.old self.new (IsChoiceOfParts (diagram_of self.old.state asked.a.0) (diagram_of self.old.state asked.b.0) (diagram_of self.old.state asked.c.0)) }
+        ensures full { result ≡ Err StoreFault.Full → IsFull self.new.state }
+    {
+        let edge = self.join(level, low, high)?;
+        self.remember_choice(asked.a, asked.b, asked.c, edge);
+        Ok(edge)
+    }
+
+    /// What comes next when the part that a frame waits for has this answer.
+    fn give_choice(
+        &mut self,
+        frames: &mut Vec<Frame<Choice>>,
+        frame: Frame<Choice>,
+        edge: Edge,
+    ) -> Result<Turn<Choice>, StoreFault>
+        requires { IsAnswered self.old frame edge.0 }
+        ensures gives { IfOk result (λ turn. GivesChoice self.new frame frames.old.items frames.new.items turn) }
+        ensures grows { Grows self.old self.new (IsChoiceOfParts (diagram_of self.old.state frame.asked.a.0) (diagram_of self.old.state frame.asked.b.0) (diagram_of self.old.state frame.asked.c.0)) }
+        ensures full { result ≡ Err StoreFault.Full → IsFull self.new.state }
+    {
+        match frame.waits {
+            Waits::Low(high) => {
+                push(frames, waiting_high(frame, edge))?;
+                Ok(Turn::Ask(high))
+            }
+            Waits::High(low) => {
+                let whole = self.join_choice(frame.asked, frame.level, low, edge)?;
+                Ok(Turn::Given(whole))
+            }
+        }
+    }
+
+    /// The answer to a question, with frames for all that waits in between.
+    fn choice_in(
+        &mut self,
+        frames: &mut Vec<Frame<Choice>>,
+        whole: Choice,
+    ) -> Result<Edge, StoreFault>
+        requires live { AreLive self.old whole }
+        requires none_waits { frames.old.items ≡ [] }
+        ensures choice { IfOk result (λ e. IsChoice self.new (function_at self.old whole.a.0) (function_at self.old whole.b.0) (function_at self.old whole.c.0) e.0) }
+        ensures grows { Grows self.old self.new (IsChoiceOfParts (diagram_of self.old.state whole.a.0) (diagram_of self.old.state whole.b.0) (diagram_of self.old.state whole.c.0)) }
+        ensures full { result ≡ Err StoreFault.Full → IsFull self.new.state }
+    {
+        let mut turn = Turn::Ask(whole);
+        loop {
+            match turn {
+                Turn::Ask(asked) => turn = self.ask_choice(frames, asked)?,
+                Turn::Given(edge) => {
+                    let Some(frame) = frames.pop() else {
+                        return Ok(edge);
+                    };
+                    turn = self.give_choice(frames, frame, edge)?;
+                }
+            }
+        }
+    }
+
     /// `b` where `a` is true, and else `c`.
     pub(crate) fn choice(&mut self, a: Edge, b: Edge, c: Edge) -> Result<Edge, StoreFault>
         requires a_live { IsEdge self.old.state a.0 }
@@ -40,20 +152,13 @@ impl Diagrams {
         ensures grows { Grows self.old self.new (IsChoiceOfParts (diagram_of self.old.state a.0) (diagram_of self.old.state b.0) (diagram_of self.old.state c.0)) }
         ensures full { result ≡ Err StoreFault.Full → IsFull self.new.state }
     {
-        if let Some(edge) = self.choice_at_once(a, b, c) {
+        let asked = Choice { a, b, c };
+        if let Some(edge) = self.known_choice(asked) {
             return Ok(edge);
         }
-        if let Some(edge) = self.recall_choice(a, b, c) {
-            return Ok(edge);
-        }
-        let level = self.earlier(self.earlier(self.level(a), b), c);
-        let (a_low, a_high) = self.parts_at(a, level);
-        let (b_low, b_high) = self.parts_at(b, level);
-        let (c_low, c_high) = self.parts_at(c, level);
-        let low = self.choice(a_low, b_low, c_low)?;
-        let high = self.choice(a_high, b_high, c_high)?;
-        let edge = self.join(level, low, high)?;
-        self.remember_choice(a, b, c, edge);
-        Ok(edge)
+        let mut frames = self.take_choices();
+        let given = self.choice_in(&mut frames, asked);
+        self.put_choices(frames);
+        given
     }
 }

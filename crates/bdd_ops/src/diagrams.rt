@@ -9,6 +9,7 @@ ghost use Rattle.bdd_ops.specs.Calls.{KeepsRoots};
 ghost use Rattle.bdd_ops.specs.Steps.{IsSplitAt, IsSplit, Grows, level_at};
 
 use crate::OutOfMemory;
+use crate::frames::{Choice, Frame};
 use crate::level_list::LevelList;
 use bdd_store::{Edge, Root, Store, StoreFault};
 use std::alloc::Global;
@@ -20,6 +21,10 @@ pub struct Diagrams {
     pub(crate) store: Store,
     pub(crate) lists: Vec<LevelList>,
     pub(crate) alloc: Global,
+    /// The frames of choices, kept for the memory that they take.
+    pub(crate) choices: Vec<Frame<Choice>>,
+    /// The same, of operations on one edge.
+    pub(crate) edges: Vec<Frame<Edge>>,
 }
 
 impl Model for Diagrams {
@@ -41,6 +46,8 @@ impl Diagrams {
             store,
             lists: Vec::new(alloc),
             alloc,
+            choices: Vec::new(alloc),
+            edges: Vec::new(alloc),
         })
     }
 

@@ -8,6 +8,7 @@ ghost use Rattle.bdd_store.specs.State.{IsEdge};
 ghost use Rattle.bdd_ops.specs.Steps.{level_at};
 ghost use Rattle.bdd_ops.specs.Paths.{Agrees};
 ghost use Rattle.bdd_ops.specs.Together.{IsRow, IsChosen, IsSettled, SettlesRow, all_in, first_bit, AreFirst};
+ghost use Rattle.bdd_ops.specs.Searching.{top_of};
 
 use crate::diagrams::Diagrams;
 use bdd_store::Edge;
@@ -109,6 +110,7 @@ impl Diagrams {
         ensures within { result ≤ levels }
         ensures row { IsRow self.now result row.now }
         ensures least { (level : ℕ) → level ≤ levels → IsRow self.now level row.now → level ≤ result }
+        ensures top { result ≡ top_of self.now row.now }
     {
         let mut least = levels;
         for &e in row {

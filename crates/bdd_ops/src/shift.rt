@@ -1,15 +1,120 @@
 //! Diagrams with their levels moved.
 
-ghost use Rattle.std.specs.Prelude.{◌≡◌, ◌<◌, length, IfOk};
+ghost use Rattle.std.specs.Prelude.{◌≡◌, ◌<◌, [], length, IfOk, MatchOption};
 ghost use Rattle.bdd_store.specs.State.{IsEdge, diagram_of, IsFull};
 ghost use Rattle.spec_model.specs.Diagrams.{shifted};
 ghost use Rattle.bdd_ops.specs.Contents.{function_at, list_at};
-ghost use Rattle.bdd_ops.specs.Steps.{HasFunction, IsShiftedPart, IsShift, Grows};
+ghost use Rattle.bdd_ops.specs.Steps.{HasFunction, IsShiftedPart, IsShift, Grows, level_at};
+ghost use Rattle.bdd_ops.specs.MovedFrames.{IsMovable, Moves, AsksMoved, AreHalves, IsAnswered, GivesMoved};
 
 use crate::diagrams::Diagrams;
+use crate::frames::{Frame, Turn, Waits, push, waiting, waiting_high};
 use bdd_store::{Edge, StoreFault};
 
 impl Diagrams {
+    /// The moved edge, where it is known without its parts.
+    fn known_moved(&self, list: usize, asked: Edge) -> Option<Edge>
+        requires { IsMovable self.now list asked }
+        ensures { MatchOption result (level_at self.now asked.0 < self.now.state.table.levels) (λ e. Moves self.now list asked e.0) }
+    {
+        match self.constant_at(asked) {
+            Some(_) => Some(asked),
+            None => self.recall_moved(list, asked),
+        }
+    }
+
+    /// The answer where it is known, and else the low part, for which a frame more waits.
+    fn ask_moved(
+        &self,
+        list: usize,
+        frames: &mut Vec<Frame<Edge>>,
+        asked: Edge,
+    ) -> Result<Turn<Edge>, StoreFault>
+        requires { IsMovable self.now list asked }
+        ensures asks { IfOk result (λ turn. AsksMoved self.now list asked frames.old.items frames.new.items turn) }
+        ensures memory { result ≡ Err StoreFault.Full → ⊥ }
+    {
+        if let Some(edge) = self.known_moved(list, asked) {
+            return Ok(Turn::Given(edge));
+        }
+        let level = self.level(asked);
+        let (low, high) = self.parts_at(asked, level);
+        push(frames, waiting(asked, level, high))?;
+        Ok(Turn::Ask(low))
+    }
+
+    /// The moved edge whose two parts have these answers.
+    fn join_moved(
+        &mut self,
+        list: usize,
+        asked: Edge,
+        level: u32,
+        low: Edge,
+        high: Edge,
+    ) -> Result<Edge, StoreFault>
+        requires { AreHalves self.old list level asked low.0 high.0 }
+        ensures given { IfOk result (λ e. Moves self.new list asked e.0) }
+        ensures grows { Grows self.old self.new (IsShiftedPart (list_at self.old list) (diagram_of self.old.state asked.0)) }
+        ensures full { result ≡ Err StoreFault.Full → IsFull self.new.state }
+    {
+        let to = self.target(list, level);
+        let edge = self.join(to, low, high)?;
+        self.remember_moved(list, asked, edge);
+        Ok(edge)
+    }
+
+    /// What comes next when the part that a frame waits for has this answer.
+    fn give_moved(
+        &mut self,
+        list: usize,
+        frames: &mut Vec<Frame<Edge>>,
+        frame: Frame<Edge>,
+        edge: Edge,
+    ) -> Result<Turn<Edge>, StoreFault>
+        requires { IsAnswered self.old list frame edge.0 }
+        ensures gives { IfOk result (λ turn. GivesMoved self.new list frame frames.old.items frames.new.items turn) }
+        ensures grows { Grows self.old self.new (IsShiftedPart (list_at self.old list) (diagram_of self.old.state frame.asked.0)) }
+        ensures full { result ≡ Err StoreFault.Full → IsFull self.new.state }
+    {
+        match frame.waits {
+            Waits::Low(high) => {
+                push(frames, waiting_high(frame, edge))?;
+                Ok(Turn::Ask(high))
+            }
+            Waits::High(low) => {
+                let whole = self.join_moved(list, frame.asked, frame.level, low, edge)?;
+                Ok(Turn::Given(whole))
+            }
+        }
+    }
+
+    /// The moved edge, with frames for all that waits in between.
+    fn moved_in(
+        &mut self,
+        list: usize,
+        frames: &mut Vec<Frame<Edge>>,
+        whole: Edge,
+    ) -> Result<Edge, StoreFault>
+        requires movable { IsMovable self.old list whole }
+        requires none_waits { frames.old.items ≡ [] }
+        ensures given { IfOk result (λ e. HasFunction self.new (shifted (list_at self.old list) (function_at self.old whole.0)) e.0) }
+        ensures grows { Grows self.old self.new (IsShiftedPart (list_at self.old list) (diagram_of self.old.state whole.0)) }
+        ensures full { result ≡ Err StoreFault.Full → IsFull self.new.state }
+    {
+        let mut turn = Turn::Ask(whole);
+        loop {
+            match turn {
+                Turn::Ask(asked) => turn = self.ask_moved(list, frames, asked)?,
+                Turn::Given(edge) => {
+                    let Some(frame) = frames.pop() else {
+                        return Ok(edge);
+                    };
+                    turn = self.give_moved(list, frames, frame, edge)?;
+                }
+            }
+        }
+    }
+
     /// The diagram whose levels are those that the list gives for the edge's.
     pub(crate) fn moved(&mut self, list: usize, a: Edge) -> Result<Edge, StoreFault>
         requires list { list < length self.old.lists }
@@ -19,20 +124,12 @@ impl Diagrams {
         ensures grows { Grows self.old self.new (IsShiftedPart (list_at self.old list) (diagram_of self.old.state a.0)) }
         ensures full { result ≡ Err StoreFault.Full → IsFull self.new.state }
     {
-        match self.constant_at(a) {
-            Some(_) => return Ok(a),
-            None => {}
-        }
-        if let Some(edge) = self.recall_moved(list, a) {
+        if let Some(edge) = self.known_moved(list, a) {
             return Ok(edge);
         }
-        let level = self.level(a);
-        let (a_low, a_high) = self.parts_at(a, level);
-        let low = self.moved(list, a_low)?;
-        let high = self.moved(list, a_high)?;
-        let to = self.target(list, level);
-        let edge = self.join(to, low, high)?;
-        self.remember_moved(list, a, edge);
-        Ok(edge)
+        let mut frames = self.take_edges();
+        let given = self.moved_in(list, &mut frames, a);
+        self.put_edges(frames);
+        given
     }
 }

@@ -22,6 +22,8 @@ pub struct Conjunction {
     levels: usize,
     most: usize,
     roots: Vec<Edge>,
+    /// What is left of them once their fixed levels are passed.
+    left: Vec<Edge>,
     /// One row of edges more than there are levels.
     rows: Vec<Edge>,
 }
@@ -35,7 +37,7 @@ impl Model for Conjunction {
 
     ghost view = { λ x. record { levels = x.levels; most = x.most; roots = map (λ (e : Edge). e.0) x.roots.items } };
 
-    ghost invariant = { λ x. (vec_len x.roots ≤ x.most) × (x.most ≤ vec_capacity x.roots) × (vec_len x.rows ≡ (x.levels + 1) * x.most) };
+    ghost invariant = { λ x. (vec_len x.roots ≤ x.most) × (x.most ≤ vec_capacity x.roots) × (x.most ≤ vec_capacity x.left) × (vec_len x.rows ≡ (x.levels + 1) * x.most) };
 }
 
 impl Conjunction {
@@ -50,6 +52,7 @@ impl Conjunction {
             levels,
             most,
             roots: Vec::with_capacity(alloc, most)?,
+            left: Vec::with_capacity(alloc, most)?,
             rows: vec![in alloc; NO_EDGE; places]?,
         })
     }
@@ -94,8 +97,8 @@ impl Diagrams {
     /// Finds the first bits, level by level and false before true, that agree with what is fixed and make all roots
     /// true that `all` asks for, and answers whether there are any. `fixed` and `out` have a place for each level; where
     /// there are none, what `out` holds then means nothing. It takes no memory. Levels at which no edge stands cost
-    /// nothing, and each edge passes fixed levels at once; in the worst case it tries both bits of each free level, as
-    /// the question is satisfiability.
+    /// nothing, each edge passes fixed levels at once, and an edge that is true then is left out; in the worst case it tries
+    /// both bits of each free level, as the question is satisfiability.
     pub fn first_common_path(
         &self,
         all: &mut Conjunction,
@@ -111,6 +114,7 @@ impl Diagrams {
         ensures asked { all.new ≡ all.old }
     {
         let _ = &self.store;
-        self.first_from_edges(&all.roots, fixed, &mut all.rows, out)
+        self.leave(&all.roots, fixed, &mut all.rows, &mut all.left)
+            && self.first_from_edges(&all.left, fixed, &mut all.rows, out)
     }
 }

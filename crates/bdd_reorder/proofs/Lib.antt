@@ -8,4 +8,9 @@ pub mod ReadyLemmas
 pub mod ListCopyLemmas
 pub mod ReleasingLemmas
 pub mod FoundLemmas
+pub mod FrameLemmas
+pub mod TurnLemmas
+pub mod ReplyLemmas
+pub mod SearchLemmas
+pub mod LookLemmas
 pub mod CountLemmas

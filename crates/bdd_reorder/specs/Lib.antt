@@ -3,5 +3,7 @@ pub mod Rearranged
 pub mod Crowding
 pub mod Making
 pub mod Copying
+pub mod Frames
+pub mod Turns
 pub mod Counting
 pub mod Searching

@@ -10,78 +10,11 @@ ghost use Rattle.bdd_reorder.specs.Crowding.{IsCrowdedSince};
 ghost use Rattle.bdd_reorder.specs.Rearranged.{IsOfPart};
 ghost use Rattle.bdd_reorder.specs.Copying.{FitsLevels, CanCopy, CopiesPart};
 
+use crate::frames::Frame;
 use crate::memo::Memo;
-use crate::steps::branch;
-use bdd_ops::{Diagrams, Root, Split, StoreFault};
+use crate::parts::part;
+use bdd_ops::{Diagrams, Root, StoreFault};
 use std::alloc::Global;
-
-/// The copy of a diagram's two parts at the level that it is split at.
-#[cycle(parts)]
-fn both(
-    from: &mut Diagrams,
-    to: &mut Diagrams,
-    levels: &[u32],
-    truth: &Root,
-    memo: &mut Memo,
-    split: &Split,
-) -> Result<Root, StoreFault>
-    requires ready { CanCopy from.old to.old levels.now truth.now memo.old.copies.items }
-    requires level { split.now.level < from.old.state.table.levels }
-    requires kept { IsRoot from.old.state split.now.low × IsRoot from.old.state split.now.high }
-    ensures copied { CopiesPart from.old.state.table to.old to.new levels.now (branch split.now.level (diagram_of from.old.state split.now.low) (diagram_of from.old.state split.now.high)) memo.old.copies.items memo.new.copies.items result }
-    ensures full { result ≡ Err StoreFault.Full → (level : ℕ) × IsCrowdedSince to.old.state to.new.state.table (IsOfPart levels.now (branch split.now.level (diagram_of from.old.state split.now.low) (diagram_of from.old.state split.now.high)) level) }
-    ensures from_table { from.new.state.table ≡ from.old.state.table }
-    ensures from_roots { SameRoots from.old.state from.new.state }
-{
-    let low = part(from, to, levels, truth, memo, &split.low)?;
-    match part(from, to, levels, truth, memo, &split.high) {
-        Ok(high) => {
-            let made = branch(to, levels[split.level as usize], &low, &high);
-            to.release(high);
-            to.release(low);
-            made
-        }
-        Err(fault) => {
-            to.release(low);
-            Err(fault)
-        }
-    }
-}
-
-/// The copy of a part.
-#[cycle(parts)]
-fn part(
-    from: &mut Diagrams,
-    to: &mut Diagrams,
-    levels: &[u32],
-    truth: &Root,
-    memo: &mut Memo,
-    a: &Root,
-) -> Result<Root, StoreFault>
-    requires ready { CanCopy from.old to.old levels.now truth.now memo.old.copies.items }
-    requires kept { IsRoot from.old.state a.now }
-    ensures copied { CopiesPart from.old.state.table to.old to.new levels.now (diagram_of from.old.state a.now) memo.old.copies.items memo.new.copies.items result }
-    ensures full { result ≡ Err StoreFault.Full → IsReduced (diagram_of from.old.state a.now) × ((level : ℕ) × IsCrowdedSince to.old.state to.new.state.table (IsOfPart levels.now (diagram_of from.old.state a.now) level)) }
-    ensures from_table { from.new.state.table ≡ from.old.state.table }
-    ensures from_roots { SameRoots from.old.state from.new.state }
-{
-    let number = from.number(a);
-    if let Some(place) = memo.find(number) {
-        return to.keep(&memo.copies[place].root);
-    }
-    let Some(split) = from.split(a)? else {
-        return to.constant(from.equal(a, truth));
-    };
-    let made = both(from, to, levels, truth, memo, &split);
-    let Split {
-        level: _,
-        low,
-        high,
-    } = split;
-    from.release(high);
-    from.release(low);
-    memo.remember(to, number, made)
-}
 
 /// The copy of one diagram. What its parts needed is given back.
 fn one(
@@ -90,17 +23,18 @@ fn one(
     levels: &[u32],
     truth: &Root,
     memo: &mut Memo,
+    frames: &mut Vec<Frame>,
     a: &Root,
 ) -> Result<Root, StoreFault>
     requires ready { CanCopy from.old to.old levels.now truth.now memo.old.copies.items }
-    requires empty { memo.old.copies.items ≡ [] }
+    requires empty { (memo.old.copies.items ≡ []) × (frames.old.items ≡ []) }
     requires kept { IsRoot from.old.state a.now }
     ensures copied { MakesCopy to.old to.new result levels.now (diagram_of from.old.state a.now) }
-    ensures empty { memo.new.copies.items ≡ [] }
+    ensures empty { (memo.new.copies.items ≡ []) × (frames.new.items ≡ []) }
     ensures from_table { from.new.state.table ≡ from.old.state.table }
     ensures from_roots { SameRoots from.old.state from.new.state }
 {
-    let made = part(from, to, levels, truth, memo, a);
+    let made = part(from, to, levels, truth, memo, frames, a);
     memo.clear(to);
     made
 }
@@ -136,15 +70,18 @@ fn each(
     ensures from_roots { SameRoots from.old.state from.new.state }
 {
     let mut copies = Vec::with_capacity(alloc, roots.len())?;
+    let mut frames = Vec::new(alloc);
     for root in roots {
-        match one(from, to, levels, truth, memo, root) {
+        match one(from, to, levels, truth, memo, &mut frames, root) {
             Ok(copy) => copies.push_reserved(copy),
             Err(fault) => {
+                frames.destroy_empty();
                 release_all(to, copies);
                 return Err(fault);
             }
         }
     }
+    frames.destroy_empty();
     Ok(copies)
 }
 

@@ -118,6 +118,7 @@ fn block(
 
 /// Where some value of the first list is had and some of the second, and the two pass. Where going by blocks is refused, all
 /// that it made is given back, and the pairs are joined one by one: that refusal is answered.
+#[inline(never)]
 pub fn pair_root(
     diagrams: &mut Diagrams,
     test: &Test,

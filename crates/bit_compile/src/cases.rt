@@ -51,6 +51,7 @@ pub enum Source<'a> {
 }
 
 /// Gives all roots back.
+#[inline(never)]
 pub fn release_all(diagrams: &mut Diagrams, mut cases: Vec<CaseRoot>)
     requires { HasTogether diagrams.old.state cases.items }
     ensures released { (n : ℕ) → roots_at diagrams.old.state n ≡ roots_at diagrams.new.state n + roots_in cases.items n }
@@ -102,6 +103,7 @@ fn case_root(
 }
 
 /// Each value, with where it is had.
+#[inline(never)]
 pub fn cases_from(
     diagrams: &mut Diagrams,
     alloc: Global,
@@ -130,6 +132,7 @@ pub fn cases_from(
 }
 
 /// False and true, with where a root is either.
+#[inline(never)]
 pub fn cases_of_truth(
     diagrams: &mut Diagrams,
     alloc: Global,

@@ -49,6 +49,7 @@ fn join_root(diagrams: &mut Diagrams, fold: Fold, a: &Root, b: &Root) -> Result<
 }
 
 /// Where all are true, or some are.
+#[inline(never)]
 pub fn folded(diagrams: &mut Diagrams, fold: Fold, cases: &[CaseRoot]) -> Result<Root, Halt>
     requires { AreKept diagrams.old.state cases.now }
     ensures made { Makes diagrams.old diagrams.new result (folded_lem fold (map (λ x. function_at diagrams.old x.root) cases.now)) }

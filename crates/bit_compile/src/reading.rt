@@ -16,6 +16,7 @@ use game_values::seen::At;
 use regions::Halt;
 
 /// Where a Boolean variable is true.
+#[inline(never)]
 pub fn variable_root(diagrams: &mut Diagrams, scene: &Scene, at: At, k: usize) -> Result<Root, Halt>
     requires scene { IsScene scene.now }
     requires levels { level_count (codes_seen scene.now) ≤ diagrams.old.state.table.levels }
@@ -26,6 +27,7 @@ pub fn variable_root(diagrams: &mut Diagrams, scene: &Scene, at: At, k: usize) -
 }
 
 /// Each value of a variable, with where it has it.
+#[inline(never)]
 pub fn variable_cases(
     diagrams: &mut Diagrams,
     scene: &Scene,

@@ -146,6 +146,7 @@ fn span_of(op: Operation, xs: &[CaseRoot], ys: &[CaseRoot]) -> Domain
 }
 
 /// Each number that the operation gives, with where it is had.
+#[inline(never)]
 pub fn operation_cases(
     diagrams: &mut Diagrams,
     alloc: Global,
@@ -167,6 +168,7 @@ pub fn operation_cases(
 }
 
 /// Each remainder, with where it is had.
+#[inline(never)]
 pub fn remainder_cases(
     diagrams: &mut Diagrams,
     alloc: Global,
@@ -203,6 +205,7 @@ fn same_with(
 }
 
 /// Where both roots are true, or neither is.
+#[inline(never)]
 pub fn same_root(diagrams: &mut Diagrams, alloc: Global, a: &Root, b: &Root) -> Result<Root, Halt>
     requires a_kept { IsRoot diagrams.old.state a.now }
     requires b_kept { IsRoot diagrams.old.state b.now }
@@ -300,6 +303,7 @@ fn cells_root(
 }
 
 /// Where a truth table of the hidden table at this place is true.
+#[inline(never)]
 pub fn table_root(
     diagrams: &mut Diagrams,
     codes: &Codes,

@@ -28,6 +28,7 @@ pub fn told(made: Result<Root, StoreFault>) -> Result<Root, Halt>
 }
 
 /// A constant. It takes no node.
+#[inline(never)]
 pub fn constant(diagrams: &mut Diagrams, value: bool) -> Result<Root, Halt>
     ensures made { Makes diagrams.old diagrams.new result (λ s. value) }
     ensures never { result ≡ Err Halt.Budget → ⊥ }
@@ -61,6 +62,7 @@ pub fn and(diagrams: &mut Diagrams, a: &Root, b: &Root) -> Result<Root, Halt>
 }
 
 /// The diagram that is true where one of them is.
+#[inline(never)]
 pub fn or(diagrams: &mut Diagrams, a: &Root, b: &Root) -> Result<Root, Halt>
     requires a_kept { IsRoot diagrams.old.state a.now }
     requires b_kept { IsRoot diagrams.old.state b.now }
@@ -77,6 +79,7 @@ pub fn or(diagrams: &mut Diagrams, a: &Root, b: &Root) -> Result<Root, Halt>
 }
 
 /// The diagram that is true where `a` is false.
+#[inline(never)]
 pub fn not(diagrams: &mut Diagrams, a: &Root) -> Result<Root, Halt>
     requires { IsRoot diagrams.old.state a.now }
     ensures { MakesOnce diagrams.old diagrams.new result (negated (function_at diagrams.old a.now)) (IsNegatedPart (diagram_of diagrams.old.state a.now)) }

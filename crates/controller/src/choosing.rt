@@ -41,7 +41,7 @@ pub fn least_rank<G: Regions>(
     aims.len()
 }
 
-/// The number of the first of some regions that has the state.
+/// The number of the first of some regions that has the state, where one of them has it: so the last isn't asked.
 pub fn least_index<G: Regions>(g: &mut G, regions: &[G::R], state: &[Value]) -> usize
     requires { AreSomewhere (G.kept g.old) regions.now }
     ensures least { let k = G.kept g.old in (sets : ℕ → StateSet) (s : State) (i : ℕ) → RegionsAre k regions.now sets → IsTrue (is_state k.game s) → listed s ≡ state.now →
@@ -49,10 +49,11 @@ pub fn least_index<G: Regions>(g: &mut G, regions: &[G::R], state: &[Value]) -> 
     ensures held { Stays (G.kept g.old) (G.kept g.new) }
     ensures keeps { IsSameGame (G.kept g.old) (G.kept g.new) }
 {
-    for i in 0..regions.len() {
+    let last = regions.len().saturating_sub(1);
+    for i in 0..last {
         if g.has(&regions[i], state) {
             return i;
         }
     }
-    regions.len()
+    last
 }

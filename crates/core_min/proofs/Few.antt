@@ -1,5 +1,5 @@
 -- A set has no more numbers than there are.
-use Rattle.std.proofs.Common.{◌≡◌, ℕ, zero, suc, ◌+◌, ◌-◌, ◌<◌, ◌≤◌, List, [], ◌∷◌, length, get_or, arith}
+use Rattle.std.proofs.Common.{ℕ, zero, suc, ◌+◌, ◌<◌, ◌≤◌, List, [], ◌∷◌, length, get_or, arith}
 use Rattle.std.proofs.Math.Numerals.{add-one}
 use Rattle.core_min.specs.Sets.{IsSetBelow}
 use Rattle.std.specs.List.Sorted.{IsStrictlyIncreasing}

@@ -70,7 +70,7 @@ module _ (IsWinning : List ℕ → Type 0) (n : ℕ) where
 
 -- ---- what is left is a core
 
-one_of : (x : ℕ) (xs : List ℕ) (k : ℕ) → Contains (x ∷ xs) k → (x ≡ k) ⊎ Contains xs k
+pub one_of : (x : ℕ) (xs : List ℕ) (k : ℕ) → Contains (x ∷ xs) k → (x ≡ k) ⊎ Contains xs k
 one_of x xs k there =
     elim (Contains-append_cases (x ∷ []) xs k there) [
       | inl here ↦ elim (Contains-push_cases [] x k here) [ inl none ↦ absurd (let below = none.1 in omega arith) | inr is ↦ inl is ]
@@ -78,7 +78,7 @@ one_of x xs k there =
     ]
 
 -- what is in a set without a number is in the set, and isn't that number
-of_without : (xs : List ℕ) (n k : ℕ) → Contains (without xs n) k → Contains xs k × (k ≡ n → ⊥)
+pub of_without : (xs : List ℕ) (n k : ℕ) → Contains (without xs n) k → Contains xs k × (k ≡ n → ⊥)
 of_without [] n k there = absurd (let below = there.1 in omega arith)
 of_without (x ∷ xs) n k there = at (x == n) refl there (λ later. of_without xs n k later)
   where
@@ -90,7 +90,7 @@ of_without (x ∷ xs) n k there = at (x == n) refl there (λ later. of_without x
           | inr later ↦ let rest = on later in (Contains-append_right (x ∷ []) xs k rest.0, rest.1)
         ]
 
-to_without : (xs : List ℕ) (n k : ℕ) → Contains xs k → (k ≡ n → ⊥) → Contains (without xs n) k
+pub to_without : (xs : List ℕ) (n k : ℕ) → Contains xs k → (k ≡ n → ⊥) → Contains (without xs n) k
 to_without [] n k there differ = absurd (let below = there.1 in omega arith)
 to_without (x ∷ xs) n k there differ = at (x == n) refl (one_of x xs k there) (λ later. to_without xs n k later differ)
   where

@@ -1,5 +1,6 @@
 pub mod Slots
 pub mod Meaning
 pub mod Marking
+pub mod Walking
 pub mod Sweeping
 pub mod Adding

@@ -1,11 +1,10 @@
 -- What marking a node leaves.
-use Rattle.std.proofs.Common.{◌≡◌, ◌≢◌, ℕ, ◌<◌, ◌≤◌, ◌==◌, Bool, true, false, cond, Some, None, List, length, get_or, set, get_or-set_same, get_or-set_other, length-set, refl, sym, ◌∙◌, ap, subst, inl, inr, arith}
+use Rattle.std.proofs.Common.{◌≡◌, ◌≢◌, ℕ, ◌<◌, ◌≤◌, Bool, true, false, cond, Some, None, List, length, get_or, set, get_or-set_same, get_or-set_other, length-set, refl, sym, ◌∙◌, ap, subst, inl, inr, arith}
 use Rattle.std.proofs.lemmas.Bool.{cases_lt, cases_eq, false≢true, lt-ltb, le-ltb}
 use Rattle.std.proofs.lemmas.List.{get_or_past}
-use Rattle.spec_model.specs.Diagrams.{constant, branch, IsPartOf}
-use Rattle.node_table.specs.Table.{Table, level_at, low_at, high_at, parts_of, IsLive, IsMarked, IsSound, diagram_at, MarksNode}
+use Rattle.node_table.specs.Table.{Table, level_at, low_at, high_at, parts_of, IsLive, IsMarked, IsSound, MarksNode}
 use Rattle.node_table.specs.Index.{IsKept}
-use Rattle.node_table.proofs.Meaning.{diagram_at-constant, diagram_at-inner, one_node, marked_parts, part_itself}
+use Rattle.node_table.proofs.Meaning.{marked_parts}
 
 abbrev pub with_marks : Table → List Bool → Table
 with_marks t marked = record t { marked = marked }
@@ -59,10 +58,10 @@ module _ (t : Table) (m : List Bool) (n : ℕ) (sound : IsSound (with_marks t m)
     ];
   }
 
--- the columns and the index fit as before
-pub kept_marked : (t : Table) (slots : List ℕ) (count free n : ℕ) → IsKept t slots count free → IsLive t n → (2 ≤ n → IsMarked t (low_at t n) × IsMarked t (high_at t n)) → IsKept (with_marks t (set t.marked n true)) slots count free
-kept_marked t slots count free n kept live parts = record {
-  sound = sound_marked t t.marked n kept.sound live parts;
+-- where other marks leave the table sound, the columns and the index fit as before
+pub kept_marked : (t : Table) (marked : List Bool) (slots : List ℕ) (count free : ℕ) → IsKept t slots count free → IsSound (with_marks t marked) → IsKept (with_marks t marked) slots count free
+kept_marked t marked slots count free kept sound = record {
+  sound = sound;
   counted = kept.counted;
   small = kept.small;
   index = kept.index;
@@ -97,69 +96,3 @@ parts_of-constant t n e =
       | inl less ↦ less
       | inr inner ↦ let some : parts_of t n ≡ Some (level_at t n, low_at t n, high_at t n) = ap (λ b. cond b None (Some (level_at t n, low_at t n, high_at t n))) (le-ltb n 2 inner) in let h : Some (level_at t n, low_at t n, high_at t n) ≡ None = sym some ∙ e in cc
     ]
-
--- a constant
-module _ (t : Table) (n : ℕ) (sound : IsSound t) (live : IsLive t n) (small : n < 2) where
-  pub marks_constant : MarksNode t (with_marks t (set t.marked n true)) n
-  marks_constant = record {
-    same = refl;
-    kept = stays_marked t t.marked n sound live;
-    reached = λ k live' part.
-        let e : diagram_at t k ≡ constant (n == 1) = subst (IsPartOf (diagram_at t k)) (diagram_at-constant t sound n small) part in
-        ap (λ i. get_or (set t.marked n true) i false) (one_node t sound k n live' live (e ∙ sym (diagram_at-constant t sound n small))) ∙ marked_here t t.marked n sound live;
-    only = λ k h. elim (cases_eq k n) [ inl e ↦ inr (subst (λ i. IsPartOf (diagram_at t k) (diagram_at t i)) e (part_itself (diagram_at t k))) | inr ne ↦ inl (was_marked t t.marked n sound live k ne h) ];
-  }
-
-  pub constant_sound : IsSound (with_marks t (set t.marked n true))
-  constant_sound = sound_marked t t.marked n sound live (λ inner. absurd (omega arith))
-
--- a node whose parts were marked before
-module _ (t : Table) (m1 m2 : List Bool) (n : ℕ) (sound : IsSound t) (sound2 : IsSound (with_marks t m2)) (live : IsLive t n) (inner : 2 ≤ n)
-    (low : MarksNode t (with_marks t m1) (low_at t n)) (high : MarksNode (with_marks t m1) (with_marks t m2) (high_at t n)) where
-  pub low_is_marked : get_or m2 (low_at t n) false ≡ true
-  low_is_marked = let fit = sound.fit n inner live in high.kept (low_at t n) (low.reached (low_at t n) fit.low_live (part_itself (diagram_at t (low_at t n))))
-
-  pub high_is_marked : get_or m2 (high_at t n) false ≡ true
-  high_is_marked = let fit = sound.fit n inner live in high.reached (high_at t n) fit.high_live (part_itself (diagram_at t (high_at t n)))
-
-  pub marks_inner : MarksNode t (with_marks t (set m2 n true)) n
-  marks_inner = record {
-    same = refl;
-    kept = λ k h. stays_marked t m2 n sound2 live k (high.kept k (low.kept k h));
-    reached = λ k live' part.
-        let parts : IsPartOf (diagram_at t k) (branch (level_at t n) (diagram_at t (low_at t n)) (diagram_at t (high_at t n))) = subst (IsPartOf (diagram_at t k)) (diagram_at-inner t sound n inner live) part in
-        elim parts [
-          | inl e ↦ ap (λ i. get_or (set m2 n true) i false) (one_node t sound k n live' live (e ∙ sym (diagram_at-inner t sound n inner live))) ∙ marked_here t m2 n sound2 live
-          | inr (inl p) ↦ stays_marked t m2 n sound2 live k (high.kept k (low.reached k live' p))
-          | inr (inr p) ↦ stays_marked t m2 n sound2 live k (high.reached k live' p)
-        ];
-    only = λ k h. elim (cases_eq k n) [
-      | inl e ↦ inr (subst (λ i. IsPartOf (diagram_at t k) (diagram_at t i)) e (part_itself (diagram_at t k)))
-      | inr ne ↦ elim (high.only k (was_marked t m2 n sound2 live k ne h)) [
-        | inl before ↦ elim (low.only k before) [ inl first ↦ inl first | inr p ↦ inr (subst (IsPartOf (diagram_at t k)) (sym (diagram_at-inner t sound n inner live)) (inr (inl p))) ]
-        | inr p ↦ inr (subst (IsPartOf (diagram_at t k)) (sym (diagram_at-inner t sound n inner live)) (inr (inr p)))
-      ]
-    ];
-  }
-
-  pub inner_sound : IsSound (with_marks t (set m2 n true))
-  inner_sound = sound_marked t m2 n sound2 live (λ _. (low_is_marked, high_is_marked))
-
--- what marking the parts and then the node itself leaves
-abbrev MarkedAfter : Table → ℕ → Table → Type 0
-MarkedAfter t n s = IsMarked s (low_at s n) × IsMarked s (high_at s n) × MarksNode t (with_marks s (set s.marked n true)) n
-
-pub marks_parts : (s0 s1 s2 : Table) (n low high : ℕ) → IsSound s0 → IsSound s2 → IsLive s0 n → 2 ≤ n → low ≡ low_at s0 n → high ≡ high_at s0 n →
-    MarksNode s0 s1 low → MarksNode s1 s2 high → IsMarked s2 (low_at s2 n) × IsMarked s2 (high_at s2 n) × MarksNode s0 (with_marks s2 (set s2.marked n true)) n
-marks_parts s0 s1 s2 n low high sound sound2 live inner is_low is_high first second =
-    let e1 : s1 ≡ with_marks s0 s1.marked = first.same in
-    let e2 : s2 ≡ with_marks s0 s2.marked = second.same ∙ ap (λ s. with_marks s s2.marked) e1 in
-    let first' : MarksNode s0 (with_marks s0 s1.marked) (low_at s0 n) = subst (λ k. MarksNode s0 (with_marks s0 s1.marked) k) is_low (subst (λ s. MarksNode s0 s low) e1 first) in
-    let second' : MarksNode (with_marks s0 s1.marked) (with_marks s0 s2.marked) (high_at s0 n) =
-    subst (λ k. MarksNode (with_marks s0 s1.marked) (with_marks s0 s2.marked) k) is_high (subst (λ s. MarksNode (with_marks s0 s1.marked) s high) e2 (subst (λ s. MarksNode s s2 high) e1 second)) in
-    let sound2' : IsSound (with_marks s0 s2.marked) = subst IsSound e2 sound2 in
-    subst (MarkedAfter s0 n) (sym e2) (
-      low_is_marked s0 s1.marked s2.marked n sound sound2' live inner first' second',
-      high_is_marked s0 s1.marked s2.marked n sound sound2' live inner first' second',
-      marks_inner s0 s1.marked s2.marked n sound sound2' live inner first' second',
-    )

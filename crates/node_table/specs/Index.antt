@@ -2,7 +2,8 @@
 use Rattle.std.specs.Prelude.{◌≡◌, ◌≢◌, ◌+◌, ◌-◌, ◌*◌, ◌/◌, ◌%◌, ◌^◌, ◌<◌, ◌≤◌, ◌⊎◌, ◌==◌, ℕ, Bool, false, not, if◌then◌else◌, List, length, slice_index, slice_index_or, count_by, bit_and, IsTrue}
 use Rattle.std.specs.Prelude.{nat_lt}
 use Rattle.node_table.specs.declared.node.Node.{Node}
-use Rattle.node_table.specs.Table.{Table, no_node, IsSound, count_of}
+use Rattle.spec_model.specs.Diagrams.{IsPartOf}
+use Rattle.node_table.specs.Table.{Table, no_node, IsSound, IsLive, IsMarked, MarksNode, count_of, is_marked, level_at, diagram_at}
 
 -- what level and high part are mixed into, by odd factors near the golden ratio's multiples (Knuth, multiplicative
 -- hashing)
@@ -94,3 +95,44 @@ pub record Settles (nodes nodes' : List Node) (live live' marked marked' : List 
   pub other_flags : (k : ℕ) → k ≢ n → slice_index_or live' k false ≡ slice_index_or live k false
   pub other_marks : (k : ℕ) → slice_index_or marked' k false ≡ slice_index_or marked k false
   pub count : count_by (λ b. b) live' ≡ count_by (λ b. b) live + 1
+
+-- ---- marking
+
+abbrev pub with_columns : Table → List Node → List Bool → Table
+with_columns t nodes marked = record t { nodes = nodes; marked = marked }
+
+-- the table is sound, the node is one of its live and unmarked ones, and there is room for a way down from it
+pub record IsMarkable (t : Table) (n places : ℕ) : Type 0 where
+  pub sound : IsSound t
+  pub live : IsLive t n
+  pub unmarked : is_marked t n ≡ false
+  pub room : t.levels < places
+
+-- the node and all that it reaches are marked
+pub record IsMarkedFrom (old new : Table) (n : ℕ) : Type 0 where
+  pub marks : MarksNode old new n
+  pub sound : IsSound new
+
+-- a constant, or a node with both parts marked
+abbrev pub HasPartsMarked : List Node → List Bool → ℕ → Type 0
+HasPartsMarked nodes marked n = 2 ≤ n → IsTrue (slice_index_or marked (node_of nodes n).low false) × IsTrue (slice_index_or marked (node_of nodes n).high false)
+
+-- an unmarked part of the node
+pub record IsUnmarkedPart (nodes : List Node) (marked : List Bool) (n part : ℕ) : Type 0 where
+  pub inner : 2 ≤ n
+  pub one : (part ≡ (node_of nodes n).low) ⊎ (part ≡ (node_of nodes n).high)
+  pub unmarked : slice_index_or marked part false ≡ false
+
+-- the table after some of what the node reaches was marked, and the first so many entries of the way: each is an
+-- unmarked node of a later level than those before it, and the first is the node
+pub record IsWalk (old new : Table) (way : List ℕ) (n depth : ℕ) : Type 0 where
+  pub sound : IsSound new
+  pub kept : (k : ℕ) → IsMarked old k → IsMarked new k
+  pub only : (k : ℕ) → IsMarked new k → IsMarked old k ⊎ IsPartOf (diagram_at old k) (diagram_at old n)
+  pub live : (i : ℕ) → i < depth → IsLive old (slice_index way i)
+  pub unmarked : (i : ℕ) → i < depth → is_marked new (slice_index way i) ≡ false
+  pub part : (i : ℕ) → i < depth → IsPartOf (diagram_at old (slice_index way i)) (diagram_at old n)
+  pub rising : (i j : ℕ) → i < j → j < depth → level_at old (slice_index way i) < level_at old (slice_index way j)
+  pub deep : (i : ℕ) → i < depth → i ≤ level_at old (slice_index way i)
+  pub first : slice_index way 0 ≡ n
+  pub ended : depth ≡ 0 → IsMarked new n

@@ -15,6 +15,7 @@ mod index;
 mod node;
 mod nodes;
 mod rebuild;
+mod walk;
 
 pub use fault::NodeFault;
 pub use node::Node;

@@ -1,5 +1,5 @@
-ghost use Rattle.std.specs.Prelude.{◌≡◌, ◌<◌, ◌≤◌, ◌↔◌, ◌⊎◌, ℕ, true, slice_set, Ok, Err, IfOk, OnErr, IsOkAnd};
-ghost use Rattle.node_table.specs.Table.{IsLive, IsMarked, IsNodeAt, HasNode, IsFit, IsSound, IsNew, SameBounds, AddsNode, KeepsLive, MarksNode, Sweeps, count_of, parts_of, low_at, high_at, is_marked, diagram_at};
+ghost use Rattle.std.specs.Prelude.{◌≡◌, ◌<◌, ◌≤◌, ◌↔◌, ◌⊎◌, ℕ, Ok, Err, IfOk, OnErr, IsOkAnd};
+ghost use Rattle.node_table.specs.Table.{IsLive, IsNodeAt, HasNode, IsFit, IsSound, IsNew, SameBounds, AddsNode, KeepsLive, MarksNode, Sweeps, count_of, parts_of, is_marked, diagram_at};
 ghost use Rattle.spec_model.specs.Diagrams.{branch};
 
 use crate::OutOfMemory;
@@ -8,6 +8,7 @@ use crate::fault::NodeFault;
 use crate::index::probe;
 use crate::node::Node;
 use crate::rebuild::{rebuild, room_for};
+use crate::walk::mark_from;
 use std::alloc::Global;
 use std::marker::Model;
 
@@ -27,9 +28,12 @@ pub struct Nodes {
     count: u32,
     /// All places below it are live.
     free: usize,
+    /// Where marking keeps its way down: one place more than there are levels.
+    way: Vec<u32>,
 }
 
 impl Model for Nodes {
+    ghost use Rattle.std.specs.Prelude.{◌<◌, vec_len};
     ghost use Rattle.node_table.specs.Table.{Table};
     ghost use Rattle.node_table.specs.Index.{IsKept};
 
@@ -37,7 +41,7 @@ impl Model for Nodes {
 
     ghost view = { λ n. record { levels = n.levels; budget = n.budget; nodes = n.nodes.items; live = n.live.items; marked = n.marked.items } };
 
-    ghost invariant = { λ n. IsKept (record { levels = n.levels; budget = n.budget; nodes = n.nodes.items; live = n.live.items; marked = n.marked.items }) n.slots.items n.count n.free };
+    ghost invariant = { λ n. IsKept (record { levels = n.levels; budget = n.budget; nodes = n.nodes.items; live = n.live.items; marked = n.marked.items }) n.slots.items n.count n.free × (n.levels < vec_len n.way) };
 }
 
 impl Nodes {
@@ -63,6 +67,7 @@ impl Nodes {
             slots,
             count: 2,
             free: 2,
+            way: vec![in alloc; 0; levels as usize + 1]?,
         })
     }
 
@@ -119,40 +124,17 @@ impl Nodes {
         Some((node.level, node.low, node.high))
     }
 
-    /// Marks a live node and all that it reaches.
+    /// Marks a live node and all that it reaches. It takes no memory, and looks at each node that it marks three times
+    /// at most.
     pub fn mark(&mut self, n: u32)
         requires live { IsLive self.old n }
         ensures marks { MarksNode self.old self.new n }
         ensures sound { IsSound self.new }
     {
-        if self.is_marked(n) {
+        if self.marked[n as usize] {
             return;
         }
-        let Some((_, low, high)) = self.parts(n) else {
-            self.flag(n);
-            return;
-        };
-        self.mark(low);
-        self.mark(high);
-        self.flag(n);
-    }
-
-    fn is_marked(&self, n: u32) -> bool
-        requires { IsLive self.now n }
-        ensures value { result ≡ is_marked self.now n }
-        ensures sound { IsSound self.now }
-    {
-        self.marked[n as usize]
-    }
-
-    /// Marks one node, whose parts are marked.
-    fn flag(&mut self, n: u32)
-        requires live { IsLive self.old n }
-        requires parts { 2 ≤ n → IsMarked self.old (low_at self.old n) × IsMarked self.old (high_at self.old n) }
-        ensures marked { self.new ≡ record self.old { marked = slice_set self.old.marked n true } }
-        ensures sound { IsSound self.new }
-    {
-        self.marked[n as usize] = true;
+        mark_from(&self.nodes, &mut self.marked, &mut self.way, n);
     }
 
     /// Frees exactly the unmarked nodes other than the constants, and takes the marks away.

@@ -6,7 +6,7 @@ use Rattle.std.proofs.Math.Seq.{take-append_seam}
 use Rattle.std.specs.List.{All}
 use Rattle.spec_model.specs.declared.value.Value.{Value}
 use Rattle.spec_model.specs.Values.{DomainData}
-use Rattle.spec_model.specs.Diagrams.{Bits}
+use Rattle.spec_model.specs.Diagrams.{Bits, Function}
 use Rattle.spec_model.specs.Moves.{is_env, domains_of}
 use Rattle.spec_model.specs.Games.{GameData, listed, inputs_of, outputs_of}
 use Rattle.spec_model.specs.Steps.{Before, is_input}
@@ -27,6 +27,9 @@ use Rattle.bdd_sets.specs.declared.moves.NextLevels.{NextLevels}
 use Rattle.bdd_sets.specs.StateBits.{TellsStates, set_at}
 use Rattle.bdd_sets.specs.ToldMoves.{HasBefore, TellsMoves, some_leads}
 use Rattle.bdd_sets.specs.Members.{AreRoots, AreMembers, all_true, functions_at, move_functions}
+use Rattle.bdd_sets.specs.MoveFunctions.{MoveFunctions}
+use Rattle.bdd_products.specs.declared.early.Early.{Early}
+use Rattle.bdd_products.specs.Early.{IsEarly, FitsEarly, AreRootsOfEarly}
 use Rattle.bdd_search.specs.Parts.{AreOf, ArePart, HaveValues, AreFixed}
 use Rattle.bdd_search.proofs.PartLemmas.{whole_of, whole_have, have_whole, agrees_have, part_assignment, assignment_part}
 use Rattle.region_bdd.specs.declared.slots.Content.{Content}
@@ -38,8 +41,8 @@ use Rattle.region_bdd.specs.declared.own.Own.{Own}
 use Rattle.region_bdd.specs.declared.own.Refused.{Refused}
 use Rattle.region_bdd.specs.Slots.{Nothing, shown_in, shown_of, shown_meaning, HasContent}
 use Rattle.region_bdd.specs.Leading.{members_at}
-use Rattle.region_bdd.specs.Finding.{outputs_asked, inputs_asked, AreStateAt, HaveState, AreStateFixed, IsMoveFixed}
-use Rattle.region_bdd.specs.Object.{IsObject, kept_of}
+use Rattle.region_bdd.specs.Finding.{outputs_asked, products_asked, sought, outputs_sought, inputs_asked, AreStateAt, HaveState, AreStateFixed, IsMoveFixed}
+use Rattle.region_bdd.specs.Object.{FitsOwnEarly, IsObject, kept_of}
 use Rattle.region_bdd.proofs.SlotLaws.{map-get, get_here}
 use Rattle.region_bdd.proofs.AlikeLaws.{has_moves}
 use Rattle.region_bdd.proofs.LeadingLaws.{members_fit}
@@ -115,13 +118,66 @@ module _ (c : Contents) where
   one_root : (n : ℕ) → IsRoot c.state n → All (λ n. IsRoot c.state n) (n ∷ [])
   one_root n root = All-cons (λ n. IsRoot c.state n) n [] root (All-nil (λ n. IsRoot c.state n))
 
-  pub outputs_kept : (m : Members) (t : ℕ) → AreMembers c m → IsRoot c.state t → All (λ n. IsRoot c.state n) (outputs_asked m t)
+  outputs_kept : (m : Members) (t : ℕ) → AreMembers c m → IsRoot c.state t → All (λ n. IsRoot c.state n) (outputs_asked m t)
   outputs_kept m t are root =
       All-append (λ n. IsRoot c.state n) ((m.inputs.items ++ m.outputs.items) ++ m.update.items) (t ∷ [])
       (All-append (λ n. IsRoot c.state n) (m.inputs.items ++ m.outputs.items) m.update.items
       (All-append (λ n. IsRoot c.state n) m.inputs.items m.outputs.items (all_roots m.inputs.items are.inputs) (all_roots m.outputs.items are.outputs))
       (all_roots m.update.items are.update))
       (one_root t root)
+
+  -- ---- by products
+
+  products_are : (e : Early) (t : ℕ) (s : Bits) → all_of c (products_asked e t) s ≡ ((all_true (functions_at c e.inputs.lines.items) s && all_true (functions_at c e.replies.lines.items) s) && function_at c t s)
+  products_are e t s =
+      let lines = e.inputs.lines.items ++ e.replies.lines.items in
+      all-append lines (t ∷ []) s
+      ∙ (ap (λ b. all_of c lines s && b) (alone t s)
+      ∙ ap (λ b. b && function_at c t s)
+      (all-append e.inputs.lines.items e.replies.lines.items s
+      ∙ (ap (λ b. all_of c e.inputs.lines.items s && b) (all-true e.replies.lines.items s) ∙ ap (λ b. b && all_true (functions_at c e.replies.lines.items) s) (all-true e.inputs.lines.items s))))
+
+  -- what is asked by products is what is asked by members
+  module _ (m : MoveFunctions) (lists : NextLevels) (e : Early) (early : IsEarly m lists c e) where
+    products_parts : (t : ℕ) (s : Bits) → all_of c (products_asked e t) s ≡ true → (m.inputs s ≡ true) × (m.outputs s ≡ true) × (m.update s ≡ true) × (function_at c t s ≡ true)
+    products_parts t s is =
+        let last = and_parts _ (function_at c t s) (sym (products_are e t s) ∙ is) in
+        let two = and_parts (all_true (functions_at c e.inputs.lines.items) s) (all_true (functions_at c e.replies.lines.items) s) last.0 in
+        let replies : (m.outputs s && m.update s) ≡ true = sym (ap (λ (f : Function). f s) early.replies.conjunction) ∙ two.1 in
+        let both = and_parts (m.outputs s) (m.update s) replies in
+        (sym (ap (λ (f : Function). f s) early.inputs.conjunction) ∙ two.0, both.0, both.1, last.1)
+
+    parts_products : (t : ℕ) (s : Bits) → m.inputs s ≡ true → m.outputs s ≡ true → m.update s ≡ true → function_at c t s ≡ true → all_of c (products_asked e t) s ≡ true
+    parts_products t s i o u is =
+        let replies : (m.outputs s && m.update s) ≡ true = and_from _ _ o u in
+        products_are e t s ∙ and_from _ _ (and_from _ _ (ap (λ (f : Function). f s) early.inputs.conjunction ∙ i) (ap (λ (f : Function). f s) early.replies.conjunction ∙ replies)) is
+
+  module _ (lists : NextLevels) where
+    sought_parts : (m : Members) (when : When) (e : Option Early) → (when ≡ Later → FitsEarly (move_functions c m) lists c e) → (t : ℕ) (s : Bits) → all_of c (sought m when e t) s ≡ true → ((move_functions c m).inputs s ≡ true) × ((move_functions c m).outputs s ≡ true) × ((move_functions c m).update s ≡ true) × (function_at c t s ≡ true)
+    sought_parts m First e fits t s is = outputs_parts m t s is
+    sought_parts m Later None fits t s is = outputs_parts m t s is
+    sought_parts m Later (Some e) fits t s is = products_parts (move_functions c m) lists e (fits refl) t s is
+
+    parts_sought : (m : Members) (when : When) (e : Option Early) → (when ≡ Later → FitsEarly (move_functions c m) lists c e) → (t : ℕ) (s : Bits) → (move_functions c m).inputs s ≡ true → (move_functions c m).outputs s ≡ true → (move_functions c m).update s ≡ true → function_at c t s ≡ true → all_of c (sought m when e t) s ≡ true
+    parts_sought m First e fits t s i o u is = parts_outputs m t s i o u is
+    parts_sought m Later None fits t s i o u is = parts_outputs m t s i o u is
+    parts_sought m Later (Some e) fits t s i o u is = parts_products (move_functions c m) lists e (fits refl) t s i o u is
+
+  -- the products are of the lines of later moves
+  pub own_early : (own : Own) (lists : NextLevels) (when : When) → FitsOwnEarly lists c own → when ≡ Later → FitsEarly (move_functions c (members_at own when)) lists c own.early
+  own_early own lists First fits is = absurd (cc (is))
+  own_early own lists Later fits is = fits
+
+  pub sought_kept : (own : Own) (when : When) (t : ℕ) → AreMembers c (members_at own when) → AreRootsOfEarly c own.early → IsRoot c.state t → All (λ n. IsRoot c.state n) (outputs_sought own when t)
+  sought_kept own when t are early root = at when own.early early
+    where
+      at : (w : When) (e : Option Early) → AreRootsOfEarly c e → All (λ n. IsRoot c.state n) (sought (members_at own when) w e t)
+      at First e early = outputs_kept (members_at own when) t are root
+      at Later None early = outputs_kept (members_at own when) t are root
+      at Later (Some e) early =
+          All-append (λ n. IsRoot c.state n) (e.inputs.lines.items ++ e.replies.lines.items) (t ∷ [])
+          (All-append (λ n. IsRoot c.state n) e.inputs.lines.items e.replies.lines.items (all_roots e.inputs.lines.items early.inputs) (all_roots e.replies.lines.items early.replies))
+          (one_root t root)
 
   pub inputs_kept : (m : Members) (t : ℕ) → AreMembers c m → IsRoot c.state t → All (λ n. IsRoot c.state n) (inputs_asked m t)
   inputs_kept m t are root = All-append (λ n. IsRoot c.state n) m.inputs.items (t ∷ []) (all_roots m.inputs.items are.inputs) (one_root t root)
@@ -183,16 +239,16 @@ module _ (g : GameData) (own : Own) (lists : NextLevels) (c : Contents) (slots :
         (input_unfit g x (λ part. none (are_state g when b state are, part)))
 
     module _ (part : ArePart (state_domains g) (length g.hidden) (length g.hidden + length (ins g)) x) (fixed : List (Option Bool)) (fixes : IsMoveFixed (state_domains g) when state (length g.hidden) x fixed) where
-      pub out_found : (s : Bits) → IsFirst fixed (all_of c (outputs_asked (members_at own when) root)) 0 (level_count (state_domains g)) s → FindsOutput g (outputs_into g when (set_at g Next (function_at c root)) b x) s
+      pub out_found : (s : Bits) → IsFirst fixed (all_of c (outputs_sought own when root)) 0 (level_count (state_domains g)) s → FindsOutput g (outputs_into g when (set_at g Next (function_at c root)) b x) s
       out_found s first =
-          output_found g when (move_functions c (members_at own when)) (has_moves g object.made) (members_fit g own lists c slots refused object when) lists.all.items object.lists_are.all b are.time x (input_fits g x part) (function_at c root) states (all_of c (outputs_asked (members_at own when) root))
-          (outputs_parts c (members_at own when) root) (parts_outputs c (members_at own when) root) fixed
+          output_found g when (move_functions c (members_at own when)) (has_moves g object.made) (members_fit g own lists c slots refused object when) lists.all.items object.lists_are.all b are.time x (input_fits g x part) (function_at c root) states (all_of c (outputs_sought own when root))
+          (sought_parts c lists (members_at own when) when own.early (own_early c own lists when object.early) root) (parts_sought c lists (members_at own when) when own.early (own_early c own lists when object.early) root) fixed
           (λ s agrees. have_before g when b state are s (fixes.before s agrees)) fixes.next (λ s before have. fixes.allows s (before_have g when b state are s before) have) s first
 
-      pub out_nothing : HasNone fixed (all_of c (outputs_asked (members_at own when) root)) 0 → find (outputs_into g when (set_at g Next (function_at c root)) b x) (outputs_of g) ≡ None
+      pub out_nothing : HasNone fixed (all_of c (outputs_sought own when root)) 0 → find (outputs_into g when (set_at g Next (function_at c root)) b x) (outputs_of g) ≡ None
       out_nothing none =
-          no_output g when (move_functions c (members_at own when)) (has_moves g object.made) (members_fit g own lists c slots refused object when) lists.all.items object.lists_are.all b are.time x (input_fits g x part) (function_at c root) states (all_of c (outputs_asked (members_at own when) root))
-          (outputs_parts c (members_at own when) root) (parts_outputs c (members_at own when) root) fixed
+          no_output g when (move_functions c (members_at own when)) (has_moves g object.made) (members_fit g own lists c slots refused object when) lists.all.items object.lists_are.all b are.time x (input_fits g x part) (function_at c root) states (all_of c (outputs_sought own when root))
+          (sought_parts c lists (members_at own when) when own.early (own_early c own lists when object.early) root) (parts_sought c lists (members_at own when) when own.early (own_early c own lists when object.early) root) fixed
           (λ s agrees. have_before g when b state are s (fixes.before s agrees)) fixes.next (λ s before have. fixes.allows s (before_have g when b state are s before) have) none
 
   module _ (t : StateSet) (leads : ℕ) (told : TellsMoves g when (function_at c leads) (λ b s. not (some_leads g (λ u. not (t u)) b s.position.input))) (fixed : List (Option Bool)) (fixes : AreStateFixed (state_domains g) when state fixed) (allows : (s : Bits) → HaveState (state_domains g) when state s → Agrees fixed 0 s) where

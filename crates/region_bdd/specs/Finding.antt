@@ -1,5 +1,5 @@
 -- What is asked for where a first move is to be found, and what is fixed of its bits.
-use Rattle.std.specs.Prelude.{◌≡◌, ℕ, Bool, Option, List, [], ◌∷◌, ◌++◌, length}
+use Rattle.std.specs.Prelude.{◌≡◌, ℕ, Bool, Option, Some, None, List, [], ◌∷◌, ◌++◌, length}
 use Rattle.spec_model.specs.declared.value.Value.{Value}
 use Rattle.spec_model.specs.Values.{DomainData}
 use Rattle.spec_model.specs.Diagrams.{Bits}
@@ -9,11 +9,28 @@ use Rattle.game_values.specs.declared.seen.At.TheVariants.{Now, Next}
 use Rattle.bdd_ops.specs.Paths.{Agrees}
 use Rattle.bdd_ops.specs.Together.{Together}
 use Rattle.bdd_sets.specs.declared.moves.Members.{Members}
+use Rattle.bdd_products.specs.declared.early.Early.{Early}
+use Rattle.region_bdd.specs.declared.own.Own.{Own}
+use Rattle.region_bdd.specs.Leading.{members_at}
 use Rattle.bdd_search.specs.Parts.{ArePart, HaveValues, AreFixed}
 
 -- the diagrams that are true together at legal moves into the target
 abbrev pub outputs_asked : Members → ℕ → List ℕ
 outputs_asked m target = ((m.inputs.items ++ m.outputs.items) ++ m.update.items) ++ target ∷ []
+
+-- the same by products
+abbrev pub products_asked : Early → ℕ → List ℕ
+products_asked e target = (e.inputs.lines.items ++ e.replies.lines.items) ++ target ∷ []
+
+-- the members, or of later moves the products, where there are any
+abbrev pub sought : Members → When → Option Early → ℕ → List ℕ
+sought m First early target = outputs_asked m target
+sought m Later None target = outputs_asked m target
+sought m Later (Some e) target = products_asked e target
+
+-- the diagrams that are true together at an object's legal moves into the target
+abbrev pub outputs_sought : Own → When → ℕ → List ℕ
+outputs_sought own when target = sought (members_at own when) when own.early target
 
 -- those that are true together at legal inputs all of whose legal outputs lead into a set
 abbrev pub inputs_asked : Members → ℕ → List ℕ

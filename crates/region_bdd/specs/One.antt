@@ -197,4 +197,4 @@ pub object_is_one : (g : GameData) (c : Contents) (own : Own) (lists : NextLevel
 object_is_one g c own lists slots refused = λ x y i. record { made = well_made_one g x.made y.made i; levels = ℕ_set _ _ x.levels y.levels i; lists_are = lists_one g lists x.lists_are y.lists_are i; early = early_one (move_functions c own.step.later) lists c own.early x.early y.early i; named = ∥∥₁_prop x.named y.named i; sound = sound_one g c own slots x.sound y.sound i; unspent = open_one refused slots x.unspent y.unspent i; tight = tight_one refused c.state.table x.tight y.tight i; jammed = jammed_one g c.state.table.budget (jam_in g (map (shown_once c) slots) refused) x.jammed y.jammed i }
 
 pub room_is_one : (levels : ℕ) (own : Own) (search : Search) → IsProp (IsRoom levels own search)
-room_is_one levels own search = λ x y i. record { bits = ℕ_set _ _ x.bits y.bits i; fixed = ℕ_set _ _ x.fixed y.fixed i; levels_are = ℕ_set _ _ x.levels_are y.levels_are i; first = le_prop x.first y.first i; later = le_prop x.later y.later i }
+room_is_one levels own search = λ x y i. record { bits = ℕ_set _ _ x.bits y.bits i; fixed = ℕ_set _ _ x.fixed y.fixed i; levels_are = ℕ_set _ _ x.levels_are y.levels_are i; first = le_prop x.first y.first i; later = le_prop x.later y.later i; early = le_prop x.early y.early i }

@@ -7,10 +7,14 @@ ghost use Rattle.bdd_store.specs.State.{IsRoot};
 ghost use Rattle.bit_compile.specs.Domains.{level_count};
 ghost use Rattle.bdd_sets.specs.Members.{AreMembers};
 ghost use Rattle.bdd_search.specs.Parts.{ArePart, AreFixed, AllowsValues, KeepsOtherBits};
-ghost use Rattle.region_bdd.specs.Room.{member_count};
-ghost use Rattle.region_bdd.specs.Finding.{outputs_asked, inputs_asked, AsksFor, AreStateAt, AreStateFixed, AllowsState, IsMoveFixed};
+ghost use Rattle.bdd_products.specs.Early.{AreEarlyRoots, AreRootsOfEarly};
+ghost use Rattle.region_bdd.specs.Leading.{members_at};
+ghost use Rattle.region_bdd.specs.Room.{member_count, line_count, early_count};
+ghost use Rattle.region_bdd.specs.Finding.{outputs_asked, products_asked, outputs_sought, inputs_asked, AsksFor, AreStateAt, AreStateFixed, AllowsState, IsMoveFixed};
 
+use crate::own::Own;
 use bdd_ops::{Conjunction, Diagrams, Root};
+use bdd_products::early::Early;
 use bdd_search::{fit, fix, loosen};
 use bdd_sets::moves::Members;
 use bit_compile::Codes;
@@ -18,8 +22,8 @@ use game_values::seen::At;
 use regions::When;
 use spec_model::value::Value;
 
-/// Asks for legal outputs that lead into the target.
-pub fn ask_outputs(all: &mut Conjunction, diagrams: &Diagrams, members: &Members, target: &Root)
+/// Asks for legal outputs that lead into the target, by the members of the moves.
+fn ask_members(all: &mut Conjunction, diagrams: &Diagrams, members: &Members, target: &Root)
     requires members { AreMembers diagrams.now members.now }
     requires target { IsRoot diagrams.now.state target.now }
     requires room { member_count members.now < all.old.most }
@@ -30,6 +34,37 @@ pub fn ask_outputs(all: &mut Conjunction, diagrams: &Diagrams, members: &Members
     diagrams.include_all(&members.outputs, all);
     diagrams.include_all(&members.update, all);
     diagrams.include(target, all);
+}
+
+/// The same by the products of these members, which are fewer.
+fn ask_products(all: &mut Conjunction, diagrams: &Diagrams, early: &Early, target: &Root)
+    requires early { AreEarlyRoots diagrams.now early.now }
+    requires target { IsRoot diagrams.now.state target.now }
+    requires room { line_count early.now < all.old.most }
+    ensures { AsksFor all.old all.new (products_asked early.now target.now) }
+{
+    all.clear();
+    diagrams.include_all(&early.inputs.lines, all);
+    diagrams.include_all(&early.replies.lines, all);
+    diagrams.include(target, all);
+}
+
+/// Asks for legal outputs that lead into the target.
+pub fn ask_outputs(all: &mut Conjunction, diagrams: &Diagrams, own: &Own, when: When, target: &Root)
+    requires members { AreMembers diagrams.now (members_at own.now when) }
+    requires early { AreRootsOfEarly diagrams.now own.now.early }
+    requires target { IsRoot diagrams.now.state target.now }
+    requires room { member_count (members_at own.now when) < all.old.most }
+    requires early_room { early_count own.now.early < all.old.most }
+    ensures { AsksFor all.old all.new (outputs_sought own.now when target.now) }
+{
+    match when {
+        When::First => ask_members(all, diagrams, &own.first, target),
+        When::Later => match &own.early {
+            None => ask_members(all, diagrams, &own.step.later, target),
+            Some(early) => ask_products(all, diagrams, early, target),
+        },
+    }
 }
 
 /// Asks for legal inputs all of whose legal outputs lead into a set, where `leads` is true of these.

@@ -68,8 +68,7 @@ impl RegionBdd {
         ) {
             return false;
         }
-        let members = self.own.members(*when);
-        ask_outputs(&mut search.all, &self.diagrams, members, target);
+        ask_outputs(&mut search.all, &self.diagrams, &self.own, *when, target);
         if !self
             .diagrams
             .first_common_path(&mut search.all, &search.fixed, &mut search.bits)

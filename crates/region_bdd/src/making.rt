@@ -14,7 +14,7 @@ ghost use Rattle.bdd_sets.specs.NamedGame.{IsOfGame};
 ghost use Rattle.region_bdd.specs.Needs.{need_of_game};
 ghost use Rattle.region_bdd.specs.Crowding.{IsTooSmall};
 ghost use Rattle.region_bdd.specs.Object.{FitsOwnEarly};
-ghost use Rattle.region_bdd.specs.Room.{IsRoom, member_count};
+ghost use Rattle.region_bdd.specs.Room.{IsRoom, member_count, early_count};
 ghost use Rattle.region_bdd.specs.Seen.{seen};
 
 use crate::ending::{release_members, release_own};
@@ -176,13 +176,31 @@ fn place_for(members: &Members) -> Option<u32>
     u32::try_from(all.checked_add(1)?).ok()
 }
 
+/// Place for the lines of products, if there are any, and one diagram more, if there is a number for it.
+fn place_for_early(early: &Option<Early>) -> Option<u32>
+    ensures { IfSome result (λ most. early_count early.now < most) }
+{
+    match early {
+        None => Some(1),
+        Some(early) => {
+            let lines = early
+                .inputs
+                .lines
+                .len()
+                .checked_add(early.replies.lines.len())?;
+            u32::try_from(lines.checked_add(1)?).ok()
+        }
+    }
+}
+
 /// Room for searches among the lines of moves. Want of a number for it is want of memory.
 fn room(alloc: Global, levels: u32, own: &Own) -> Result<Search, OutOfMemory>
     ensures { IfOk result (λ search. IsRoom levels own.now search) }
 {
     let first = place_for(&own.first).ok_or(AllocError)?;
     let later = place_for(&own.step.later).ok_or(AllocError)?;
-    Search::make(alloc, levels, first.max(later))
+    let early = place_for_early(&own.early).ok_or(AllocError)?;
+    Search::make(alloc, levels, first.max(later).max(early))
 }
 
 impl RegionBdd {

@@ -29,19 +29,12 @@ fn is_marked(name: &[u8]) -> bool
     false
 }
 
-// Whether the variable has the name.
-fn is_called(name: &str, var: &Var) -> bool
-    ensures { result ≡ bytes_eq name.now (variable_data var.now).name }
-{
-    name.as_bytes() == var.name.as_bytes()
-}
-
 // Whether one of the variables has the name.
 fn is_named(name: &str, vars: &[Var]) -> bool
     ensures { result ≡ list_any (bytes_eq name.now) (map (λ v. v.name) (map variable_data vars.now)) }
 {
     for var in vars {
-        if is_called(name, var) {
+        if name.as_bytes() == var.name.as_bytes() {
             return true;
         }
     }

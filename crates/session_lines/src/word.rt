@@ -1,6 +1,6 @@
 //! The words of a line, and what they give a variable.
 
-ghost use Rattle.std.specs.Prelude.{◌≡◌, ◌<◌, [], ◌∷◌, ◌++◌, List, ℕ, Some, None, length, map, is_some, filter, not, ◌==◌, IfSome, IfNone};
+ghost use Rattle.std.specs.Prelude.{◌≡◌, ◌<◌, [], ◌∷◌, ◌++◌, List, ℕ, Some, None, length, map, filter, not, ◌==◌, IfSome, IfNone};
 ghost use Rattle.std.specs.List.{position, list_all};
 ghost use Rattle.std.specs.Option.{option_copied};
 ghost use Rattle.spec_model.specs.Views.{variable_data};
@@ -68,13 +68,6 @@ pub fn first_item<'a>(var: &Var, line: &'a [u8]) -> Option<(&'a [u8], &'a [u8])>
     }
 }
 
-// Whether the word is an item of the variable.
-fn is_item(var: &Var, word: &[u8]) -> bool
-    ensures { result ≡ is_some (after_name (variable_data var.now).name word.now) }
-{
-    text_in(&var.name, word).is_some()
-}
-
 // The first text that the words of a line give the variable, and what follows its word.
 fn first_text<'a>(var: &Var, line: &'a [u8]) -> Option<(&'a [u8], &'a [u8])>
     ensures some { IfSome result (λ found. texts_given (variable_data var.now) (words line.now)
@@ -109,7 +102,7 @@ fn names_some(vars: &[Var], word: &[u8]) -> bool
     ensures { result ≡ names_one (map variable_data vars.now) word.now }
 {
     for var in vars {
-        if is_item(var, word) {
+        if text_in(&var.name, word).is_some() {
             return true;
         }
     }

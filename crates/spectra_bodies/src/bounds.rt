@@ -13,6 +13,7 @@ use crate::putting::report_put_in;
 use spectra_bounds::constants::Constants;
 use spectra_bounds::types::report_range;
 use spectra_brought::reporting::report_faults;
+use spectra_elaboration::definitions::Definitions;
 use spectra_judge::known::Known;
 use spectra_resolved::findings::Findings;
 use spectra_resolved::stand::Stand;
@@ -20,13 +21,13 @@ use spectra_resolved::text::TypeUse;
 use spectra_resolved::tree::Resolved;
 use std::alloc::{AllocError, Global};
 
-/// By what bounds are judged: the numbers of defines, the bodies that are put in, and what is known of the names as they are
+/// By what bounds are judged: the numbers of defines, what is put in for definitions, and what is known of the names as they are
 /// written.
 #[derive(Clone, Copy)]
 pub struct Basis<'s, 'a> {
     pub alloc: Global,
     pub constants: &'s Constants<'a>,
-    pub bodies: &'s [Option<Resolved>],
+    pub definitions: &'s Definitions,
     pub known: Known<'s, 'a>,
 }
 
@@ -44,7 +45,7 @@ fn report_bound(
     report_put_in(
         basis.alloc,
         findings,
-        basis.bodies,
+        basis.definitions,
         &basis.known,
         Stand::Bound,
         t,

@@ -8,6 +8,7 @@ ghost use Rattle.spectra_resolved.specs.TextViews.{text_data};
 ghost use Rattle.spectra_judge.specs.Rising.{AreRising};
 ghost use Rattle.spectra_judge.specs.KindViews.{known_data};
 ghost use Rattle.spectra_elaboration.specs.PuttingViews.{bodies_data};
+ghost use Rattle.spectra_elaboration.specs.DefinitionViews.{definitions_data};
 ghost use Rattle.spectra_notes.specs.Notes.{noted};
 ghost use Rattle.spectra_notes.specs.NoteViews.{notes_data};
 ghost use Rattle.spectra_bodies.specs.PutIn.{bodies as bodies_lem, made_faults, put_in_faults};
@@ -15,6 +16,7 @@ ghost use Rattle.spectra_bodies.specs.PutIn.{bodies as bodies_lem, made_faults, 
 use spectra_brought::known::known_with;
 use spectra_brought::order::names_of;
 use spectra_brought::reporting::report_faults;
+use spectra_elaboration::definitions::{Definitions, definitions_of};
 use spectra_elaboration::putting::put_in;
 use spectra_holes::holing::holed;
 use spectra_judge::known::Known;
@@ -63,9 +65,8 @@ fn body_of(
     Ok(Some(body))
 }
 
-/// What is put in for each definition: its body, with holes for faulty arguments; and nothing where it has no meaning. The
-/// error is that memory is short.
-pub fn bodies_of(
+// What is put in for each definition, in the order of definitions.
+fn each_body(
     alloc: Global,
     notes: &Notes<'_>,
     text: &Text<'_>,
@@ -79,6 +80,20 @@ pub fn bodies_of(
         bodies.push(body)?;
     }
     Ok(bodies)
+}
+
+/// What is put in for each definition: its body, with holes for faulty arguments; and nothing where it has no meaning. The
+/// error is that memory is short.
+pub fn bodies_of(
+    alloc: Global,
+    notes: &Notes<'_>,
+    text: &Text<'_>,
+) -> Result<Definitions, AllocError>
+    requires notes { notes_data notes.now ≡ noted (text_data text.now) }
+    ensures { IfOk result (λ definitions. definitions_data definitions ≡ bodies_lem (text_data text.now)) }
+{
+    let bodies = each_body(alloc, notes, text)?;
+    definitions_of(alloc, bodies, &notes.order.numbers)
 }
 
 // ---- faults
@@ -104,16 +119,16 @@ fn report_made(
 pub fn report_put_in(
     alloc: Global,
     findings: &mut Findings,
-    bodies: &[Option<Resolved>],
+    definitions: &Definitions,
     known: &Known<'_, '_>,
     stand: Stand,
     t: &Resolved,
 ) -> Result<(), AllocError>
     requires rising { AreRising known.now.brought.now }
-    ensures { OnOk result (found_in findings.new ≡ with_faults (found_in findings.old) (put_in_faults (bodies_data bodies.now) (known_data known.now) stand (resolved_data t.now))) }
+    ensures { OnOk result (found_in findings.new ≡ with_faults (found_in findings.old) (put_in_faults (definitions_data definitions.now) (known_data known.now) stand (resolved_data t.now))) }
 {
     let written = holed(alloc, known, stand, t)?;
-    let made = put_in(alloc, bodies, MOST_NODES, MOST_LEVELS, &written)?;
+    let made = put_in(alloc, definitions, MOST_NODES, MOST_LEVELS, &written)?;
     let names = names_of(alloc, t)?;
     let around = known_with(known, &names);
     report_made(findings, &around, stand, &made);

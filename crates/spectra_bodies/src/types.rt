@@ -6,7 +6,7 @@ ghost use Rattle.spectra_resolved.specs.Reports.{found_in};
 ghost use Rattle.spectra_resolved.specs.Texts.{ResolvedVariable, ResolvedAlias, ResolvedDefinition};
 ghost use Rattle.spectra_resolved.specs.TextViews.{variable_data, alias_data, definition_data, pattern_data, text_data};
 ghost use Rattle.spectra_judge.specs.Rising.{AreRising};
-ghost use Rattle.spectra_elaboration.specs.PuttingViews.{bodies_data};
+ghost use Rattle.spectra_elaboration.specs.DefinitionViews.{definitions_data};
 ghost use Rattle.spectra_notes.specs.Notes.{noted};
 ghost use Rattle.spectra_notes.specs.NoteViews.{notes_data};
 ghost use Rattle.spectra_bodies.specs.PutIn.{bodies as bodies_lem};
@@ -15,11 +15,11 @@ ghost use Rattle.spectra_bodies.specs.BasisViews.{basis_data};
 
 use crate::bounds::{Basis, report_each, report_type};
 use spectra_bounds::cycles::report_type_cycles;
+use spectra_elaboration::definitions::Definitions;
 use spectra_notes::notes::{Notes, known_in_line};
 use spectra_notes::patterns::{known_in_pattern, pattern_kinds};
 use spectra_resolved::findings::Findings;
 use spectra_resolved::text::{Alias, Definition, Pattern, Text, Variable};
-use spectra_resolved::tree::Resolved;
 use std::alloc::{AllocError, Global};
 
 // Reports the faults of the types of variables.
@@ -87,19 +87,19 @@ fn report_own<'s, 'a>(
     alloc: Global,
     findings: &mut Findings,
     notes: &'s Notes<'a>,
-    bodies: &'s [Option<Resolved>],
+    definitions: &'s Definitions,
     text: &'a Text<'_>,
     pattern: &'a Pattern<'_>,
 ) -> Result<(), AllocError>
     requires notes { notes_data notes.now ≡ noted (text_data text.now) }
-    requires bodies { bodies_data bodies.now ≡ bodies_lem (text_data text.now) }
+    requires bodies { definitions_data definitions.now ≡ bodies_lem (text_data text.now) }
     ensures { OnOk result (found_in findings.new ≡ with_faults (found_in findings.old) (own_faults (text_data text.now) (pattern_data pattern.now))) }
 {
     let kinds = pattern_kinds(alloc, notes, text, pattern)?;
     let basis = Basis {
         alloc,
         constants: &notes.kinds.constants,
-        bodies,
+        definitions,
         known: known_in_pattern(notes, &kinds),
     };
     report_each(findings, &basis, &pattern.own)?;
@@ -111,16 +111,16 @@ fn report_patterns<'s, 'a>(
     alloc: Global,
     findings: &mut Findings,
     notes: &'s Notes<'a>,
-    bodies: &'s [Option<Resolved>],
+    definitions: &'s Definitions,
     text: &'a Text<'_>,
     patterns: &'a [Pattern<'_>],
 ) -> Result<(), AllocError>
     requires notes { notes_data notes.now ≡ noted (text_data text.now) }
-    requires bodies { bodies_data bodies.now ≡ bodies_lem (text_data text.now) }
+    requires bodies { definitions_data definitions.now ≡ bodies_lem (text_data text.now) }
     ensures { OnOk result (found_in findings.new ≡ with_faults (found_in findings.old) (flat_map (own_faults (text_data text.now)) (map pattern_data patterns.now))) }
 {
     for pattern in patterns {
-        report_own(alloc, findings, notes, bodies, text, pattern)?;
+        report_own(alloc, findings, notes, definitions, text, pattern)?;
     }
     Ok(())
 }
@@ -130,17 +130,17 @@ fn report_outside<'s>(
     alloc: Global,
     findings: &mut Findings,
     notes: &'s Notes<'_>,
-    bodies: &'s [Option<Resolved>],
+    definitions: &'s Definitions,
     text: &Text<'_>,
 ) -> Result<(), AllocError>
     requires notes { notes_data notes.now ≡ noted (text_data text.now) }
-    requires bodies { bodies_data bodies.now ≡ bodies_lem (text_data text.now) }
+    requires bodies { definitions_data definitions.now ≡ bodies_lem (text_data text.now) }
     ensures { OnOk result (found_in findings.new ≡ with_faults (found_in findings.old) (typed_faults (basis_of (text_data text.now)) (text_data text.now))) }
 {
     let basis = Basis {
         alloc,
         constants: &notes.kinds.constants,
-        bodies,
+        definitions,
         known: known_in_line(notes),
     };
     report_typed(findings, &basis, text)?;
@@ -153,15 +153,15 @@ pub fn report_types<'s, 'a>(
     alloc: Global,
     findings: &mut Findings,
     notes: &'s Notes<'a>,
-    bodies: &'s [Option<Resolved>],
+    definitions: &'s Definitions,
     text: &'a Text<'_>,
 ) -> Result<(), AllocError>
     requires notes { notes_data notes.now ≡ noted (text_data text.now) }
-    requires bodies { bodies_data bodies.now ≡ bodies_lem (text_data text.now) }
+    requires bodies { definitions_data definitions.now ≡ bodies_lem (text_data text.now) }
     ensures { OnOk result (found_in findings.new ≡ with_faults (found_in findings.old) (faults_of_types (text_data text.now))) }
 {
-    report_outside(alloc, findings, notes, bodies, text)?;
-    report_patterns(alloc, findings, notes, bodies, text, &text.patterns)?;
+    report_outside(alloc, findings, notes, definitions, text)?;
+    report_patterns(alloc, findings, notes, definitions, text, &text.patterns)?;
     report_type_cycles(alloc, findings, &text.types)?;
     Ok(())
 }

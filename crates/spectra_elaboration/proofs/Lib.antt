@@ -10,3 +10,4 @@ pub mod Flat
 pub mod Framed
 pub mod Flats
 pub mod Waited
+pub mod GivenBack

@@ -15,10 +15,10 @@ abbrev pub waiting_nodes : Bodies → List Frame → List Waiting → ℕ
 waiting_nodes b fs [] = 0
 waiting_nodes b fs (w ∷ ws) = tree_nodes (filled_at b fs w.frame (resolved_data w.tree.now)) + waiting_nodes b fs ws
 
--- each stands in one of the frames
-abbrev pub AreWaiting : List Frame → List Waiting → Type 0
-AreWaiting fs [] = Unit {0}
-AreWaiting fs (w ∷ ws) = (w.frame < length fs) × AreWaiting fs ws
+-- Each stands in one of the frames that were there when it was put there, and how many these were rises up to the last.
+abbrev pub AreWaiting : (low top : ℕ) → List Waiting → Type 0
+AreWaiting low top [] = low ≤ top
+AreWaiting low top (w ∷ ws) = (w.frame < w.count) × (low ≤ w.count) × AreWaiting w.count top ws
 
 -- the nodes of an operator's operands, and of the second operands of several
 abbrev pub operand_nodes : Bodies → List Frame → ℕ → Form → ℕ
@@ -34,13 +34,13 @@ abbrev pub seconds_nodes : Bodies → List Frame → ℕ → List LinkData → �
 seconds_nodes b fs i [] = 0
 seconds_nodes b fs i (l ∷ ls) = tree_nodes (filled_at b fs i l.second) + seconds_nodes b fs i ls
 
--- such with so many nodes more wait, which stand in this frame
-pub record Waits (old new : List Waiting) (frame : ℕ) (nodes : Bodies → List Frame → ℕ) : Type 0 where
+-- such with so many nodes more wait, which stand in this frame, of so many
+pub record Waits (old new : List Waiting) (frame count : ℕ) (nodes : Bodies → List Frame → ℕ) : Type 0 where
   pub counted : (b : Bodies) (fs : List Frame) → waiting_nodes b fs new ≡ waiting_nodes b fs old + nodes b fs
-  pub within : (fs : List Frame) → frame < length fs → AreWaiting fs old → AreWaiting fs new
+  pub within : (low : ℕ) → frame < count → AreWaiting low count old → AreWaiting low count new
 
 -- the operands of this wait, below so many nodes
-pub record WaitsFront (old new : List Waiting) (front : Front) (own : ℕ) : Type 0 where
+pub record WaitsFront (old new : List Waiting) (count : ℕ) (front : Front) (own : ℕ) : Type 0 where
   pub some : (fs : List Frame) → IsFront fs front → 1 ≤ own
   pub counted : (b : Bodies) (fs : List Frame) → IsFront fs front → waiting_nodes b fs new + own ≡ waiting_nodes b fs old + tree_nodes (front_data b fs front)
-  pub within : (fs : List Frame) → IsFront fs front → AreWaiting fs old → AreWaiting fs new
+  pub within : (low : ℕ) (fs : List Frame) → length fs ≡ count → IsFront fs front → AreWaiting low count old → AreWaiting low count new

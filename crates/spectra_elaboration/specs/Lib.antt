@@ -5,6 +5,9 @@ pub mod Making
 pub mod Levels
 pub mod Written
 pub mod PuttingViews
+pub mod Giving
+pub mod Looking
+pub mod DefinitionViews
 pub mod Frames
 pub mod Following
 pub mod Counting

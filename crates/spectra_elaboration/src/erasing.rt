@@ -31,6 +31,7 @@ fn enum_name(number: usize) -> Expr
 }
 
 // A part without parts, behind so many parameters.
+#[inline(never)]
 fn leaf_expr(params: usize, leaf: Leaf) -> Result<Expr, AllocError>
     ensures { IfOk result (λ e. formula e ≡ leaf_formula params leaf) }
 {
@@ -50,6 +51,7 @@ fn leaf_expr(params: usize, leaf: Leaf) -> Result<Expr, AllocError>
 }
 
 // An operator before its operand.
+#[inline(never)]
 fn prefixed(alloc: Global, word: PrefixWord, e: Expr) -> Result<Expr, AllocError>
     ensures { IfOk result (λ made. formula made ≡ prefix_formula word (formula e)) }
 {
@@ -69,6 +71,7 @@ fn past_pair(alloc: Global, past: Past, a: Expr, b: Expr) -> Result<Expr, AllocE
 }
 
 // An operator between its operands.
+#[inline(never)]
 fn joined(alloc: Global, word: BinaryWord, a: Expr, b: Expr) -> Result<Expr, AllocError>
     ensures { IfOk result (λ made. formula made ≡ binary_formula word (formula a) (formula b)) }
 {

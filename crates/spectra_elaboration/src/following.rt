@@ -1,17 +1,21 @@
 //! The first operator, or the part without parts, that an expression comes to when bodies and arguments are put in.
 
-ghost use Rattle.std.specs.Prelude.{◌≡◌, ◌<◌, List, length, map, IfOk};
+ghost use Rattle.std.specs.Prelude.{◌≡◌, ◌<◌, List, length, map, IfOk, IfSome};
+ghost use Rattle.spectra_resolved.specs.declared.spot.Spot.{Spot};
+ghost use Rattle.spectra_resolved.specs.declared.tree.Hole.{Hole};
+ghost use Rattle.spectra_resolved.specs.declared.tree.Hole.TheVariants as holes;
 ghost use Rattle.spectra_resolved.specs.declared.tree.Leaf.TheVariants as leaves;
 ghost use Rattle.spectra_resolved.specs.Resolved.{Form};
 ghost use Rattle.spectra_resolved.specs.Chained.{chained};
 ghost use Rattle.spectra_resolved.specs.Views.{resolved_data, link_data, form_data};
 ghost use Rattle.spectra_elaboration.specs.declared.frames.Frame.{Frame};
 ghost use Rattle.spectra_elaboration.specs.Putting.{Bodies};
-ghost use Rattle.spectra_elaboration.specs.PuttingViews.{bodies_data};
+ghost use Rattle.spectra_elaboration.specs.DefinitionViews.{definitions_data};
 ghost use Rattle.spectra_elaboration.specs.Frames.{AreFrames, filled_at, form_at, leaf_in_frame, used_at};
 ghost use Rattle.spectra_elaboration.specs.Following.{step_data, IsStep, front_data, IsFront, Goes};
 
 use crate::frames::{By, Frame};
+use crate::giving::given_at;
 use crate::parts::{body_of, misuse_hole, placed};
 use spectra_resolved::spot::Spot;
 use spectra_resolved::tree::{Hole, Leaf, Link, Resolved, Shape};
@@ -46,14 +50,14 @@ fn enter<'s>(
     requires framed { AreFrames frames.old.items }
     requires within { frame < length frames.old.items }
     ensures goes { IfOk result (λ step. Goes frames.old.items frames.new.items
-        (used_at (bodies_data by.now.bodies.now) frames.old.items frame hole number at (map resolved_data arguments.now)) (step_data (bodies_data by.now.bodies.now) frames.new.items step)) }
+        (used_at (definitions_data by.now.definitions.now) frames.old.items frame hole number at (map resolved_data arguments.now)) (step_data (definitions_data by.now.definitions.now) frames.new.items step)) }
     ensures legal { IfOk result (λ step. IsStep frames.new.items step) }
 {
     let deep = frames[frame].deep;
     if deep == 0 {
         return Ok(Step::Ends(Front::Leaf(at, at, Leaf::Hole(hole))));
     }
-    match body_of(by.bodies, number) {
+    match body_of(&by.definitions.bodies, number) {
         Some(body) => {
             let inside = frames.len();
             frames.push(Frame {
@@ -65,6 +69,50 @@ fn enter<'s>(
             Ok(Step::On(inside, body))
         }
         None => Ok(Step::Ends(Front::Leaf(at, at, Leaf::Hole(hole)))),
+    }
+}
+
+// The argument that the use of a definition comes to, where that gives it back as it is.
+fn given_back<'s>(
+    by: &By<'s>,
+    frames: &[Frame<'s>],
+    frame: usize,
+    number: usize,
+    ts: &'s [Resolved],
+) -> Option<&'s Resolved>
+    requires { frame < length frames.now }
+    ensures { IfSome result (λ t. (hole : Hole) (at : Spot) → used_at (definitions_data by.now.definitions.now) frames.now frame hole number at (map resolved_data ts.now)
+        ≡ filled_at (definitions_data by.now.definitions.now) frames.now frame (resolved_data t.now)) }
+{
+    match given_at(&by.definitions.given, number) {
+        Some(given) => {
+            if frames[frame].deep < given.deep {
+                return None;
+            }
+            ts.get(given.place)
+        }
+        None => None,
+    }
+}
+
+// The use of a definition with arguments: one of these, in the same frame, or its body, in a new one.
+fn use_step<'s>(
+    by: &By<'s>,
+    frames: &mut Vec<Frame<'s>>,
+    frame: usize,
+    number: usize,
+    at: Spot,
+    ts: &'s [Resolved],
+) -> Result<Step<'s>, AllocError>
+    requires framed { AreFrames frames.old.items }
+    requires within { frame < length frames.old.items }
+    ensures goes { IfOk result (λ step. Goes frames.old.items frames.new.items
+        (used_at (definitions_data by.now.definitions.now) frames.old.items frame holes.Truth number at (map resolved_data ts.now)) (step_data (definitions_data by.now.definitions.now) frames.new.items step)) }
+    ensures legal { IfOk result (λ step. IsStep frames.new.items step) }
+{
+    match given_back(by, frames, frame, number, ts) {
+        Some(t) => Ok(Step::On(frame, t)),
+        None => enter(by, frames, frame, Hole::Truth, number, at, ts),
     }
 }
 
@@ -100,7 +148,7 @@ fn leaf_step<'s>(
     requires framed { AreFrames frames.old.items }
     requires within { frame < length frames.old.items }
     ensures goes { IfOk result (λ step. Goes frames.old.items frames.new.items
-        (leaf_in_frame (bodies_data by.now.bodies.now) frames.old.items frame first at leaf) (step_data (bodies_data by.now.bodies.now) frames.new.items step)) }
+        (leaf_in_frame (definitions_data by.now.definitions.now) frames.old.items frame first at leaf) (step_data (definitions_data by.now.definitions.now) frames.new.items step)) }
     ensures legal { IfOk result (λ step. IsStep frames.new.items step) }
 {
     match leaf {
@@ -127,12 +175,12 @@ fn node_step<'s>(
     requires framed { AreFrames frames.old.items }
     requires within { frame < length frames.old.items }
     ensures goes { IfOk result (λ step. Goes frames.old.items frames.new.items
-        (form_at (bodies_data by.now.bodies.now) frames.old.items frame first at (form_data shape.now)) (step_data (bodies_data by.now.bodies.now) frames.new.items step)) }
+        (form_at (definitions_data by.now.definitions.now) frames.old.items frame first at (form_data shape.now)) (step_data (definitions_data by.now.definitions.now) frames.new.items step)) }
     ensures legal { IfOk result (λ step. IsStep frames.new.items step) }
 {
     match shape {
         Shape::Leaf(leaf) => leaf_step(by, frames, frame, first, at, *leaf),
-        Shape::Predicate(number, ts) => enter(by, frames, frame, Hole::Truth, *number, at, ts),
+        Shape::Predicate(number, ts) => use_step(by, frames, frame, *number, at, ts),
         Shape::Misuse(misuse, _) => Ok(Step::Ends(Front::Leaf(
             first,
             at,
@@ -167,7 +215,7 @@ fn one_step<'s>(
     requires framed { AreFrames frames.old.items }
     requires within { frame < length frames.old.items }
     ensures goes { IfOk result (λ step. Goes frames.old.items frames.new.items
-        (filled_at (bodies_data by.now.bodies.now) frames.old.items frame (resolved_data t.now)) (step_data (bodies_data by.now.bodies.now) frames.new.items step)) }
+        (filled_at (definitions_data by.now.definitions.now) frames.old.items frame (resolved_data t.now)) (step_data (definitions_data by.now.definitions.now) frames.new.items step)) }
     ensures legal { IfOk result (λ step. IsStep frames.new.items step) }
 {
     match t {
@@ -183,6 +231,7 @@ fn one_step<'s>(
 
 /// What an expression in a frame comes to, in that frame or a new one behind those that are there: bodies stand for uses, and
 /// arguments for parameters. The error is that memory is short, or that 2^64 names were passed, for which no one can wait.
+#[inline(never)]
 pub fn follow<'s>(
     by: &By<'s>,
     frames: &mut Vec<Frame<'s>>,
@@ -192,7 +241,7 @@ pub fn follow<'s>(
     requires framed { AreFrames frames.old.items }
     requires within { frame < length frames.old.items }
     ensures goes { IfOk result (λ front. Goes frames.old.items frames.new.items
-        (filled_at (bodies_data by.now.bodies.now) frames.old.items frame (resolved_data t.now)) (front_data (bodies_data by.now.bodies.now) frames.new.items front)) }
+        (filled_at (definitions_data by.now.definitions.now) frames.old.items frame (resolved_data t.now)) (front_data (definitions_data by.now.definitions.now) frames.new.items front)) }
     ensures legal { IfOk result (λ front. IsFront frames.new.items front) }
 {
     let mut inside = frame;

@@ -3,9 +3,10 @@
 ghost use Rattle.std.specs.Prelude.{◌≡◌, ◌<◌, length, IfOk};
 ghost use Rattle.spectra_resolved.specs.Resolved.{ResolvedTree};
 ghost use Rattle.spectra_elaboration.specs.Putting.{put_in};
-ghost use Rattle.spectra_elaboration.specs.PuttingViews.{bodies_data};
+ghost use Rattle.spectra_elaboration.specs.DefinitionViews.{definitions_data};
 ghost use Rattle.spectra_elaboration.specs.Frames.{AreFrames, filled_at};
 
+use crate::definitions::Definitions;
 use spectra_resolved::spot::Spot;
 use spectra_resolved::tree::Resolved;
 use std::alloc::{AllocError, Global};
@@ -14,7 +15,7 @@ use std::alloc::{AllocError, Global};
 #[derive(Clone, Copy)]
 pub struct By<'s> {
     pub alloc: Global,
-    pub bodies: &'s [Option<Resolved>],
+    pub definitions: &'s Definitions,
 }
 
 /// A body that is being put in, or the line itself: how deep others may stand in it, the name in the line that brings it, and
@@ -31,10 +32,10 @@ pub struct Frame<'s> {
 pub fn line_frame<'s>(by: &By<'s>) -> Result<Vec<Frame<'s>>, AllocError>
     ensures framed { IfOk result (λ frames. AreFrames frames.items) }
     ensures within { IfOk result (λ frames. 0 < length frames.items) }
-    ensures line { IfOk result (λ frames. (t : ResolvedTree) → filled_at (bodies_data by.now.bodies.now) frames.items 0 t ≡ put_in (bodies_data by.now.bodies.now) t) }
+    ensures line { IfOk result (λ frames. (t : ResolvedTree) → filled_at (definitions_data by.now.definitions.now) frames.items 0 t ≡ put_in (definitions_data by.now.definitions.now) t) }
 {
     let line = Frame {
-        deep: by.bodies.len(),
+        deep: by.definitions.bodies.len(),
         brought: None,
         arguments: &[],
         outer: 0,

@@ -10,9 +10,12 @@
 
 pub mod counted;
 pub mod counting;
+pub mod definitions;
 pub mod erasing;
 pub mod following;
 pub mod frames;
+pub mod given;
+pub mod giving;
 pub mod laws;
 pub mod levels;
 pub mod nodes;

@@ -51,6 +51,7 @@ pub fn node(
 }
 
 /// A part without parts.
+#[inline(never)]
 pub fn leaf_at(room: usize, first: Spot, at: Spot, leaf: Leaf) -> Result<Counted, Refusal>
     ensures made { Makes room (tree first at (Form.LeafOf leaf)) result }
     ensures not_deep { IsErrOf result Refusal.Deep → ⊥ }
@@ -59,6 +60,7 @@ pub fn leaf_at(room: usize, first: Spot, at: Spot, leaf: Leaf) -> Result<Counted
 }
 
 /// A `next` above its operand.
+#[inline(never)]
 pub fn next_above(
     alloc: Global,
     room: usize,
@@ -75,6 +77,7 @@ pub fn next_above(
 }
 
 /// An operator before its operand.
+#[inline(never)]
 pub fn prefix_above(
     alloc: Global,
     room: usize,
@@ -92,6 +95,7 @@ pub fn prefix_above(
 }
 
 /// A remainder of its operand by a number.
+#[inline(never)]
 pub fn mod_above(
     alloc: Global,
     room: usize,
@@ -110,6 +114,7 @@ pub fn mod_above(
 }
 
 /// A conjunction of its operands.
+#[inline(never)]
 pub fn and_above(
     alloc: Global,
     room: usize,
@@ -128,6 +133,7 @@ pub fn and_above(
 }
 
 /// A disjunction of its operands.
+#[inline(never)]
 pub fn or_above(
     alloc: Global,
     room: usize,
@@ -147,6 +153,7 @@ pub fn or_above(
 
 #[tactic(auto, unfolding(crate::specs::Making::Makes))]
 /// Operators behind what stands before them, for all of which there is room.
+#[inline(never)]
 pub fn chain_of(
     alloc: Global,
     room: usize,

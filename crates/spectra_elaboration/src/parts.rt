@@ -37,6 +37,7 @@ pub fn placed_each(
 }
 
 /// An operator where it stands, with another second operand.
+#[inline(never)]
 pub fn placed_link(brought: Option<Spot>, link: &Link, second: Resolved) -> Link
     ensures { link_data result ≡ placed_link_lem brought (link_data link.now) (resolved_data second) }
 {

@@ -7,11 +7,12 @@ ghost use Rattle.spectra_resolved.specs.Views.{resolved_data, link_data, form_da
 ghost use Rattle.spectra_elaboration.specs.Putting.{put_in as put_in_lem};
 ghost use Rattle.spectra_elaboration.specs.Levels.{within_limits};
 ghost use Rattle.spectra_elaboration.specs.Making.{Makes, MakesEach, MakesLinks, IsFlat, AreFlat, AreFlatLinks};
-ghost use Rattle.spectra_elaboration.specs.PuttingViews.{bodies_data};
+ghost use Rattle.spectra_elaboration.specs.DefinitionViews.{definitions_data};
 ghost use Rattle.spectra_elaboration.specs.Frames.{AreFrames, Grows, filled_at, form_at, each_at, link_at};
 ghost use Rattle.spectra_elaboration.specs.Following.{front_data, IsFront, is_operator};
 
 use crate::counted::{Counted, Operands, Operators};
+use crate::definitions::Definitions;
 use crate::following::{Front, follow};
 use crate::frames::{By, Frame, line_frame};
 use crate::nodes::{
@@ -35,8 +36,8 @@ fn fill<'s>(
 ) -> Result<Counted, Refusal>
     requires framed { AreFrames frames.old.items }
     requires within { frame < length frames.old.items }
-    ensures made { Makes room (filled_at (bodies_data by.now.bodies.now) frames.old.items frame (resolved_data t.now)) result }
-    ensures flat { IsFlat levels (filled_at (bodies_data by.now.bodies.now) frames.old.items frame (resolved_data t.now)) result }
+    ensures made { Makes room (filled_at (definitions_data by.now.definitions.now) frames.old.items frame (resolved_data t.now)) result }
+    ensures flat { IsFlat levels (filled_at (definitions_data by.now.definitions.now) frames.old.items frame (resolved_data t.now)) result }
     ensures frames { OnOk result (frames.new.items ≡ frames.old.items) }
 {
     let count = frames.len();
@@ -48,6 +49,7 @@ fn fill<'s>(
 
 // What an expression comes to.
 #[cycle(putting)]
+#[inline(never)]
 fn fill_front<'s>(
     by: &By<'s>,
     frames: &mut Vec<Frame<'s>>,
@@ -57,8 +59,8 @@ fn fill_front<'s>(
 ) -> Result<Counted, Refusal>
     requires framed { AreFrames frames.old.items }
     requires legal { IsFront frames.old.items front }
-    ensures made { Makes room (front_data (bodies_data by.now.bodies.now) frames.old.items front.entry) result }
-    ensures flat { IsFlat levels (front_data (bodies_data by.now.bodies.now) frames.old.items front.entry) result }
+    ensures made { Makes room (front_data (definitions_data by.now.definitions.now) frames.old.items front.entry) result }
+    ensures flat { IsFlat levels (front_data (definitions_data by.now.definitions.now) frames.old.items front.entry) result }
     ensures frames { OnOk result (frames.new.items ≡ frames.old.items) }
 {
     if levels == 0 {
@@ -77,6 +79,7 @@ fn fill_front<'s>(
 
 // An expression with operators behind it, each of which is a level around the first operand.
 #[cycle(putting)]
+#[inline(never)]
 fn fill_chain<'s>(
     by: &By<'s>,
     frames: &mut Vec<Frame<'s>>,
@@ -89,8 +92,8 @@ fn fill_chain<'s>(
     requires framed { AreFrames frames.old.items }
     requires within { frame < length frames.old.items }
     requires some { 0 < length links.now }
-    ensures made { Makes room (filled_at (bodies_data by.now.bodies.now) frames.old.items frame (chained (resolved_data head.now) (map link_data links.now))) result }
-    ensures flat { IsFlat levels (filled_at (bodies_data by.now.bodies.now) frames.old.items frame (chained (resolved_data head.now) (map link_data links.now))) result }
+    ensures made { Makes room (filled_at (definitions_data by.now.definitions.now) frames.old.items frame (chained (resolved_data head.now) (map link_data links.now))) result }
+    ensures flat { IsFlat levels (filled_at (definitions_data by.now.definitions.now) frames.old.items frame (chained (resolved_data head.now) (map link_data links.now))) result }
     ensures frames { OnOk result (frames.new.items ≡ frames.old.items) }
 {
     if levels <= links.len() {
@@ -104,6 +107,7 @@ fn fill_chain<'s>(
 
 // Operators with their second operands, the first of which has at most so many levels, and each later one one more.
 #[cycle(putting)]
+#[inline(never)]
 fn fill_links<'s>(
     by: &By<'s>,
     frames: &mut Vec<Frame<'s>>,
@@ -115,8 +119,8 @@ fn fill_links<'s>(
     requires framed { AreFrames frames.old.items }
     requires within { frame < length frames.old.items }
     requires small { first + length links.now ≤ 18446744073709551615 }
-    ensures made { MakesLinks room (map (link_at (bodies_data by.now.bodies.now) frames.old.items frame) (map link_data links.now)) result }
-    ensures flat { AreFlatLinks first (map (link_at (bodies_data by.now.bodies.now) frames.old.items frame) (map link_data links.now)) result }
+    ensures made { MakesLinks room (map (link_at (definitions_data by.now.definitions.now) frames.old.items frame) (map link_data links.now)) result }
+    ensures flat { AreFlatLinks first (map (link_at (definitions_data by.now.definitions.now) frames.old.items frame) (map link_data links.now)) result }
     ensures frames { OnOk result (frames.new.items ≡ frames.old.items) }
 {
     let brought = frames[frame].brought;
@@ -139,6 +143,7 @@ fn fill_links<'s>(
 
 // An operator that stands at a place, over operands of at most so many levels.
 #[cycle(putting)]
+#[inline(never)]
 fn fill_shape<'s>(
     by: &By<'s>,
     frames: &mut Vec<Frame<'s>>,
@@ -152,8 +157,8 @@ fn fill_shape<'s>(
     requires framed { AreFrames frames.old.items }
     requires within { frame < length frames.old.items }
     requires operator { is_operator (form_data shape.now) ≡ true }
-    ensures made { Makes room (form_at (bodies_data by.now.bodies.now) frames.old.items frame first at (form_data shape.now)) result }
-    ensures flat { IsFlat (levels + 1) (form_at (bodies_data by.now.bodies.now) frames.old.items frame first at (form_data shape.now)) result }
+    ensures made { Makes room (form_at (definitions_data by.now.definitions.now) frames.old.items frame first at (form_data shape.now)) result }
+    ensures flat { IsFlat (levels + 1) (form_at (definitions_data by.now.definitions.now) frames.old.items frame first at (form_data shape.now)) result }
     ensures frames { OnOk result (frames.new.items ≡ frames.old.items) }
 {
     let alloc = by.alloc;
@@ -186,6 +191,7 @@ fn fill_shape<'s>(
 
 // The operands of a node.
 #[cycle(putting)]
+#[inline(never)]
 fn fill_operands<'s>(
     by: &By<'s>,
     frames: &mut Vec<Frame<'s>>,
@@ -196,8 +202,8 @@ fn fill_operands<'s>(
 ) -> Result<Operands, Refusal>
     requires framed { AreFrames frames.old.items }
     requires within { frame < length frames.old.items }
-    ensures made { MakesEach room (each_at (bodies_data by.now.bodies.now) frames.old.items frame (trees (map resolved_data ts.now))) result }
-    ensures flat { AreFlat levels (each_at (bodies_data by.now.bodies.now) frames.old.items frame (trees (map resolved_data ts.now))) result }
+    ensures made { MakesEach room (each_at (definitions_data by.now.definitions.now) frames.old.items frame (trees (map resolved_data ts.now))) result }
+    ensures flat { AreFlat levels (each_at (definitions_data by.now.definitions.now) frames.old.items frame (trees (map resolved_data ts.now))) result }
     ensures frames { OnOk result (frames.new.items ≡ frames.old.items) }
 {
     let mut all = Vec::new(by.alloc);
@@ -219,14 +225,14 @@ fn fill_operands<'s>(
 /// looks no deeper, and at no argument that isn't read. The error is that memory is short.
 pub fn put_in<'s>(
     alloc: Global,
-    bodies: &'s [Option<Resolved>],
+    definitions: &'s Definitions,
     room: usize,
     levels: usize,
     t: &'s Resolved,
 ) -> Result<Option<Resolved>, AllocError>
-    ensures { IfOk result (λ made. option_map resolved_data made ≡ within_limits room levels (put_in_lem (bodies_data bodies.now) (resolved_data t.now))) }
+    ensures { IfOk result (λ made. option_map resolved_data made ≡ within_limits room levels (put_in_lem (definitions_data definitions.now) (resolved_data t.now))) }
 {
-    let by = By { alloc, bodies };
+    let by = By { alloc, definitions };
     let mut frames = line_frame(&by)?;
     match fill(&by, &mut frames, 0, room, levels, t) {
         Ok(made) => Ok(Some(made.tree)),

@@ -6,7 +6,7 @@ use Rattle.spectra_trees.specs.Views.{expr_data}
 use Rattle.spectra_exprs.specs.Forms.{Term, Chain}
 
 abbrev pub term_data : TermTree → Term
-term_data o = (expr_data o.tree, o.alone)
+term_data o = (expr_data o.tree.value, o.alone)
 
 abbrev pub chain_data : ChainTree → Chain
 chain_data c = (map expr_data c.operands.items, c.operators.items)

@@ -21,8 +21,8 @@ use std::alloc::Global;
 /// sum | prefixed
 #[cycle(expr)]
 #[tactic(auto, unfolding(crate::specs::Expressions::side_of))]
-pub fn side<'t>(alloc: Global, tokens: Tokens<'t>, left: u32) -> Read<'t, ExprTree>
-    ensures read { Gives (λ x. (expr_data x.0, lexemes_of x.1.now)) result (side_of (inside left) (lexemes_of tokens.now)) }
+pub fn side<'t>(alloc: Global, tokens: Tokens<'t>, left: u32) -> Read<'t, Box<ExprTree>>
+    ensures read { Gives (λ x. (expr_data x.0.value, lexemes_of x.1.now)) result (side_of (inside left) (lexemes_of tokens.now)) }
 {
     if let Some((token, word, rest)) = take_prefix(tokens) {
         return prefixed(alloc, token, word, rest, left);
@@ -36,13 +36,13 @@ pub fn side<'t>(alloc: Global, tokens: Tokens<'t>, left: u32) -> Read<'t, ExprTr
 #[tactic(auto, unfolding(crate::specs::Expressions::compared_of))]
 pub fn compared<'t>(
     alloc: Global,
-    first: ExprTree,
+    first: Box<ExprTree>,
     at: Place,
     word: BinaryWord,
     tokens: Tokens<'t>,
     left: u32,
 ) -> Read<'t, Term>
-    ensures read { Gives (λ x. (term_data x.0, lexemes_of x.1.now)) result (compared_of (inside left) (expr_data first) at word (lexemes_of tokens.now)) }
+    ensures read { Gives (λ x. (term_data x.0, lexemes_of x.1.now)) result (compared_of (inside left) (expr_data first.value) at word (lexemes_of tokens.now)) }
 {
     let (second, rest) = side(alloc, tokens, left)?;
     let tree = between(alloc, at, word, first, second)?;
@@ -106,19 +106,19 @@ pub fn conjuncts<'t>(alloc: Global, first: Chain, tokens: Tokens<'t>, left: u32)
 #[tactic(auto, unfolding(crate::specs::Expressions::conjunction_of))]
 pub fn conjunction<'t>(
     alloc: Global,
-    first: ExprTree,
+    first: Box<ExprTree>,
     tokens: Tokens<'t>,
     left: u32,
 ) -> Read<'t, Term>
-    ensures read { Gives (λ x. (term_data x.0, lexemes_of x.1.now)) result (conjunction_of (inside left) (expr_data first) (lexemes_of tokens.now)) }
+    ensures read { Gives (λ x. (term_data x.0, lexemes_of x.1.now)) result (conjunction_of (inside left) (expr_data first.value) (lexemes_of tokens.now)) }
 {
     let (operator, rest) = expect(tokens, Class::And)?;
     let (second, rest) = cmp(alloc, rest, left)?;
     let (place, at) = (first.first, operator.at);
     let chain = pair(alloc, first, at, second.tree)?;
     let (chain, rest) = conjuncts(alloc, chain, rest, left)?;
-    let form = ExprForm::And(chain.operands, chain.operators);
-    Ok((together(tree(place, at, form)), rest))
+    let conjunction = tree(place, at, ExprForm::And(chain.operands, chain.operators));
+    Ok((together(Box::new(alloc, conjunction)?), rest))
 }
 
 /// ( "|" | "or" ) conj behind a chain so far.
@@ -152,19 +152,19 @@ pub fn disjuncts<'t>(alloc: Global, first: Chain, tokens: Tokens<'t>, left: u32)
 #[tactic(auto, unfolding(crate::specs::Expressions::disjunction_of))]
 pub fn disjunction<'t>(
     alloc: Global,
-    first: ExprTree,
+    first: Box<ExprTree>,
     tokens: Tokens<'t>,
     left: u32,
 ) -> Read<'t, Term>
-    ensures read { Gives (λ x. (term_data x.0, lexemes_of x.1.now)) result (disjunction_of (inside left) (expr_data first) (lexemes_of tokens.now)) }
+    ensures read { Gives (λ x. (term_data x.0, lexemes_of x.1.now)) result (disjunction_of (inside left) (expr_data first.value) (lexemes_of tokens.now)) }
 {
     let (operator, rest) = expect_or(tokens)?;
     let (second, rest) = conj(alloc, rest, left)?;
     let (place, at) = (first.first, operator.at);
     let chain = pair(alloc, first, at, second.tree)?;
     let (chain, rest) = disjuncts(alloc, chain, rest, left)?;
-    let form = ExprForm::Or(chain.operands, chain.operators);
-    Ok((together(tree(place, at, form)), rest))
+    let disjunction = tree(place, at, ExprForm::Or(chain.operands, chain.operators));
+    Ok((together(Box::new(alloc, disjunction)?), rest))
 }
 
 /// conj = cmp { ( "&" | "and" ) cmp }
@@ -198,13 +198,13 @@ pub fn disj<'t>(alloc: Global, tokens: Tokens<'t>, left: u32) -> Read<'t, Term>
 #[tactic(auto, unfolding(crate::specs::Expressions::arrow_of))]
 pub fn arrow<'t>(
     alloc: Global,
-    first: ExprTree,
+    first: Box<ExprTree>,
     at: Place,
     word: BinaryWord,
     tokens: Tokens<'t>,
     left: u32,
-) -> Read<'t, ExprTree>
-    ensures read { Gives (λ x. (expr_data x.0, lexemes_of x.1.now)) result (arrow_of (inside left) (expr_data first) at word (lexemes_of tokens.now)) }
+) -> Read<'t, Box<ExprTree>>
+    ensures read { Gives (λ x. (expr_data x.0.value, lexemes_of x.1.now)) result (arrow_of (inside left) (expr_data first.value) at word (lexemes_of tokens.now)) }
 {
     let (second, rest) = disj(alloc, tokens, left)?;
     let tree = between(alloc, at, word, first, second.tree)?;
@@ -214,8 +214,13 @@ pub fn arrow<'t>(
 /// [ ( "SINCE" | "S" | "TRIGGERED" | "T" ) prim ] behind a prim.
 #[cycle(expr)]
 #[tactic(auto, unfolding(crate::specs::Expressions::past_of))]
-pub fn past<'t>(alloc: Global, first: ExprTree, tokens: Tokens<'t>, left: u32) -> Read<'t, ExprTree>
-    ensures read { Gives (λ x. (expr_data x.0, lexemes_of x.1.now)) result (past_of (inside left) (expr_data first) (lexemes_of tokens.now)) }
+pub fn past<'t>(
+    alloc: Global,
+    first: Box<ExprTree>,
+    tokens: Tokens<'t>,
+    left: u32,
+) -> Read<'t, Box<ExprTree>>
+    ensures read { Gives (λ x. (expr_data x.0.value, lexemes_of x.1.now)) result (past_of (inside left) (expr_data first.value) (lexemes_of tokens.now)) }
 {
     let Some((at, word, rest)) = take_operator(tokens, Level::Past) else {
         return Ok((first, tokens));
@@ -228,8 +233,13 @@ pub fn past<'t>(alloc: Global, first: ExprTree, tokens: Tokens<'t>, left: u32) -
 /// What may follow a disj before which no arrow stands.
 #[cycle(expr)]
 #[tactic(auto, unfolding(crate::specs::Expressions::alone_of))]
-pub fn alone<'t>(alloc: Global, first: Term, tokens: Tokens<'t>, left: u32) -> Read<'t, ExprTree>
-    ensures read { Gives (λ x. (expr_data x.0, lexemes_of x.1.now)) result (alone_of (inside left) (expr_data first.tree) first.alone (lexemes_of tokens.now)) }
+pub fn alone<'t>(
+    alloc: Global,
+    first: Term,
+    tokens: Tokens<'t>,
+    left: u32,
+) -> Read<'t, Box<ExprTree>>
+    ensures read { Gives (λ x. (expr_data x.0.value, lexemes_of x.1.now)) result (alone_of (inside left) (expr_data first.tree.value) first.alone (lexemes_of tokens.now)) }
 {
     if first.alone {
         return past(alloc, first.tree, tokens, left);
@@ -241,8 +251,8 @@ pub fn alone<'t>(alloc: Global, first: Term, tokens: Tokens<'t>, left: u32) -> R
 /// | prim ( "SINCE" | "S" | "TRIGGERED" | "T" ) prim
 #[cycle(expr)]
 #[tactic(auto, unfolding(crate::specs::Expressions::expr_of))]
-pub fn expr<'t>(alloc: Global, tokens: Tokens<'t>, left: u32) -> Read<'t, ExprTree>
-    ensures read { Gives (λ x. (expr_data x.0, lexemes_of x.1.now)) result (expr_of (inside left) (lexemes_of tokens.now)) }
+pub fn expr<'t>(alloc: Global, tokens: Tokens<'t>, left: u32) -> Read<'t, Box<ExprTree>>
+    ensures read { Gives (λ x. (expr_data x.0.value, lexemes_of x.1.now)) result (expr_of (inside left) (lexemes_of tokens.now)) }
 {
     let (first, rest) = disj(alloc, tokens, left)?;
     match take_operator(rest, Level::Arrow) {
@@ -254,9 +264,17 @@ pub fn expr<'t>(alloc: Global, tokens: Tokens<'t>, left: u32) -> Read<'t, ExprTr
 /// expr, which no operator may follow.
 #[cycle(expr)]
 #[tactic(auto, unfolding(crate::specs::Expressions::whole_of))]
-pub fn whole<'t>(alloc: Global, tokens: Tokens<'t>, left: u32) -> Read<'t, ExprTree>
-    ensures read { Gives (λ x. (expr_data x.0, lexemes_of x.1.now)) result (whole_of (inside left) (lexemes_of tokens.now)) }
+pub fn formula<'t>(alloc: Global, tokens: Tokens<'t>, left: u32) -> Read<'t, Box<ExprTree>>
+    ensures read { Gives (λ x. (expr_data x.0.value, lexemes_of x.1.now)) result (whole_of (inside left) (lexemes_of tokens.now)) }
 {
     let (tree, rest) = expr(alloc, tokens, left)?;
     closed(tree, rest)
+}
+
+/// The same, out of its box.
+pub fn whole<'t>(alloc: Global, tokens: Tokens<'t>, left: u32) -> Read<'t, ExprTree>
+    ensures read { Gives (λ x. (expr_data x.0, lexemes_of x.1.now)) result (whole_of (inside left) (lexemes_of tokens.now)) }
+{
+    let (tree, rest) = formula(alloc, tokens, left)?;
+    Ok((Box::into_inner(tree), rest))
 }

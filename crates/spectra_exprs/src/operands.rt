@@ -8,7 +8,7 @@ ghost use Rattle.spectra_exprs.specs.Read.{Gives, starts as starts_lem, all_of};
 ghost use Rattle.spectra_exprs.specs.Expressions.{read_of, inside, next_of, parentheses_of, call_of, named_of, prim_of, prefixed_of, operand_of, argument_of, some_arguments_of, arguments_of};
 
 use crate::fault::SyntaxFault;
-use crate::formulas::whole;
+use crate::formulas::formula;
 use crate::operators::{Read, Tokens, begun, expect, starts, take_prefix};
 use crate::terms::{leaf, literal, opened, read};
 use spectra_trees::class::Class;
@@ -23,13 +23,13 @@ pub fn deeper_whole<'t>(
     token: &Spelled<'t>,
     tokens: Tokens<'t>,
     left: u32,
-) -> Read<'t, ExprTree>
-    ensures read { Gives (λ x. (expr_data x.0, lexemes_of x.1.now)) result ((inside left).whole (lexeme_of token.now) (lexemes_of tokens.now)) }
+) -> Read<'t, Box<ExprTree>>
+    ensures read { Gives (λ x. (expr_data x.0.value, lexemes_of x.1.now)) result ((inside left).whole (lexeme_of token.now) (lexemes_of tokens.now)) }
 {
     if left == 0 {
         return Err(SyntaxFault::TooDeep(token.number));
     }
-    whole(alloc, tokens, left - 1)
+    formula(alloc, tokens, left - 1)
 }
 
 /// An operand that a prefix opens a level for.
@@ -39,8 +39,8 @@ pub fn deeper_operand<'t>(
     token: &Spelled<'t>,
     tokens: Tokens<'t>,
     left: u32,
-) -> Read<'t, ExprTree>
-    ensures read { Gives (λ x. (expr_data x.0, lexemes_of x.1.now)) result ((inside left).operand (lexeme_of token.now) (lexemes_of tokens.now)) }
+) -> Read<'t, Box<ExprTree>>
+    ensures read { Gives (λ x. (expr_data x.0.value, lexemes_of x.1.now)) result ((inside left).operand (lexeme_of token.now) (lexemes_of tokens.now)) }
 {
     if left == 0 {
         return Err(SyntaxFault::TooDeep(token.number));
@@ -72,14 +72,14 @@ pub fn next<'t>(
     token: &Spelled<'t>,
     tokens: Tokens<'t>,
     left: u32,
-) -> Read<'t, ExprTree>
-    ensures read { Gives (λ x. (expr_data x.0, lexemes_of x.1.now)) result (next_of (inside left) (lexeme_of token.now) (lexemes_of tokens.now)) }
+) -> Read<'t, Box<ExprTree>>
+    ensures read { Gives (λ x. (expr_data x.0.value, lexemes_of x.1.now)) result (next_of (inside left) (lexeme_of token.now) (lexemes_of tokens.now)) }
 {
     let (open, inner) = expect(tokens, Class::Open)?;
     let (operand, rest) = deeper_whole(alloc, open, inner, left)?;
     let (_, rest) = expect(rest, Class::Close)?;
-    let form = ExprForm::Next(Box::new(alloc, operand)?);
-    Ok((leaf(token, form), rest))
+    let next = leaf(token, ExprForm::Next(operand));
+    Ok((Box::new(alloc, next)?, rest))
 }
 
 /// expr ")" behind "(".
@@ -90,8 +90,8 @@ pub fn parentheses<'t>(
     token: &Spelled<'t>,
     tokens: Tokens<'t>,
     left: u32,
-) -> Read<'t, ExprTree>
-    ensures read { Gives (λ x. (expr_data x.0, lexemes_of x.1.now)) result (parentheses_of (inside left) (lexeme_of token.now) (lexemes_of tokens.now)) }
+) -> Read<'t, Box<ExprTree>>
+    ensures read { Gives (λ x. (expr_data x.0.value, lexemes_of x.1.now)) result (parentheses_of (inside left) (lexeme_of token.now) (lexemes_of tokens.now)) }
 {
     let (inner, rest) = deeper_whole(alloc, token, tokens, left)?;
     let (_, rest) = expect(rest, Class::Close)?;
@@ -107,12 +107,13 @@ pub fn call<'t>(
     opening: &Spelled<'t>,
     tokens: Tokens<'t>,
     left: u32,
-) -> Read<'t, ExprTree>
-    ensures read { Gives (λ x. (expr_data x.0, lexemes_of x.1.now)) result (call_of (inside left) (lexeme_of token.now) (lexeme_of opening.now) (lexemes_of tokens.now)) }
+) -> Read<'t, Box<ExprTree>>
+    ensures read { Gives (λ x. (expr_data x.0.value, lexemes_of x.1.now)) result (call_of (inside left) (lexeme_of token.now) (lexeme_of opening.now) (lexemes_of tokens.now)) }
 {
     let (arguments, rest) = deeper_arguments(alloc, opening, tokens, left)?;
     let name = name(alloc, token)?;
-    Ok((leaf(token, ExprForm::Call(name, arguments)), rest))
+    let call = leaf(token, ExprForm::Call(name, arguments));
+    Ok((Box::new(alloc, call)?, rest))
 }
 
 /// [ "(" [ expr { "," expr } ] ")" ] behind NAME.
@@ -123,8 +124,8 @@ pub fn named<'t>(
     token: &Spelled<'t>,
     tokens: Tokens<'t>,
     left: u32,
-) -> Read<'t, ExprTree>
-    ensures read { Gives (λ x. (expr_data x.0, lexemes_of x.1.now)) result (named_of (inside left) (lexeme_of token.now) (lexemes_of tokens.now)) }
+) -> Read<'t, Box<ExprTree>>
+    ensures read { Gives (λ x. (expr_data x.0.value, lexemes_of x.1.now)) result (named_of (inside left) (lexeme_of token.now) (lexemes_of tokens.now)) }
 {
     match tokens.split_first() {
         Some((open, rest)) if is(open, Class::Open) => call(alloc, token, open, rest, left),
@@ -136,8 +137,8 @@ pub fn named<'t>(
 /// | "next" "(" expr ")" | "(" expr ")"
 #[cycle(expr)]
 #[tactic(auto, unfolding(crate::specs::Expressions::prim_of))]
-pub fn prim<'t>(alloc: Global, tokens: Tokens<'t>, left: u32) -> Read<'t, ExprTree>
-    ensures read { Gives (λ x. (expr_data x.0, lexemes_of x.1.now)) result (prim_of (inside left) (lexemes_of tokens.now)) }
+pub fn prim<'t>(alloc: Global, tokens: Tokens<'t>, left: u32) -> Read<'t, Box<ExprTree>>
+    ensures read { Gives (λ x. (expr_data x.0.value, lexemes_of x.1.now)) result (prim_of (inside left) (lexemes_of tokens.now)) }
 {
     let Some((token, rest)) = tokens.split_first() else {
         return Err(SyntaxFault::Unexpected(0));
@@ -163,19 +164,19 @@ pub fn prefixed<'t>(
     word: PrefixWord,
     tokens: Tokens<'t>,
     left: u32,
-) -> Read<'t, ExprTree>
-    ensures read { Gives (λ x. (expr_data x.0, lexemes_of x.1.now)) result (prefixed_of (inside left) (lexeme_of token.now) word (lexemes_of tokens.now)) }
+) -> Read<'t, Box<ExprTree>>
+    ensures read { Gives (λ x. (expr_data x.0.value, lexemes_of x.1.now)) result (prefixed_of (inside left) (lexeme_of token.now) word (lexemes_of tokens.now)) }
 {
     let (operand, rest) = deeper_operand(alloc, token, tokens, left)?;
-    let form = ExprForm::Prefix(word, Box::new(alloc, operand)?);
-    Ok((leaf(token, form), rest))
+    let prefixed = leaf(token, ExprForm::Prefix(word, operand));
+    Ok((Box::new(alloc, prefixed)?, rest))
 }
 
 /// prefixed | prim
 #[cycle(expr)]
 #[tactic(auto, unfolding(crate::specs::Expressions::operand_of))]
-pub fn operand<'t>(alloc: Global, tokens: Tokens<'t>, left: u32) -> Read<'t, ExprTree>
-    ensures read { Gives (λ x. (expr_data x.0, lexemes_of x.1.now)) result (operand_of (inside left) (lexemes_of tokens.now)) }
+pub fn operand<'t>(alloc: Global, tokens: Tokens<'t>, left: u32) -> Read<'t, Box<ExprTree>>
+    ensures read { Gives (λ x. (expr_data x.0.value, lexemes_of x.1.now)) result (operand_of (inside left) (lexemes_of tokens.now)) }
 {
     match take_prefix(tokens) {
         Some((token, word, rest)) => prefixed(alloc, token, word, rest, left),
@@ -195,9 +196,9 @@ pub fn argument<'t>(
     ensures read { Gives (λ x. (map expr_data x.0.items, lexemes_of x.1.now)) result (argument_of (inside left) (map expr_data arguments.items) (lexemes_of tokens.now)) }
 {
     let (_, rest) = expect(tokens, Class::Comma)?;
-    let (next, rest) = whole(alloc, rest, left)?;
+    let (next, rest) = formula(alloc, rest, left)?;
     let mut arguments = arguments;
-    arguments.push(next)?;
+    arguments.push(Box::into_inner(next))?;
     Ok((arguments, rest))
 }
 
@@ -226,9 +227,9 @@ pub fn more_arguments<'t>(
 pub fn some_arguments<'t>(alloc: Global, tokens: Tokens<'t>, left: u32) -> Read<'t, Vec<ExprTree>>
     ensures read { Gives (λ x. (map expr_data x.0.items, lexemes_of x.1.now)) result (some_arguments_of (inside left) (lexemes_of tokens.now)) }
 {
-    let (first, rest) = whole(alloc, tokens, left)?;
+    let (first, rest) = formula(alloc, tokens, left)?;
     let mut arguments = Vec::new(alloc);
-    arguments.push(first)?;
+    arguments.push(Box::into_inner(first))?;
     let (arguments, rest) = more_arguments(alloc, arguments, rest, left)?;
     let (_, rest) = expect(rest, Class::Close)?;
     Ok((arguments, rest))

@@ -251,8 +251,8 @@ pub fn is_operator(class: Class) -> bool
 
 /// What was read, where no operator follows. An operator behind a whole expression wants parentheses.
 #[tactic(auto, unfolding(crate::specs::OperatorReaders::closed))]
-pub fn closed<'t>(tree: ExprTree, tokens: Tokens<'t>) -> Read<'t, ExprTree>
-    ensures read { Gives (λ x. (expr_data x.0, lexemes_of x.1.now)) result (closed_lem (expr_data tree) (lexemes_of tokens.now)) }
+pub fn closed<'t>(tree: Box<ExprTree>, tokens: Tokens<'t>) -> Read<'t, Box<ExprTree>>
+    ensures read { Gives (λ x. (expr_data x.0.value, lexemes_of x.1.now)) result (closed_lem (expr_data tree.value) (lexemes_of tokens.now)) }
     ensures told { IfErr result (λ e. e ≡ SyntaxFault.Memory → ⊥) }
 {
     match tokens.split_first() {

@@ -100,5 +100,6 @@ pub fn bound<'t>(alloc: Global, tokens: Tokens<'t>, left: u32) -> Read<'t, ExprT
     ensures read { Gives (λ x. (expr_data x.0, lexemes_of x.1.now)) result (bound_of (inside left) (lexemes_of tokens.now)) }
 {
     let (operand, rest) = sum(alloc, tokens, left)?;
-    closed(operand.tree, rest)
+    let (tree, rest) = closed(operand.tree, rest)?;
+    Ok((Box::into_inner(tree), rest))
 }

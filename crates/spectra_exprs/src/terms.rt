@@ -33,80 +33,81 @@ pub fn between(
     alloc: Global,
     at: Place,
     word: BinaryWord,
-    one: ExprTree,
-    other: ExprTree,
-) -> Result<ExprTree, SyntaxFault>
-    ensures read { IfOk result (λ e. expr_data e ≡ between_lem at word (expr_data one) (expr_data other)) }
+    one: Box<ExprTree>,
+    other: Box<ExprTree>,
+) -> Result<Box<ExprTree>, SyntaxFault>
+    ensures read { IfOk result (λ e. expr_data e.value ≡ between_lem at word (expr_data one.value) (expr_data other.value)) }
     ensures memory { IfErr result (λ e. e ≡ SyntaxFault.Memory) }
 {
     let first = one.first;
-    let form = ExprForm::Binary(word, Box::new(alloc, one)?, Box::new(alloc, other)?);
-    Ok(tree(first, at, form))
+    let form = ExprForm::Binary(word, one, other);
+    Ok(Box::new(alloc, tree(first, at, form))?)
 }
 
 /// The same as the tree that begins with the parenthesis.
-pub fn opened(token: &Spelled<'_>, tree: ExprTree) -> ExprTree
-    ensures { expr_data result ≡ opened_lem (lexeme_of token.now) (expr_data tree) }
+pub fn opened(token: &Spelled<'_>, tree: Box<ExprTree>) -> Box<ExprTree>
+    ensures { expr_data result.value ≡ opened_lem (lexeme_of token.now) (expr_data tree.value) }
 {
-    ExprTree {
-        first: token.at,
-        at: tree.at,
-        form: tree.form,
-    }
+    let mut tree = tree;
+    tree.first = token.at;
+    tree
 }
 /// An expression, and whether it is one prim alone.
 #[derive(Drop)]
 pub struct Term {
-    pub tree: ExprTree,
+    pub tree: Box<ExprTree>,
     pub alone: bool,
 }
 
 /// A prim alone.
-pub fn sole(tree: ExprTree) -> Term
-    ensures { term_data result ≡ (expr_data tree, true) }
+pub fn sole(tree: Box<ExprTree>) -> Term
+    ensures { term_data result ≡ (expr_data tree.value, true) }
 {
     Term { tree, alone: true }
 }
 
 /// An expression that is no prim alone.
-pub fn together(tree: ExprTree) -> Term
-    ensures { term_data result ≡ (expr_data tree, false) }
+pub fn together(tree: Box<ExprTree>) -> Term
+    ensures { term_data result ≡ (expr_data tree.value, false) }
 {
     Term { tree, alone: false }
 }
 /// NUMBER behind "-".
 #[tactic(auto, unfolding(crate::specs::Expressions::negative))]
-pub fn negative<'t>(alloc: Global, minus: &Spelled<'t>, tokens: Tokens<'t>) -> Read<'t, ExprTree>
-    ensures read { Gives (λ x. (expr_data x.0, lexemes_of x.1.now)) result (negative_lem (lexeme_of minus.now) (lexemes_of tokens.now)) }
+pub fn negative<'t>(
+    alloc: Global,
+    minus: &Spelled<'t>,
+    tokens: Tokens<'t>,
+) -> Read<'t, Box<ExprTree>>
+    ensures read { Gives (λ x. (expr_data x.0.value, lexemes_of x.1.now)) result (negative_lem (lexeme_of minus.now) (lexemes_of tokens.now)) }
 {
     let (number, rest) = expect(tokens, Class::Number)?;
     let digits = String::from_str(alloc, number.text)?;
-    Ok((
-        tree(minus.at, number.at, ExprForm::Number(true, digits)),
-        rest,
-    ))
+    let negated = tree(minus.at, number.at, ExprForm::Number(true, digits));
+    Ok((Box::new(alloc, negated)?, rest))
 }
 /// NUMBER
 #[tactic(auto, unfolding(crate::specs::Expressions::number_of))]
-pub fn number<'t>(alloc: Global, token: &Spelled<'t>, tokens: Tokens<'t>) -> Read<'t, ExprTree>
-    ensures read { Gives (λ x. (expr_data x.0, lexemes_of x.1.now)) result (number_of (lexeme_of token.now) (lexemes_of tokens.now)) }
+pub fn number<'t>(alloc: Global, token: &Spelled<'t>, tokens: Tokens<'t>) -> Read<'t, Box<ExprTree>>
+    ensures read { Gives (λ x. (expr_data x.0.value, lexemes_of x.1.now)) result (number_of (lexeme_of token.now) (lexemes_of tokens.now)) }
 {
     let digits = String::from_str(alloc, token.text)?;
-    Ok((leaf(token, ExprForm::Number(false, digits)), tokens))
+    let number = leaf(token, ExprForm::Number(false, digits));
+    Ok((Box::new(alloc, number)?, tokens))
 }
 /// "true" | "false" | [ "-" ] NUMBER
 #[tactic(auto, unfolding(crate::specs::Expressions::literal))]
-pub fn literal<'t>(alloc: Global, tokens: Tokens<'t>) -> Read<'t, ExprTree>
-    ensures read { Gives (λ x. (expr_data x.0, lexemes_of x.1.now)) result (literal_lem (lexemes_of tokens.now)) }
+pub fn literal<'t>(alloc: Global, tokens: Tokens<'t>) -> Read<'t, Box<ExprTree>>
+    ensures read { Gives (λ x. (expr_data x.0.value, lexemes_of x.1.now)) result (literal_lem (lexemes_of tokens.now)) }
 {
     let Some((token, rest)) = tokens.split_first() else {
         return Err(SyntaxFault::Unexpected(0));
     };
     if is(token, Class::True) {
-        return Ok((leaf(token, ExprForm::True), rest));
+        return Ok((Box::new(alloc, leaf(token, ExprForm::True))?, rest));
     }
     if is(token, Class::False) {
-        return Ok((leaf(token, ExprForm::False), rest));
+        return Ok((Box::new(alloc, leaf(token, ExprForm::False))?, rest));
     }
     if is(token, Class::Number) {
         return number(alloc, token, rest);
@@ -118,23 +119,24 @@ pub fn literal<'t>(alloc: Global, tokens: Tokens<'t>) -> Read<'t, ExprTree>
 }
 /// "mod" NUMBER behind a prim.
 #[tactic(auto, unfolding(crate::specs::Expressions::modulo))]
-pub fn modulo<'t>(alloc: Global, operand: ExprTree, tokens: Tokens<'t>) -> Read<'t, Term>
-    ensures read { Gives (λ x. (term_data x.0, lexemes_of x.1.now)) result (modulo_lem (expr_data operand) (lexemes_of tokens.now)) }
+pub fn modulo<'t>(alloc: Global, operand: Box<ExprTree>, tokens: Tokens<'t>) -> Read<'t, Term>
+    ensures read { Gives (λ x. (term_data x.0, lexemes_of x.1.now)) result (modulo_lem (expr_data operand.value) (lexemes_of tokens.now)) }
 {
     let (operator, rest) = expect(tokens, Class::Mod)?;
     let (number, rest) = expect(rest, Class::Number)?;
     let (first, at, place) = (operand.first, operator.at, number.at);
     let digits = String::from_str(alloc, number.text)?;
-    let form = ExprForm::Mod(Box::new(alloc, operand)?, place, digits);
-    Ok((together(tree(first, at, form)), rest))
+    let remainder = tree(first, at, ExprForm::Mod(operand, place, digits));
+    Ok((together(Box::new(alloc, remainder)?), rest))
 }
 /// NAME alone.
 #[tactic(auto, unfolding(crate::specs::Expressions::read_of))]
-pub fn read<'t>(alloc: Global, token: &Spelled<'t>, tokens: Tokens<'t>) -> Read<'t, ExprTree>
-    ensures read { Gives (λ x. (expr_data x.0, lexemes_of x.1.now)) result (read_of (lexeme_of token.now) (lexemes_of tokens.now)) }
+pub fn read<'t>(alloc: Global, token: &Spelled<'t>, tokens: Tokens<'t>) -> Read<'t, Box<ExprTree>>
+    ensures read { Gives (λ x. (expr_data x.0.value, lexemes_of x.1.now)) result (read_of (lexeme_of token.now) (lexemes_of tokens.now)) }
 {
     let name = name(alloc, token)?;
-    Ok((leaf(token, ExprForm::Read(name)), tokens))
+    let read = leaf(token, ExprForm::Read(name));
+    Ok((Box::new(alloc, read)?, tokens))
 }
 
 /// The operands of a conjunction or a disjunction so far, and the places of its operators.
@@ -147,17 +149,17 @@ pub struct Chain {
 /// A chain of two operands.
 pub fn pair(
     alloc: Global,
-    first: ExprTree,
+    first: Box<ExprTree>,
     at: Place,
-    second: ExprTree,
+    second: Box<ExprTree>,
 ) -> Result<Chain, SyntaxFault>
-    ensures read { IfOk result (λ c. chain_data c ≡ (expr_data first ∷ expr_data second ∷ [], at ∷ [])) }
+    ensures read { IfOk result (λ c. chain_data c ≡ (expr_data first.value ∷ expr_data second.value ∷ [], at ∷ [])) }
     ensures memory { IfErr result (λ e. e ≡ SyntaxFault.Memory) }
 {
     let mut operands = Vec::new(alloc);
     let mut operators = Vec::new(alloc);
-    operands.push(first)?;
-    operands.push(second)?;
+    operands.push(Box::into_inner(first))?;
+    operands.push(Box::into_inner(second))?;
     operators.push(at)?;
     Ok(Chain {
         operands,
@@ -166,13 +168,13 @@ pub fn pair(
 }
 
 /// One operator and one operand more.
-pub fn joined(chain: Chain, at: Place, operand: ExprTree) -> Result<Chain, SyntaxFault>
-    ensures read { IfOk result (λ c. chain_data c ≡ (map expr_data chain.operands.items ++ expr_data operand ∷ [], chain.operators.items ++ at ∷ [])) }
+pub fn joined(chain: Chain, at: Place, operand: Box<ExprTree>) -> Result<Chain, SyntaxFault>
+    ensures read { IfOk result (λ c. chain_data c ≡ (map expr_data chain.operands.items ++ expr_data operand.value ∷ [], chain.operators.items ++ at ∷ [])) }
     ensures memory { IfErr result (λ e. e ≡ SyntaxFault.Memory) }
 {
     let mut operands = chain.operands;
     let mut operators = chain.operators;
-    operands.push(operand)?;
+    operands.push(Box::into_inner(operand))?;
     operators.push(at)?;
     Ok(Chain {
         operands,

@@ -6,7 +6,7 @@ use Rattle.spectra_resolved.specs.Resolved.{ResolvedTree}
 use Rattle.spectra_resolved.specs.Views.{resolved_data}
 use Rattle.spectra_resolved.specs.TextViews.{pattern_data, line_data}
 use Rattle.spectra_judge.specs.KindViews.{kind_data, known_data}
-use Rattle.spectra_elaboration.specs.PuttingViews.{bodies_data}
+use Rattle.spectra_elaboration.specs.DefinitionViews.{definitions_data}
 use Rattle.spectra_lines.specs.declared.facts.Facts as code
 use Rattle.spectra_lines.specs.declared.order.Typed.{Typed}
 use Rattle.spectra_lines.specs.declared.order.Part.{Part}
@@ -15,7 +15,7 @@ use Rattle.spectra_lines.specs.Contents.{Facts}
 use Rattle.spectra_lines.specs.Parts.{TypedPattern, TextPart, LinePart, PatternPart}
 
 abbrev pub facts_data : code.Facts → Facts
-facts_data f = record { known = known_data f.known; bodies = bodies_data f.bodies.now }
+facts_data f = record { known = known_data f.known; bodies = definitions_data f.definitions.now }
 
 abbrev pub trees_data : List (Bor Resolved) → List ResolvedTree
 trees_data ts = map (λ t. resolved_data t.now) ts

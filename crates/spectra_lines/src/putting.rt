@@ -32,7 +32,7 @@ fn put_tree(
     ensures { IfOk result (λ made. resolved_data made ≡ tree_put (facts_data facts.now) stand (resolved_data t.now)) }
 {
     let written = holed(alloc, &facts.known, stand, t)?;
-    match put_in(alloc, facts.bodies, room, MOST_LEVELS, &written)? {
+    match put_in(alloc, facts.definitions, room, MOST_LEVELS, &written)? {
         Some(made) => Ok(made),
         None => Err(AllocError),
     }

@@ -39,13 +39,13 @@ fn size_of_tree(
     ensures small { IfOk result (λ size. size.small ≡ is_small (Some room) (tree_put (facts_data facts.now) stand (resolved_data t.now) ∷ [])) }
 {
     let written = holed(alloc, &facts.known, stand, t)?;
-    match put_in(alloc, facts.bodies, room, MOST_LEVELS, &written)? {
+    match put_in(alloc, facts.definitions, room, MOST_LEVELS, &written)? {
         Some(made) => Ok(Size {
             left: behind(Some(room), &made),
             small: true,
         }),
         None => Ok(Size {
-            left: behind_put(alloc, facts.bodies, room, &written)?,
+            left: behind_put(alloc, facts.definitions, room, &written)?,
             small: false,
         }),
     }

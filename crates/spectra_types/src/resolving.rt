@@ -75,12 +75,12 @@ fn text_said<'a>(
     ensures triggers { IfOk result (λ s. map trigger_data s.triggers.items ≡ triggers_meant (facts_of (text_data text.now)) (typed_patterns_lem (text_data text.now)) (text_data text.now).lines) }
     ensures patterns { IfOk result (λ s. map model_pattern s.patterns.items ≡ patterns_meant (facts_of (text_data text.now)) (typed_patterns_lem (text_data text.now)) (text_data text.now).lines) }
 {
-    let bodies = bodies_of(alloc, notes, text)?;
-    report_declared(alloc, findings, &*notes, &bodies, text)?;
+    let definitions = bodies_of(alloc, notes, text)?;
+    report_declared(alloc, findings, &*notes, &definitions, text)?;
     let patterns = typed_patterns(alloc, &notes.kinds, text)?;
     let facts = Facts {
         known: known_in_line(&*notes),
-        bodies: &bodies,
+        definitions: &definitions,
     };
     read_lines(alloc, findings, &facts, &patterns, &text.lines)
 }

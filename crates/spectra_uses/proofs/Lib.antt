@@ -1,5 +1,9 @@
 pub mod Lists
 pub mod Used
 pub mod Reaching
-pub mod Clearing
+pub mod Marked
+pub mod FewSteps
+pub mod Walked
+pub mod UsersFound
+pub mod Settled
 pub mod Placed

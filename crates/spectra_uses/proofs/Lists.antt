@@ -1,7 +1,7 @@
 -- What is left of a list in a loop over it.
-use Rattle.std.proofs.Common.{◌≡◌, ℕ, suc, ◌+◌, ◌<◌, List, [], ◌∷◌, length, map, drop, get_or, refl, sym, ap, ◌∙◌, add-one}
+use Rattle.std.proofs.Common.{◌≡◌, ℕ, suc, ◌+◌, ◌<◌, List, ◌∷◌, length, map, drop, get_or, refl, sym, ap, ◌∙◌, add-one}
 use Rattle.std.proofs.Math.Seq.{drop-cons}
-use Rattle.spectra_resolved.specs.Resolved.{ResolvedTree, ResolvedTrees, listed}
+use Rattle.spectra_resolved.specs.Resolved.{ResolvedTrees, listed}
 use Rattle.spectra_resolved.specs.Chained.{trees}
 
 -- what is left is the first one and all behind it

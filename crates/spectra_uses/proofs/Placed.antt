@@ -1,5 +1,5 @@
 -- Definitions that are placed stand behind those that they use.
-use Rattle.std.proofs.Common.{◌≡◌, ℕ, zero, suc, ◌+◌, ◌-◌, ◌<◌, ◌≤◌, Bool, true, false, ◌||◌, ◌==◌, List, [], ◌∷◌, ◌++◌, length, take, Option, Some, None, get_or, slice_get, slice_set, replicate, refl, sym, ap, subst, ◌∙◌, inl, inr, ◌⊎◌, arith}
+use Rattle.std.proofs.Common.{◌≡◌, ℕ, zero, suc, ◌+◌, ◌-◌, ◌<◌, ◌≤◌, Bool, true, false, List, [], ◌∷◌, ◌++◌, length, take, Option, Some, None, get_or, slice_get, slice_set, replicate, refl, sym, ap, subst, ◌∙◌, inl, inr, ◌⊎◌, arith}
 use Rattle.std.proofs.lemmas.Bool.{cases_lt}
 use Rattle.std.proofs.lemmas.Option.{slice_get_within}
 use Rattle.std.proofs.lemmas.List.{length_push}
@@ -7,8 +7,8 @@ use Rattle.spectra_uses.specs.Cycles.{reaches}
 use Rattle.spectra_uses.specs.Orders.{StandsBefore, IsUse, BothOnCycle, IsOrderOf}
 use Rattle.spectra_uses.specs.Searching.{next_of, IsKnown, AreKnown, marked, HasNoMark}
 use Rattle.spectra_uses.specs.Placing.{Placing, IsChain, IsNext, AreFollowedOn, IsPlacing, PlacesOn, IsLast, left}
-use Rattle.spectra_uses.proofs.Reaching.{first_step, one_step, in_more_steps, any-at, at_place, past-from, nowhere, set-known, set-marked, length-marks, marked-set, marked-most, push-before, push-last, push-cases}
-use Rattle.spectra_uses.proofs.Clearing.{marked-none}
+use Rattle.spectra_uses.proofs.Reaching.{first_step, step_first, one_step, in_more_steps, at_place, nowhere, push-before, push-last, push-cases}
+use Rattle.spectra_uses.proofs.Marked.{length-one_set, marked-most, marked-set, marked-none, past-from, set-known, set-marked}
 
 -- ---- paths
 
@@ -26,14 +26,6 @@ module _ (uses : List (List ℕ)) (path : List ℕ) (chain : IsChain uses path) 
       let link = chain (suc d + p) (get_or path (suc d + p) 0) b middle (ap (slice_get path) (sym e) ∙ there) in
       one_step uses (suc d) a (get_or path (suc d + p) 0) b link.at (path_reaches d p a (get_or path (suc d + p) 0) here middle) link.there
 
--- one that uses what reaches it reaches itself
-reaches_itself : (uses : List (List ℕ)) (steps u v i : ℕ) → slice_get (next_of uses u) i ≡ Some v → reaches uses steps v u ≡ true → reaches uses (suc steps) u u ≡ true
-reaches_itself uses steps u v i at there = any-at _ (next_of uses u) i v at (ap (λ b. v == u || b) there ∙ or-true (v == u))
-  where
-    or-true : (b : Bool) → (b || true) ≡ true
-    or-true true = refl
-    or-true false = refl
-
 -- the last one on a path, and another that it uses
 pub both_on_cycle : (uses : List (List ℕ)) (path : List ℕ) (count p t u v i : ℕ) → IsChain uses path → length path ≤ count → suc t ≡ length path
     → slice_get path t ≡ Some u → slice_get path p ≡ Some v → slice_get (next_of uses u) i ≡ Some v → BothOnCycle uses count u v
@@ -46,7 +38,7 @@ both_on_cycle uses path count p t u v i chain few last top here at = elim (cases
     through e =
         let there = path_reaches uses path chain (t - suc p) p v u here (ap (slice_get path) e ∙ top) in
         record {
-          user_is = in_more_steps uses (suc (suc (t - suc p))) count u u (omega arith) (reaches_itself uses (suc (t - suc p)) u v i at there);
+          user_is = in_more_steps uses (suc (suc (t - suc p))) count u u (omega arith) (step_first uses (suc (t - suc p)) u v u i at there);
           used_is = in_more_steps uses (suc (suc (t - suc p))) count v v (omega arith) (one_step uses (suc (t - suc p)) v u v i there at);
         }
 
@@ -86,7 +78,7 @@ chain-push uses path v chain next p a b here there = elim (push-cases path v (su
 pub open_one : (s : Placing) (v : ℕ) → IsPlacing s → slice_get s.marks v ≡ Some false → IsNext s.uses s.path v → IsPlacing (opened s v)
 open_one s v old new next =
     record {
-      size = length-marks s.marks v ∙ old.size;
+      size = length-one_set s.marks v true ∙ old.size;
       room = old.room;
       counted = let n = marked-set s.marks v new in let m = old.counted in let k = length_push s.path v in omega arith;
       listed = λ w at. elim (set-marked s.marks v w at) [

@@ -2,5 +2,8 @@ pub mod Uses
 pub mod Links
 pub mod Cycles
 pub mod Searching
+pub mod Walking
+pub mod Users
+pub mod Settling
 pub mod Orders
 pub mod Placing

@@ -11,4 +11,6 @@ pub mod cycles;
 mod marks;
 pub mod order;
 pub mod placing;
+mod users;
 pub mod uses;
+mod walking;

@@ -1,7 +1,8 @@
 //! Marks of definitions: which of them a walk has come to.
 
-ghost use Rattle.std.specs.Prelude.{◌≡◌, ◌↔◌, IsTrue, IfOk, false, map, replicate, slice_get};
-ghost use Rattle.spectra_uses.specs.Searching.{next_of, is_unmarked, AreKnown};
+ghost use Rattle.std.specs.Prelude.{◌≡◌, IfOk, false, true, map, replicate, slice_get, slice_set};
+ghost use Rattle.spectra_uses.specs.Searching.{next_of, is_unmarked};
+ghost use Rattle.spectra_uses.specs.Walking.{Marks};
 
 use std::alloc::{AllocError, Global};
 
@@ -24,6 +25,15 @@ pub fn no_marks(alloc: Global, count: usize) -> Result<Vec<bool>, AllocError>
     Ok(marks)
 }
 
+/// As many as there are definitions, and each is marked.
+pub fn all_marks(alloc: Global, count: usize) -> Result<Vec<bool>, AllocError>
+    ensures { IfOk result (λ marks. marks.items ≡ replicate count true) }
+{
+    let mut marks = Vec::new(alloc);
+    marks.resize(count, true)?;
+    Ok(marks)
+}
+
 /// Whether a number is that of a definition without a mark.
 pub fn is_new(marks: &[bool], number: usize) -> bool
     ensures { result ≡ is_unmarked (slice_get marks.now number) }
@@ -34,14 +44,20 @@ pub fn is_new(marks: &[bool], number: usize) -> bool
     }
 }
 
-/// Whether none of a list is a definition without a mark.
-pub fn are_known(marks: &[bool], list: &[usize]) -> bool
-    ensures { IsTrue result ↔ AreKnown marks.now list.now }
+/// Marks a definition, or takes its mark off.
+pub fn set_mark(marks: &mut Vec<bool>, number: usize, mark: bool)
+    ensures { marks.new.items ≡ slice_set marks.old.items number mark }
+{
+    if let Some(place) = marks.get_mut(number) {
+        *place = mark;
+    }
+}
+
+/// Marks several, or takes their marks off.
+pub fn set_marks(marks: &mut Vec<bool>, list: &[usize], mark: bool)
+    ensures { Marks marks.old.items marks.new.items list.now mark }
 {
     for number in list {
-        if is_new(marks, *number) {
-            return false;
-        }
+        set_mark(marks, *number, mark);
     }
-    true
 }

@@ -101,7 +101,7 @@ pub operands::deeper_whole-returns-then-left-eq0 : goal.operands::deeper_whole-r
 operands::deeper_whole-returns-then-left-eq0 t c = record { read = whole_deep c.args.left (lexeme_of c.args.token.now) (lexemes_of c.args.tokens.now) (omega arith) }
 
 pub operands::deeper_whole-returns : goal.operands::deeper_whole-returns
-operands::deeper_whole-returns t c = record { read = rw (whole_open c.args.left (lexeme_of c.args.token.now) (lexemes_of c.args.tokens.now) (omega arith)) c.whole.ensures.read }
+operands::deeper_whole-returns t c = record { read = rw (whole_open c.args.left (lexeme_of c.args.token.now) (lexemes_of c.args.tokens.now) (omega arith)) c.formula.ensures.read }
 
 pub operands::deeper_operand-returns-then-left-eq0 : goal.operands::deeper_operand-returns-then-left-eq0
 operands::deeper_operand-returns-then-left-eq0 t c = record { read = operand_deep c.args.left (lexeme_of c.args.token.now) (lexemes_of c.args.tokens.now) (omega arith) }

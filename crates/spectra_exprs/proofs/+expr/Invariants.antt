@@ -43,8 +43,8 @@ decreases-formulas::arrow l = 32 * l.left + 22
 abbrev pub decreases-formulas::expr : goal.decreases-formulas::expr
 decreases-formulas::expr l = 32 * l.left + 23
 
-abbrev pub decreases-formulas::whole : goal.decreases-formulas::whole
-decreases-formulas::whole l = 32 * l.left + 24
+abbrev pub decreases-formulas::formula : goal.decreases-formulas::formula
+decreases-formulas::formula l = 32 * l.left + 24
 
 abbrev pub decreases-operands::deeper_whole : goal.decreases-operands::deeper_whole
 decreases-operands::deeper_whole l = 32 * l.left + 0

@@ -24,6 +24,7 @@ loop-root-init c =
       table = refl;
       roots = λ n. refl;
       empty = c.requires.empty;
+      idle = c.new-frames.ensures.items;
       counted = c.in_ok-copies.ensures.len;
       room = omega (arith, c.in_ok-copies.ensures.exact);
     }
@@ -40,7 +41,7 @@ one-requires c =
     let copies : AllByRecursion (IsCopy from.state.table l.to levels) l.memo.copies.items = subst (λ (xs : List Copied). AllByRecursion (IsCopy from.state.table l.to levels) xs) (sym l.invariant.empty) tt in
     record {
       ready = ready_after from l.from to l.to levels c.args.truth.now c.args.memo.now.copies.items l.memo.copies.items l.invariant.table stays l.invariant.keeps.levels copies c.requires.ready;
-      empty = l.invariant.empty;
+      empty = (l.invariant.empty, l.invariant.idle);
       kept = stays root kept;
     }
 
@@ -64,7 +65,8 @@ loop-root-preserved c =
       keeps = more_keeps to l.to levels ds l.copies.items inv.meaning inv.added inv.keeps new d c.in-Ok.copy made;
       table = c.one.ensures.from_table ∙ inv.table;
       roots = λ n. c.one.ensures.from_roots n ∙ inv.roots n;
-      empty = c.one.ensures.empty;
+      empty = c.one.ensures.empty.0;
+      idle = c.one.ensures.empty.1;
       counted = c.push_reserved.ensures.len ∙ ap (λ n. n + 1) inv.counted;
       room = omega (arith, inv.room, c.push_reserved.ensures.capacity);
     }

@@ -16,6 +16,7 @@ invariant-loop-root l =
       table : l.from.state.table ≡ l.fn.from.state.table;
       roots : SameRoots l.fn.from.state l.from.state;
       empty : l.memo.copies.items ≡ [];
+      idle : l.frames.items ≡ [];
       counted : vec_len l.copies ≡ l.root-index;
       room : length l.roots ≤ vec_capacity l.copies;
     }

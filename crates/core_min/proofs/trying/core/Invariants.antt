@@ -1,5 +1,7 @@
 use Rattle.std.proofs.Common.{vec_len, ◌-◌}
+use Rattle.core_min.specs.Sets.{IsPartOf}
 use Rattle.core_min.specs.Judges.{IsSameJudge}
+use Rattle.core_min.specs.Known.{IsKnown}
 use Rattle.core_min.proofs.Turns.{IsTrying}
 use Rattle.core_min.proofs.trying.core.Given as goal
 
@@ -9,6 +11,8 @@ invariant-loop-at g l =
     record {
       same : IsSameJudge j.size j.IsWinning j.MayFail j.faults l.fn.judge l.judge;
       trying : IsTrying (j.IsWinning l.fn.judge) l.fn.n l.set.items l.at;
+      known : IsKnown j.size j.IsWinning l.judge l.losing;
+      inside : IsPartOf l.losing.lost.items l.set.items;
     }
 
 -- the numbers that are still to be tried

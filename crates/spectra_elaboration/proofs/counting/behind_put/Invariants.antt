@@ -1,7 +1,7 @@
-use Rattle.std.proofs.Common.{◌≡◌, ◌+◌}
+use Rattle.std.proofs.Common.{◌≡◌, ◌+◌, length}
 use Rattle.spectra_resolved.specs.Views.{resolved_data}
 use Rattle.spectra_elaboration.specs.Putting.{put_in}
-use Rattle.spectra_elaboration.specs.PuttingViews.{bodies_data}
+use Rattle.spectra_elaboration.specs.DefinitionViews.{definitions_data}
 use Rattle.spectra_elaboration.specs.Nodes.{tree_nodes}
 use Rattle.spectra_elaboration.specs.Frames.{AreFrames}
 use Rattle.spectra_elaboration.specs.Counting.{waiting_nodes, AreWaiting}
@@ -10,10 +10,10 @@ use Rattle.spectra_elaboration.proofs.counting.behind_put.Given as goal
 -- what was taken and what waits are all
 abbrev pub invariant-loop-next : goal.invariant-loop-next
 invariant-loop-next l =
-    let b = bodies_data l.bodies in
+    let b = definitions_data l.definitions in
     record {
       framed : AreFrames l.frames.items;
-      waiting : AreWaiting l.frames.items l.waiting.items;
+      waiting : AreWaiting 0 (length l.frames.items) l.waiting.items;
       counted : l.left + tree_nodes (put_in b (resolved_data l.t)) ≡ l.room + waiting_nodes b l.frames.items l.waiting.items;
     }
 

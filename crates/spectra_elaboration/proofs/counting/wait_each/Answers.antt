@@ -12,7 +12,7 @@ loop-tree-preserved c =
           let one = c.in_ok-wait.ensures.counted b fs in
           let before = c.loop-tree.invariant.counted b fs in
           omega (arith, left, one, before);
-      within = λ fs here all. c.in_ok-wait.ensures.within fs here (c.loop-tree.invariant.within fs here all);
+      within = λ low here all. c.in_ok-wait.ensures.within low here (c.loop-tree.invariant.within low here all);
     }
 
 pub returns : goal.returns

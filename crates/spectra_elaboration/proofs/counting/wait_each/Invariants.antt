@@ -1,4 +1,4 @@
-use Rattle.std.proofs.Common.{◌≡◌, ◌+◌, ◌<◌, List, length, map, drop}
+use Rattle.std.proofs.Common.{◌≡◌, ℕ, ◌+◌, ◌<◌, List, map, drop}
 use Rattle.spectra_resolved.specs.Chained.{trees}
 use Rattle.spectra_resolved.specs.Views.{resolved_data}
 use Rattle.spectra_elaboration.specs.declared.frames.Frame.{Frame}
@@ -14,5 +14,5 @@ invariant-loop-tree l =
     record {
       counted : (b : Bodies) (fs : List Frame) → waiting_nodes b fs l.waiting.items + each_nodes (each_at b fs l.frame (trees (map resolved_data (drop l.tree-index l.ts))))
           ≡ waiting_nodes b fs l.fn.waiting.items + each_nodes (each_at b fs l.frame (trees (map resolved_data l.ts)));
-      within : (fs : List Frame) → l.frame < length fs → AreWaiting fs l.fn.waiting.items → AreWaiting fs l.waiting.items;
+      within : (low : ℕ) → l.frame < l.count → AreWaiting low l.count l.fn.waiting.items → AreWaiting low l.count l.waiting.items;
     }

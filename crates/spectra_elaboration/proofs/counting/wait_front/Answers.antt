@@ -8,4 +8,4 @@ returns-in_ok-wait_links-in-Row c =
     let row = c.in-Row in
     let old = c.args.waiting.now.items in
     let new = c.wait_links.new.waiting.items in
-    subst (λ f. WaitsFront old new f (length row.links.now)) (sym row.is) (front_row old c.wait.new.waiting.items new row.frame row.head row.links c.in_ok-wait-in-Row.ensures c.in_ok-wait_links-in-Row.ensures)
+    subst (λ f. WaitsFront old new c.args.count f (length row.links.now)) (sym row.is) (front_row old c.wait.new.waiting.items new c.args.count row.frame row.head row.links c.in_ok-wait-in-Row.ensures c.in_ok-wait_links-in-Row.ensures)

@@ -13,7 +13,7 @@ loop-link-preserved c =
           let one = c.in_ok-wait.ensures.counted b fs in
           let before = c.loop-link.invariant.counted b fs in
           omega (arith, left, one, before);
-      within = λ fs here all. c.in_ok-wait.ensures.within fs here (c.loop-link.invariant.within fs here all);
+      within = λ low here all. c.in_ok-wait.ensures.within low here (c.loop-link.invariant.within low here all);
     }
 
 pub returns : goal.returns

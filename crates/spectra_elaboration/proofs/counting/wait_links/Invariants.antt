@@ -1,4 +1,4 @@
-use Rattle.std.proofs.Common.{◌≡◌, ◌+◌, ◌<◌, List, length, map, drop}
+use Rattle.std.proofs.Common.{◌≡◌, ℕ, ◌+◌, ◌<◌, List, map, drop}
 use Rattle.spectra_resolved.specs.Views.{link_data}
 use Rattle.spectra_elaboration.specs.declared.frames.Frame.{Frame}
 use Rattle.spectra_elaboration.specs.Putting.{Bodies}
@@ -11,5 +11,5 @@ invariant-loop-link l =
     record {
       counted : (b : Bodies) (fs : List Frame) → waiting_nodes b fs l.waiting.items + seconds_nodes b fs l.frame (map link_data (drop l.link-index l.links))
           ≡ waiting_nodes b fs l.fn.waiting.items + seconds_nodes b fs l.frame (map link_data l.links);
-      within : (fs : List Frame) → l.frame < length fs → AreWaiting fs l.fn.waiting.items → AreWaiting fs l.waiting.items;
+      within : (low : ℕ) → l.frame < l.count → AreWaiting low l.count l.fn.waiting.items → AreWaiting low l.count l.waiting.items;
     }

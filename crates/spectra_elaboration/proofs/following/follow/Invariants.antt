@@ -1,6 +1,6 @@
 use Rattle.std.proofs.Common.{◌<◌, length}
 use Rattle.spectra_resolved.specs.Views.{resolved_data}
-use Rattle.spectra_elaboration.specs.PuttingViews.{bodies_data}
+use Rattle.spectra_elaboration.specs.DefinitionViews.{definitions_data}
 use Rattle.spectra_elaboration.specs.Frames.{filled_at}
 use Rattle.spectra_elaboration.specs.Following.{Goes}
 use Rattle.spectra_elaboration.proofs.following.follow.Given as goal
@@ -8,7 +8,7 @@ use Rattle.spectra_elaboration.proofs.following.follow.Given as goal
 -- the expression that it has come to stands for the first one
 abbrev pub invariant-loop : goal.invariant-loop
 invariant-loop l =
-    let b = bodies_data l.by.bodies.now in
+    let b = definitions_data l.by.definitions.now in
     record {
       goes : Goes l.fn.frames.items l.frames.items (filled_at b l.fn.frames.items l.frame (resolved_data l.t)) (filled_at b l.frames.items l.inside (resolved_data l.here));
       within : l.inside < length l.frames.items;

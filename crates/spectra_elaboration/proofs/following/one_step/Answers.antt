@@ -4,7 +4,7 @@ use Rattle.spectra_resolved.specs.Chained.{chained}
 use Rattle.spectra_resolved.specs.Views.{resolved_data, link_data, form_data}
 use Rattle.spectra_resolved.proofs.Trees.{chain_data}
 use Rattle.spectra_elaboration.specs.Putting.{placed}
-use Rattle.spectra_elaboration.specs.PuttingViews.{bodies_data}
+use Rattle.spectra_elaboration.specs.DefinitionViews.{definitions_data}
 use Rattle.spectra_elaboration.specs.Frames.{filled_at, form_at}
 use Rattle.spectra_elaboration.specs.Following.{step_data, Goes}
 use Rattle.spectra_elaboration.proofs.Folded.{node_data}
@@ -13,7 +13,7 @@ use Rattle.spectra_elaboration.proofs.following.one_step.Goals as goal
 
 pub returns-in-Chain-clause-goes : goal.returns-in-Chain-clause-goes
 returns-in-Chain-clause-goes c =
-    let b = bodies_data c.args.by.now.bodies.now in
+    let b = definitions_data c.args.by.now.definitions.now in
     let fs = c.args.frames.now.items in
     let arm = c.in-Chain in
     let is : chained (resolved_data c.deref.result.now) (map link_data c.deref-in-Chain.result.now) ≡ resolved_data c.args.t.now =
@@ -26,7 +26,7 @@ returns-in-Chain-clause-goes c =
 
 pub returns-in-Node-clause-goes : goal.returns-in-Node-clause-goes
 returns-in-Node-clause-goes c =
-    let b = bodies_data c.args.by.now.bodies.now in
+    let b = definitions_data c.args.by.now.definitions.now in
     let fs = c.args.frames.now.items in
     let new = c.node_step.new.frames.items in
     let i = c.args.frame in

@@ -5,7 +5,7 @@ use Rattle.spectra_resolved.specs.Views.{resolved_data, link_data}
 use Rattle.spectra_elaboration.specs.Nodes.{each_nodes}
 use Rattle.spectra_elaboration.specs.Levels.{each_levels}
 use Rattle.spectra_elaboration.specs.Links.{link_nodes, are_flat_above}
-use Rattle.spectra_elaboration.specs.PuttingViews.{bodies_data}
+use Rattle.spectra_elaboration.specs.DefinitionViews.{definitions_data}
 use Rattle.spectra_elaboration.specs.Frames.{each_at, link_at}
 use Rattle.std.specs.Prelude.{nat_le}
 use Rattle.spectra_elaboration.proofs.putting.+putting.Given as goal
@@ -32,7 +32,7 @@ decreases-fill_operands l = 4 * l.levels + 3
 -- what is left only if the whole room is too small for all, and so it is with levels.
 abbrev pub invariant-fill_links-loop-link : goal.invariant-fill_links-loop-link
 invariant-fill_links-loop-link l =
-    let b = bodies_data l.by.bodies.now in
+    let b = definitions_data l.by.definitions.now in
     let fs = l.fn.frames.items in
     record {
       frames : l.frames.items ≡ fs;
@@ -45,7 +45,7 @@ invariant-fill_links-loop-link l =
 
 abbrev pub invariant-fill_operands-loop-t : goal.invariant-fill_operands-loop-t
 invariant-fill_operands-loop-t l =
-    let b = bodies_data l.by.bodies.now in
+    let b = definitions_data l.by.definitions.now in
     let fs = l.fn.frames.items in
     record {
       frames : l.frames.items ≡ fs;

@@ -2,6 +2,7 @@ use Rattle.std.proofs.Common.{◌≡◌, ◌<◌, length, get_or, arith}
 use Rattle.std.proofs.lemmas.List.{get_or_default}
 use Rattle.bdd_store.specs.declared.edge.Edge.{Edge}
 use Rattle.bdd_ops.proofs.RowLemmas.{least_more}
+use Rattle.bdd_ops.proofs.SearchLemmas.{top_is}
 use Rattle.bdd_ops.proofs.diagrams.Diagrams.least_level.Goals as goal
 
 pub before-least-requires-clause-within : goal.before-least-requires-clause-within
@@ -19,3 +20,6 @@ returns-clause-row c = record { live = c.requires.live; from = λ k d below. c.l
 
 pub returns-clause-least : goal.returns-clause-least
 returns-clause-least c = c.loop-e.invariant.no_less
+
+pub returns-clause-top : goal.returns-clause-top
+returns-clause-top c = top_is c.args.self.now c.args.row.now c.loop-e.least (omega (arith, c.loop-e.invariant.within, c.requires.levels)) (returns-clause-row c) (λ level le row. c.loop-e.invariant.no_less level (omega (arith, le, c.requires.levels)) row)

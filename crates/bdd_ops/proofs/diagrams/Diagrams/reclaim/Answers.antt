@@ -1,5 +1,5 @@
-use Rattle.std.proofs.Common.{refl, inr, subst, sym, ap, ◌∙◌}
-use Rattle.bdd_store.specs.State.{diagram_of, IsRoot}
+use Rattle.std.proofs.Common.{◌<◌, ◌↔◌, ◌⊎◌, refl, inr, subst, sym, ap, ◌∙◌}
+use Rattle.bdd_store.specs.State.{diagram_of, IsEdge, IsReached, IsRoot}
 use Rattle.bdd_ops.specs.Contents.{Contents}
 use Rattle.bdd_ops.proofs.StepLemmas.{right_fewer}
 use Rattle.bdd_ops.proofs.DiagramLemmas.{part_of_itself}
@@ -18,3 +18,6 @@ returns-clause-keeps c =
           c.reclaim.ensures.meaning n ((c.reclaim.ensures.live n).1 (inr (n, inside, c.self.invariant.0.store.roots_live n inside, part_of_itself (diagram_of c.self.inside.store n))))
           ∙ ap (λ (d : Contents). diagram_of d.state n) c.self.view_is;
     }
+
+pub returns-clause-live : goal.returns-clause-live
+returns-clause-live c = λ n. subst (λ (d : Contents). IsEdge c.reclaim.new.self n ↔ ((n < 2) ⊎ IsReached d.state n)) c.self.view_is (c.reclaim.ensures.live n)

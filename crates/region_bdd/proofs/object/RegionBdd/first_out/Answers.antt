@@ -15,22 +15,20 @@ use Rattle.bdd_ops.specs.Contents.{function_at}
 use Rattle.bdd_ops.specs.Paths.{IsFirst, HasNone}
 use Rattle.bdd_ops.specs.Together.{Together, all_of}
 use Rattle.bit_compile.specs.Domains.{state_domains, level_count}
-use Rattle.bdd_sets.specs.declared.moves.Members.{Members}
 use Rattle.bdd_sets.specs.StateBits.{TellsStates, set_at}
-use Rattle.bdd_sets.specs.Members.{AreMembers}
+use Rattle.bdd_products.proofs.KeepingLemmas.{keeps_itself}
 use Rattle.bdd_search.specs.Parts.{AreOf, HaveValues}
 use Rattle.region_bdd.specs.declared.slots.Content.{Content}
 use Rattle.region_bdd.specs.declared.slots.Content.TheVariants.{Outputs}
 use Rattle.region_bdd.specs.Slots.{HasContent}
-use Rattle.region_bdd.specs.Leading.{members_at}
-use Rattle.region_bdd.specs.Finding.{outputs_asked}
+use Rattle.region_bdd.specs.Finding.{outputs_sought}
 use Rattle.region_bdd.proofs.SlotLaws.{fit_here}
 use Rattle.bdd_sets.proofs.ListLemmas.{one_itself}
-use Rattle.region_bdd.proofs.ObjectLaws.{within_root}
+use Rattle.region_bdd.proofs.ObjectLaws.{within_root, early_roots}
 use Rattle.region_bdd.proofs.MoveLaws.{moves_held}
 use Rattle.region_bdd.proofs.LeadingLaws.{members_kept}
 use Rattle.region_bdd.proofs.FindLaws.{slots_long}
-use Rattle.region_bdd.proofs.FindCalls.{written, outputs_kept, state_at, spans_part, part_spans, spans_fixed, output_read, out_none, out_found, out_nothing, moves_shown, outputs_content, of_outputs}
+use Rattle.region_bdd.proofs.FindCalls.{written, sought_kept, state_at, spans_part, part_spans, spans_fixed, output_read, out_none, out_found, out_nothing, moves_shown, outputs_content, of_outputs}
 use Rattle.region_bdd.proofs.object.RegionBdd.first_out.Goals as goal
 
 pub content-requires : goal.content-requires
@@ -55,13 +53,12 @@ unreachable-requires c =
 pub ask_outputs-requires-clause-members : goal.ask_outputs-requires-clause-members
 ask_outputs-requires-clause-members c =
     let o = c.args.self.now in
-    let g = game_data o.game in
-    let slots = o.slots.slots.items in
-    let d = o.diagrams in
-    let when = c.in-Outputs.when in
-    let root = c.in-Outputs.target in
-    let here : HasContent slots c.args.m.now.slot (Outputs when root) = subst (λ (x : Content). HasContent slots c.args.m.now.slot x) c.in-Outputs.is c.content.ensures in
-    subst (λ (m : Members). AreMembers d m) (sym c.members-members.ensures) (members_kept g o.own o.levels d slots o.refused o.whole when)
+    members_kept (game_data o.game) o.own o.levels o.diagrams o.slots.slots.items o.refused o.whole c.in-Outputs.when
+
+pub ask_outputs-requires-clause-early : goal.ask_outputs-requires-clause-early
+ask_outputs-requires-clause-early c =
+    let o = c.args.self.now in
+    early_roots (game_data o.game) o.own o.diagrams o.diagrams o.slots.slots.items o.whole.sound (keeps_itself o.diagrams)
 
 pub ask_outputs-requires-clause-target : goal.ask_outputs-requires-clause-target
 ask_outputs-requires-clause-target c =
@@ -83,9 +80,8 @@ first_common_path-requires-clause-kept c =
     let when = c.in-Outputs.when in
     let root = c.in-Outputs.target in
     let here : HasContent slots c.args.m.now.slot (Outputs when root) = subst (λ (x : Content). HasContent slots c.args.m.now.slot x) c.in-Outputs.is c.content.ensures in
-    let kept = outputs_kept d (members_at o.own when) root (members_kept g o.own o.levels d slots o.refused o.whole when) (within_root g o.own d slots o.whole.sound c.args.m.now.slot (Outputs when root) here root (let one = one_itself root in omega (arith, one))) in
-    let kept' = subst (λ (m : Members). All (λ n. IsRoot d.state n) (outputs_asked m root)) (sym c.members-members.ensures) kept in
-    subst (λ (x : Together). All (λ n. IsRoot d.state n) x.roots) (sym c.ask_outputs.ensures) kept'
+    let kept = sought_kept d o.own when root (members_kept g o.own o.levels d slots o.refused o.whole when) (early_roots g o.own d d slots o.whole.sound (keeps_itself d)) (within_root g o.own d slots o.whole.sound c.args.m.now.slot (Outputs when root) here root (let one = one_itself root in omega (arith, one))) in
+    subst (λ (x : Together). All (λ n. IsRoot d.state n) x.roots) (sym c.ask_outputs.ensures) kept
 
 pub returns-then-not-fix_move-clause-first : goal.returns-then-not-fix_move-clause-first
 returns-then-not-fix_move-clause-first c = λ when' t b choice are.
@@ -131,7 +127,7 @@ returns-then-not-first_common_path-clause-first c = λ when' t b choice are.
     let yes = c.fix_move.ensures.answer.0 c.if-not-fix_move.false in
     let part = spans_part g o.codes o.coded c.len-from.result (c.count-count.result - length c.args.out.now) (omega (arith, from_is, hidden)) (omega (arith, count_is, coded, long, c.requires.room)) x yes.1 in
     let fixes = spans_fixed g o.codes o.coded c.len-from.result (c.count-count.result - length c.args.out.now) (omega (arith, from_is, hidden)) (omega (arith, count_is, coded, long, c.requires.room)) when c.args.state.now x c.fix_move.new.fixed (c.fix_move.ensures.fixes c.if-not-fix_move.false) in
-    let asked : all_of d c.ask_outputs.new.all.roots ≡ all_of d (outputs_asked (members_at o.own when) root) = ap (λ (a : Together). all_of d a.roots) c.ask_outputs.ensures ∙ ap (λ (m : Members). all_of d (outputs_asked m root)) c.members-members.ensures in
+    let asked : all_of d c.ask_outputs.new.all.roots ≡ all_of d (outputs_sought o.own when root) = ap (λ (a : Together). all_of d a.roots) c.ask_outputs.ensures in
     let none = subst (λ (f : Function). HasNone c.fix_move.new.fixed f 0) asked (subst (λ (fx : List (Option Bool)). HasNone fx (all_of d c.ask_outputs.new.all.roots) 0) (c.deref.ensures.value ∙ written _ c.fix_move.new.fixed _ (let a = c.fix_move.auto.fixed in let b = c.deref_mut.ensures.len in omega (arith, a, b))) (c.first_common_path.ensures.none c.if-not-first_common_path.true)) in
     of_outputs (λ w u. AreBefore g w b c.args.state.now → find (outputs_into g w u b x) (outputs_of g) ≡ None) when when' set t both
     (λ are. out_nothing g o.own o.levels d slots o.refused o.whole when b c.args.state.now are root states x part c.fix_move.new.fixed fixes none)
@@ -158,7 +154,7 @@ returns-clause-first c = λ when' t b choice are.
     let yes = c.fix_move.ensures.answer.0 c.if-not-fix_move.false in
     let part = spans_part g o.codes o.coded c.len-from.result (c.count-count.result - length c.args.out.now) (omega (arith, from_is, hidden)) (omega (arith, count_is, coded, long, c.requires.room)) x yes.1 in
     let fixes = spans_fixed g o.codes o.coded c.len-from.result (c.count-count.result - length c.args.out.now) (omega (arith, from_is, hidden)) (omega (arith, count_is, coded, long, c.requires.room)) when c.args.state.now x c.fix_move.new.fixed (c.fix_move.ensures.fixes c.if-not-fix_move.false) in
-    let asked : all_of d c.ask_outputs.new.all.roots ≡ all_of d (outputs_asked (members_at o.own when) root) = ap (λ (a : Together). all_of d a.roots) c.ask_outputs.ensures ∙ ap (λ (m : Members). all_of d (outputs_asked m root)) c.members-members.ensures in
+    let asked : all_of d c.ask_outputs.new.all.roots ≡ all_of d (outputs_sought o.own when root) = ap (λ (a : Together). all_of d a.roots) c.ask_outputs.ensures in
     let s = bits_of c.first_common_path.new.out in
     let there = c.first_common_path.ensures.first c.if-not-first_common_path.false in
     let first = subst (λ (f : Function). IsFirst c.fix_move.new.fixed f 0 (level_count (state_domains g)) s) asked

@@ -1,7 +1,7 @@
 use Rattle.std.proofs.Common.{◌≡◌, length, ap, sym, subst, ◌∙◌, arith}
 use Rattle.std.proofs.lemmas.List.{length-map}
 use Rattle.spectra_uses.specs.Searching.{HasNoMark}
-use Rattle.spectra_uses.proofs.Clearing.{no_mark, length-none}
+use Rattle.spectra_uses.proofs.Marked.{no_mark, length-none}
 use Rattle.spectra_uses.proofs.Placed.{fresh_placing, nothing_followed}
 use Rattle.spectra_uses.proofs.placing.Placer.new.Goals as goal
 

@@ -1,6 +1,6 @@
 use Rattle.std.proofs.Common.{◌<◌, true, slice_set, sym, subst}
 use Rattle.spectra_uses.specs.Placing.{placing_data, left, PlacesOn}
-use Rattle.spectra_uses.proofs.Reaching.{set-there}
+use Rattle.spectra_uses.proofs.Marked.{set-there}
 use Rattle.spectra_uses.proofs.Placed.{open_one, opens_on, opens_less}
 use Rattle.spectra_uses.proofs.placing.Placer.open.Goals as goal
 

@@ -1,0 +1,90 @@
+-- What frames lead to, as they come and go.
+use Rattle.std.proofs.Common.{◌≡◌, ℕ, zero, suc, ◌<◌, ◌≤◌, ◌+◌, ◌-◌, sym, ◌∙◌, ap, subst, refl, arith, min, List, [], ◌∷◌, ◌++◌, length}
+use Rattle.spec_model.specs.Diagrams.{Diagram, Function, IsPartOf}
+use Rattle.spec_model.specs.DiagramReads.{Reads}
+use Rattle.bdd_store.specs.State.{IsEdge, diagram_of, KeepsEdges}
+use Rattle.bdd_store.specs.declared.edge.Edge.{Edge}
+use Rattle.bdd_ops.specs.declared.frames.Frame.{Frame}
+use Rattle.bdd_ops.specs.declared.frames.Waits.{Waits}
+use Rattle.bdd_ops.specs.declared.frames.Waits.TheVariants.{Low, High}
+use Rattle.bdd_ops.specs.Reading.{IgnoresTo}
+use Rattle.bdd_ops.specs.Contents.{Contents, function_at}
+use Rattle.bdd_ops.specs.Steps.{IsSplitAt, level_at}
+use Rattle.bdd_ops.specs.Frames.{Leads, turns, turns_waiting, turns_of_frames}
+use Rattle.bdd_ops.proofs.ChoiceLemmas.{carried, level_stays}
+
+-- one frame more leads to a part of what was asked
+pub leads_more : {Q : Type 0} (Awaits : Frame Q → Q → Type 0) (whole : Q) (frames : List (Frame Q)) (frame : Frame Q) (part : Q) → Leads Awaits whole frames frame.asked → Awaits frame part → Leads Awaits whole (frames ++ frame ∷ []) part
+leads_more Awaits whole [] frame part leads awaits = (part, leads, awaits, refl)
+leads_more Awaits whole (first ∷ frames) frame part leads awaits =
+    (leads.0, leads.1, leads.2, leads_more Awaits leads.0 frames frame part leads.3 awaits)
+
+-- without it they lead to its question
+pub leads_less : {Q : Type 0} (Awaits : Frame Q → Q → Type 0) (whole : Q) (frames : List (Frame Q)) (frame : Frame Q) (part : Q) → Leads Awaits whole (frames ++ frame ∷ []) part → Leads Awaits whole frames frame.asked × Awaits frame part
+leads_less Awaits whole [] frame part leads = (leads.1, subst (Awaits frame) (sym leads.3) leads.2)
+leads_less Awaits whole (first ∷ frames) frame part leads =
+    let rest = leads_less Awaits leads.0 frames frame part leads.3 in
+    ((leads.0, leads.1, leads.2, rest.0), rest.1)
+
+-- they lead on where what each awaits stays
+pub leads_stays : {Q : Type 0} (Before After : Frame Q → Q → Type 0) (whole : Q) (frames : List (Frame Q)) (part : Q) → ((frame : Frame Q) (next : Q) → Before frame next → After frame next) → Leads Before whole frames part → Leads After whole frames part
+leads_stays Before After whole [] part stays leads = leads
+leads_stays Before After whole (first ∷ frames) part stays leads =
+    (leads.0, leads.1, stays first leads.0 leads.2, leads_stays Before After leads.0 frames part stays leads.3)
+
+-- where no frame waits, the question is the whole one
+pub leads_none : {Q : Type 0} (Awaits : Frame Q → Q → Type 0) (whole : Q) (frames : List (Frame Q)) (part : Q) → length frames ≡ 0 → Leads Awaits whole frames part → part ≡ whole
+leads_none Awaits whole [] part none leads = leads
+leads_none Awaits whole (first ∷ frames) part none leads = absurd (omega arith)
+
+-- ---- turns
+
+pub turns_some : (n : ℕ) → 1 ≤ turns n
+turns_some zero = omega arith
+turns_some (suc n) = omega arith
+
+pub turns_more : (m n : ℕ) → m ≤ n → turns m ≤ turns n
+turns_more zero n le = turns_some n
+turns_more (suc m) zero le = absurd (omega arith)
+turns_more (suc m) (suc n) le =
+    let less : turns m ≤ turns n = turns_more m n (omega arith) in omega arith
+
+-- a question at a level takes three turns more than two questions past it
+pub turns_step : (levels level : ℕ) → level < levels → turns (levels - level) ≡ 3 + (turns (levels - (level + 1)) + turns (levels - (level + 1)))
+turns_step levels level below =
+    let same : levels - level ≡ suc (levels - (level + 1)) = omega arith in ap turns same
+
+-- a question past a level takes no more turns than one just behind it
+pub turns_past : (levels level first : ℕ) → level < first → turns (levels - first) ≤ turns (levels - (level + 1))
+turns_past levels level first after = turns_more (levels - first) (levels - (level + 1)) (omega arith)
+
+pub waiting_some : {Q : Type 0} (n : ℕ) (waits : Waits Q) → 1 ≤ turns_waiting n waits
+waiting_some n (Low high) = omega arith
+waiting_some n (High low) = omega arith
+
+pub turns_pushed : {Q : Type 0} (levels : ℕ) (frames : List (Frame Q)) (frame : Frame Q) → turns_of_frames levels (frames ++ frame ∷ []) ≡ turns_of_frames levels frames + turns_waiting (levels - (frame.level + 1)) frame.waits
+turns_pushed levels [] frame = omega arith
+turns_pushed levels (first ∷ frames) frame =
+    let rest : turns_of_frames levels (frames ++ frame ∷ []) ≡ turns_of_frames levels frames + turns_waiting (levels - (frame.level + 1)) frame.waits = turns_pushed levels frames frame in
+    omega arith
+
+-- ---- parts
+
+-- the parts of a live node stay its parts
+pub split_stays : (old new : Contents) (level n low high : ℕ) → KeepsEdges old.state new.state → IsEdge old.state n → IsSplitAt old level n low high → IsSplitAt new level n low high
+split_stays old new level n low high keeps live is = record {
+  low_live = keeps.live low is.low_live;
+  high_live = keeps.live high is.high_live;
+  low_after = subst (λ (k : ℕ). level < k) (sym (level_stays old new low keeps is.low_live)) is.low_after;
+  high_after = subst (λ (k : ℕ). level < k) (sym (level_stays old new high keeps is.high_live)) is.high_after;
+  low_ignores = subst (λ (f : Function). IgnoresTo level f) (sym (carried old new low keeps is.low_live)) is.low_ignores;
+  high_ignores = subst (λ (f : Function). IgnoresTo level f) (sym (carried old new high keeps is.high_live)) is.high_ignores;
+  low_reads = λ x reads. is.low_reads x (subst (λ (d : Diagram). Reads x d) (keeps.meaning low is.low_live) reads);
+  high_reads = λ x reads. is.high_reads x (subst (λ (d : Diagram). Reads x d) (keeps.meaning high is.high_live) reads);
+  low_part = rw (keeps.meaning low is.low_live, keeps.meaning n live) is.low_part;
+  high_part = rw (keeps.meaning high is.high_live, keeps.meaning n live) is.high_part;
+  function = rw (carried old new n keeps live, carried old new low keeps is.low_live, carried old new high keeps is.high_live) is.function;
+}
+
+pub least_after : (level x y z : ℕ) → level < x → level < y → level < z → level < min (min x y) z
+least_after level x y z before_x before_y before_z = omega arith
