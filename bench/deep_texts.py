@@ -73,6 +73,20 @@ def beside(count):
     return chain("predicate p0(boolean x, Int(1..1) n): x;\n", lambda k, j: f"predicate p{k}(boolean x, Int(1..1) n): p{j}(p{j}(x, n + 1), n * 2);\n", count, f"gar alw g | p{count}(e, 1);\n")
 
 
+def doubled(lines):
+    """A number, 19 sums, each of the one before it twice, and lines."""
+    return defines("# + #", 19, "0", lines)
+
+
+def row(word, count, operand="0"):
+    return operand + f" {word} {operand}" * (count - 1)
+
+
+def used(use, count):
+    """A line in whose row a use stands so often."""
+    return f"gar alw {row('&', count, use)};\n"
+
+
 def types(count, line):
     """Each type is the one before it."""
     return chain("type A0 = Int(0..3);\n", lambda k, j: f"type A{k} = A{j};\n", count, line.replace("#", str(count)))
@@ -97,6 +111,8 @@ CHAINS = [
     *(won(f"{n:,} predicates of predicates", handed(n), STACK) for n in (1_000, 15_000)),
     won("3,000 predicates of numbers", narrowed(3_000), STACK),
     refused("3,000 predicates negated", predicates("!#(x)", 3_000), behind(3_000), 1, "19 TooLarge", STACK),
+    won("15,000 defines, used 76,000 times", defines("#", 15_000, "g", used("d#", 76_000)), TIME),
+    won("10,000 predicates, used 40,000 times", predicates("#(x)", 10_000, "x | g", used("p#(e)", 40_000)), TIME),
     *(won(f"{n:,} types", types(n, "sys A# y;\n")) for n in (5_000, 40_000)),
     won("5,000 types of a parameter", types(5_000, "predicate p(A# n): n > 1;\ngar alw g | p(r);\n")),
     *(refused(f"a ring of {n:,} defines", ring(lambda k, j: f"define d{k} := d{j};\n", n), NEXT, 8, "15 Cycle", TIME) for n in (5_000, 30_000)),
@@ -116,15 +132,12 @@ DOUBLING = [
     *(refused(f"{n} defines, each the one before twice", defines("# & #", n), behind(n), 1, "19 TooLarge") for n in (25, 40)),
     won("40 doubled defines in an argument that isn't read", defines("# & #", 40, line="predicate q(boolean x): true;\ngar alw g | q(d#);\n")),
     won("40 doubled defines that aren't read", defines("# & #", 40, line="gar alw g;\n")),
+    won("1,000 bounds by 19 doubled defines", doubled("".join(f"sys Int(0..d19) y{k};\n" for k in range(1_000))), TIME),
+    won("3,000 parameters with bounds by 19 doubled defines", doubled("".join(f"predicate p{k}(Int(0..d19) n): true;\n" for k in range(3_000))), TIME),
 ]
 
 
 # ---- rows of operators
-
-
-def row(word, count, operand="0"):
-    return operand + f" {word} {operand}" * (count - 1)
-
 
 ROWS = [
     *(

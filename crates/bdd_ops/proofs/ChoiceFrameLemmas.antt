@@ -1,7 +1,7 @@
 -- The frames of a choice.
 use Rattle.std.proofs.Common.{◌≡◌, ℕ, ◌<◌, ◌≤◌, ◌+◌, ◌-◌, sym, ◌∙◌, ap, subst, refl, arith, List, [], ◌∷◌, ◌++◌, length}
 use Rattle.spec_model.specs.Diagrams.{Diagram, IsPartOf}
-use Rattle.bdd_store.specs.State.{IsEdge, diagram_of, KeepsEdges}
+use Rattle.bdd_store.specs.State.{diagram_of, KeepsEdges}
 use Rattle.bdd_store.specs.declared.edge.Edge.{Edge}
 use Rattle.bdd_ops.specs.declared.frames.Choice.{Choice}
 use Rattle.bdd_ops.specs.declared.frames.Frame.{Frame}

@@ -1,6 +1,6 @@
 -- The first bits with one at a level, and the first of all.
-use Rattle.std.proofs.Common.{◌≡◌, ◌⊎◌, ℕ, zero, suc, ◌<◌, ◌≤◌, ◌+◌, ◌-◌, ◌*◌, inl, inr, sym, ◌∙◌, ap, subst, refl, arith, add-one, add-zero, Bool, true, false, Option, Some, None, List, length, get_or, set, get_or-set_same, get_or-set_other}
-use Rattle.std.proofs.lemmas.Bool.{cases_eq, cases_order}
+use Rattle.std.proofs.Common.{◌≡◌, ◌⊎◌, ℕ, zero, suc, ◌<◌, ◌≤◌, ◌+◌, ◌-◌, ◌*◌, inl, inr, sym, ◌∙◌, ap, subst, refl, arith, add-one, Bool, true, false, Option, Some, None, List, length, get_or, set, get_or-set_same, get_or-set_other}
+use Rattle.std.proofs.lemmas.Bool.{cases_order}
 use Rattle.std.proofs.lemmas.List.{get_or_past}
 use Rattle.std.proofs.lemmas.Nat.{mul-le, row_fits}
 use Rattle.spec_model.specs.Diagrams.{Bits, Function}

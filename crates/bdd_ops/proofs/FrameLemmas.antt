@@ -1,16 +1,17 @@
 -- What frames lead to, as they come and go.
-use Rattle.std.proofs.Common.{◌≡◌, ℕ, zero, suc, ◌<◌, ◌≤◌, ◌+◌, ◌-◌, sym, ◌∙◌, ap, subst, refl, arith, min, List, [], ◌∷◌, ◌++◌, length}
-use Rattle.spec_model.specs.Diagrams.{Diagram, Function, IsPartOf}
+use Rattle.std.proofs.Common.{◌≡◌, ℕ, zero, suc, ◌<◌, ◌≤◌, ◌+◌, ◌-◌, sym, ◌∙◌, ap, subst, refl, arith, min, List, [], ◌∷◌, ◌++◌, length, length-append, take, set, slice_get, Some}
+use Rattle.std.proofs.Math.Seq.{take-append_seam}
+use Rattle.std.proofs.lemmas.List.{set-append_right}
+use Rattle.spec_model.specs.Diagrams.{Diagram, Function}
 use Rattle.spec_model.specs.DiagramReads.{Reads}
-use Rattle.bdd_store.specs.State.{IsEdge, diagram_of, KeepsEdges}
-use Rattle.bdd_store.specs.declared.edge.Edge.{Edge}
+use Rattle.bdd_store.specs.State.{IsEdge, KeepsEdges}
 use Rattle.bdd_ops.specs.declared.frames.Frame.{Frame}
 use Rattle.bdd_ops.specs.declared.frames.Waits.{Waits}
 use Rattle.bdd_ops.specs.declared.frames.Waits.TheVariants.{Low, High}
 use Rattle.bdd_ops.specs.Reading.{IgnoresTo}
-use Rattle.bdd_ops.specs.Contents.{Contents, function_at}
-use Rattle.bdd_ops.specs.Steps.{IsSplitAt, level_at}
-use Rattle.bdd_ops.specs.Frames.{Leads, turns, turns_waiting, turns_of_frames}
+use Rattle.bdd_ops.specs.Contents.{Contents}
+use Rattle.bdd_ops.specs.Steps.{IsSplitAt}
+use Rattle.bdd_ops.specs.Frames.{Leads, IsTop, turns, turns_waiting, turns_of_frames}
 use Rattle.bdd_ops.proofs.ChoiceLemmas.{carried, level_stays}
 
 -- one frame more leads to a part of what was asked
@@ -36,6 +37,40 @@ leads_stays Before After whole (first ∷ frames) part stays leads =
 pub leads_none : {Q : Type 0} (Awaits : Frame Q → Q → Type 0) (whole : Q) (frames : List (Frame Q)) (part : Q) → length frames ≡ 0 → Leads Awaits whole frames part → part ≡ whole
 leads_none Awaits whole [] part none leads = leads
 leads_none Awaits whole (first ∷ frames) part none leads = absurd (omega arith)
+
+-- ---- the frame on top
+
+-- one more in front leaves it there
+top_behind : {X : Type 0} (xs : List X) (x y : X) → IsTop xs x → IsTop (y ∷ xs) x
+top_behind {X} xs x y top = record { rest = y ∷ top.rest; is = ap (λ (l : List X). y ∷ l) top.is }
+
+-- a list's last item is on top
+pub ends_in : {X : Type 0} (xs : List X) (x : X) → slice_get xs (length xs - 1) ≡ Some x → IsTop xs x
+ends_in [] x is = absurd (cc)
+ends_in {X} (y ∷ []) x is =
+    let same : y ≡ x = cc in record { rest = []; is = ap (λ (z : X). z ∷ []) same }
+ends_in {X} (y ∷ z ∷ zs) x is =
+    let one : length (y ∷ z ∷ zs) - 1 ≡ suc (length (z ∷ zs) - 1) = omega arith in
+    top_behind (z ∷ zs) x y (ends_in (z ∷ zs) x (subst (λ (n : ℕ). slice_get (y ∷ z ∷ zs) n ≡ Some x) one is))
+
+top_length : {X : Type 0} (rest : List X) (x : X) → length (rest ++ x ∷ []) ≡ length rest + 1
+top_length rest x = length-append rest (x ∷ [])
+
+pub top_some : {X : Type 0} (xs : List X) (x : X) → IsTop xs x → 1 ≤ length xs
+top_some xs x top = let long : length xs ≡ length top.rest + 1 = ap length top.is ∙ top_length top.rest x in omega (arith, long)
+
+-- the list without it
+pub top_dropped : {X : Type 0} (xs rest : List X) (x : X) → xs ≡ rest ++ x ∷ [] → take (length xs - 1) xs ≡ rest
+top_dropped {X} xs rest x is =
+    let long : length xs - 1 ≡ length rest = let all : length xs ≡ length rest + 1 = ap length is ∙ top_length rest x in omega (arith, all) in
+    ap (λ (n : ℕ). take n xs) long ∙ (ap (take (length rest)) is ∙ take-append_seam rest (x ∷ []))
+
+-- the list with another in its place
+pub top_changed : {X : Type 0} (xs rest : List X) (x y : X) → xs ≡ rest ++ x ∷ [] → set xs (length xs - 1) y ≡ rest ++ y ∷ []
+top_changed {X} xs rest x y is =
+    let long : length xs - 1 ≡ length rest = let all : length xs ≡ length rest + 1 = ap length is ∙ top_length rest x in omega (arith, all) in
+    let none : length rest - length rest ≡ 0 = omega arith in
+    ap (λ (n : ℕ). set xs n y) long ∙ (ap (λ (l : List X). set l (length rest) y) is ∙ (set-append_right rest (x ∷ []) (length rest) (length rest) y refl (omega arith) ∙ ap (λ (n : ℕ). rest ++ set (x ∷ []) n y) none))
 
 -- ---- turns
 

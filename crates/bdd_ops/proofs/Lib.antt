@@ -7,6 +7,7 @@ pub mod FrameLemmas
 pub mod ChoiceFrameLemmas
 pub mod JoinLemmas
 pub mod OverLemmas
+pub mod QuestionLemmas
 pub mod QuantifiedLemmas
 pub mod RelatedLemmas
 pub mod CallLemmas
@@ -19,4 +20,5 @@ pub mod RowLemmas
 pub mod LeavingLemmas
 pub mod FirstLemmas
 pub mod SplitLemmas
+pub mod PlaceLemmas
 pub mod SearchLemmas

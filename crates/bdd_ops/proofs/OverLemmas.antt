@@ -9,7 +9,7 @@ use Rattle.bdd_ops.specs.Contents.{Contents, function_at}
 use Rattle.bdd_ops.specs.Steps.{Grows, HasFunction, IsUnfinished, IsQuantifiedPart, JoinsOrSplits, joined_or_split}
 use Rattle.bdd_ops.proofs.DiagramLemmas.{part_of_part}
 use Rattle.bdd_ops.proofs.FunctionLemmas.{joined_over-split, joined_over-ignored, ignores-joined_over, IgnoresAll, some_is_quantifier, all_is_quantifier}
-use Rattle.bdd_ops.proofs.StepLemmas.{grows_on}
+use Rattle.bdd_ops.proofs.StepLemmas.{grows_more}
 use Rattle.bdd_ops.proofs.ChoiceLemmas.{carried}
 
 -- both ways to join are quantifiers
@@ -78,38 +78,37 @@ pub quantified_more : (join : Join) (levels : List ℕ) (part a d : Diagram) →
 quantified_more join levels part a d within made = record { x = made.x; x_part = part_of_part made.x part a made.x_part within; is_quantified = made.is_quantified }
 
 -- what both parts of a split function gave
-pub record HasOver (old mid : Contents) (all : Bool) (levels : List ℕ) (level : ℕ) (f f0 f1 : Function) (IsResult : Diagram → Type 0) (low high : ℕ) : Type 0 where
+pub record HasOver (c : Contents) (all : Bool) (levels : List ℕ) (level : ℕ) (f f0 f1 : Function) (IsResult : Diagram → Type 0) (low high : ℕ) : Type 0 where
   pub is_split : f ≡ split level f0 f1
   pub f0_ignores : IgnoresTo level f0
   pub f1_ignores : IgnoresTo level f1
-  pub grows : Grows old mid (IsUnfinished (join_of all) IsResult)
-  pub low_is : HasFunction mid (joined_over (join_of all) levels f0) low
-  pub high_is : HasFunction mid (joined_over (join_of all) levels f1) high
-  pub low_result : IsResult (diagram_of mid.state low)
-  pub high_result : IsResult (diagram_of mid.state high)
+  pub low_is : HasFunction c (joined_over (join_of all) levels f0) low
+  pub high_is : HasFunction c (joined_over (join_of all) levels f1) high
+  pub low_result : IsResult (diagram_of c.state low)
+  pub high_result : IsResult (diagram_of c.state high)
   pub whole_result : (d : Diagram) → value d ≡ joined_over (join_of all) levels f → IsResult d
 
-pub over_low_ignores : (old mid : Contents) (all : Bool) (levels : List ℕ) (level : ℕ) (f f0 f1 : Function) (IsResult : Diagram → Type 0) (low high : ℕ) → HasOver old mid all levels level f f0 f1 IsResult low high → IgnoresTo level (function_at mid low)
-over_low_ignores old mid all levels level f f0 f1 IsResult low high has =
+pub over_low_ignores : (c : Contents) (all : Bool) (levels : List ℕ) (level : ℕ) (f f0 f1 : Function) (IsResult : Diagram → Type 0) (low high : ℕ) → HasOver c all levels level f f0 f1 IsResult low high → IgnoresTo level (function_at c low)
+over_low_ignores c all levels level f f0 f1 IsResult low high has =
     subst (λ (g : Function). IgnoresTo level g) (sym has.low_is.function) (over_ignores all levels level f0 has.f0_ignores)
 
-pub over_high_ignores : (old mid : Contents) (all : Bool) (levels : List ℕ) (level : ℕ) (f f0 f1 : Function) (IsResult : Diagram → Type 0) (low high : ℕ) → HasOver old mid all levels level f f0 f1 IsResult low high → IgnoresTo level (function_at mid high)
-over_high_ignores old mid all levels level f f0 f1 IsResult low high has =
+pub over_high_ignores : (c : Contents) (all : Bool) (levels : List ℕ) (level : ℕ) (f f0 f1 : Function) (IsResult : Diagram → Type 0) (low high : ℕ) → HasOver c all levels level f f0 f1 IsResult low high → IgnoresTo level (function_at c high)
+over_high_ignores c all levels level f f0 f1 IsResult low high has =
     subst (λ (g : Function). IgnoresTo level g) (sym has.high_is.function) (over_ignores all levels level f1 has.f1_ignores)
 
-pub over_given : (old mid new : Contents) (all : Bool) (levels : List ℕ) (level : ℕ) (f f0 f1 : Function) (IsResult : Diagram → Type 0) (low high n : ℕ) → HasOver old mid all levels level f f0 f1 IsResult low high →
-    HasFunction new (joined_or_split (join_of all) levels level (function_at mid low) (function_at mid high)) n → HasFunction new (joined_over (join_of all) levels f) n
-over_given old mid new all levels level f f0 f1 IsResult low high n has given = record {
+pub over_given : (old new : Contents) (all : Bool) (levels : List ℕ) (level : ℕ) (f f0 f1 : Function) (IsResult : Diagram → Type 0) (low high n : ℕ) → HasOver old all levels level f f0 f1 IsResult low high →
+    HasFunction new (joined_or_split (join_of all) levels level (function_at old low) (function_at old high)) n → HasFunction new (joined_over (join_of all) levels f) n
+over_given old new all levels level f f0 f1 IsResult low high n has given = record {
   live = given.live;
-  function = over_whole all levels level f f0 f1 (function_at mid low) (function_at mid high) (function_at new n) has.is_split has.f0_ignores has.f1_ignores has.low_is.function has.high_is.function given.function;
+  function = over_whole all levels level f f0 f1 (function_at old low) (function_at old high) (function_at new n) has.is_split has.f0_ignores has.f1_ignores has.low_is.function has.high_is.function given.function;
 }
 
-pub over_made : (old mid new : Contents) (all : Bool) (levels : List ℕ) (level : ℕ) (f f0 f1 : Function) (IsResult : Diagram → Type 0) (low high : ℕ) → HasOver old mid all levels level f f0 f1 IsResult low high →
-    Grows mid new (JoinsOrSplits (join_of all) levels level (diagram_of mid.state low) (diagram_of mid.state high)) → Grows old new (IsUnfinished (join_of all) IsResult)
-over_made old mid new all levels level f f0 f1 IsResult low high has grows =
-    grows_on old mid new _ _ _ has.grows grows (λ d made. made) (λ d made. elim made [
-      | inl joins ↦ inr (record { first = diagram_of mid.state low; second = diagram_of mid.state high; first_is = has.low_result; second_is = has.high_result; joins = joins })
-      | inr is ↦ inl (has.whole_result d (over_whole all levels level f f0 f1 (function_at mid low) (function_at mid high) (value d) has.is_split has.f0_ignores has.f1_ignores has.low_is.function has.high_is.function is))
+pub over_made : (old new : Contents) (all : Bool) (levels : List ℕ) (level : ℕ) (f f0 f1 : Function) (IsResult : Diagram → Type 0) (low high : ℕ) → HasOver old all levels level f f0 f1 IsResult low high →
+    Grows old new (JoinsOrSplits (join_of all) levels level (diagram_of old.state low) (diagram_of old.state high)) → Grows old new (IsUnfinished (join_of all) IsResult)
+over_made old new all levels level f f0 f1 IsResult low high has grows =
+    grows_more old new _ _ grows (λ d made. elim made [
+      | inl joins ↦ inr (record { first = diagram_of old.state low; second = diagram_of old.state high; first_is = has.low_result; second_is = has.high_result; joins = joins })
+      | inr is ↦ inl (has.whole_result d (over_whole all levels level f f0 f1 (function_at old low) (function_at old high) (value d) has.is_split has.f0_ignores has.f1_ignores has.low_is.function has.high_is.function is))
     ])
 
 -- a constant is free of every list

@@ -1,5 +1,5 @@
--- The step of "some make both true".
-use Rattle.std.proofs.Common.{◌≡◌, ℕ, sym, ◌∙◌, ap, subst, refl, List, [], slice_index_or, Bool, true, false, ◌&&◌, if◌then◌else◌, Result, Ok, Err, IfOk}
+-- The steps of "some make both true".
+use Rattle.std.proofs.Common.{◌≡◌, ℕ, ◌<◌, min, arith, sym, ◌∙◌, ap, subst, refl, List, [], slice_index_or, Bool, true, false, ◌&&◌, if◌then◌else◌, Result, Ok, Err, IfOk}
 use Rattle.spec_model.specs.Diagrams.{Diagram, constant, Function, value, IsPartOf}
 use Rattle.bdd_store.specs.declared.edge.Edge.{Edge}
 use Rattle.bdd_store.specs.declared.fault.StoreFault.{StoreFault}
@@ -7,11 +7,15 @@ use Rattle.bdd_store.specs.State.{IsEdge, diagram_of, KeepsEdges}
 use Rattle.bdd_ops.specs.Functions.{split, joined, joined_over, join_of, is_among}
 use Rattle.bdd_ops.specs.Reading.{IgnoresTo}
 use Rattle.bdd_ops.specs.Contents.{Contents, function_at, list_at}
-use Rattle.bdd_ops.specs.Steps.{Grows, HasFunction, IsSplitAt, IsUnfinished, IsQuantifiedPart, IsRelatedPart, IsConjunctionAt, JoinsOrSplits, joined_or_split}
+use Rattle.bdd_ops.specs.declared.frames.Pair.{Pair}
+use Rattle.bdd_ops.specs.Steps.{Grows, HasFunction, IsSplitAt, IsUnfinished, IsQuantifiedPart, IsRelatedPart, IsConjunctionAt, JoinsOrSplits, joined_or_split, SameNodes, level_at}
+use Rattle.bdd_ops.specs.Questions.{AwaitsHigh, AreHalves, AreBothLive, MayRelate, both_at, related_at, relating}
 use Rattle.bdd_ops.proofs.DiagramLemmas.{part_of_itself, part_of_part}
 use Rattle.bdd_ops.proofs.StepLemmas.{grows_on, grows_more}
-use Rattle.bdd_ops.proofs.ChoiceLemmas.{carried}
-use Rattle.bdd_ops.proofs.OverLemmas.{HasOver, function_stays, unfinished_more, over_settled, over_given, over_made}
+use Rattle.bdd_ops.proofs.ChoiceLemmas.{carried, level_stays, same_keeps, same_grows}
+use Rattle.bdd_ops.proofs.FrameLemmas.{split_stays}
+use Rattle.bdd_ops.proofs.OverLemmas.{HasOver, function_stays, unfinished_more, over_settled, over_low_ignores, over_high_ignores, over_given, over_made}
+use Rattle.bdd_ops.proofs.QuestionLemmas.{HasParts, IsOfParts, Carries}
 
 -- ---- conjunctions at once
 
@@ -71,16 +75,7 @@ same_both c a b live same = record {
   parts = λ x part. record { x = x; y = x; x_part = part; y_part = rw (← same) part; is_join = λ i s. and_same (value x s) i };
 }
 
--- ---- the step
-
-abbrev pub MayRelate : Contents → ℕ → ℕ → ℕ → Diagram → Type 0
-MayRelate c list a b = IsUnfinished (join_of false) (IsRelatedPart (list_at c list) (diagram_of c.state a) (diagram_of c.state b))
-
-abbrev pub both_at : Contents → ℕ → ℕ → Function
-both_at c a b = joined (join_of true) (function_at c a) (function_at c b)
-
-abbrev pub related_at : Contents → ℕ → ℕ → ℕ → Function
-related_at c list a b = joined_over (join_of false) (list_at c list) (both_at c a b)
+-- ---- the operation
 
 pub related_more : (levels : List ℕ) (x y a b d : Diagram) → IsPartOf x a → IsPartOf y b → IsRelatedPart levels x y d → IsRelatedPart levels a b d
 related_more levels x y a b d in_a in_b made = record {
@@ -125,15 +120,65 @@ pub related_now : (old new : Contents) (list a b n : ℕ) (Any : Diagram → Typ
 related_now old new list a b n Any grows a_live b_live has =
     subst (λ (f : Function). HasFunction new f n) (sym (related_same old new list a b grows.lists grows.keeps a_live b_live)) has
 
-pub related_low_made : (old mid : Contents) (list level a a0 a1 b b0 b1 : ℕ) → IsSplitAt old level a a0 a1 → IsSplitAt old level b b0 b1 → Grows old mid (MayRelate old list a0 b0) → Grows old mid (MayRelate old list a b)
-related_low_made old mid list level a a0 a1 b b0 b1 a_split b_split grows =
-    grows_more old mid _ _ grows (λ d made. unfinished_more (join_of false) _ _ (λ x is. related_more (list_at old list) (diagram_of old.state a0) (diagram_of old.state b0) (diagram_of old.state a) (diagram_of old.state b) x a_split.low_part b_split.low_part is) d made)
+-- the answer, once it is remembered
+pub related_remembered : (old mid new : Contents) (list a b n : ℕ) (Any : Diagram → Type 0) → Grows old mid Any → SameNodes mid new → IsEdge old.state a → IsEdge old.state b → HasFunction mid (related_at old list a b) n → HasFunction new (related_at new list a b) n
+related_remembered old mid new list a b n Any grows same a_live b_live has =
+    related_now old new list a b n Any (same_grows old mid new Any grows same) a_live b_live (function_stays mid new _ n (same_keeps mid new same) has)
 
-pub related_high_made : (old mid new : Contents) (list level a a0 a1 b b0 b1 : ℕ) → IsSplitAt old level a a0 a1 → IsSplitAt old level b b0 b1 → Grows old mid (MayRelate old list a0 b0) → Grows mid new (MayRelate mid list a1 b1) → Grows old new (MayRelate old list a b)
-related_high_made old mid new list level a a0 a1 b b0 b1 a_split b_split first second =
-    let as_before : Grows mid new (MayRelate old list a1 b1) = rw (← first.lists, ← first.keeps.meaning a1 a_split.high_live, ← first.keeps.meaning b1 b_split.high_live) second in
-    grows_on old mid new _ _ _ (related_low_made old mid list level a a0 a1 b b0 b1 a_split b_split first) as_before (λ d made. made)
-    (λ d made. unfinished_more (join_of false) _ _ (λ x is. related_more (list_at old list) (diagram_of old.state a1) (diagram_of old.state b1) (diagram_of old.state a) (diagram_of old.state b) x a_split.high_part b_split.high_part is) d made)
+before_both : (level m n : ℕ) → level < m → level < n → level < min m n
+before_both level m n before_m before_n = omega arith
+
+pub relating_has_parts : (list : ℕ) (c : Contents) → HasParts (relating list c)
+relating_has_parts list c = record {
+  low_live = λ level asked low high is. record { a_live = is.a_split.low_live; b_live = is.b_split.low_live };
+  high_live = λ level asked low high is. record { a_live = is.a_split.high_live; b_live = is.b_split.high_live };
+  low_after = λ level asked low high is. before_both level (level_at c low.a.0) (level_at c low.b.0) is.a_split.low_after is.b_split.low_after;
+  high_after = λ level asked low high is. before_both level (level_at c high.a.0) (level_at c high.b.0) is.a_split.high_after is.b_split.high_after;
+}
+
+-- a question is about parts of another's diagrams
+pub record AreWithin (c : Contents) (q whole : Pair) : Type 0 where
+  pub a_part : IsPartOf (diagram_of c.state q.a.0) (diagram_of c.state whole.a.0)
+  pub b_part : IsPartOf (diagram_of c.state q.b.0) (diagram_of c.state whole.b.0)
+
+pub relating_parts : (list : ℕ) (c : Contents) → IsOfParts (relating list c) (AreWithin c)
+relating_parts list c = record {
+  itself = λ q. record { a_part = part_of_itself (diagram_of c.state q.a.0); b_part = part_of_itself (diagram_of c.state q.b.0) };
+  on = λ x y z first second. record {
+    a_part = part_of_part (diagram_of c.state x.a.0) (diagram_of c.state y.a.0) (diagram_of c.state z.a.0) first.a_part second.a_part;
+    b_part = part_of_part (diagram_of c.state x.b.0) (diagram_of c.state y.b.0) (diagram_of c.state z.b.0) first.b_part second.b_part;
+  };
+  low = λ level asked low high is. record { a_part = is.a_split.low_part; b_part = is.b_split.low_part };
+  high = λ level asked low high is. record { a_part = is.a_split.high_part; b_part = is.b_split.high_part };
+}
+
+-- live nodes stay live
+pub both_live_stays : (old new : Contents) (asked : Pair) → KeepsEdges old.state new.state → AreBothLive old asked → AreBothLive new asked
+both_live_stays old new asked keeps live = record { a_live = keeps.live asked.a.0 live.a_live; b_live = keeps.live asked.b.0 live.b_live }
+
+-- what grows carries its questions
+pub relating_carries : (list : ℕ) (old new : Contents) (Any : Diagram → Type 0) → Grows old new Any → Carries (relating list old) (relating list new)
+relating_carries list old new Any grows = record {
+  parts_before = relating_has_parts list old;
+  parts_after = relating_has_parts list new;
+  levels = grows.keeps.levels;
+  first = λ q live. ap (λ (m : ℕ). min m (level_at new q.b.0)) (level_stays old new q.a.0 grows.keeps live.a_live) ∙ ap (λ (m : ℕ). min (level_at old q.a.0) m) (level_stays old new q.b.0 grows.keeps live.b_live);
+  live = λ q live. both_live_stays old new q grows.keeps live;
+  splits = λ level asked low high live is. record {
+    a_split = split_stays old new level asked.a.0 low.a.0 high.a.0 grows.keeps live.a_live is.a_split;
+    b_split = split_stays old new level asked.b.0 low.b.0 high.b.0 grows.keeps live.b_live is.b_split;
+  };
+  answers = λ q n live has. related_now old new list q.a.0 q.b.0 n Any grows live.a_live live.b_live (function_stays old new _ n grows.keeps has);
+}
+
+-- what parts' questions may make the whole may make
+pub related_on : (old mid new : Contents) (list : ℕ) (whole q : Pair) → Grows old mid (MayRelate old list whole.a.0 whole.b.0) → Grows mid new (MayRelate mid list q.a.0 q.b.0) → AreBothLive old whole → AreWithin mid q whole → Grows old new (MayRelate old list whole.a.0 whole.b.0)
+related_on old mid new list whole q first second live within =
+    let more : Grows mid new (MayRelate mid list whole.a.0 whole.b.0) = grows_more mid new _ _ second (λ d made. unfinished_more (join_of false) _ _ (λ x is. related_more (list_at mid list) (diagram_of mid.state q.a.0) (diagram_of mid.state q.b.0) (diagram_of mid.state whole.a.0) (diagram_of mid.state whole.b.0) x within.a_part within.b_part is) d made) in
+    let as_before : Grows mid new (MayRelate old list whole.a.0 whole.b.0) = rw (← first.lists, ← first.keeps.meaning whole.a.0 live.a_live, ← first.keeps.meaning whole.b.0 live.b_live) more in
+    grows_on old mid new _ _ _ first as_before (λ d made. made) (λ d made. made)
+
+-- ---- the answers of parts
 
 split_and : (b f0 f1 g0 g1 : Bool) → ((if b then f1 else f0) && (if b then g1 else g0)) ≡ (if b then (f1 && g1) else (f0 && g0))
 split_and true f0 f1 g0 g1 = refl
@@ -148,44 +193,50 @@ both-split c level a a0 a1 b b0 b1 a_split b_split =
 pub both_ignores : (level : ℕ) (f g : Function) → IgnoresTo level f → IgnoresTo level g → IgnoresTo level (joined (join_of true) f g)
 both_ignores level f g of_f of_g m le s b = rw (of_f m le s b, of_g m le s b) refl
 
-abbrev pub HasRelated : Contents → Contents → ℕ → ℕ → ℕ → ℕ → ℕ → ℕ → ℕ → ℕ → ℕ → ℕ → Type 0
-HasRelated old mid list level a a0 a1 b b0 b1 low high =
-    HasOver old mid false (list_at old list) level (both_at old a b) (both_at old a0 b0) (both_at old a1 b1) (IsRelatedPart (list_at old list) (diagram_of old.state a) (diagram_of old.state b)) low high
+abbrev pub HasRelated : Contents → ℕ → ℕ → Pair → Pair → Pair → ℕ → ℕ → Type 0
+HasRelated c list level asked p q low high =
+    HasOver c false (list_at c list) level (both_at c asked.a.0 asked.b.0) (both_at c p.a.0 p.b.0) (both_at c q.a.0 q.b.0) (IsRelatedPart (list_at c list) (diagram_of c.state asked.a.0) (diagram_of c.state asked.b.0)) low high
 
-pub related_halves : (old mid new : Contents) (list level a a0 a1 b b0 b1 low high : ℕ) → IsSplitAt old level a a0 a1 → IsSplitAt old level b b0 b1 → Grows old mid (MayRelate old list a0 b0) → Grows mid new (MayRelate mid list a1 b1) →
-    HasFunction mid (related_at old list a0 b0) low → HasFunction new (related_at mid list a1 b1) high → HasRelated old new list level a a0 a1 b b0 b1 low high
-related_halves old mid new list level a a0 a1 b b0 b1 low high a_split b_split first second is_low is_high =
-    let low_now : HasFunction new (related_at old list a0 b0) low = function_stays mid new _ low second.keeps is_low in
-    let high_now : HasFunction new (related_at old list a1 b1) high = related_before old mid new list a1 b1 high _ first a_split.high_live b_split.high_live is_high in
+-- both parts' answers
+pub related_halves : (c : Contents) (list level : ℕ) (asked : Pair) (low high : ℕ) → (has : AreHalves (relating list c) level asked low high) → HasRelated c list level asked has.awaits.low_part has.high_part low high
+related_halves c list level asked low high has =
+    let p = has.awaits.low_part in
+    let q = has.high_part in
+    let is = has.awaits.parts.splits in
     record {
-      is_split = both-split old level a a0 a1 b b0 b1 a_split b_split;
-      f0_ignores = both_ignores level (function_at old a0) (function_at old b0) a_split.low_ignores b_split.low_ignores;
-      f1_ignores = both_ignores level (function_at old a1) (function_at old b1) a_split.high_ignores b_split.high_ignores;
-      grows = related_high_made old mid new list level a a0 a1 b b0 b1 a_split b_split first second;
-      low_is = low_now;
-      high_is = high_now;
-      low_result = record { x = diagram_of old.state a0; y = diagram_of old.state b0; x_part = a_split.low_part; y_part = b_split.low_part; is_related = low_now.function };
-      high_result = record { x = diagram_of old.state a1; y = diagram_of old.state b1; x_part = a_split.high_part; y_part = b_split.high_part; is_related = high_now.function };
-      whole_result = λ d is. record { x = diagram_of old.state a; y = diagram_of old.state b; x_part = part_of_itself (diagram_of old.state a); y_part = part_of_itself (diagram_of old.state b); is_related = is };
+      is_split = both-split c level asked.a.0 p.a.0 q.a.0 asked.b.0 p.b.0 q.b.0 is.a_split is.b_split;
+      f0_ignores = both_ignores level (function_at c p.a.0) (function_at c p.b.0) is.a_split.low_ignores is.b_split.low_ignores;
+      f1_ignores = both_ignores level (function_at c q.a.0) (function_at c q.b.0) is.a_split.high_ignores is.b_split.high_ignores;
+      low_is = has.awaits.low_is;
+      high_is = has.high_is;
+      low_result = record { x = diagram_of c.state p.a.0; y = diagram_of c.state p.b.0; x_part = is.a_split.low_part; y_part = is.b_split.low_part; is_related = has.awaits.low_is.function };
+      high_result = record { x = diagram_of c.state q.a.0; y = diagram_of c.state q.b.0; x_part = is.a_split.high_part; y_part = is.b_split.high_part; is_related = has.high_is.function };
+      whole_result = λ d made. record { x = diagram_of c.state asked.a.0; y = diagram_of c.state asked.b.0; x_part = part_of_itself (diagram_of c.state asked.a.0); y_part = part_of_itself (diagram_of c.state asked.b.0); is_related = made };
     }
 
-pub related_settled : (old mid : Contents) (list level a a0 a1 b b0 b1 low : ℕ) → IsSplitAt old level a a0 a1 → IsSplitAt old level b b0 b1 → HasFunction mid (related_at old list a0 b0) low → mid.lists ≡ old.lists → is_among level (list_at mid list) ≡ true → diagram_of mid.state low ≡ constant true → HasFunction mid (related_at old list a b) low
-related_settled old mid list level a a0 a1 b b0 b1 low a_split b_split is_low lists among_now settled =
-    let among : is_among level (list_at old list) ≡ true = ap (λ (l : List (List ℕ)). is_among level (slice_index_or l list [])) (sym lists) ∙ among_now in
+pub related_low_ignores : (c : Contents) (list level : ℕ) (asked : Pair) (low high : ℕ) → AreHalves (relating list c) level asked low high → IgnoresTo level (function_at c low)
+related_low_ignores c list level asked low high has = over_low_ignores _ _ _ _ _ _ _ _ _ _ (related_halves c list level asked low high has)
+
+pub related_high_ignores : (c : Contents) (list level : ℕ) (asked : Pair) (low high : ℕ) → AreHalves (relating list c) level asked low high → IgnoresTo level (function_at c high)
+related_high_ignores c list level asked low high has = over_high_ignores _ _ _ _ _ _ _ _ _ _ (related_halves c list level asked low high has)
+
+-- the low part's answer, where it decides
+pub related_settled : (c : Contents) (list level : ℕ) (asked : Pair) (low : ℕ) (high : Pair) → AwaitsHigh (relating list c) level asked low high → is_among level (list_at c list) ≡ true → diagram_of c.state low ≡ constant true → HasFunction c (related_at c list asked.a.0 asked.b.0) low
+related_settled c list level asked low high has among settled =
+    let p = has.low_part in
+    let is = has.parts.splits in
     record {
-      live = is_low.live;
-      function = over_settled false (list_at old list) level (both_at old a b) (both_at old a0 b0) (both_at old a1 b1) (function_at mid low) (both-split old level a a0 a1 b b0 b1 a_split b_split)
-          (both_ignores level (function_at old a0) (function_at old b0) a_split.low_ignores b_split.low_ignores) (both_ignores level (function_at old a1) (function_at old b1) a_split.high_ignores b_split.high_ignores) is_low.function among (ap value settled);
+      live = has.low_is.live;
+      function = over_settled false (list_at c list) level (both_at c asked.a.0 asked.b.0) (both_at c p.a.0 p.b.0) (both_at c high.a.0 high.b.0) (function_at c low) (both-split c level asked.a.0 p.a.0 high.a.0 asked.b.0 p.b.0 high.b.0 is.a_split is.b_split)
+          (both_ignores level (function_at c p.a.0) (function_at c p.b.0) is.a_split.low_ignores is.b_split.low_ignores) (both_ignores level (function_at c high.a.0) (function_at c high.b.0) is.a_split.high_ignores is.b_split.high_ignores) has.low_is.function among (ap value settled);
     }
 
-pub related_given : (old mid new : Contents) (list level a a0 a1 b b0 b1 low high n : ℕ) → HasRelated old mid list level a a0 a1 b b0 b1 low high →
-    HasFunction new (joined_or_split (join_of false) (list_at mid list) level (function_at mid low) (function_at mid high)) n → HasFunction new (related_at old list a b) n
-related_given old mid new list level a a0 a1 b b0 b1 low high n has given =
-    over_given old mid new false (list_at old list) level (both_at old a b) (both_at old a0 b0) (both_at old a1 b1) _ low high n has
-    (subst (λ (l : List (List ℕ)). HasFunction new (joined_or_split (join_of false) (slice_index_or l list []) level (function_at mid low) (function_at mid high)) n) has.grows.lists given)
+-- what joins or splits them is the answer
+pub related_given : (old new : Contents) (list level : ℕ) (asked : Pair) (low high n : ℕ) → AreHalves (relating list old) level asked low high →
+    HasFunction new (joined_or_split (join_of false) (list_at old list) level (function_at old low) (function_at old high)) n → HasFunction new (related_at old list asked.a.0 asked.b.0) n
+related_given old new list level asked low high n has given = over_given old new false (list_at old list) level _ _ _ _ low high n (related_halves old list level asked low high has) given
 
-pub related_join_made : (old mid new : Contents) (list level a a0 a1 b b0 b1 low high : ℕ) → HasRelated old mid list level a a0 a1 b b0 b1 low high →
-    Grows mid new (JoinsOrSplits (join_of false) (list_at mid list) level (diagram_of mid.state low) (diagram_of mid.state high)) → Grows old new (MayRelate old list a b)
-related_join_made old mid new list level a a0 a1 b b0 b1 low high has grows =
-    over_made old mid new false (list_at old list) level (both_at old a b) (both_at old a0 b0) (both_at old a1 b1) _ low high has
-    (subst (λ (l : List (List ℕ)). Grows mid new (JoinsOrSplits (join_of false) (slice_index_or l list []) level (diagram_of mid.state low) (diagram_of mid.state high))) has.grows.lists grows)
+-- and may be made
+pub related_made : (old new : Contents) (list level : ℕ) (asked : Pair) (low high : ℕ) → AreHalves (relating list old) level asked low high →
+    Grows old new (JoinsOrSplits (join_of false) (list_at old list) level (diagram_of old.state low) (diagram_of old.state high)) → Grows old new (MayRelate old list asked.a.0 asked.b.0)
+related_made old new list level asked low high has grows = over_made old new false (list_at old list) level _ _ _ _ low high (related_halves old list level asked low high has) grows

@@ -1,17 +1,14 @@
 -- The search for the first bits, through a row of edges for each level that it stands at.
-use Rattle.std.proofs.Common.{◌≡◌, ℕ, zero, suc, ◌<◌, ◌≤◌, ◌+◌, ◌-◌, ◌*◌, inl, inr, sym, ◌∙◌, ap, subst, refl, arith, add-one, Bool, true, false, Option, Some, None, List, [], ◌∷◌, ◌++◌, length, take, drop, get_or, set, get_or-set_same, get_or-set_other, min}
-use Rattle.std.proofs.Math.Seq.{drop-append_seam, take-append_seam}
-use Rattle.std.proofs.lemmas.Bool.{cases_lt, cases_eq, false≢true}
-use Rattle.std.proofs.lemmas.List.{length-take-le, length-drop, drop-append-le, take-append-le}
-use Rattle.std.proofs.lemmas.Nat.{row_fits}
-use Rattle.spec_model.specs.Diagrams.{Bits, Function}
+use Rattle.std.proofs.Common.{◌≡◌, ℕ, zero, suc, ◌<◌, ◌≤◌, ◌+◌, ◌-◌, ◌*◌, inl, inr, sym, ◌∙◌, ap, subst, refl, arith, add-one, Bool, true, false, Option, Some, None, List, [], ◌∷◌, length, get_or, set, get_or-set_same, get_or-set_other, min}
+use Rattle.std.proofs.lemmas.Bool.{cases_lt, false≢true}
+use Rattle.spec_model.specs.Diagrams.{Bits}
 use Rattle.spec_model.specs.DiagramReads.{bits_of}
 use Rattle.bdd_store.specs.declared.edge.Edge.{Edge}
 use Rattle.bdd_ops.specs.Contents.{Contents}
 use Rattle.bdd_ops.specs.Steps.{level_at}
 use Rattle.bdd_ops.specs.Paths.{fixed_at, IsFirst, HasNone}
 use Rattle.bdd_ops.specs.Together.{IsRow, all_in, first_bit, AreFirst, IsFirstWith, HasNoneWith}
-use Rattle.bdd_ops.specs.Searching.{row_at, top_of, level_for, IsNext, IsTried, IsLeft, IsSearch, cost, cost_of, next_of, pending}
+use Rattle.bdd_ops.specs.Searching.{top_of, level_for, IsNext, IsTried, IsLeft, IsSearch, cost, cost_of, next_of, pending}
 use Rattle.bdd_ops.proofs.PathLemmas.{bit_cases}
 use Rattle.bdd_ops.proofs.FirstLemmas.{with_first, with_none, first_past, found_with_false, found_with_true, found_with_none, first_after_write, first_restored}
 
@@ -307,38 +304,6 @@ fewer_fails bit count some = omega (arith, bit_cost bit count some)
 pub fewer_ends : (bit : Bool) (count : ℕ) → cost_of None count < cost_of (Some bit) count
 fewer_ends true count = let less : 1 < 3 + cost (count - 1) = omega arith in less
 fewer_ends false count = let less : 1 < cost count = omega (arith, cost_some count) in less
-
--- ---- rows behind one another
-
-row_front : (front more : List Edge) (width i : ℕ) → i * width + width ≤ length front → row_at (front ++ more) width i ≡ row_at front width i
-row_front front more width i fits =
-    let left : length (drop (i * width) front) ≡ length front - i * width = length-drop (i * width) front in
-    ap (take width) (drop-append-le (i * width) front more (omega (arith, fits))) ∙ take-append-le width (drop (i * width) front) more (omega (arith, left, fits))
-
--- a row in front of a cut stays
-pub row_kept : (rows front back more : List Edge) (width depth i : ℕ) → rows ≡ front ++ back → length front ≡ (depth + 1) * width → i ≤ depth → row_at (front ++ more) width i ≡ row_at rows width i
-row_kept rows front back more width depth i value cut le =
-    let one : i * width + width ≤ (depth + 1) * width = row_fits i width (depth + 1) width (omega (arith, le)) (omega arith) in
-    let fits : i * width + width ≤ length front = omega (arith, one, cut) in
-    row_front front more width i fits ∙ (sym (row_front front back width i fits) ∙ ap (λ (r : List Edge). row_at r width i) (sym value))
-
-pub row_read : (rows front back : List Edge) (width depth : ℕ) → rows ≡ front ++ back → length front ≡ (depth + 1) * width → row_at front width depth ≡ row_at rows width depth
-row_read rows front back width depth value cut =
-    let one : depth * width + width ≤ (depth + 1) * width = row_fits depth width (depth + 1) width (omega arith) (omega arith) in
-    sym (row_front front back width depth (omega (arith, one, cut))) ∙ ap (λ (r : List Edge). row_at r width depth) (sym value)
-
--- the row behind the cut
-pub row_behind : (front row more : List Edge) (width depth : ℕ) → length front ≡ depth * width → length row ≡ width → row_at (front ++ (row ++ more)) width depth ≡ row
-row_behind front row more width depth cut long =
-    ap (λ (n : ℕ). take width (drop n (front ++ (row ++ more)))) (sym cut)
-    ∙ (ap (take width) (drop-append_seam front (row ++ more))
-    ∙ (ap (λ (n : ℕ). take n (row ++ more)) (sym long) ∙ take-append_seam row more))
-
--- as many rows as there are levels, and one
-pub room_at : (levels width depth room : ℕ) → depth ≤ levels → (levels + 1) * width ≤ room → depth * width + width ≤ room
-room_at levels width depth room le has =
-    let fits : depth * width + width ≤ (levels + 1) * width = row_fits depth width (levels + 1) width (omega (arith, le)) (omega arith) in
-    omega (arith, fits, has)
 
 -- ---- the loop's steps
 

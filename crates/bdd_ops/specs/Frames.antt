@@ -16,6 +16,19 @@ abbrev pub Leads : {Q : Type 0} → (Frame Q → Q → Type 0) → Q → List (F
 Leads Awaits whole [] part = part ≡ whole
 Leads {Q} Awaits whole (frame ∷ frames) part = (next : Q) × (frame.asked ≡ whole) × Awaits frame next × Leads Awaits next frames part
 
+-- the frame is the last
+pub record IsTop {X : Type 0} (frames : List X) (frame : X) : Type 0 where
+  pub rest : List X
+  pub is : frames ≡ rest ++ frame ∷ []
+
+-- the last is no more there
+abbrev pub DropsTop : {X : Type 0} → List X → List X → Type 0
+DropsTop {X} old new = (rest : List X) (frame : X) → old ≡ rest ++ frame ∷ [] → new ≡ rest
+
+-- the frame on top waits for its high part then, and has this answer of its low part
+abbrev pub AwaitsHighFrom : {Q : Type 0} → Frame Q → Edge → List (Frame Q) → List (Frame Q) → Type 0
+AwaitsHighFrom {Q} frame low old new = (rest : List (Frame Q)) → old ≡ rest ++ frame ∷ [] → new ≡ rest ++ record { asked = frame.asked; level = frame.level; waits = High low } ∷ []
+
 -- ---- how many turns are left at most
 
 -- the turns of a question over so many levels

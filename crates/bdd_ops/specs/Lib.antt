@@ -10,3 +10,4 @@ pub mod Searching
 pub mod Splits
 pub mod Frames
 pub mod MovedFrames
+pub mod Questions

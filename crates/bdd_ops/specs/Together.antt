@@ -1,12 +1,12 @@
 -- Roots that are to be true together, and the rows of edges that a search for them goes through.
-use Rattle.std.specs.Prelude.{◌≡◌, ◌≤◌, ◌<◌, ◌+◌, ◌*◌, ℕ, Bool, true, false, ◌&&◌, Option, Some, None, List, [], ◌∷◌, map, slice_index_or}
+use Rattle.std.specs.Prelude.{◌≡◌, ◌≤◌, ◌<◌, ◌+◌, ℕ, Bool, true, false, ◌&&◌, Option, Some, None, List, [], ◌∷◌, map, slice_index_or}
 use Rattle.std.specs.List.{All}
 use Rattle.spec_model.specs.Diagrams.{Bits, Function}
 use Rattle.bdd_store.specs.declared.edge.Edge.{Edge}
 use Rattle.bdd_store.specs.State.{IsEdge}
 use Rattle.bdd_ops.specs.Contents.{Contents, function_at}
 use Rattle.bdd_ops.specs.Steps.{level_at}
-use Rattle.bdd_ops.specs.Paths.{AgreesAt, Agrees, fixed_at, NotAfter}
+use Rattle.bdd_ops.specs.Paths.{Agrees, fixed_at, NotAfter}
 
 -- the roots that are asked for together, how many there may be, and over how many levels
 pub record Together : Type 0 where

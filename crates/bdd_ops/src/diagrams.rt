@@ -9,7 +9,7 @@ ghost use Rattle.bdd_ops.specs.Calls.{KeepsRoots};
 ghost use Rattle.bdd_ops.specs.Steps.{IsSplitAt, IsSplit, Grows, level_at};
 
 use crate::OutOfMemory;
-use crate::frames::{Choice, Frame};
+use crate::frames::{Choice, Frame, Pair};
 use crate::level_list::LevelList;
 use bdd_store::{Edge, Root, Store, StoreFault};
 use std::alloc::Global;
@@ -25,6 +25,8 @@ pub struct Diagrams {
     pub(crate) choices: Vec<Frame<Choice>>,
     /// The same, of operations on one edge.
     pub(crate) edges: Vec<Frame<Edge>>,
+    /// The same, of operations on two.
+    pub(crate) pairs: Vec<Frame<Pair>>,
 }
 
 impl Model for Diagrams {
@@ -48,6 +50,7 @@ impl Diagrams {
             alloc,
             choices: Vec::new(alloc),
             edges: Vec::new(alloc),
+            pairs: Vec::new(alloc),
         })
     }
 

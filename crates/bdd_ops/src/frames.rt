@@ -1,8 +1,9 @@
 //! What waits while the parts of a question are answered. An operation keeps it in a list in memory, so that the depth
 //! of a diagram takes nothing of the machine's stack.
 
-ghost use Rattle.std.specs.Prelude.{◌≡◌, ◌++◌, ◌∷◌, [], OnOk};
+ghost use Rattle.std.specs.Prelude.{◌≡◌, ◌++◌, ◌∷◌, [], OnOk, MatchOption, length};
 ghost use Rattle.bdd_ops.specs.declared.frames.Waits.TheVariants.{Low, High};
+ghost use Rattle.bdd_ops.specs.Frames.{IsTop, DropsTop, AwaitsHighFrom};
 
 use crate::diagrams::Diagrams;
 use bdd_store::{Edge, StoreFault};
@@ -14,6 +15,13 @@ pub struct Choice {
     pub a: Edge,
     pub b: Edge,
     pub c: Edge,
+}
+
+/// Two edges: what is asked of both together.
+#[derive(Clone, Copy)]
+pub struct Pair {
+    pub a: Edge,
+    pub b: Edge,
 }
 
 /// What a question waits for.
@@ -73,6 +81,32 @@ pub fn push<Q: Copy>(frames: &mut Vec<Frame<Q>>, frame: Frame<Q>) -> Result<(), 
     }
 }
 
+/// The frame on top.
+pub fn top<Q: Copy>(frames: &Vec<Frame<Q>>) -> Option<Frame<Q>>
+    ensures { MatchOption result (length frames.now.items ≡ 0) (λ frame. IsTop frames.now.items frame) }
+{
+    match frames.last() {
+        None => None,
+        Some(&frame) => Some(frame),
+    }
+}
+
+/// One frame less.
+pub fn drop_top<Q: Copy>(frames: &mut Vec<Frame<Q>>)
+    ensures { DropsTop frames.old.items frames.new.items }
+{
+    let _ = frames.pop();
+}
+
+/// The frame on top waits for its high part from now on, since its low part has this answer.
+pub fn await_high<Q: Copy>(frames: &mut Vec<Frame<Q>>, frame: Frame<Q>, low: Edge)
+    requires { IsTop frames.old.items frame }
+    ensures { AwaitsHighFrom frame low frames.old.items frames.new.items }
+{
+    let last = frames.len() - 1;
+    frames[last] = waiting_high(frame, low);
+}
+
 impl Diagrams {
     /// The memory for frames of choices, with no frame in it.
     pub(crate) fn take_choices(&mut self) -> Vec<Frame<Choice>>
@@ -108,5 +142,23 @@ impl Diagrams {
         ensures { self.new ≡ self.old }
     {
         self.edges = frames;
+    }
+
+    /// The memory for frames of two edges, with no frame in it.
+    pub(crate) fn take_pairs(&mut self) -> Vec<Frame<Pair>>
+        ensures same { self.new ≡ self.old }
+        ensures none { result.items ≡ [] }
+    {
+        let none = Vec::new(self.alloc);
+        let mut frames = mem::replace(&mut self.pairs, none);
+        frames.clear();
+        frames
+    }
+
+    /// Keeps that memory for the next operation on two edges.
+    pub(crate) fn put_pairs(&mut self, frames: Vec<Frame<Pair>>)
+        ensures { self.new ≡ self.old }
+    {
+        self.pairs = frames;
     }
 }

@@ -2,9 +2,9 @@
 //!
 //! Each operation is one step over edges: what is known at once, what is remembered, the parts at the least level, and
 //! the node that joins their answers (Bryant 1986, operations). An answer is remembered under the operation's number;
-//! an operation over a list of levels has a number for each list, so answers about other lists are other answers. A choice
-//! or a shift whose parts are asked first waits in a list of frames in memory (`frames`), so that its depth takes none of the
-//! machine's stack.
+//! an operation over a list of levels has a number for each list, so answers about other lists are other answers. A question
+//! whose parts are asked first waits in a list of frames in memory (`frames`), so that its depth takes none of the machine's
+//! stack.
 //!
 //! Contract (`GivesRoot`): an operation's root means its operation, and a refusal leaves what is kept; each node that is
 //! there then was there or is an unfinished result; `Full` comes only where the store then holds exactly its budget.

@@ -1,14 +1,17 @@
 //! "Some" and "all" over a list of levels.
 
-ghost use Rattle.std.specs.Prelude.{◌≡◌, ◌<◌, Bool, true, not, length, IfOk, IsTrue, MatchBool};
+ghost use Rattle.std.specs.Prelude.{◌≡◌, ◌<◌, [], Bool, true, not, length, IfOk, IsTrue, MatchBool, MatchOption};
 ghost use Rattle.bdd_store.specs.State.{IsEdge, diagram_of, IsFull};
 ghost use Rattle.spec_model.specs.Diagrams.{constant};
 ghost use Rattle.bdd_ops.specs.Functions.{joined_over, join_of, is_among};
 ghost use Rattle.bdd_ops.specs.Reading.{IgnoresTo};
 ghost use Rattle.bdd_ops.specs.Contents.{function_at, list_at};
 ghost use Rattle.bdd_ops.specs.Steps.{HasFunction, IsUnfinished, IsQuantifiedPart, JoinsOrSplits, joined_or_split, Grows, level_at};
+ghost use Rattle.bdd_ops.specs.Frames.{IsTop};
+ghost use Rattle.bdd_ops.specs.Questions.{Asks, AreHalves, IsAnswered, GivesTop, quantifying, over_at, MayMake};
 
 use crate::diagrams::Diagrams;
+use crate::frames::{Frame, Turn, Waits, await_high, drop_top, push, top, waiting};
 use bdd_store::{Edge, StoreFault};
 
 impl Diagrams {
@@ -60,6 +63,144 @@ impl Diagrams {
         }
     }
 
+    /// The answer, where it is known without the parts'.
+    pub(crate) fn known_quantified(&self, all: bool, list: usize, asked: Edge) -> Option<Edge>
+        requires list { list < length self.now.lists }
+        requires live { IsEdge self.now.state asked.0 }
+        ensures { MatchOption result (level_at self.now asked.0 < self.now.state.table.levels) (λ e. HasFunction self.now (over_at all self.now list asked.0) e.0) }
+    {
+        if self.is_free(list, asked) {
+            return Some(asked);
+        }
+        self.recall_quantified(all, list, asked)
+    }
+
+    /// The answer where it is known, and else the low part, for which a frame more waits.
+    fn ask_quantified(
+        &self,
+        all: bool,
+        list: usize,
+        frames: &mut Vec<Frame<Edge>>,
+        asked: Edge,
+    ) -> Result<Turn<Edge>, StoreFault>
+        requires list { list < length self.now.lists }
+        requires live { IsEdge self.now.state asked.0 }
+        ensures asks { IfOk result (λ turn. Asks (quantifying all list self.now) asked frames.old.items frames.new.items turn) }
+        ensures memory { result ≡ Err StoreFault.Full → ⊥ }
+    {
+        if let Some(edge) = self.known_quantified(all, list, asked) {
+            return Ok(Turn::Given(edge));
+        }
+        let level = self.level(asked);
+        let (low, high) = self.parts_at(asked, level);
+        push(frames, waiting(asked, level, high))?;
+        Ok(Turn::Ask(low))
+    }
+
+    /// The answer whose two parts have these.
+    fn join_quantified(
+        &mut self,
+        all: bool,
+        list: usize,
+        asked: Edge,
+        level: u32,
+        low: Edge,
+        high: Edge,
+    ) -> Result<Edge, StoreFault>
+        requires list { list < length self.old.lists }
+        requires halves { AreHalves (quantifying all list self.old) level asked low.0 high.0 }
+        ensures given { IfOk result (λ e. HasFunction self.new (over_at all self.new list asked.0) e.0) }
+        ensures grows { Grows self.old self.new (MayMake all self.old list asked.0) }
+        ensures full { result ≡ Err StoreFault.Full → IsFull self.new.state }
+    {
+        let edge = self.join_over(all, list, level, low, high)?;
+        self.remember_quantified(all, list, asked, edge);
+        Ok(edge)
+    }
+
+    /// What comes next when the part that a frame waits for has this answer. Where the low part's decides, the high
+    /// part isn't asked.
+    fn give_quantified(
+        &mut self,
+        all: bool,
+        list: usize,
+        frames: &mut Vec<Frame<Edge>>,
+        frame: Frame<Edge>,
+        edge: Edge,
+    ) -> Result<Turn<Edge>, StoreFault>
+        requires list { list < length self.old.lists }
+        requires answered { IsAnswered (quantifying all list self.old) frame edge.0 }
+        requires top { IsTop frames.old.items frame }
+        ensures gives { IfOk result (λ turn. GivesTop (quantifying all list self.new) frame frames.old.items frames.new.items turn) }
+        ensures grows { Grows self.old self.new (MayMake all self.old list frame.asked.0) }
+        ensures full { result ≡ Err StoreFault.Full → IsFull self.new.state }
+    {
+        match frame.waits {
+            Waits::Low(high) => {
+                if self.is_settled(all, list, frame.level, edge) {
+                    drop_top(frames);
+                    self.remember_quantified(all, list, frame.asked, edge);
+                    return Ok(Turn::Given(edge));
+                }
+                await_high(frames, frame, edge);
+                Ok(Turn::Ask(high))
+            }
+            Waits::High(low) => {
+                drop_top(frames);
+                let whole = self.join_quantified(all, list, frame.asked, frame.level, low, edge)?;
+                Ok(Turn::Given(whole))
+            }
+        }
+    }
+
+    /// "All" or "some", with frames for all that waits in between.
+    fn quantified_in(
+        &mut self,
+        all: bool,
+        list: usize,
+        frames: &mut Vec<Frame<Edge>>,
+        whole: Edge,
+    ) -> Result<Edge, StoreFault>
+        requires list { list < length self.old.lists }
+        requires live { IsEdge self.old.state whole.0 }
+        requires none_waits { frames.old.items ≡ [] }
+        ensures given { IfOk result (λ e. HasFunction self.new (over_at all self.old list whole.0) e.0) }
+        ensures grows { Grows self.old self.new (MayMake all self.old list whole.0) }
+        ensures full { result ≡ Err StoreFault.Full → IsFull self.new.state }
+    {
+        let mut turn = Turn::Ask(whole);
+        loop {
+            match turn {
+                Turn::Ask(asked) => turn = self.ask_quantified(all, list, frames, asked)?,
+                Turn::Given(edge) => {
+                    let Some(frame) = top(frames) else {
+                        return Ok(edge);
+                    };
+                    turn = self.give_quantified(all, list, frames, frame, edge)?;
+                }
+            }
+        }
+    }
+
+    /// "All" or "some", where it isn't known.
+    pub(crate) fn quantified_anew(
+        &mut self,
+        all: bool,
+        list: usize,
+        a: Edge,
+    ) -> Result<Edge, StoreFault>
+        requires list { list < length self.old.lists }
+        requires live { IsEdge self.old.state a.0 }
+        ensures given { IfOk result (λ e. HasFunction self.new (over_at all self.old list a.0) e.0) }
+        ensures grows { Grows self.old self.new (MayMake all self.old list a.0) }
+        ensures full { result ≡ Err StoreFault.Full → IsFull self.new.state }
+    {
+        let mut frames = self.take_edges();
+        let given = self.quantified_in(all, list, &mut frames, a);
+        self.put_edges(frames);
+        given
+    }
+
     /// "All" or "some" over a list.
     pub(crate) fn quantified(&mut self, all: bool, list: usize, a: Edge) -> Result<Edge, StoreFault>
         requires list { list < length self.old.lists }
@@ -68,22 +209,9 @@ impl Diagrams {
         ensures grows { Grows self.old self.new (IsUnfinished (join_of all) (IsQuantifiedPart (join_of all) (list_at self.old list) (diagram_of self.old.state a.0))) }
         ensures full { result ≡ Err StoreFault.Full → IsFull self.new.state }
     {
-        if self.is_free(list, a) {
-            return Ok(a);
+        match self.known_quantified(all, list, a) {
+            Some(edge) => Ok(edge),
+            None => self.quantified_anew(all, list, a),
         }
-        if let Some(edge) = self.recall_quantified(all, list, a) {
-            return Ok(edge);
-        }
-        let level = self.level(a);
-        let (a_low, a_high) = self.parts_at(a, level);
-        let low = self.quantified(all, list, a_low)?;
-        if self.is_settled(all, list, level, low) {
-            self.remember_quantified(all, list, a, low);
-            return Ok(low);
-        }
-        let high = self.quantified(all, list, a_high)?;
-        let edge = self.join_over(all, list, level, low, high)?;
-        self.remember_quantified(all, list, a, edge);
-        Ok(edge)
     }
 }

@@ -1,12 +1,15 @@
 //! "Some make both true" over a list of levels.
 
-ghost use Rattle.std.specs.Prelude.{◌≡◌, ◌<◌, true, false, length, IfOk, MatchOption};
+ghost use Rattle.std.specs.Prelude.{◌≡◌, ◌<◌, [], true, false, length, IfOk, MatchOption};
 ghost use Rattle.bdd_store.specs.State.{IsEdge, diagram_of, IsFull};
 ghost use Rattle.bdd_ops.specs.Functions.{joined, joined_over, join_of};
 ghost use Rattle.bdd_ops.specs.Contents.{function_at, list_at};
 ghost use Rattle.bdd_ops.specs.Steps.{HasFunction, IsUnfinished, IsRelatedPart, IsConjunctionAt, Grows, level_at};
+ghost use Rattle.bdd_ops.specs.Frames.{IsTop};
+ghost use Rattle.bdd_ops.specs.Questions.{Asks, AreHalves, IsAnswered, GivesTop, AreBothLive, relating, related_at, MayRelate};
 
 use crate::diagrams::Diagrams;
+use crate::frames::{Frame, Pair, Turn, Waits, await_high, drop_top, push, top, waiting};
 use bdd_store::{Edge, StoreFault};
 
 impl Diagrams {
@@ -33,8 +36,135 @@ impl Diagrams {
         }
     }
 
-    /// The function that is true where some values at the list's levels make both edges true. Where the low part of
-    /// a level of the list is true already, the high part isn't looked at.
+    /// The answer, where it is known without the parts'.
+    fn known_related(&mut self, list: usize, asked: Pair) -> Result<Option<Edge>, StoreFault>
+        requires list { list < length self.old.lists }
+        requires live { AreBothLive self.old asked }
+        ensures given { IfOk result (λ known. MatchOption known (level_at self.new asked.a.0 < self.new.state.table.levels) (λ e. HasFunction self.new (related_at self.new list asked.a.0 asked.b.0) e.0)) }
+        ensures grows { Grows self.old self.new (MayRelate self.old list asked.a.0 asked.b.0) }
+        ensures full { result ≡ Err StoreFault.Full → IsFull self.new.state }
+    {
+        if let Some(edge) = self.conjunction_at_once(asked.a, asked.b) {
+            if let Some(known) = self.known_quantified(false, list, edge) {
+                return Ok(Some(known));
+            }
+            let given = self.quantified_anew(false, list, edge)?;
+            return Ok(Some(given));
+        }
+        Ok(self.recall_related(list, asked.a, asked.b))
+    }
+
+    /// The answer where it is known, and else the low part, for which a frame more waits.
+    fn ask_related(
+        &mut self,
+        list: usize,
+        frames: &mut Vec<Frame<Pair>>,
+        asked: Pair,
+    ) -> Result<Turn<Pair>, StoreFault>
+        requires list { list < length self.old.lists }
+        requires live { AreBothLive self.old asked }
+        ensures asks { IfOk result (λ turn. Asks (relating list self.new) asked frames.old.items frames.new.items turn) }
+        ensures grows { Grows self.old self.new (MayRelate self.old list asked.a.0 asked.b.0) }
+        ensures full { result ≡ Err StoreFault.Full → IsFull self.new.state }
+    {
+        if let Some(edge) = self.known_related(list, asked)? {
+            return Ok(Turn::Given(edge));
+        }
+        let level = self.earlier(self.level(asked.a), asked.b);
+        let (a_low, a_high) = self.parts_at(asked.a, level);
+        let (b_low, b_high) = self.parts_at(asked.b, level);
+        let low = Pair { a: a_low, b: b_low };
+        let high = Pair {
+            a: a_high,
+            b: b_high,
+        };
+        push(frames, waiting(asked, level, high))?;
+        Ok(Turn::Ask(low))
+    }
+
+    /// The answer whose two parts have these.
+    fn join_related(
+        &mut self,
+        list: usize,
+        asked: Pair,
+        level: u32,
+        low: Edge,
+        high: Edge,
+    ) -> Result<Edge, StoreFault>
+        requires list { list < length self.old.lists }
+        requires halves { AreHalves (relating list self.old) level asked low.0 high.0 }
+        ensures given { IfOk result (λ e. HasFunction self.new (related_at self.new list asked.a.0 asked.b.0) e.0) }
+        ensures grows { Grows self.old self.new (MayRelate self.old list asked.a.0 asked.b.0) }
+        ensures full { result ≡ Err StoreFault.Full → IsFull self.new.state }
+    {
+        let edge = self.join_over(false, list, level, low, high)?;
+        self.remember_related(list, asked.a, asked.b, edge);
+        Ok(edge)
+    }
+
+    /// What comes next when the part that a frame waits for has this answer. Where the low part of a level of the
+    /// list is true already, the high part isn't asked.
+    fn give_related(
+        &mut self,
+        list: usize,
+        frames: &mut Vec<Frame<Pair>>,
+        frame: Frame<Pair>,
+        edge: Edge,
+    ) -> Result<Turn<Pair>, StoreFault>
+        requires list { list < length self.old.lists }
+        requires answered { IsAnswered (relating list self.old) frame edge.0 }
+        requires top { IsTop frames.old.items frame }
+        ensures gives { IfOk result (λ turn. GivesTop (relating list self.new) frame frames.old.items frames.new.items turn) }
+        ensures grows { Grows self.old self.new (MayRelate self.old list frame.asked.a.0 frame.asked.b.0) }
+        ensures full { result ≡ Err StoreFault.Full → IsFull self.new.state }
+    {
+        match frame.waits {
+            Waits::Low(high) => {
+                if self.is_settled(false, list, frame.level, edge) {
+                    drop_top(frames);
+                    self.remember_related(list, frame.asked.a, frame.asked.b, edge);
+                    return Ok(Turn::Given(edge));
+                }
+                await_high(frames, frame, edge);
+                Ok(Turn::Ask(high))
+            }
+            Waits::High(low) => {
+                drop_top(frames);
+                let whole = self.join_related(list, frame.asked, frame.level, low, edge)?;
+                Ok(Turn::Given(whole))
+            }
+        }
+    }
+
+    /// "Some make both true", with frames for all that waits in between.
+    fn related_in(
+        &mut self,
+        list: usize,
+        frames: &mut Vec<Frame<Pair>>,
+        whole: Pair,
+    ) -> Result<Edge, StoreFault>
+        requires list { list < length self.old.lists }
+        requires live { AreBothLive self.old whole }
+        requires none_waits { frames.old.items ≡ [] }
+        ensures given { IfOk result (λ e. HasFunction self.new (related_at self.old list whole.a.0 whole.b.0) e.0) }
+        ensures grows { Grows self.old self.new (MayRelate self.old list whole.a.0 whole.b.0) }
+        ensures full { result ≡ Err StoreFault.Full → IsFull self.new.state }
+    {
+        let mut turn = Turn::Ask(whole);
+        loop {
+            match turn {
+                Turn::Ask(asked) => turn = self.ask_related(list, frames, asked)?,
+                Turn::Given(edge) => {
+                    let Some(frame) = top(frames) else {
+                        return Ok(edge);
+                    };
+                    turn = self.give_related(list, frames, frame, edge)?;
+                }
+            }
+        }
+    }
+
+    /// The function that is true where some values at the list's levels make both edges true.
     pub(crate) fn related(&mut self, list: usize, a: Edge, b: Edge) -> Result<Edge, StoreFault>
         requires list { list < length self.old.lists }
         requires a_live { IsEdge self.old.state a.0 }
@@ -43,23 +173,9 @@ impl Diagrams {
         ensures grows { Grows self.old self.new (IsUnfinished (join_of false) (IsRelatedPart (list_at self.old list) (diagram_of self.old.state a.0) (diagram_of self.old.state b.0))) }
         ensures full { result ≡ Err StoreFault.Full → IsFull self.new.state }
     {
-        if let Some(edge) = self.conjunction_at_once(a, b) {
-            return self.quantified(false, list, edge);
-        }
-        if let Some(edge) = self.recall_related(list, a, b) {
-            return Ok(edge);
-        }
-        let level = self.earlier(self.level(a), b);
-        let (a_low, a_high) = self.parts_at(a, level);
-        let (b_low, b_high) = self.parts_at(b, level);
-        let low = self.related(list, a_low, b_low)?;
-        if self.is_settled(false, list, level, low) {
-            self.remember_related(list, a, b, low);
-            return Ok(low);
-        }
-        let high = self.related(list, a_high, b_high)?;
-        let edge = self.join_over(false, list, level, low, high)?;
-        self.remember_related(list, a, b, edge);
-        Ok(edge)
+        let mut frames = self.take_pairs();
+        let given = self.related_in(list, &mut frames, Pair { a, b });
+        self.put_pairs(frames);
+        given
     }
 }

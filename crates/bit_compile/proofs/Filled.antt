@@ -1,5 +1,5 @@
 -- A table that is filled by held diagrams and one operation's results is so whatever its nodes are numbered.
-use Rattle.std.proofs.Common.{◌≡◌, ◌⊎◌, inl, inr, ℕ, zero, suc, ◌+◌, ◌-◌, ◌<◌, ◌≤◌, ◌==◌, Bool, true, false, List, [], ◌∷◌, ◌++◌, length, map, get_or, cond, refl, sym, ◌∙◌, ap, subst, arith}
+use Rattle.std.proofs.Common.{◌≡◌, ◌⊎◌, inl, inr, ℕ, zero, suc, ◌+◌, ◌-◌, ◌<◌, ◌≤◌, ◌==◌, Bool, true, false, List, [], ◌∷◌, ◌++◌, length, map, get_or, cond, refl, sym, ◌∙◌, subst, arith}
 use Rattle.std.specs.Prelude.{count_by}
 use Rattle.std.specs.List.{AllByRecursion, Contains}
 use Rattle.std.proofs.lemmas.List.{length-map}
@@ -9,7 +9,7 @@ use Rattle.std.proofs.lemmas.Bool.{cases_lt, false≢true}
 use Rattle.spec_model.specs.Diagrams.{Diagram, constant, branch, Function, value, IsPartOf, IsReduced, IsWithin}
 use Rattle.node_table.specs.Table.{Table, level_at, low_at, high_at, IsLive, diagram_at}
 use Rattle.node_table.proofs.Meaning.{diagram_at-constant, diagram_at-inner, diagram_at-reduced, diagram_at-within, one_node, part_itself}
-use Rattle.bit_compile.specs.Crowding.{Running, arguments_of, IsUnfinishedOf, StandsIn, IsCrowdedBy}
+use Rattle.bit_compile.specs.Crowding.{arguments_of, IsUnfinishedOf, StandsIn, IsCrowdedBy}
 use Rattle.bit_compile.specs.Filling.{AreDifferent, IsConstant, IsPartOfOne, IsNamedDiagram, FillTogether, IsFilledBy}
 
 -- ---- elements

@@ -1,5 +1,5 @@
 -- One part more of a conjunction or disjunction.
-use Rattle.std.proofs.Common.{◌≡◌, ◌≢◌, ℕ, zero, suc, ◌+◌, ◌<◌, ◌≤◌, Bool, true, false, not, ◌&&◌, ◌||◌, ◌==◌, ◌*◌, ◌/◌, ◌%◌, if◌then◌else◌, Result, Ok, Err, List, [], ◌∷◌, ◌++◌, map, drop, length, get_or, refl, sym, ◌∙◌, ap, subst, arith}
+use Rattle.std.proofs.Common.{◌≡◌, ◌≢◌, ℕ, zero, suc, ◌+◌, ◌-◌, ◌<◌, ◌≤◌, Bool, true, false, not, ◌&&◌, ◌||◌, ◌==◌, ◌*◌, ◌/◌, ◌%◌, if◌then◌else◌, Result, Ok, Err, List, [], ◌∷◌, ◌++◌, map, drop, length, get_or, refl, sym, ◌∙◌, ap, subst, arith}
 use Rattle.std.specs.List.{list_any, AllByRecursion}
 use Rattle.std.specs.Bool.{beq}
 use Rattle.std.proofs.lemmas.Bool.{and_parts, and_from, eqb-true, eq-eqb, ne_eqb, false≢true}
@@ -225,3 +225,23 @@ all_of-push (g ∷ fs) f = ap (λ (h : Function). (λ (s : Bits). g s && h s)) (
 -- a refusal that is handed on
 pub refused_makes : (first new : Contents) (r r' : Result ℕ Halt) (h : Halt) (g f : Function) → Makes first new r g → r ≡ Err h → r' ≡ Err h → Makes first new r' f
 refused_makes first new r r' h g f makes is is' = subst (λ (x : Result ℕ Halt). Makes first new x f) (sym is') (fails first new h g f (subst (λ (x : Result ℕ Halt). Makes first new x g) is makes))
+
+-- ---- from the last one on
+
+all_dropped : {V : Type 0} (P : V → Type 0) (xs : List V) (i : ℕ) → AllByRecursion P xs → AllByRecursion P (drop i xs)
+all_dropped P xs zero all = all
+all_dropped P [] (suc i) all = all
+all_dropped P (y ∷ xs) (suc i) all = all_dropped P xs i all.1
+
+-- what is left with the one before it
+pub drop_before : {V : Type 0} (xs : List V) (last : ℕ) (x : V) → 0 < last → last ≤ length xs → x ≡ get_or xs (last - 1) x → drop (last - 1) xs ≡ x ∷ drop last xs
+drop_before xs last x some within is =
+    let e : last - 1 + 1 ≡ last = omega (arith, some) in
+    drop_next xs (last - 1) x (omega (arith, some, within)) is ∙ ap (λ k. x ∷ drop k xs) e
+
+pub kept_before : {V : Type 0} (P : V → Type 0) (xs : List V) (last : ℕ) (x : V) → 0 < last → last ≤ length xs → x ≡ get_or xs (last - 1) x → AllByRecursion P xs → P x
+kept_before P xs last x some within is all = (subst (AllByRecursion P) (drop_before xs last x some within is) (all_dropped P xs (last - 1) all)).0
+
+pub fold_cons : (f : Fold) (x : Function) (rest : List Function) → joined (join_of (is_all f)) x (folded f rest) ≡ folded f (x ∷ rest)
+fold_cons fold.All x rest = refl
+fold_cons fold.Some x rest = refl

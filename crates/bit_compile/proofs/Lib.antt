@@ -32,3 +32,4 @@ pub mod CompiledFormulas
 pub mod Readiness
 pub mod NamedSteps
 pub mod UpdateMeanings
+pub mod EquationLemmas

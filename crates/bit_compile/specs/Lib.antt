@@ -15,3 +15,4 @@ pub mod CompileLaws
 pub mod Proper
 pub mod Named
 pub mod NamedScenes
+pub mod Equations

@@ -22,7 +22,7 @@ use crate::cases::{CaseRoot, Source, cases_from, cases_of_truth, release_all};
 use crate::folds::{Fold, folded};
 use crate::operation::Operation;
 use crate::pairs::Test;
-use crate::reading::{variable_cases, variable_root};
+use crate::reading::{decided_by, variable_cases, variable_root};
 use crate::scenes::Scene;
 use crate::spans::{operation_cases, remainder_cases, same_root, table_root};
 use crate::steps::{constant, not, or};
@@ -210,9 +210,38 @@ fn joined_root(
     root
 }
 
-/// Where a comparison holds.
+/// Where a comparison holds. Where one code decides it and making that is refused, all that was made is given back, and each
+/// case of both sides is made: that refusal is answered.
 #[cycle(compile)]
 fn compared_root(
+    diagrams: &mut Diagrams,
+    scene: &Scene,
+    at: At,
+    c: Compare,
+    a: &Expr,
+    b: &Expr,
+) -> Result<Root, Halt>
+    requires scene { IsScene scene.now }
+    requires levels { level_count (codes_seen scene.now) ≤ diagrams.old.state.table.levels }
+    requires a_known { IsKnown (game_seen scene.now) (formula a.now) }
+    requires b_known { IsKnown (game_seen scene.now) (formula b.now) }
+    ensures { MakesNamed diagrams.old diagrams.new result (truth_seen scene.now at (Comparison c (formula a.now) (formula b.now))) (IsNamedIn scene.now at (Comparison c (formula a.now) (formula b.now))) }
+{
+    let Some(told) = decided_by(scene, at, c, a, b) else {
+        return compared_by_cases(diagrams, scene, at, c, a, b);
+    };
+    match scene
+        .codes
+        .has_code(diagrams, told.at, told.place, told.code)
+    {
+        Ok(root) => Ok(root),
+        Err(_) => compared_by_cases(diagrams, scene, at, c, a, b),
+    }
+}
+
+/// Where a comparison holds, by each case of both sides.
+#[cycle(compile)]
+fn compared_by_cases(
     diagrams: &mut Diagrams,
     scene: &Scene,
     at: At,

@@ -48,9 +48,28 @@ fn join_root(diagrams: &mut Diagrams, fold: Fold, a: &Root, b: &Root) -> Result<
     }
 }
 
-/// Where all are true, or some are.
-#[inline(never)]
-pub fn folded(diagrams: &mut Diagrams, fold: Fold, cases: &[CaseRoot]) -> Result<Root, Halt>
+/// Where all are true, or some are, joined from the last one on. Where the later ones read lower levels, as where they are
+/// written in the order of the variables, each step only adds nodes above what is there.
+fn joined_back(diagrams: &mut Diagrams, fold: Fold, cases: &[CaseRoot]) -> Result<Root, Halt>
+    requires { AreKept diagrams.old.state cases.now }
+    ensures { Makes diagrams.old diagrams.new result (folded_lem fold (map (λ x. function_at diagrams.old x.root) cases.now)) }
+{
+    let start = starts_true(fold);
+    let mut whole = constant(diagrams, start)?;
+    let mut last = cases.len();
+    while last > 0 {
+        let case = &cases[last - 1];
+        let more = join_root(diagrams, fold, &case.root, &whole);
+        diagrams.release(whole);
+        let next = more?;
+        whole = next;
+        last -= 1;
+    }
+    Ok(whole)
+}
+
+/// Where all are true, or some are, joined from the first one on: each set on the way is that of the first several.
+fn joined_forth(diagrams: &mut Diagrams, fold: Fold, cases: &[CaseRoot]) -> Result<Root, Halt>
     requires { AreKept diagrams.old.state cases.now }
     ensures made { Makes diagrams.old diagrams.new result (folded_lem fold (map (λ x. function_at diagrams.old x.root) cases.now)) }
     ensures cause { HasCause diagrams.old diagrams.new result (IsFirstOf fold (map (λ x. function_at diagrams.old x.root) cases.now)) }
@@ -64,6 +83,20 @@ pub fn folded(diagrams: &mut Diagrams, fold: Fold, cases: &[CaseRoot]) -> Result
         whole = next;
     }
     Ok(whole)
+}
+
+/// Where all are true, or some are. Where joining from the last one on is refused, all that it made is given back, and they
+/// are joined from the first one on: that refusal is answered.
+#[inline(never)]
+pub fn folded(diagrams: &mut Diagrams, fold: Fold, cases: &[CaseRoot]) -> Result<Root, Halt>
+    requires { AreKept diagrams.old.state cases.now }
+    ensures made { Makes diagrams.old diagrams.new result (folded_lem fold (map (λ x. function_at diagrams.old x.root) cases.now)) }
+    ensures cause { HasCause diagrams.old diagrams.new result (IsFirstOf fold (map (λ x. function_at diagrams.old x.root) cases.now)) }
+{
+    match joined_back(diagrams, fold, cases) {
+        Ok(root) => Ok(root),
+        Err(_) => joined_forth(diagrams, fold, cases),
+    }
 }
 
 /// Where a root is true, and some value is had.

@@ -127,6 +127,9 @@ fn write_compared(how: Compare, a: &[Value], b: &[Value], from: usize, codes: &m
     }
 }
 
+// How deep an expression may be whose values are worked out by columns: each level takes a column of the stack.
+const LEVELS: usize = 64;
+
 /// Writes where a comparison holds at the next 64 positions, or those that are left.
 fn compare_more(
     how: Compare,
@@ -147,7 +150,7 @@ fn compare_more(
     let mut two = [Value::Bool(false); 64];
     let (first, _) = one.split_at_mut(n);
     let (second, _) = two.split_at_mut(n);
-    if !values(a, at, c, from, first) || !values(b, at, c, from, second) {
+    if !values(a, at, c, from, LEVELS, first) || !values(b, at, c, from, LEVELS, second) {
         return false;
     }
     write_compared(how, first, second, from, codes);

@@ -68,13 +68,13 @@ fn write_values(domain: &Domain, codes: &[u16], out: &mut [Value]) -> bool
     true
 }
 
-/// Writes what an operation gives of the numbers of two columns.
-fn write_computed(operation: Operation, a: &[Value], b: &[Value], out: &mut [Value]) -> bool
-    ensures values { result ≡ true → (i : ℕ) → i < length out.old → get_or out.new i (Value.Bool false) ≡ Value.Int (computed operation (number_of (get_or a.now i (Value.Bool false))) (number_of (get_or b.now i (Value.Bool false)))) }
+/// Writes, in place of the values of a column, what an operation gives of their numbers and those of another column.
+fn write_computed(operation: Operation, b: &[Value], out: &mut [Value]) -> bool
+    ensures values { result ≡ true → (i : ℕ) → i < length out.old → get_or out.new i (Value.Bool false) ≡ Value.Int (computed operation (number_of (get_or out.old i (Value.Bool false))) (number_of (get_or b.now i (Value.Bool false)))) }
     ensures lengths { length out.new ≡ length out.old }
 {
     for i in 0..out.len() {
-        let Some(value) = computed_value(operation, value_or(a, i), value_or(b, i)) else {
+        let Some(value) = computed_value(operation, value_or(out, i), value_or(b, i)) else {
             return false;
         };
         out[i] = value;
@@ -82,14 +82,14 @@ fn write_computed(operation: Operation, a: &[Value], b: &[Value], out: &mut [Val
     true
 }
 
-/// Writes the remainders of the numbers of a column.
-fn write_remainders(a: &[Value], n: i64, out: &mut [Value])
+/// Writes the remainders of the numbers of a column in place of its values.
+fn write_remainders(n: i64, out: &mut [Value])
     requires { pos 0 <ℤ n }
-    ensures values { (i : ℕ) → i < length out.old → get_or out.new i (Value.Bool false) ≡ Value.Int (int_rem_euclid (number_of (get_or a.now i (Value.Bool false))) n) }
+    ensures values { (i : ℕ) → i < length out.old → get_or out.new i (Value.Bool false) ≡ Value.Int (int_rem_euclid (number_of (get_or out.old i (Value.Bool false))) n) }
     ensures lengths { length out.new ≡ length out.old }
 {
     for i in 0..out.len() {
-        out[i] = Value::Int(number(value_or(a, i)).rem_euclid(n));
+        out[i] = Value::Int(number(value_or(out, i)).rem_euclid(n));
     }
 }
 
@@ -108,26 +108,29 @@ fn variable_values(k: u32, at: At, c: Columns, from: usize, out: &mut [Value]) -
     write_values(domain, &c.codes[first..first + out.len()], out)
 }
 
-/// Writes the values of an expression at the positions from one on. False where they aren't worked out; then what is written
-/// says nothing.
+/// Writes the values of an expression at the positions from one on. False where they aren't worked out, as of an expression
+/// that is deeper than so many levels; then what is written says nothing.
 #[cycle(numbers)]
-pub fn values(e: &Expr, at: At, c: Columns, from: usize, out: &mut [Value]) -> bool
+pub fn values(e: &Expr, at: At, c: Columns, from: usize, levels: usize, out: &mut [Value]) -> bool
     requires few { length out.old ≤ 64 }
     requires within { from + length out.old ≤ 4095 }
     ensures values { result ≡ true → AreValuesOf (column_data c.entry) (time_of at) from (formula e.now) out.new }
     ensures lengths { length out.new ≡ length out.old }
 {
+    if levels == 0 {
+        return false;
+    }
     match e {
         Expr::Const(v) => {
             write_same(*v, out);
             true
         }
         Expr::Var(k) => variable_values(*k, at, c, from, out),
-        Expr::Next(a) => next_values(a, at, c, from, out),
-        Expr::Add(a, b) => both_values(Operation::Sum, a, b, at, c, from, out),
-        Expr::Sub(a, b) => both_values(Operation::Difference, a, b, at, c, from, out),
-        Expr::Mul(a, b) => both_values(Operation::Product, a, b, at, c, from, out),
-        Expr::Mod(a, n) => remainders(a, *n, at, c, from, out),
+        Expr::Next(a) => next_values(a, at, c, from, levels - 1, out),
+        Expr::Add(a, b) => both_values(Operation::Sum, a, b, at, c, from, levels - 1, out),
+        Expr::Sub(a, b) => both_values(Operation::Difference, a, b, at, c, from, levels - 1, out),
+        Expr::Mul(a, b) => both_values(Operation::Product, a, b, at, c, from, levels - 1, out),
+        Expr::Mod(a, n) => remainders(a, *n, at, c, from, levels - 1, out),
         Expr::Not(_)
         | Expr::And(_)
         | Expr::Or(_)
@@ -140,14 +143,14 @@ pub fn values(e: &Expr, at: At, c: Columns, from: usize, out: &mut [Value]) -> b
 }
 
 #[cycle(numbers)]
-fn next_values(e: &Expr, at: At, c: Columns, from: usize, out: &mut [Value]) -> bool
+fn next_values(e: &Expr, at: At, c: Columns, from: usize, levels: usize, out: &mut [Value]) -> bool
     requires few { length out.old ≤ 64 }
     requires within { from + length out.old ≤ 4095 }
     ensures values { result ≡ true → AreValuesOf (column_data c.entry) (time_of at) from (NextOf (formula e.now)) out.new }
     ensures lengths { length out.new ≡ length out.old }
 {
     match at {
-        At::Now => values(e, At::Next, c, from, out),
+        At::Now => values(e, At::Next, c, from, levels, out),
         At::Next => false,
     }
 }
@@ -160,6 +163,7 @@ fn both_values(
     at: At,
     c: Columns,
     from: usize,
+    levels: usize,
     out: &mut [Value],
 ) -> bool
     requires few { length out.old ≤ 64 }
@@ -167,31 +171,32 @@ fn both_values(
     ensures values { result ≡ true → AreValuesOf (column_data c.entry) (time_of at) from (computation operation (formula a.now) (formula b.now)) out.new }
     ensures lengths { length out.new ≡ length out.old }
 {
-    let mut one = [Value::Bool(false); 64];
-    let mut two = [Value::Bool(false); 64];
-    let (first, _) = one.split_at_mut(out.len());
-    let (second, _) = two.split_at_mut(out.len());
-    if !values(a, at, c, from, first) || !values(b, at, c, from, second) {
+    let mut other = [Value::Bool(false); 64];
+    let (second, _) = other.split_at_mut(out.len());
+    if !values(a, at, c, from, levels, out) || !values(b, at, c, from, levels, second) {
         return false;
     }
-    write_computed(operation, first, second, out)
+    write_computed(operation, second, out)
 }
 
 #[cycle(numbers)]
-fn remainders(e: &Expr, n: i64, at: At, c: Columns, from: usize, out: &mut [Value]) -> bool
+fn remainders(
+    e: &Expr,
+    n: i64,
+    at: At,
+    c: Columns,
+    from: usize,
+    levels: usize,
+    out: &mut [Value],
+) -> bool
     requires few { length out.old ≤ 64 }
     requires within { from + length out.old ≤ 4095 }
     ensures values { result ≡ true → AreValuesOf (column_data c.entry) (time_of at) from (Remainder (formula e.now) n) out.new }
     ensures lengths { length out.new ≡ length out.old }
 {
-    if n <= 0 {
+    if n <= 0 || !values(e, at, c, from, levels, out) {
         return false;
     }
-    let mut one = [Value::Bool(false); 64];
-    let (first, _) = one.split_at_mut(out.len());
-    if !values(e, at, c, from, first) {
-        return false;
-    }
-    write_remainders(first, n, out);
+    write_remainders(n, out);
     true
 }

@@ -2,7 +2,7 @@
 use Rattle.spectra_judge.specs.KindViews.{known_data}
 use Rattle.spectra_bounds.specs.TypeViews.{constants_data}
 use Rattle.spectra_elaboration.specs.DefinitionViews.{definitions_data}
-use Rattle.spectra_bodies.specs.declared.bounds.Basis as code_basis
+use Rattle.spectra_bodies.specs.declared.basis.Basis as code_basis
 use Rattle.spectra_bodies.specs.Faults.{Basis}
 
 abbrev pub basis_data : code_basis.Basis → Basis

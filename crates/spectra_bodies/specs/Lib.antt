@@ -1,4 +1,5 @@
 pub mod PutIn
+pub mod SoundBounds
 pub mod Unmeant
 pub mod Faults
 pub mod BasisViews

@@ -6,29 +6,42 @@ ghost use Rattle.spectra_resolved.specs.Reports.{found_in};
 ghost use Rattle.spectra_resolved.specs.Views.{resolved_data};
 ghost use Rattle.spectra_resolved.specs.TextViews.{type_data};
 ghost use Rattle.spectra_judge.specs.Rising.{AreRising};
+ghost use Rattle.spectra_judge.specs.KindViews.{known_data};
+ghost use Rattle.spectra_elaboration.specs.DefinitionViews.{definitions_data};
+ghost use Rattle.spectra_bodies.specs.PutIn.{put_in_faults};
 ghost use Rattle.spectra_bodies.specs.Faults.{bound_faults, type_faults, each_type_faults};
 ghost use Rattle.spectra_bodies.specs.BasisViews.{basis_data};
 
+use crate::basis::Basis;
 use crate::putting::report_put_in;
-use spectra_bounds::constants::Constants;
 use spectra_bounds::types::report_range;
 use spectra_brought::reporting::report_faults;
-use spectra_elaboration::definitions::Definitions;
-use spectra_judge::known::Known;
 use spectra_resolved::findings::Findings;
 use spectra_resolved::stand::Stand;
 use spectra_resolved::text::TypeUse;
 use spectra_resolved::tree::Resolved;
-use std::alloc::{AllocError, Global};
+use std::alloc::AllocError;
 
-/// By what bounds are judged: the numbers of defines, what is put in for definitions, and what is known of the names as they are
-/// written.
-#[derive(Clone, Copy)]
-pub struct Basis<'s, 'a> {
-    pub alloc: Global,
-    pub constants: &'s Constants<'a>,
-    pub definitions: &'s Definitions,
-    pub known: Known<'s, 'a>,
+// Reports the faults of a bound with everything put in. One that has a number has none, so nothing is put in for it.
+fn report_bound_put_in(
+    findings: &mut Findings,
+    basis: &Basis<'_, '_>,
+    t: &Resolved,
+) -> Result<(), AllocError>
+    requires rising { AreRising basis.now.known.brought.now }
+    ensures { OnOk result (found_in findings.new ≡ with_faults (found_in findings.old) (put_in_faults (definitions_data basis.now.definitions.now) (known_data basis.now.known) Stand.Bound (resolved_data t.now))) }
+{
+    match basis.constants.sound_number(Stand::Bound, t) {
+        Some(_) => Ok(()),
+        None => report_put_in(
+            basis.alloc,
+            findings,
+            basis.definitions,
+            &basis.known,
+            Stand::Bound,
+            t,
+        ),
+    }
 }
 
 #[tactic(auto, using(spectra_resolved::proofs::First::with_faults_append))]
@@ -42,14 +55,7 @@ fn report_bound(
     ensures { OnOk result (found_in findings.new ≡ with_faults (found_in findings.old) (bound_faults (basis_data basis.now) (resolved_data t.now))) }
 {
     report_faults(findings, &basis.known, Stand::Bound, t);
-    report_put_in(
-        basis.alloc,
-        findings,
-        basis.definitions,
-        &basis.known,
-        Stand::Bound,
-        t,
-    )?;
+    report_bound_put_in(findings, basis, t)?;
     Ok(())
 }
 

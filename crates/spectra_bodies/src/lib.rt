@@ -6,6 +6,7 @@
 //! game → regions → layers → strategy → verdict → lines.
 #![tactic(auto)]
 
+pub mod basis;
 pub mod bounds;
 mod definitions;
 pub mod laws;

@@ -13,7 +13,8 @@ ghost use Rattle.spectra_bodies.specs.PutIn.{bodies as bodies_lem};
 ghost use Rattle.spectra_bodies.specs.Faults.{type_faults, each_type_faults, basis_of, typed_faults, own_faults, faults_of_types};
 ghost use Rattle.spectra_bodies.specs.BasisViews.{basis_data};
 
-use crate::bounds::{Basis, report_each, report_type};
+use crate::basis::Basis;
+use crate::bounds::{report_each, report_type};
 use spectra_bounds::cycles::report_type_cycles;
 use spectra_elaboration::definitions::Definitions;
 use spectra_notes::notes::{Notes, known_in_line};

@@ -8,8 +8,6 @@ use Rattle.spectra_resolved.specs.Resolved.{ResolvedTree, ResolvedTrees, tree, F
 use Rattle.spectra_resolved.specs.Chained.{LinkData, chained}
 use Rattle.spectra_resolved.specs.Views.{resolved_data}
 use Rattle.spectra_elaboration.specs.declared.counted.Counted.{Counted}
-use Rattle.spectra_elaboration.specs.declared.counted.Operands.{Operands}
-use Rattle.spectra_elaboration.specs.declared.counted.Operators.{Operators}
 use Rattle.spectra_elaboration.specs.declared.refusal.Refusal.{Refusal}
 use Rattle.spectra_elaboration.specs.declared.refusal.Refusal.TheVariants.{Large, Deep, Memory}
 use Rattle.spectra_elaboration.specs.Putting.{Put, filled, form_filled}
@@ -28,12 +26,6 @@ pub not_deep : {P : Type 0} → Memory ≡ Deep → P
 not_deep e = absurd (distinct e)
   where
     distinct : Memory ≡ Deep → ⊥
-    distinct e = cc
-
-pub large_not_deep : {P : Type 0} → Large ≡ Deep → P
-large_not_deep e = absurd (distinct e)
-  where
-    distinct : Large ≡ Deep → ⊥
     distinct e = cc
 
 pub deep_not_large : {P : Type 0} → Deep ≡ Large → P
@@ -61,30 +53,30 @@ module _ (levels : ℕ) where
   stop_flat t halt (Ok made) is few = absurd is
   stop_flat t halt (Err y) is few = λ e. few (sym is ∙ e)
 
-  pub each_ok : (ts : ResolvedTrees) (made : Operands) → AreFlat levels ts (Ok made) → nat_le (each_levels ts) levels ≡ true
+  pub each_ok : (ts : ResolvedTrees) (nodes : ℕ) → AreFlat levels ts (Ok nodes) → nat_le (each_levels ts) levels ≡ true
   unfolding AreFlat
-  each_ok ts made m = m
+  each_ok ts nodes m = m
 
   pub each_deep : (ts : ResolvedTrees) (halt : Refusal) → AreFlat levels ts (Err halt) → halt ≡ Deep → nat_le (each_levels ts) levels ≡ false
   unfolding AreFlat
   each_deep ts halt m = m
 
-  pub stop_each_flat : (ts : ResolvedTrees) (halt : Refusal) (r : Result Operands Refusal) → IsErrAnd r (λ y. y ≡ halt) → (halt ≡ Deep → nat_le (each_levels ts) levels ≡ false) → AreFlat levels ts r
+  pub stop_each_flat : (ts : ResolvedTrees) (halt : Refusal) (r : Result ℕ Refusal) → IsErrAnd r (λ y. y ≡ halt) → (halt ≡ Deep → nat_le (each_levels ts) levels ≡ false) → AreFlat levels ts r
   unfolding AreFlat
-  stop_each_flat ts halt (Ok made) is few = absurd is
+  stop_each_flat ts halt (Ok nodes) is few = absurd is
   stop_each_flat ts halt (Err y) is few = λ e. few (sym is ∙ e)
 
-  pub links_ok : (ls : List LinkData) (made : Operators) → AreFlatLinks levels ls (Ok made) → are_flat_above levels ls ≡ true
+  pub links_ok : (ls : List LinkData) (nodes : ℕ) → AreFlatLinks levels ls (Ok nodes) → are_flat_above levels ls ≡ true
   unfolding AreFlatLinks
-  links_ok ls made m = m
+  links_ok ls nodes m = m
 
   pub links_deep : (ls : List LinkData) (halt : Refusal) → AreFlatLinks levels ls (Err halt) → halt ≡ Deep → are_flat_above levels ls ≡ false
   unfolding AreFlatLinks
   links_deep ls halt m = m
 
-  pub stop_links_flat : (ls : List LinkData) (halt : Refusal) (r : Result Operators Refusal) → IsErrAnd r (λ y. y ≡ halt) → (halt ≡ Deep → are_flat_above levels ls ≡ false) → AreFlatLinks levels ls r
+  pub stop_links_flat : (ls : List LinkData) (halt : Refusal) (r : Result ℕ Refusal) → IsErrAnd r (λ y. y ≡ halt) → (halt ≡ Deep → are_flat_above levels ls ≡ false) → AreFlatLinks levels ls r
   unfolding AreFlatLinks
-  stop_links_flat ls halt (Ok made) is few = absurd is
+  stop_links_flat ls halt (Ok nodes) is few = absurd is
   stop_links_flat ls halt (Err y) is few = λ e. few (sym is ∙ e)
 
 -- ---- operators in a row, and operands
@@ -166,18 +158,18 @@ module _ (put : Put) (brought : Option Spot) (arguments : List ResolvedTree) whe
 -- ---- operators above their operands
 
 module _ (put : Put) (brought : Option Spot) (arguments : List ResolvedTree) (levels : ℕ) (first at : Spot) (form : Form) (r : Result Counted Refusal) where
-  abbrev Whole : Form → ResolvedTree
-  Whole f = form_filled put brought arguments first at f
+  abbrev Whole : ResolvedTree
+  Whole = form_filled put brought arguments first at form
 
   -- an operator is a level above operands of so many
-  above : (f : Form) (n : ℕ) (p : Bool) → form ≡ f → tree_levels (Whole f) ≡ 1 + n → nat_le n levels ≡ p → nat_le (tree_levels (Whole form)) (levels + 1) ≡ p
-  above f n p is size own = ap (λ x. nat_le (tree_levels (Whole x)) (levels + 1)) is ∙ ap (λ m. nat_le m (levels + 1)) size ∙ le-suc n levels ∙ own
+  above : (n : ℕ) (p : Bool) → tree_levels Whole ≡ 1 + n → nat_le n levels ≡ p → nat_le (tree_levels Whole) (levels + 1) ≡ p
+  above n p size own = ap (λ m. nat_le m (levels + 1)) size ∙ le-suc n levels ∙ own
 
-  pub one_flat : (f : Form) (n : ℕ) → form ≡ f → tree_levels (Whole f) ≡ 1 + n → nat_le n levels ≡ true → (IsErrOf r Deep → ⊥) → IsFlat (levels + 1) (Whole form) r
-  one_flat f n is size own never = flat_of (levels + 1) (Whole form) r (above f n true is size own) never
+  pub above_flat : (n : ℕ) → tree_levels Whole ≡ 1 + n → nat_le n levels ≡ true → (IsErrOf r Deep → ⊥) → IsFlat (levels + 1) Whole r
+  above_flat n size own never = flat_of (levels + 1) Whole r (above n true size own) never
 
-  pub one_deep : (f : Form) (n : ℕ) (halt : Refusal) → form ≡ f → tree_levels (Whole f) ≡ 1 + n → IsErrAnd r (λ y. y ≡ halt) → (halt ≡ Deep → nat_le n levels ≡ false) → IsFlat (levels + 1) (Whole form) r
-  one_deep f n halt is size err own = stop_flat (levels + 1) (Whole form) halt r err (λ e. above f n false is size (own e))
+  pub above_deep : (n : ℕ) (halt : Refusal) → tree_levels Whole ≡ 1 + n → IsErrAnd r (λ y. y ≡ halt) → (halt ≡ Deep → nat_le n levels ≡ false) → IsFlat (levels + 1) Whole r
+  above_deep n halt size err own = stop_flat (levels + 1) Whole halt r err (λ e. above n false size (own e))
 
 -- ---- within limits
 
@@ -190,7 +182,7 @@ fits_in n room low = grind (arith, nat_tests)
 pub fits_not : (n room : ℕ) → room < n → nat_le n room ≡ false
 fits_not n room high = grind (arith, nat_tests)
 
-pub made_within : (room levels : ℕ) (t : ResolvedTree) (made : Counted) → Makes room t (Ok made) → IsFlat levels t (Ok made) → Some (resolved_data made.tree) ≡ within_limits room levels t
+pub made_within : (room levels : ℕ) (t : ResolvedTree) (made : Counted) → Makes room t (Ok made) → IsFlat levels t (Ok made) → Some (resolved_data made.tree.value) ≡ within_limits room levels t
 made_within room levels t made is flat =
     let nodes = nodes_are room t made is in
     let low = small room t made is in

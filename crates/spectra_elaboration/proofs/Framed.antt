@@ -4,14 +4,14 @@ use Rattle.std.proofs.lemmas.List.{length-append, get_or_append_left}
 use Rattle.std.proofs.Math.Seq.{get_or-append_seam}
 use Rattle.spectra_resolved.specs.declared.spot.Spot.{Spot}
 use Rattle.spectra_resolved.specs.declared.tree.Resolved.{Resolved}
-use Rattle.spectra_resolved.specs.declared.tree.Hole.{Hole}
 use Rattle.spectra_resolved.specs.Resolved.{ResolvedTree, listed}
 use Rattle.spectra_resolved.specs.Chained.{trees}
 use Rattle.spectra_resolved.specs.Views.{resolved_data}
 use Rattle.spectra_elaboration.specs.declared.frames.Frame.{Frame}
+use Rattle.spectra_elaboration.specs.declared.following.Use.{Use}
 use Rattle.spectra_elaboration.specs.Putting.{Bodies, Put, filled, each_filled, put_deep, body_put, body_of, hole_at, put_in}
-use Rattle.spectra_elaboration.specs.Frames.{Around, nothing_around, frame_around, arounds_behind, around_at, filled_at, used_at, AreFrames, Grows}
-use Rattle.spectra_elaboration.specs.Following.{Goes}
+use Rattle.spectra_elaboration.specs.Frames.{Around, nothing_around, frame_around, arounds_behind, around_at, filled_at, AreFrames, Grows}
+use Rattle.spectra_elaboration.specs.Following.{Goes, put_use}
 use Rattle.spectra_elaboration.proofs.Chained.{map_twice}
 
 -- ---- what frames stand for
@@ -102,23 +102,21 @@ module _ (b : Bodies) where
   -- ---- the use of a definition
 
   -- where no body may stand, or none is there, a hole does
-  pub used_deep : (fs : List Frame) (i : ℕ) (f : Frame) (hole : Hole) (k : ℕ) (at : Spot) (ts : List ResolvedTree) → slice_get fs i ≡ Some f → f.deep ≡ 0 → used_at b fs i hole k at ts ≡ hole_at at hole
-  used_deep fs i f hole k at ts there none = ap (λ d. put_deep d b hole k at (map (filled_at b fs i) ts)) (deep_is fs i f there ∙ none)
+  pub use_ends : (u : Use) (at : Spot) (args : List ResolvedTree) → u.deep ≡ 0 → put_use b u at args ≡ hole_at at u.hole
+  use_ends u at args none = ap (λ d. put_deep d b u.hole u.number at args) none
 
-  used_less : (fs : List Frame) (i : ℕ) (f : Frame) (less : ℕ) (hole : Hole) (k : ℕ) (at : Spot) (ts : List ResolvedTree) → slice_get fs i ≡ Some f → f.deep ≡ suc less
-      → used_at b fs i hole k at ts ≡ body_put (put_deep less b) hole at (map (filled_at b fs i) ts) (body_of b k)
-  used_less fs i f less hole k at ts there is = ap (λ d. put_deep d b hole k at (map (filled_at b fs i) ts)) (deep_is fs i f there ∙ is)
+  use_less : (u : Use) (less : ℕ) (at : Spot) (args : List ResolvedTree) → u.deep ≡ suc less → put_use b u at args ≡ body_put (put_deep less b) u.hole at args (body_of b u.number)
+  use_less u less at args is = ap (λ d. put_deep d b u.hole u.number at args) is
 
-  pub used_none : (fs : List Frame) (i : ℕ) (f : Frame) (less : ℕ) (hole : Hole) (k : ℕ) (at : Spot) (ts : List ResolvedTree) → slice_get fs i ≡ Some f → f.deep ≡ suc less → body_of b k ≡ None
-      → used_at b fs i hole k at ts ≡ hole_at at hole
-  used_none fs i f less hole k at ts there is none = used_less fs i f less hole k at ts there is ∙ ap (body_put (put_deep less b) hole at (map (filled_at b fs i) ts)) none
+  pub use_none : (u : Use) (less : ℕ) (at : Spot) (args : List ResolvedTree) → u.deep ≡ suc less → body_of b u.number ≡ None → put_use b u at args ≡ hole_at at u.hole
+  use_none u less at args is none = use_less u less at args is ∙ ap (body_put (put_deep less b) u.hole at args) none
 
   -- a body stands in a new frame
-  pub used_some : (fs : List Frame) (i : ℕ) (f g : Frame) (less : ℕ) (hole : Hole) (k : ℕ) (body : ResolvedTree) (at : Spot) → slice_get fs i ≡ Some f → f.deep ≡ suc less → body_of b k ≡ Some body
-      → g.deep ≡ less → g.brought ≡ Some at → g.outer ≡ i → used_at b fs i hole k at (map resolved_data g.arguments.now) ≡ filled_at b (fs ++ g ∷ []) (length fs) body
-  used_some fs i f g less hole k body at there is some deep brought outer =
-      used_less fs i f less hole k at (map resolved_data g.arguments.now) there is
-      ∙ ap (body_put (put_deep less b) hole at (map (filled_at b fs i) (map resolved_data g.arguments.now))) some
+  pub use_some : (fs : List Frame) (i : ℕ) (g : Frame) (u : Use) (less : ℕ) (body : ResolvedTree) (at : Spot) → u.deep ≡ suc less → body_of b u.number ≡ Some body
+      → g.deep ≡ less → g.brought ≡ Some at → g.outer ≡ i → put_use b u at (map (filled_at b fs i) (map resolved_data g.arguments.now)) ≡ filled_at b (fs ++ g ∷ []) (length fs) body
+  use_some fs i g u less body at is some deep brought outer =
+      use_less u less at (map (filled_at b fs i) (map resolved_data g.arguments.now)) is
+      ∙ ap (body_put (put_deep less b) u.hole at (map (filled_at b fs i) (map resolved_data g.arguments.now))) some
       ∙ (λ j. filled (put_deep (sym deep j) b) (sym brought j) (given j) body)
       ∙ ap (λ (w : Around). filled (put_deep w.deep b) w.brought w.arguments body) (sym (pushed fs g))
     where

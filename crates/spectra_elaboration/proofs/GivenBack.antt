@@ -1,5 +1,5 @@
 -- A use of a definition that gives back a parameter comes to that argument.
-use Rattle.std.proofs.Common.{◌≡◌, ℕ, zero, suc, ◌+◌, ◌-◌, ◌<◌, ◌≤◌, nat_le, nat_lt, true, false, ◌&&◌, List, [], ◌∷◌, ◌++◌, length, map, take, replicate, get_or, slice_get, slice_set, Option, Some, None, IfSome, ◌⊎◌, inl, inr, refl, sym, ap, ◌∙◌, arith}
+use Rattle.std.proofs.Common.{◌≡◌, ℕ, zero, suc, ◌+◌, ◌-◌, ◌<◌, ◌≤◌, nat_le, nat_lt, true, ◌&&◌, List, [], ◌∷◌, ◌++◌, length, map, take, replicate, get_or, slice_get, slice_set, Option, Some, None, IfSome, inl, inr, refl, sym, ap, ◌∙◌, arith}
 use Rattle.std.specs.Slice.{IsItemAt}
 use Rattle.std.specs.Borrow.{Bor}
 use Rattle.std.proofs.lemmas.Bool.{and_parts, and_from, false≢true, leb-true, le-leb, ltb-true, lt-ltb}
@@ -21,6 +21,7 @@ use Rattle.spectra_elaboration.specs.Putting.{Bodies, placed, filled, form_fille
 use Rattle.spectra_elaboration.specs.Frames.{around_at, filled_at, used_at}
 use Rattle.spectra_elaboration.specs.Giving.{is_within, place_of, leaf_gives, gives, form_gives, operand_gives, is_given, AreGiven}
 use Rattle.spectra_elaboration.proofs.Framed.{deep_is}
+use Rattle.spectra_elaboration.proofs.Tables.{entry, none_at}
 
 -- ---- what is put in for a use
 
@@ -148,13 +149,6 @@ given_more gs hs more (Some body) g is =
     and_from (nat_lt 0 g.deep) (gives hs (g.deep - 1) g.place body) parts.0 (tree_more gs hs more (g.deep - 1) g.place body parts.1)
 
 -- an entry where nothing was
-entry : (gs : List (Option Given)) (k : ℕ) (o : Option Given) (j : ℕ) (g : Given) → get_or (slice_set gs k o) j None ≡ Some g → (get_or gs j None ≡ Some g) ⊎ ((j ≡ k) × (o ≡ Some g))
-entry [] k o j g is = inl is
-entry (x ∷ gs) zero o zero g is = inr (refl, is)
-entry (x ∷ gs) zero o (suc j) g is = inl is
-entry (x ∷ gs) (suc k) o zero g is = inl is
-entry (x ∷ gs) (suc k) o (suc j) g is = elim (entry gs k o j g is) [ inl before ↦ inl before | inr new ↦ inr (ap suc new.0, new.1) ]
-
 entry_kept : (gs : List (Option Given)) (k : ℕ) (o : Option Given) → get_or gs k None ≡ None → Extends gs (slice_set gs k o)
 entry_kept [] k o none j g is = is
 entry_kept (x ∷ gs) zero o none zero g is = absurd (let e : None ≡ Some g = sym none ∙ is in cc)
@@ -175,16 +169,6 @@ one_more_given b gs hs k found right none is set j g there = ap (λ xs. is_given
 -- nothing is known at first
 pub nothing_given : (b : Bodies) (gs xs : List (Option Given)) (n m : ℕ) → gs ≡ take n xs ++ replicate m None → xs ≡ [] → AreGiven b gs
 nothing_given b gs xs n m is empty k g there = absurd (let e : None ≡ Some g = sym (ap (λ ys. get_or ys k None) is ∙ none_at xs n m k empty) ∙ there in cc)
-  where
-    nones : (m k : ℕ) → get_or (replicate {A = Option Given} m None) k None ≡ None
-    nones zero k = refl
-    nones (suc m) zero = refl
-    nones (suc m) (suc k) = nones m k
-
-    none_at : (xs : List (Option Given)) (n m k : ℕ) → xs ≡ [] → get_or (take n xs ++ replicate m None) k None ≡ None
-    none_at [] zero m k e = nones m k
-    none_at [] (suc n) m k e = nones m k
-    none_at (x ∷ xs) n m k e = absurd (cc)
 
 -- ---- a step on the way
 

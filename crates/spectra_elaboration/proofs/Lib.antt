@@ -5,9 +5,12 @@ pub mod Meant
 pub mod FormulaLevels
 pub mod Formulas
 pub mod Folded
+pub mod Over
 pub mod Made
 pub mod Flat
 pub mod Framed
 pub mod Flats
 pub mod Waited
 pub mod GivenBack
+pub mod Tables
+pub mod HandedOn

@@ -1,5 +1,6 @@
 -- What an expression comes to when it is followed.
 use Rattle.std.specs.Prelude.{◌≡◌, ◌<◌, Bool, true, false, List, length, map}
+use Rattle.spectra_resolved.specs.declared.spot.Spot.{Spot}
 use Rattle.spectra_resolved.specs.Resolved.{ResolvedTree, tree, Form}
 use Rattle.spectra_resolved.specs.Chained.{chained}
 use Rattle.spectra_resolved.specs.Views.{resolved_data, link_data, form_data}
@@ -8,14 +9,16 @@ use Rattle.spectra_elaboration.specs.declared.following.Front.{Front}
 use Rattle.spectra_elaboration.specs.declared.following.Front.TheVariants as fronts
 use Rattle.spectra_elaboration.specs.declared.following.Step.{Step}
 use Rattle.spectra_elaboration.specs.declared.following.Step.TheVariants as steps
-use Rattle.spectra_elaboration.specs.Putting.{Bodies}
+use Rattle.spectra_elaboration.specs.declared.following.Use.{Use}
+use Rattle.spectra_elaboration.specs.Putting.{Bodies, put_deep}
 use Rattle.spectra_elaboration.specs.Frames.{filled_at, form_at, AreFrames, Grows}
 
--- an operator with one operand or several
+-- an operator with one operand or several, which isn't one of a row
 abbrev pub is_operator : Form → Bool
 is_operator (Form.LeafOf l) = false
 is_operator (Form.PredicateOf k ts) = false
 is_operator (Form.MisuseOf m ts) = false
+is_operator (Form.Binary word a b) = false
 is_operator _ = true
 
 -- the expression that an end of the way stands for
@@ -36,6 +39,10 @@ step_data b fs (steps.Ends front) = front_data b fs front
 abbrev pub IsStep : List Frame → Step → Type 0
 IsStep fs (steps.On i t) = i < length fs
 IsStep fs (steps.Ends front) = IsFront fs front
+
+-- the use of a definition
+abbrev pub put_use : Bodies → Use → Spot → List ResolvedTree → ResolvedTree
+put_use b u at ts = put_deep u.deep b u.hole u.number at ts
 
 -- a step keeps what an expression stands for, and adds frames
 pub record Goes (old new : List Frame) (before after : ResolvedTree) : Type 0 where

@@ -1,12 +1,14 @@
 pub mod Putting
 pub mod Nodes
 pub mod Links
+pub mod Operands
 pub mod Making
 pub mod Levels
 pub mod Written
 pub mod PuttingViews
 pub mod Giving
 pub mod Looking
+pub mod Handing
 pub mod DefinitionViews
 pub mod Frames
 pub mod Following

@@ -4,20 +4,25 @@ ghost use Rattle.std.specs.Prelude.{◌≡◌, true, None, get_or, slice_set, If
 ghost use Rattle.spectra_elaboration.specs.Putting.{body_of as body_of_lem};
 ghost use Rattle.spectra_elaboration.specs.PuttingViews.{bodies_data};
 ghost use Rattle.spectra_elaboration.specs.Giving.{is_given, AreGiven};
+ghost use Rattle.spectra_elaboration.specs.Handing.{AreLast};
 
 use crate::given::Given;
 use crate::giving::{given_at, given_of};
+use crate::handing::lasts_in_order;
+use crate::last::Last;
 use crate::parts::body_of;
 use spectra_resolved::tree::Resolved;
 use std::alloc::{AllocError, Global};
 
 /// What is put in for each definition of a text: its body, or nothing where it has no meaning; and what is known of those that
-/// give back a parameter as it is.
+/// give back a parameter as it is, and of those that only use another one.
 #[derive(Drop)]
 pub struct Definitions {
     pub bodies: Vec<Option<Resolved>>,
     pub given: Vec<Option<Given>>,
     pub ghost right: { AreGiven (bodies_data bodies.items) given.items },
+    pub lasts: Vec<Option<Last>>,
+    pub ghost ends: { AreLast (bodies_data bodies.items) lasts.items },
 }
 
 // What a definition gives back of which nothing is known yet.
@@ -80,7 +85,8 @@ fn given_in_order(
     Ok(given)
 }
 
-/// Definitions with these bodies. Where each stands in `order` behind those that it uses, all is known of what they give back.
+/// Definitions with these bodies. Where each stands in `order` behind those that it uses, all is known of what they give back,
+/// and of where the chains end that they begin.
 /// The error is that memory is short.
 pub fn definitions_of(
     alloc: Global,
@@ -90,5 +96,10 @@ pub fn definitions_of(
     ensures { IfOk result (λ definitions. definitions.bodies.items ≡ bodies.items) }
 {
     let given = given_in_order(alloc, &bodies, order)?;
-    Ok(Definitions { bodies, given })
+    let lasts = lasts_in_order(alloc, &bodies, order)?;
+    Ok(Definitions {
+        bodies,
+        given,
+        lasts,
+    })
 }

@@ -5,17 +5,19 @@ ghost use Rattle.spectra_resolved.specs.declared.spot.Spot.{Spot};
 ghost use Rattle.spectra_resolved.specs.declared.tree.Hole.{Hole};
 ghost use Rattle.spectra_resolved.specs.declared.tree.Hole.TheVariants as holes;
 ghost use Rattle.spectra_resolved.specs.declared.tree.Leaf.TheVariants as leaves;
-ghost use Rattle.spectra_resolved.specs.Resolved.{Form};
+ghost use Rattle.spectra_resolved.specs.Resolved.{ResolvedTree, Form};
 ghost use Rattle.spectra_resolved.specs.Chained.{chained};
 ghost use Rattle.spectra_resolved.specs.Views.{resolved_data, link_data, form_data};
 ghost use Rattle.spectra_elaboration.specs.declared.frames.Frame.{Frame};
 ghost use Rattle.spectra_elaboration.specs.Putting.{Bodies};
 ghost use Rattle.spectra_elaboration.specs.DefinitionViews.{definitions_data};
 ghost use Rattle.spectra_elaboration.specs.Frames.{AreFrames, filled_at, form_at, leaf_in_frame, used_at};
-ghost use Rattle.spectra_elaboration.specs.Following.{step_data, IsStep, front_data, IsFront, Goes};
+ghost use Rattle.spectra_elaboration.specs.Following.{step_data, IsStep, front_data, IsFront, Goes, put_use};
 
+use crate::definitions::Definitions;
 use crate::frames::{By, Frame};
 use crate::giving::given_at;
+use crate::handing::last_at;
 use crate::parts::{body_of, misuse_hole, placed};
 use spectra_resolved::spot::Spot;
 use spectra_resolved::tree::{Hole, Leaf, Link, Resolved, Shape};
@@ -37,7 +39,68 @@ pub enum Step<'s> {
     Ends(Front<'s>),
 }
 
+/// The use of a definition: how deep bodies may stand in its place, what does where none may, and its number.
+#[derive(Clone, Copy)]
+pub struct Use {
+    pub deep: usize,
+    pub hole: Hole,
+    pub number: usize,
+}
+
+// The use of a definition with so many arguments, or that of the last one of its chain.
+fn last_use(definitions: &Definitions, first: Use, count: usize) -> Use
+    ensures { (at : Spot) (ts : List ResolvedTree) → length ts ≡ count → put_use (definitions_data definitions.now) first at ts ≡ put_use (definitions_data definitions.now) result at ts }
+{
+    match last_at(&definitions.lasts, first.number) {
+        Some(last) => {
+            if last.count != count || first.deep < last.deep {
+                return first;
+            }
+            Use {
+                deep: first.deep - last.deep,
+                hole: last.hole,
+                number: last.number,
+            }
+        }
+        None => first,
+    }
+}
+
 // The use of a definition with these arguments: its body, in a new frame.
+fn enter_last<'s>(
+    by: &By<'s>,
+    frames: &mut Vec<Frame<'s>>,
+    frame: usize,
+    last: Use,
+    at: Spot,
+    arguments: &'s [Resolved],
+) -> Result<Step<'s>, AllocError>
+    requires framed { AreFrames frames.old.items }
+    requires within { frame < length frames.old.items }
+    ensures goes { IfOk result (λ step. Goes frames.old.items frames.new.items
+        (put_use (definitions_data by.now.definitions.now) last at (map (filled_at (definitions_data by.now.definitions.now) frames.old.items frame) (map resolved_data arguments.now))) (step_data (definitions_data by.now.definitions.now) frames.new.items step)) }
+    ensures legal { IfOk result (λ step. IsStep frames.new.items step) }
+{
+    let deep = last.deep;
+    if deep == 0 {
+        return Ok(Step::Ends(Front::Leaf(at, at, Leaf::Hole(last.hole))));
+    }
+    match body_of(&by.definitions.bodies, last.number) {
+        Some(body) => {
+            let inside = frames.len();
+            frames.push(Frame {
+                deep: deep - 1,
+                brought: Some(at),
+                arguments,
+                outer: frame,
+            })?;
+            Ok(Step::On(inside, body))
+        }
+        None => Ok(Step::Ends(Front::Leaf(at, at, Leaf::Hole(last.hole)))),
+    }
+}
+
+// The use of a definition with these arguments: the body at the end of its chain, in a new frame.
 fn enter<'s>(
     by: &By<'s>,
     frames: &mut Vec<Frame<'s>>,
@@ -54,22 +117,9 @@ fn enter<'s>(
     ensures legal { IfOk result (λ step. IsStep frames.new.items step) }
 {
     let deep = frames[frame].deep;
-    if deep == 0 {
-        return Ok(Step::Ends(Front::Leaf(at, at, Leaf::Hole(hole))));
-    }
-    match body_of(&by.definitions.bodies, number) {
-        Some(body) => {
-            let inside = frames.len();
-            frames.push(Frame {
-                deep: deep - 1,
-                brought: Some(at),
-                arguments,
-                outer: frame,
-            })?;
-            Ok(Step::On(inside, body))
-        }
-        None => Ok(Step::Ends(Front::Leaf(at, at, Leaf::Hole(hole)))),
-    }
+    let first = Use { deep, hole, number };
+    let last = last_use(by.definitions, first, arguments.len());
+    enter_last(by, frames, frame, last, at, arguments)
 }
 
 // The argument that the use of a definition comes to, where that gives it back as it is.

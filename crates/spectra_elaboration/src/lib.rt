@@ -16,6 +16,8 @@ pub mod following;
 pub mod frames;
 pub mod given;
 pub mod giving;
+pub mod handing;
+pub mod last;
 pub mod laws;
 pub mod levels;
 pub mod nodes;

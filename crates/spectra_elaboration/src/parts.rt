@@ -1,14 +1,15 @@
 //! What is put in, and the places of what is put in.
 
 ghost use Rattle.std.specs.Prelude.{◌≡◌, option_map, map, IfOk};
-ghost use Rattle.spectra_resolved.specs.Chained.{chained};
-ghost use Rattle.spectra_resolved.specs.Views.{resolved_data, link_data};
+ghost use Rattle.spectra_resolved.specs.Chained.{chained, trees};
+ghost use Rattle.spectra_resolved.specs.Views.{resolved_data, link_data, form_data};
 ghost use Rattle.spectra_elaboration.specs.Putting.{placed as placed_lem, misuse_hole as misuse_hole_lem, body_of as body_of_lem};
+ghost use Rattle.spectra_elaboration.specs.Operands.{one_of as one_of_lem, several_of as several_of_lem};
 ghost use Rattle.spectra_elaboration.specs.Links.{placed_link as placed_link_lem};
 ghost use Rattle.spectra_elaboration.specs.PuttingViews.{bodies_data};
 
 use spectra_resolved::spot::Spot;
-use spectra_resolved::tree::{Hole, Link, Misuse, Resolved};
+use spectra_resolved::tree::{Hole, Link, Misuse, Resolved, Shape};
 use std::alloc::{AllocError, Global};
 
 /// Where a part stands of a line, or of a body that a name in the line brings.
@@ -37,7 +38,6 @@ pub fn placed_each(
 }
 
 /// An operator where it stands, with another second operand.
-#[inline(never)]
 pub fn placed_link(brought: Option<Spot>, link: &Link, second: Resolved) -> Link
     ensures { link_data result ≡ placed_link_lem brought (link_data link.now) (resolved_data second) }
 {
@@ -51,10 +51,14 @@ pub fn placed_link(brought: Option<Spot>, link: &Link, second: Resolved) -> Link
 
 #[tactic(auto, using(spectra_resolved::proofs::Trees::chain_data))]
 /// A tree with operators behind it.
-pub fn chain(alloc: Global, head: Resolved, links: Vec<Link>) -> Result<Resolved, AllocError>
-    ensures { IfOk result (λ t. resolved_data t ≡ chained (resolved_data head) (map link_data links.items)) }
+pub fn chain(
+    alloc: Global,
+    head: Box<Resolved>,
+    links: Vec<Link>,
+) -> Result<Box<Resolved>, AllocError>
+    ensures { IfOk result (λ t. resolved_data t.value ≡ chained (resolved_data head.value) (map link_data links.items)) }
 {
-    Ok(Resolved::Chain(Box::new(alloc, head)?, links))
+    Ok(Box::new(alloc, Resolved::Chain(head, links))?)
 }
 
 /// What stands for a misused name.
@@ -77,5 +81,37 @@ pub fn body_of<'s>(bodies: &'s [Option<Resolved>], number: usize) -> Option<&'s 
         Some(Some(body)) => Some(body),
         Some(None) => None,
         None => None,
+    }
+}
+
+/// The one operand of an operator that has no others.
+pub fn one_of<'s>(shape: &'s Shape) -> Option<&'s Resolved>
+    ensures { option_map (λ t. resolved_data t.now) result ≡ one_of_lem (form_data shape.now) }
+{
+    match shape {
+        Shape::Leaf(_) => None,
+        Shape::Predicate(_, _) => None,
+        Shape::Misuse(_, _) => None,
+        Shape::Next(t) => Some(t),
+        Shape::Prefix(_, t) => Some(t),
+        Shape::Mod(t, _, _) => Some(t),
+        Shape::And(_, _) => None,
+        Shape::Or(_, _) => None,
+    }
+}
+
+/// The operands of an operator that has a list of them.
+pub fn several_of<'s>(shape: &'s Shape) -> &'s [Resolved]
+    ensures { trees (map resolved_data result.now) ≡ several_of_lem (form_data shape.now) }
+{
+    match shape {
+        Shape::Leaf(_) => &[],
+        Shape::Predicate(_, _) => &[],
+        Shape::Misuse(_, _) => &[],
+        Shape::Next(_) => &[],
+        Shape::Prefix(_, _) => &[],
+        Shape::Mod(_, _, _) => &[],
+        Shape::And(ts, _) => ts,
+        Shape::Or(ts, _) => ts,
     }
 }

@@ -6,22 +6,23 @@ ghost use Rattle.spectra_resolved.specs.Chained.{chained, trees};
 ghost use Rattle.spectra_resolved.specs.Views.{resolved_data, link_data, form_data};
 ghost use Rattle.spectra_elaboration.specs.Putting.{put_in as put_in_lem};
 ghost use Rattle.spectra_elaboration.specs.Levels.{within_limits};
+ghost use Rattle.spectra_elaboration.specs.Operands.{has_several};
 ghost use Rattle.spectra_elaboration.specs.Making.{Makes, MakesEach, MakesLinks, IsFlat, AreFlat, AreFlatLinks};
 ghost use Rattle.spectra_elaboration.specs.DefinitionViews.{definitions_data};
 ghost use Rattle.spectra_elaboration.specs.Frames.{AreFrames, Grows, filled_at, form_at, each_at, link_at};
 ghost use Rattle.spectra_elaboration.specs.Following.{front_data, IsFront, is_operator};
 
-use crate::counted::{Counted, Operands, Operators};
+use crate::counted::Counted;
 use crate::definitions::Definitions;
 use crate::following::{Front, follow};
 use crate::frames::{By, Frame, line_frame};
 use crate::nodes::{
-    and_above, chain_of, leaf_at, left_of, mod_above, next_above, or_above, prefix_above,
+    add_link, add_tree, chain_of, each_above, leaf_at, one_above, stop_chain, stop_operands,
 };
-use crate::parts::{placed, placed_link};
+use crate::parts::{one_of, several_of};
 use crate::refusal::Refusal;
 use spectra_resolved::spot::Spot;
-use spectra_resolved::tree::{Leaf, Link, Resolved, Shape};
+use spectra_resolved::tree::{Link, Resolved, Shape};
 use std::alloc::{AllocError, Global};
 
 // An expression in a frame, where there is room for its nodes and its levels.
@@ -49,7 +50,6 @@ fn fill<'s>(
 
 // What an expression comes to.
 #[cycle(putting)]
-#[inline(never)]
 fn fill_front<'s>(
     by: &By<'s>,
     frames: &mut Vec<Frame<'s>>,
@@ -67,7 +67,7 @@ fn fill_front<'s>(
         return Err(Refusal::Deep);
     }
     match front {
-        Front::Leaf(first, at, leaf) => leaf_at(room, first, at, leaf),
+        Front::Leaf(first, at, leaf) => leaf_at(by.alloc, room, first, at, leaf),
         Front::Row(frame, head, links) => {
             fill_chain(by, frames, frame, room, levels, head, links)
         }
@@ -79,7 +79,6 @@ fn fill_front<'s>(
 
 // An expression with operators behind it, each of which is a level around the first operand.
 #[cycle(putting)]
-#[inline(never)]
 fn fill_chain<'s>(
     by: &By<'s>,
     frames: &mut Vec<Frame<'s>>,
@@ -101,11 +100,16 @@ fn fill_chain<'s>(
     }
     let first = levels - links.len();
     let own = fill(by, frames, frame, room, first, head)?;
-    let made = fill_links(by, frames, frame, room - own.nodes, first, links)?;
-    chain_of(by.alloc, room, own, made)
+    let left = room - own.nodes;
+    let mut all = Vec::new(by.alloc);
+    match fill_links(by, frames, frame, left, first, links, &mut all) {
+        Ok(nodes) => chain_of(by.alloc, room, own, all, nodes),
+        Err(halt) => stop_chain(own, all, halt),
+    }
 }
 
-// Operators with their second operands, the first of which has at most so many levels, and each later one one more.
+// Operators with their second operands, the first of which has at most so many levels, and each later one one more: they are
+// added to others. It gives how many nodes they have together.
 #[cycle(putting)]
 #[inline(never)]
 fn fill_links<'s>(
@@ -115,35 +119,28 @@ fn fill_links<'s>(
     room: usize,
     first: usize,
     links: &'s [Link],
-) -> Result<Operators, Refusal>
+    all: &mut Vec<Link>,
+) -> Result<usize, Refusal>
     requires framed { AreFrames frames.old.items }
     requires within { frame < length frames.old.items }
     requires small { first + length links.now ≤ 18446744073709551615 }
-    ensures made { MakesLinks room (map (link_at (definitions_data by.now.definitions.now) frames.old.items frame) (map link_data links.now)) result }
+    ensures made { MakesLinks room (map (link_at (definitions_data by.now.definitions.now) frames.old.items frame) (map link_data links.now)) all.old.items all.new.items result }
     ensures flat { AreFlatLinks first (map (link_at (definitions_data by.now.definitions.now) frames.old.items frame) (map link_data links.now)) result }
     ensures frames { OnOk result (frames.new.items ≡ frames.old.items) }
 {
-    let brought = frames[frame].brought;
-    let mut all = Vec::new(by.alloc);
     let mut left = room;
     let mut levels = first;
     for link in links {
         let second = fill(by, frames, frame, left, levels, &link.second)?;
-        let rest = left_of(left, second.nodes)?;
-        let made = placed_link(brought, link, second.tree);
-        all.push(made)?;
+        let rest = add_link(all, left, &frames[frame].brought, link, second)?;
         left = rest;
         levels += 1;
     }
-    Ok(Operators {
-        all,
-        nodes: room - left,
-    })
+    Ok(room - left)
 }
 
 // An operator that stands at a place, over operands of at most so many levels.
 #[cycle(putting)]
-#[inline(never)]
 fn fill_shape<'s>(
     by: &By<'s>,
     frames: &mut Vec<Frame<'s>>,
@@ -161,35 +158,47 @@ fn fill_shape<'s>(
     ensures flat { IsFlat (levels + 1) (form_at (definitions_data by.now.definitions.now) frames.old.items frame first at (form_data shape.now)) result }
     ensures frames { OnOk result (frames.new.items ≡ frames.old.items) }
 {
-    let alloc = by.alloc;
-    let brought = frames[frame].brought;
-    match shape {
-        Shape::Next(t) => {
-            let next = fill(by, frames, frame, room, levels, t)?;
-            next_above(alloc, room, first, at, next)
-        }
-        Shape::Prefix(word, t) => {
+    match one_of(shape) {
+        Some(t) => {
             let operand = fill(by, frames, frame, room, levels, t)?;
-            prefix_above(alloc, room, first, at, *word, operand)
+            let brought = &frames[frame].brought;
+            one_above(by.alloc, room, first, at, brought, shape, operand)
         }
-        Shape::Mod(t, number_at, n) => {
-            let dividend = fill(by, frames, frame, room, levels, t)?;
-            let place = placed(brought, *number_at);
-            mod_above(alloc, room, first, at, dividend, place, *n)
-        }
-        Shape::And(ts, operators) => {
-            let conjuncts = fill_operands(by, frames, frame, room, levels, ts)?;
-            and_above(alloc, room, first, at, conjuncts, brought, operators)
-        }
-        Shape::Or(ts, operators) => {
-            let disjuncts = fill_operands(by, frames, frame, room, levels, ts)?;
-            or_above(alloc, room, first, at, disjuncts, brought, operators)
-        }
-        Shape::Leaf(_) | Shape::Predicate(_, _) | Shape::Misuse(_, _) => unreachable!(),
+        None => fill_several(by, frames, frame, room, levels, first, at, shape),
     }
 }
 
-// The operands of a node.
+// An operator with operands in a list.
+#[cycle(putting)]
+fn fill_several<'s>(
+    by: &By<'s>,
+    frames: &mut Vec<Frame<'s>>,
+    frame: usize,
+    room: usize,
+    levels: usize,
+    first: Spot,
+    at: Spot,
+    shape: &'s Shape,
+) -> Result<Counted, Refusal>
+    requires framed { AreFrames frames.old.items }
+    requires within { frame < length frames.old.items }
+    requires several { has_several (form_data shape.now) ≡ true }
+    ensures made { Makes room (form_at (definitions_data by.now.definitions.now) frames.old.items frame first at (form_data shape.now)) result }
+    ensures flat { IsFlat (levels + 1) (form_at (definitions_data by.now.definitions.now) frames.old.items frame first at (form_data shape.now)) result }
+    ensures frames { OnOk result (frames.new.items ≡ frames.old.items) }
+{
+    let ts = several_of(shape);
+    let mut all = Vec::new(by.alloc);
+    match fill_operands(by, frames, frame, room, levels, ts, &mut all) {
+        Ok(nodes) => {
+            let brought = &frames[frame].brought;
+            each_above(by.alloc, room, first, at, brought, shape, all, nodes)
+        }
+        Err(halt) => stop_operands(all, halt),
+    }
+}
+
+// The operands of a node: they are added to others. It gives how many nodes they have together.
 #[cycle(putting)]
 #[inline(never)]
 fn fill_operands<'s>(
@@ -199,25 +208,21 @@ fn fill_operands<'s>(
     room: usize,
     levels: usize,
     ts: &'s [Resolved],
-) -> Result<Operands, Refusal>
+    all: &mut Vec<Resolved>,
+) -> Result<usize, Refusal>
     requires framed { AreFrames frames.old.items }
     requires within { frame < length frames.old.items }
-    ensures made { MakesEach room (each_at (definitions_data by.now.definitions.now) frames.old.items frame (trees (map resolved_data ts.now))) result }
+    ensures made { MakesEach room (each_at (definitions_data by.now.definitions.now) frames.old.items frame (trees (map resolved_data ts.now))) all.old.items all.new.items result }
     ensures flat { AreFlat levels (each_at (definitions_data by.now.definitions.now) frames.old.items frame (trees (map resolved_data ts.now))) result }
     ensures frames { OnOk result (frames.new.items ≡ frames.old.items) }
 {
-    let mut all = Vec::new(by.alloc);
     let mut left = room;
     for t in ts {
         let operand = fill(by, frames, frame, left, levels, t)?;
-        let rest = left - operand.nodes;
-        all.push(operand.tree)?;
-        left = rest;
+        left -= operand.nodes;
+        add_tree(all, operand)?;
     }
-    Ok(Operands {
-        all,
-        nodes: room - left,
-    })
+    Ok(room - left)
 }
 
 /// An expression of a line in which everything is put in, where it has at most so many nodes and levels: bodies for uses,
@@ -235,7 +240,7 @@ pub fn put_in<'s>(
     let by = By { alloc, definitions };
     let mut frames = line_frame(&by)?;
     match fill(&by, &mut frames, 0, room, levels, t) {
-        Ok(made) => Ok(Some(made.tree)),
+        Ok(made) => Ok(Some(Box::into_inner(made.tree))),
         Err(Refusal::Large) => Ok(None),
         Err(Refusal::Deep) => Ok(None),
         Err(Refusal::Memory) => Err(AllocError),

@@ -12,7 +12,7 @@ use Rattle.spectra_trees.specs.declared.tree.BinaryWord.TheVariants as binary
 use Rattle.spectra_resolved.specs.declared.tree.Leaf.{Leaf}
 use Rattle.spectra_resolved.specs.declared.tree.Leaf.TheVariants as leaf
 use Rattle.spectra_resolved.specs.Resolved.{ResolvedTree, tree, Form, ResolvedTrees}
-use Rattle.spectra_judge.specs.Kinds.{Kind, Truth, NameOf, Anything}
+use Rattle.spectra_judge.specs.Kinds.{Kind, NameOf, Anything}
 
 -- ---- the formula
 

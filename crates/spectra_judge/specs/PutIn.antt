@@ -1,7 +1,6 @@
 -- In which expressions everything is put in, by what may stand in them.
 use Rattle.std.specs.Prelude.{ℕ, Bool, true, false, ◌&&◌, nat_lt}
 use Rattle.spec_model.specs.Values.{DomainData, TruthValues, WholeNumbers, Enumeration}
-use Rattle.spec_model.specs.Syntax.{Variable}
 use Rattle.spectra_resolved.specs.declared.tree.Leaf.{Leaf}
 use Rattle.spectra_resolved.specs.declared.tree.Leaf.TheVariants as leaf
 use Rattle.spectra_resolved.specs.Resolved.{ResolvedTree, tree, Form, ResolvedTrees}

@@ -106,6 +106,7 @@ fn bringing_in(names: &[Spot], links: &[Link]) -> Bringing
 }
 
 /// What is open in the operands of operators.
+#[inline(never)]
 pub fn opened_in(names: &[Spot], links: &[Link]) -> Opened
     requires rising { AreRising names.now }
     ensures { (around : Around) (place : ℕ) → opened (is_brought_lem names.now) around (map link_data (drop place links.now)) ≡ opened_at result around place }

@@ -30,6 +30,7 @@ fn hole_kind<'a>(hole: Hole) -> Kind<'a>
 }
 
 /// The kind of a tree without parts.
+#[inline(never)]
 pub fn leaf_kind<'a>(known: &Known<'_, 'a>, leaf: Leaf) -> Kind<'a>
     ensures { kind_data result ≡ leaf_kind_lem (known_data known.now) leaf }
 {
@@ -58,6 +59,7 @@ pub fn misuse_kind<'a>(misuse: Misuse) -> Kind<'a>
 }
 
 /// Reports an operand or argument of the wrong kind.
+#[inline(never)]
 pub fn report_wrong(findings: &mut Findings, right: bool, at: Spot)
     ensures { found_in findings.new ≡ with_faults (found_in findings.old) (wrong right at) }
 {
@@ -73,6 +75,7 @@ fn report_wide(findings: &mut Findings, kind: Kind<'_>, at: Spot)
 
 #[tactic(auto, using(spectra_resolved::proofs::First::with_faults_append))]
 /// Reports what is wrong with the operands of an operator, and with what it gives.
+#[inline(never)]
 pub fn report_binary(findings: &mut Findings, word: BinaryWord, a: Kind<'_>, b: Kind<'_>, at: Spot)
     ensures { found_in findings.new ≡ with_faults (found_in findings.old) (binary_faults word (kind_data a.entry) (kind_data b.entry) at) }
 {
@@ -82,6 +85,7 @@ pub fn report_binary(findings: &mut Findings, word: BinaryWord, a: Kind<'_>, b: 
 
 #[tactic(auto, using(spectra_resolved::proofs::First::with_faults_append))]
 /// Reports what is wrong with a remainder by `n`, of an operand of a kind.
+#[inline(never)]
 pub fn report_remainder(
     findings: &mut Findings,
     kind: Kind<'_>,
@@ -97,6 +101,7 @@ pub fn report_remainder(
 }
 
 /// Reports what is wrong with a tree without parts.
+#[inline(never)]
 pub fn report_leaf(
     findings: &mut Findings,
     setting: &Setting<'_, '_>,
@@ -123,6 +128,7 @@ pub fn report_leaf(
 }
 
 /// Reports a misused name, and what is wrong with what it reads.
+#[inline(never)]
 pub fn report_misuse(
     findings: &mut Findings,
     setting: &Setting<'_, '_>,

@@ -39,6 +39,7 @@ fn report_in_past(findings: &mut Findings, around: Around, at: Spot)
 
 #[tactic(auto, using(spectra_resolved::proofs::First::with_faults_append))]
 /// Reports what is wrong with a `next`, its operand apart.
+#[inline(never)]
 pub fn report_next(findings: &mut Findings, setting: &Setting<'_, '_>, around: Around, at: Spot)
     requires rising { AreRising setting.now.known.brought.now }
     ensures { found_in findings.new ≡ with_faults (found_in findings.old) (next_faults (setting_data setting.now).known.brought setting.now.bans around at) }
@@ -59,6 +60,7 @@ fn report_past(findings: &mut Findings, setting: &Setting<'_, '_>, next: Option<
 }
 
 /// Reports what is wrong with an operator where it stands, which speaks of the past or not.
+#[inline(never)]
 pub fn report_operator(
     findings: &mut Findings,
     setting: &Setting<'_, '_>,

@@ -2,7 +2,7 @@
 
 ghost use Rattle.std.specs.Prelude.{◌≡◌, ℕ, ◌∷◌, ◌++◌, map, drop};
 ghost use Rattle.spectra_resolved.specs.Resolved.{Form};
-ghost use Rattle.spectra_resolved.specs.Chained.{trees};
+ghost use Rattle.spectra_resolved.specs.Chained.{chained, trees};
 ghost use Rattle.spectra_resolved.specs.Views.{resolved_data, link_data, form_data};
 ghost use Rattle.spectra_resolved.specs.Findings.{with_faults};
 ghost use Rattle.spectra_resolved.specs.Reports.{found_in};
@@ -43,17 +43,14 @@ pub fn walk<'a>(
     ensures found { found_in findings.new ≡ with_faults (found_in findings.old) (faults (setting_data setting.now) around (resolved_data tree.now)) }
 {
     match tree {
-        Resolved::Chain(head, links) => {
-            let opened = opened_in(setting.known.brought, links);
-            let kind = walk(findings, setting, opened.at(around, 0), head);
-            walk_links(findings, setting, around, opened, kind, links)
-        }
+        Resolved::Chain(head, links) => walk_chain(findings, setting, around, head, links),
         Resolved::Node(_, at, shape) => walk_shape(findings, setting, around, *at, shape),
     }
 }
 
 // The kind of an expression that stands at a place.
 #[cycle(walking)]
+#[inline(never)]
 fn walk_shape<'a>(
     findings: &mut Findings,
     setting: &Setting<'_, 'a>,
@@ -95,6 +92,7 @@ fn walk_shape<'a>(
 #[tactic(auto, using(spectra_resolved::proofs::First::with_faults_append))]
 // The kind of what an operator before its operand gives.
 #[cycle(walking)]
+#[inline(never)]
 fn walk_prefix<'a>(
     findings: &mut Findings,
     setting: &Setting<'_, 'a>,
@@ -118,6 +116,7 @@ fn walk_prefix<'a>(
 #[tactic(auto, using(spectra_resolved::proofs::First::with_faults_append))]
 // The kind of a remainder.
 #[cycle(walking)]
+#[inline(never)]
 fn walk_remainder<'a>(
     findings: &mut Findings,
     setting: &Setting<'_, 'a>,
@@ -136,23 +135,22 @@ fn walk_remainder<'a>(
     reduced(n)
 }
 
-// The kind of what operators in text order give, behind a first operand of a kind. `opened` says what is open in the operands
-// of each.
+// The kind of a chain of operators behind their first operand.
 #[cycle(walking)]
-fn walk_links<'a>(
+#[inline(never)]
+fn walk_chain<'a>(
     findings: &mut Findings,
     setting: &Setting<'_, 'a>,
     around: Around,
-    opened: Opened,
-    first: Kind<'a>,
+    head: &Resolved,
     links: &[Link],
 ) -> Kind<'a>
     requires rising { AreRising setting.now.known.brought.now }
-    requires opened { (place : ℕ) → opened_lem (setting_data setting.now).known.brought around (map link_data (drop place links.now)) ≡ opened_at opened around place }
-    ensures kind { kind_data result ≡ chain_kind (setting_data setting.now).known (kind_data first.entry) (map link_data links.now) }
-    ensures found { found_in findings.new ≡ with_faults (found_in findings.old) (chain_faults (setting_data setting.now) around (kind_data first.entry) (map link_data links.now)) }
+    ensures kind { kind_data result ≡ kind_of (setting_data setting.now).known (chained (resolved_data head.now) (map link_data links.now)) }
+    ensures found { found_in findings.new ≡ with_faults (found_in findings.old) (faults (setting_data setting.now) around (chained (resolved_data head.now) (map link_data links.now))) }
 {
-    let mut kind = first;
+    let opened = opened_in(setting.known.brought, links);
+    let mut kind = walk(findings, setting, opened.at(around, 0), head);
     let mut place = 0;
     for link in links {
         let inner = opened.at(around, place);
@@ -185,6 +183,7 @@ fn walk_link<'a>(
 
 // The operands of a conjunction or disjunction, with the operators between them.
 #[cycle(walking)]
+#[inline(never)]
 fn walk_operands<'a>(
     findings: &mut Findings,
     setting: &Setting<'_, 'a>,
@@ -226,6 +225,7 @@ fn walk_operand(
 
 // Arguments, for the parameters of a predicate where there is one.
 #[cycle(walking)]
+#[inline(never)]
 fn walk_arguments(
     findings: &mut Findings,
     setting: &Setting<'_, '_>,

@@ -77,10 +77,31 @@ pub struct Link {
 /// A tree. A chain is a tree with operators behind it, each of which has all before it as its first operand: a list, since a
 /// sum nests to the left as deep as its text is long. The places of a node are `first` and `at`.
 #[cycle(resolved)]
-#[derive(Drop)]
 pub enum Resolved {
     Chain(Box<Resolved>, Vec<Link>),
     Node(Spot, Spot, Shape),
+}
+
+impl Drop for Resolved {
+    /// A loop over first operands, since definitions nest them in one another. Only operands in lists are a recursion.
+    #[cycle(resolved)]
+    fn drop(mut self) {
+        loop {
+            match self {
+                Resolved::Chain(head, _links) => self = Box::into_inner(head),
+                Resolved::Node(_, _, shape) => match shape {
+                    Shape::Leaf(_) => return,
+                    Shape::Predicate(_, _arguments) => return,
+                    Shape::Misuse(_, _arguments) => return,
+                    Shape::Next(first) => self = Box::into_inner(first),
+                    Shape::Prefix(_, first) => self = Box::into_inner(first),
+                    Shape::Mod(first, _, _) => self = Box::into_inner(first),
+                    Shape::And(_operands, _operators) => return,
+                    Shape::Or(_operands, _operators) => return,
+                },
+            }
+        }
+    }
 }
 
 /// How often a part is repeated: from the first number on, up to the second where there is one. A number is at most

@@ -15,6 +15,8 @@ use Rattle.bit_compile.proofs.MakingLemmas.{is_root}
 use Rattle.bit_compile.proofs.Pairing.{made_together, others_kept, seen_kept}
 use Rattle.bit_compile.proofs.Causes.{cause_wider}
 use Rattle.bit_compile.proofs.Outcomes.{cases_handed, makes_leaves, named_handed}
+use Rattle.bit_compile.proofs.BlockLemmas.{after_refusal}
+use Rattle.bit_compile.proofs.Causes.{cause_after}
 use Rattle.bit_compile.proofs.CompilingSteps.{negated_made, implied_made, or_made, equivalent_made, same_made, both_made_with, joined_made, compared_made, compared_with_made}
 use Rattle.bit_compile.proofs.NamedFormulas.{either, part_named}
 use Rattle.bit_compile.specs.Named.{IsFirstOf, IsOfPairs, IsOfSame}
@@ -109,18 +111,31 @@ joined_root-returns t c =
     joined_made c.args.scene.now c.args.at c.args.diagrams.now c.truth_cases.new.diagrams c.folded-root.new.diagrams c.release_all.new.diagrams c.release_all.ensures.table c.in_ok-cases.cases.items c.deref.result.now c.deref.ensures.value c.release_all.ensures.released first.leaves.keeps
     c.args.fold (formulas_in c.args.es.now) c.folded-root.result first.made (record { made = c.folded-root.ensures.made; cause = c.folded-root.ensures.cause })
 
-pub compared_root-release_all-requires : goal.compared_root-release_all-requires
-compared_root-release_all-requires t c =
+pub compared_root-returns-in-Err : goal.compared_root-returns-in-Err
+compared_root-returns-in-Err t c =
+    let old = c.args.diagrams.now in
+    let mid = c.has_code.new.diagrams in
+    let new = c.compared_by_cases-in-Err.new.diagrams in
+    let r = c.compared_by_cases-in-Err.result in
+    let first = c.in-Err.ensures.made in
+    let named = IsNamedIn c.args.scene.now c.args.at (Comparison c.args.c (formula c.args.a.now) (formula c.args.b.now)) in
+    record {
+      made = after_refusal old mid new _ r _ _ first c.compared_by_cases-in-Err.ensures.made;
+      cause = cause_after old mid new r named first.refused first.keeps c.compared_by_cases-in-Err.ensures.cause;
+    }
+
+pub compared_by_cases-release_all-requires : goal.compared_by_cases-release_all-requires
+compared_by_cases-release_all-requires t c =
     let first = c.in_ok-xs.ensures in
     made_together c.args.diagrams.now c.cases_of.new.diagrams c.in_ok-xs.xs.items c.deref.result.now _ first.made first.leaves.keeps c.deref.ensures.value c.compared_with-root.new.diagrams c.compared_with-root.result _ c.compared_with-root.ensures.made
 
-pub compared_root-returns-in_err-xs : goal.compared_root-returns-in_err-xs
-compared_root-returns-in_err-xs t c =
+pub compared_by_cases-returns-in_err-xs : goal.compared_by_cases-returns-in_err-xs
+compared_by_cases-returns-in_err-xs t c =
     let named = IsNamedIn c.args.scene.now c.args.at (Comparison c.args.c (formula c.args.a.now) (formula c.args.b.now)) in
     named_handed c.args.diagrams.now c.cases_of.new.diagrams c.cases_of.result c.in_err-xs.field-0.0 named c.in_err-xs.was c.cases_of.ensures.leaves (cause_wider (IsNamedIn c.args.scene.now c.args.at (formula c.args.a.now)) named (part_named c.args.scene.now c.args.at (formula c.args.a.now) (formula c.args.a.now) named (λ f is. inl (inr (inl (inl is)))) (λ f is. inr is)) _ _ _ c.cases_of.ensures.cause) c.from_residual.result _ (search rules)
 
-pub compared_root-returns : goal.compared_root-returns
-compared_root-returns t c =
+pub compared_by_cases-returns : goal.compared_by_cases-returns
+compared_by_cases-returns t c =
     let first = c.in_ok-xs.ensures in
     compared_made c.args.scene.now c.args.at c.args.diagrams.now c.cases_of.new.diagrams c.compared_with-root.new.diagrams c.release_all.new.diagrams c.release_all.ensures.table c.in_ok-xs.xs.items c.deref.result.now c.deref.ensures.value c.release_all.ensures.released first.leaves.keeps
     (formula c.args.a.now) first.made c.args.c (formula c.args.b.now) c.compared_with-root.result c.compared_with-root.ensures
@@ -261,8 +276,8 @@ equivalent_root-same_as_truth-whole-requires t c =
     let levels : level_count (codes_seen c.args.scene.now) ≤ c.truth_root.new.diagrams.state.table.levels = subst (λ (n : ℕ). level_count (codes_seen c.args.scene.now) ≤ n) (sym first.keeps.levels) c.requires.levels in
     search rules
 
-pub compared_root-compared_with-root-requires : goal.compared_root-compared_with-root-requires
-compared_root-compared_with-root-requires t c =
+pub compared_by_cases-compared_with-root-requires : goal.compared_by_cases-compared_with-root-requires
+compared_by_cases-compared_with-root-requires t c =
     let first = c.in_ok-xs.ensures in
     let kept = seen_kept c.args.diagrams.now c.cases_of.new.diagrams c.in_ok-xs.xs.items c.deref.result.now _ first.made first.leaves.keeps c.deref.ensures.value in
     let levels : level_count (codes_seen c.args.scene.now) ≤ c.cases_of.new.diagrams.state.table.levels = subst (λ (n : ℕ). level_count (codes_seen c.args.scene.now) ≤ n) (sym first.leaves.keeps.levels) c.requires.levels in

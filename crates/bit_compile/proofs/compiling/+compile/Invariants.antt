@@ -35,7 +35,10 @@ abbrev pub decreases-joined_root : goal.decreases-joined_root
 decreases-joined_root l = 8 * (nodes_in_each (formulas_in l.es.now) + atoms_left l.scene.now.hidden.now) + 3
 
 abbrev pub decreases-compared_root : goal.decreases-compared_root
-decreases-compared_root l = 8 * (nodes_in (formula l.a.now) + nodes_in (formula l.b.now) + atoms_left l.scene.now.hidden.now) + 4
+decreases-compared_root l = 8 * (nodes_in (formula l.a.now) + nodes_in (formula l.b.now) + atoms_left l.scene.now.hidden.now) + 5
+
+abbrev pub decreases-compared_by_cases : goal.decreases-compared_by_cases
+decreases-compared_by_cases l = 8 * (nodes_in (formula l.a.now) + nodes_in (formula l.b.now) + atoms_left l.scene.now.hidden.now) + 4
 
 abbrev pub decreases-compared_with : goal.decreases-compared_with
 decreases-compared_with l = 8 * (nodes_in (formula l.b.now) + atoms_left l.scene.now.hidden.now) + 3

@@ -1,4 +1,4 @@
-use Rattle.std.proofs.Common.{◌≡◌, ◌+◌, ◌-◌, ◌*◌, length, get_or, subst, ◌∙◌, arith}
+use Rattle.std.proofs.Common.{◌≡◌, ◌+◌, ◌-◌, ◌*◌, length, get_or, subst, arith}
 use Rattle.std.proofs.lemmas.List.{length-map}
 use Rattle.spec_model.specs.Syntax.{Variable}
 use Rattle.spec_model.specs.Views.{domain_data, variable_data}

@@ -5,7 +5,10 @@ use Rattle.spectra_resolved.specs.TextViews.{type_data, pattern_data, text_data}
 use Rattle.spectra_judge.specs.KindViews.{known_data}
 use Rattle.spectra_notes.specs.TypeKinds.{known_by}
 use Rattle.spectra_notes.specs.Notes.{Noted, known_in_pattern}
+use Rattle.spectra_elaboration.specs.DefinitionViews.{definitions_data}
+use Rattle.spectra_bounds.specs.TypeViews.{constants_data}
 use Rattle.spectra_bodies.specs.Faults.{each_type_faults}
+use Rattle.spectra_bodies.proofs.Plain.{same_sound_bounds}
 use Rattle.spectra_bodies.proofs.types.report_own.Goals as goal
 
 pub returns : goal.returns
@@ -17,3 +20,9 @@ returns c =
     c.known_in_pattern.ensures.known ∙ (λ i. known_by (c.requires.notes i).kinds (c.requires.notes i).defines (c.in_ok-kinds.ensures.parameters i) (c.in_ok-kinds.ensures.own i)) in
     c.in_ok-report_each.ensures
     ∙ (λ i. with_faults old (each_type_faults (record { constants = constants i; bodies = c.requires.bodies i; known = known i }) (map type_data (c.deref.ensures.value i))))
+
+pub invariant_of-basis : goal.invariant_of-basis
+invariant_of-basis c =
+    record {
+      sound = same_sound_bounds (text_data c.args.text.now) (constants_data c.args.notes.now.kinds.constants) (definitions_data c.args.definitions.now) (ap (λ (n : Noted). n.kinds.constants) c.requires.notes) c.requires.bodies;
+    }

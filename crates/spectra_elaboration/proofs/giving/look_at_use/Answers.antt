@@ -1,4 +1,4 @@
-use Rattle.std.proofs.Common.{Some, sym, arith}
+use Rattle.std.proofs.Common.{sym, arith}
 use Rattle.spectra_elaboration.proofs.GivenBack.{use_comes}
 use Rattle.spectra_elaboration.proofs.giving.look_at_use.Goals as goal
 

@@ -7,7 +7,7 @@ use Rattle.spectra_elaboration.proofs.nodes.chain_of.Goals as goal
 pub invariant_of-result : goal.invariant_of-result
 invariant_of-result c =
     let head = c.args.head.counted in
-    let links = c.args.links.counted in
-    let all = tree_nodes-chained (resolved_data c.args.head.tree) (map link_data c.args.links.all.items) in
+    let links = c.requires.counted in
+    let all = tree_nodes-chained (resolved_data c.args.head.tree.value) (map link_data c.args.links.items) in
     let is = ap tree_nodes c.in_ok-tree.ensures in
     record { counted = omega (arith, head, links, all, is) }

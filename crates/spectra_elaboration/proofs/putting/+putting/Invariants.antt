@@ -11,22 +11,25 @@ use Rattle.std.specs.Prelude.{nat_le}
 use Rattle.spectra_elaboration.proofs.putting.+putting.Given as goal
 
 abbrev pub decreases-fill : goal.decreases-fill
-decreases-fill l = 4 * l.levels + 2
+decreases-fill l = 5 * l.levels + 2
 
 abbrev pub decreases-fill_front : goal.decreases-fill_front
-decreases-fill_front l = 4 * l.levels + 1
+decreases-fill_front l = 5 * l.levels + 1
 
 abbrev pub decreases-fill_chain : goal.decreases-fill_chain
-decreases-fill_chain l = 4 * l.levels
+decreases-fill_chain l = 5 * l.levels
 
 abbrev pub decreases-fill_links : goal.decreases-fill_links
-decreases-fill_links l = 4 * (l.first + length l.links.now) - 1
+decreases-fill_links l = 5 * (l.first + length l.links.now) - 1
 
 abbrev pub decreases-fill_shape : goal.decreases-fill_shape
-decreases-fill_shape l = 4 * l.levels + 4
+decreases-fill_shape l = 5 * l.levels + 5
+
+abbrev pub decreases-fill_several : goal.decreases-fill_several
+decreases-fill_several l = 5 * l.levels + 4
 
 abbrev pub decreases-fill_operands : goal.decreases-fill_operands
-decreases-fill_operands l = 4 * l.levels + 3
+decreases-fill_operands l = 5 * l.levels + 3
 
 -- The frames are those of the first. Those so far and those of what is left are all. What is left of the room is too small for
 -- what is left only if the whole room is too small for all, and so it is with levels.
@@ -37,7 +40,7 @@ invariant-fill_links-loop-link l =
     record {
       frames : l.frames.items ≡ fs;
       place : l.levels ≡ l.first + l.link-index;
-      same : map link_data l.all.items ++ map (link_at b fs l.frame) (map link_data (drop l.link-index l.links)) ≡ map (link_at b fs l.frame) (map link_data l.links);
+      same : map link_data l.all.items ++ map (link_at b fs l.frame) (map link_data (drop l.link-index l.links)) ≡ map link_data l.fn.all.items ++ map (link_at b fs l.frame) (map link_data l.links);
       small : l.left ≤ l.room;
       room : l.left + link_nodes (map (link_at b fs l.frame) (map link_data l.links)) ≡ l.room + link_nodes (map (link_at b fs l.frame) (map link_data (drop l.link-index l.links)));
       flat : are_flat_above l.levels (map (link_at b fs l.frame) (map link_data (drop l.link-index l.links))) ≡ are_flat_above l.first (map (link_at b fs l.frame) (map link_data l.links));
@@ -49,7 +52,7 @@ invariant-fill_operands-loop-t l =
     let fs = l.fn.frames.items in
     record {
       frames : l.frames.items ≡ fs;
-      same : map resolved_data l.all.items ++ listed (each_at b fs l.frame (trees (map resolved_data (drop l.t-index l.ts)))) ≡ listed (each_at b fs l.frame (trees (map resolved_data l.ts)));
+      same : map resolved_data l.all.items ++ listed (each_at b fs l.frame (trees (map resolved_data (drop l.t-index l.ts)))) ≡ map resolved_data l.fn.all.items ++ listed (each_at b fs l.frame (trees (map resolved_data l.ts)));
       small : l.left ≤ l.room;
       room : l.left + each_nodes (each_at b fs l.frame (trees (map resolved_data l.ts))) ≡ l.room + each_nodes (each_at b fs l.frame (trees (map resolved_data (drop l.t-index l.ts))));
       flat : nat_le (each_levels (each_at b fs l.frame (trees (map resolved_data (drop l.t-index l.ts))))) l.levels ≡ nat_le (each_levels (each_at b fs l.frame (trees (map resolved_data l.ts)))) l.levels;

@@ -1,4 +1,4 @@
-use Rattle.std.proofs.Common.{ap, ◌∙◌}
+use Rattle.std.proofs.Common.{Some, ap, ◌∙◌}
 use Rattle.spectra_resolved.specs.Views.{resolved_data}
 use Rattle.spectra_elaboration.specs.Levels.{within_limits}
 use Rattle.spectra_elaboration.specs.DefinitionViews.{definitions_data}
@@ -10,7 +10,9 @@ pub returns-in-Ok : goal.returns-in-Ok
 returns-in-Ok c =
     let t = resolved_data c.args.t.now in
     let all = filled_at (definitions_data c.args.definitions.now) c.in_ok-frames.frames.items 0 t in
-    made_within c.args.room c.args.levels all c.in-Ok.made c.in-Ok.ensures.made c.in-Ok.ensures.flat ∙ ap (within_limits c.args.room c.args.levels) (c.in_ok-frames.ensures.line t)
+    ap (λ x. Some (resolved_data x)) c.into_inner.ensures
+    ∙ made_within c.args.room c.args.levels all c.in-Ok.made c.in-Ok.ensures.made c.in-Ok.ensures.flat
+    ∙ ap (within_limits c.args.room c.args.levels) (c.in_ok-frames.ensures.line t)
 
 pub returns-in-Err-Large : goal.returns-in-Err-Large
 returns-in-Err-Large c =

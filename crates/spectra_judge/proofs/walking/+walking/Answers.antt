@@ -1,6 +1,7 @@
 use Rattle.std.proofs.Common.{◌≡◌, ◌+◌, ◌∷◌, ◌++◌, drop, map, get_or, sym, ap, ◌∙◌, arith}
 use Rattle.std.proofs.Common.{w64}
 use Rattle.std.proofs.lemmas.Int.{to_z-of_z}
+use Rattle.spectra_resolved.specs.Chained.{chained}
 use Rattle.spectra_resolved.specs.Views.{resolved_data, link_data}
 use Rattle.spectra_resolved.specs.Findings.{with_faults}
 use Rattle.spectra_resolved.specs.Reports.{found_in}
@@ -55,15 +56,30 @@ walk_operands-loop-t-preserved t c =
           ∙ c.loop-t.invariant.found;
     }
 
-pub walk_links-loop-link-preserved : goal.walk_links-loop-link-preserved
-walk_links-loop-link-preserved t c =
+pub walk_chain-loop-link-init : goal.walk_chain-loop-link-init
+walk_chain-loop-link-init t c =
+    let s = setting_data c.args.setting.now in
+    let o = c.args.around in
+    let old = found_in c.args.findings.now in
+    let head = resolved_data c.args.head.now in
+    let links = map link_data c.args.links.now in
+    let inner = c.at.ensures ∙ sym (c.opened_in-opened.ensures o 0) in
+    let found = c.walk-kind.ensures.found ∙ (λ i. with_faults old (faults s (inner i) head)) in
+    record {
+      place = omega arith;
+      kind = (λ i. chain_kind s.known (c.walk-kind.ensures.kind i) links) ∙ chain_kind_is s.known head links;
+      found = (λ i. with_faults (found i) (chain_faults s o (c.walk-kind.ensures.kind i) links)) ∙ chain_faults_is s o old head links;
+    }
+
+pub walk_chain-loop-link-preserved : goal.walk_chain-loop-link-preserved
+walk_chain-loop-link-preserved t c =
     let s = setting_data c.args.setting.now in
     let o = c.args.around in
     let ls = c.args.links.now in
     let k = c.loop-link.link-index in
     let l = c.link-item.result in
     let kind = kind_data c.loop-link.kind in
-    let inner = c.at-inner.ensures ∙ sym (c.requires.opened c.loop-link.place) ∙ ap (λ p. opened s.known.brought o (map link_data (drop p ls))) c.loop-link.invariant.place in
+    let inner = c.at-inner.ensures ∙ sym (c.opened_in-opened.ensures o c.loop-link.place) ∙ ap (λ p. opened s.known.brought o (map link_data (drop p ls))) c.loop-link.invariant.place in
     record {
       place = omega arith;
       kind =
@@ -110,10 +126,8 @@ walk-returns-in-Chain-clause-kind t c =
     let known = (setting_data c.args.setting.now).known in
     let head = c.in-Chain.head in
     let links = c.in-Chain.links in
-    let first = c.walk-kind.ensures.kind ∙ ap (λ h. kind_of known (resolved_data h)) c.deref-in-Chain.ensures in
-    c.walk_links.ensures.kind
-    ∙ (λ i. chain_kind known (first i) (map link_data (c.deref-in-Chain-2.ensures.value i)))
-    ∙ chain_kind_is known (resolved_data head.value) (map link_data links.items)
+    c.walk_chain.ensures.kind
+    ∙ (λ i. kind_of known (chained (resolved_data (c.deref.ensures i)) (map link_data (c.deref-in-Chain.ensures.value i))))
     ∙ ap (kind_of known) (sym (ap resolved_data c.in-Chain.is ∙ chain_data head links))
 
 pub walk-returns-in-Chain-clause-found : goal.walk-returns-in-Chain-clause-found
@@ -123,10 +137,6 @@ walk-returns-in-Chain-clause-found t c =
     let old = found_in c.args.findings.now in
     let head = c.in-Chain.head in
     let links = c.in-Chain.links in
-    let first = c.walk-kind.ensures.kind ∙ ap (λ h. kind_of s.known (resolved_data h)) c.deref-in-Chain.ensures in
-    let inner = c.at.ensures ∙ sym (c.opened_in-opened.ensures o 0) ∙ ap (λ xs. opened s.known.brought o (map link_data xs)) c.deref.ensures.value in
-    let found = c.walk-kind.ensures.found ∙ (λ i. with_faults old (faults s (inner i) (resolved_data (c.deref-in-Chain.ensures i)))) in
-    c.walk_links.ensures.found
-    ∙ (λ i. with_faults (found i) (chain_faults s o (first i) (map link_data (c.deref-in-Chain-2.ensures.value i))))
-    ∙ chain_faults_is s o old (resolved_data head.value) (map link_data links.items)
+    c.walk_chain.ensures.found
+    ∙ (λ i. with_faults old (faults s o (chained (resolved_data (c.deref.ensures i)) (map link_data (c.deref-in-Chain.ensures.value i)))))
     ∙ ap (λ e. with_faults old (faults s o e)) (sym (ap resolved_data c.in-Chain.is ∙ chain_data head links))

@@ -1,23 +1,27 @@
-use Rattle.std.proofs.Common.{◌≡◌, ◌∷◌, drop, map}
-use Rattle.spectra_resolved.specs.Chained.{trees}
+use Rattle.std.proofs.Common.{◌≡◌, ◌+◌, ◌*◌, ◌∷◌, max, drop, map}
+use denote.Param.Weighed.{most}
+use Rattle.spectra_resolved.specs.declared.tree.Resolved.{size-Resolved}
+use Rattle.spectra_resolved.specs.declared.tree.Shape.{size-Shape}
+use Rattle.spectra_resolved.specs.declared.tree.Link.{size-Link}
+use Rattle.spectra_resolved.specs.Chained.{chained, trees}
 use Rattle.spectra_resolved.specs.Views.{resolved_data, link_data}
 use Rattle.spectra_resolved.specs.Findings.{with_faults}
 use Rattle.spectra_resolved.specs.Reports.{found_in}
 use Rattle.spectra_judge.specs.KindViews.{kind_data, setting_data}
 use Rattle.spectra_judge.specs.Known.{wanted}
-use Rattle.spectra_judge.specs.Judged.{operand_faults, argument_faults}
+use Rattle.spectra_judge.specs.Judged.{kind_of, faults, operand_faults, argument_faults}
 use Rattle.spectra_judge.specs.Chains.{chain_kind, chain_faults}
 use Rattle.spectra_judge.proofs.walking.+walking.Given as goal
 
 -- what is left is the answer
-abbrev pub invariant-walk_links-loop-link : goal.invariant-walk_links-loop-link
-invariant-walk_links-loop-link l =
+abbrev pub invariant-walk_chain-loop-link : goal.invariant-walk_chain-loop-link
+invariant-walk_chain-loop-link l =
     record {
       place : l.place ≡ l.link-index;
       kind : chain_kind (setting_data l.setting).known (kind_data l.kind) (map link_data (drop l.link-index l.links))
-          ≡ chain_kind (setting_data l.setting).known (kind_data l.first) (map link_data l.links);
+          ≡ kind_of (setting_data l.setting).known (chained (resolved_data l.head) (map link_data l.links));
       found : with_faults (found_in l.findings) (chain_faults (setting_data l.setting) l.around (kind_data l.kind) (map link_data (drop l.link-index l.links)))
-          ≡ with_faults (found_in l.fn.findings) (chain_faults (setting_data l.setting) l.around (kind_data l.first) (map link_data l.links));
+          ≡ with_faults (found_in l.fn.findings) (faults (setting_data l.setting) l.around (chained (resolved_data l.head) (map link_data l.links)));
     }
 
 abbrev pub invariant-walk_operands-loop-t : goal.invariant-walk_operands-loop-t
@@ -35,3 +39,33 @@ invariant-walk_arguments-loop-t l =
       found : with_faults (found_in l.findings) (argument_faults (setting_data l.setting) l.around (drop l.t-index (wanted (setting_data l.setting).known l.predicate)) (trees (map resolved_data (drop l.t-index l.ts))))
           ≡ with_faults (found_in l.fn.findings) (argument_faults (setting_data l.setting) l.around (wanted (setting_data l.setting).known l.predicate) (trees (map resolved_data l.ts)));
     }
+
+abbrev pub decreases-walk : goal.decreases-walk
+decreases-walk l = 8 * size-Resolved l.tree.now
+
+abbrev pub decreases-walk_chain : goal.decreases-walk_chain
+decreases-walk_chain l = 8 * max (size-Resolved l.head.now) (most (λ k. size-Link k) l.links.now) + 3
+
+abbrev pub decreases-walk_link : goal.decreases-walk_link
+decreases-walk_link l = 8 * size-Link l.link.now + 1
+
+abbrev pub decreases-walk_shape : goal.decreases-walk_shape
+decreases-walk_shape l = 8 * size-Shape l.shape.now + 4
+
+abbrev pub decreases-walk_prefix : goal.decreases-walk_prefix
+decreases-walk_prefix l = 8 * size-Resolved l.t.now + 1
+
+abbrev pub decreases-walk_remainder : goal.decreases-walk_remainder
+decreases-walk_remainder l = 8 * size-Resolved l.t.now + 1
+
+abbrev pub decreases-walk_operands : goal.decreases-walk_operands
+decreases-walk_operands l = 8 * most (λ t. size-Resolved t) l.ts.now + 2
+
+abbrev pub decreases-walk_operand : goal.decreases-walk_operand
+decreases-walk_operand l = 8 * size-Resolved l.t.now + 1
+
+abbrev pub decreases-walk_arguments : goal.decreases-walk_arguments
+decreases-walk_arguments l = 8 * most (λ t. size-Resolved t) l.ts.now + 2
+
+abbrev pub decreases-walk_argument : goal.decreases-walk_argument
+decreases-walk_argument l = 8 * size-Resolved l.t.now + 1

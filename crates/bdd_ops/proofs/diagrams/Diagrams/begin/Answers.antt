@@ -1,10 +1,10 @@
-use Rattle.std.proofs.Common.{◌≡◌, ◌++◌, true, false, ◌∙◌, sym, ap, subst, List, [], length, arith}
+use Rattle.std.proofs.Common.{◌≡◌, ◌++◌, true, ◌∙◌, sym, ap, subst, List, [], length, arith}
 use Rattle.std.proofs.lemmas.Bool.{false≢true}
 use Rattle.bdd_store.specs.declared.edge.Edge.{Edge}
 use Rattle.bdd_ops.specs.Together.{all_in, IsRow, SettlesRow}
 use Rattle.bdd_ops.specs.Searching.{row_at}
 use Rattle.bdd_ops.proofs.RowLemmas.{row_from_live}
-use Rattle.bdd_ops.proofs.SearchLemmas.{row_behind}
+use Rattle.bdd_ops.proofs.PlaceLemmas.{row_behind}
 use Rattle.bdd_ops.proofs.diagrams.Diagrams.begin.Goals as goal
 
 pub returns-clause-first : goal.returns-clause-first

@@ -1,10 +1,11 @@
-use Rattle.std.proofs.Common.{◌≡◌, ◌≤◌, ◌<◌, ◌+◌, ◌-◌, ◌*◌, ◌∙◌, ℕ, Bool, true, false, Option, Some, None, List, length, sym, ap, subst, arith}
+use Rattle.std.proofs.Common.{◌≡◌, ◌≤◌, ◌<◌, ◌+◌, ◌-◌, ◌∙◌, ℕ, Bool, true, List, length, sym, ap, subst, arith}
 use Rattle.spec_model.specs.DiagramReads.{bits_of}
 use Rattle.bdd_store.specs.declared.edge.Edge.{Edge}
 use Rattle.bdd_ops.specs.Paths.{IsFirst}
 use Rattle.bdd_ops.specs.Together.{all_in}
-use Rattle.bdd_ops.specs.Searching.{row_at, top_of, level_for, next_of, cost_of, pending, IsSearch}
-use Rattle.bdd_ops.proofs.SearchLemmas.{split_facts, room_at, search_finds, search_steps_on, search_steps_fail, search_steps_back, fewer_steps_on, fewer_steps_fail, fewer_steps_end, fewer_steps_back, bits_at}
+use Rattle.bdd_ops.specs.Searching.{row_at, next_of, cost_of, pending, IsSearch}
+use Rattle.bdd_ops.proofs.PlaceLemmas.{room_at}
+use Rattle.bdd_ops.proofs.SearchLemmas.{split_facts, search_finds, search_steps_on, search_steps_fail, search_steps_back, fewer_steps_on, fewer_steps_fail, fewer_steps_end, fewer_steps_back, bits_at}
 use Rattle.bdd_ops.proofs.diagrams.Diagrams.first_in.Goals as goal
 
 pub row_at-row-requires : goal.row_at-row-requires

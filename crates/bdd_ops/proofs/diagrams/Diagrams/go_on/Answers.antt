@@ -1,8 +1,8 @@
-use Rattle.std.proofs.Common.{◌≡◌, ◌+◌, ◌++◌, ◌∙◌, ℕ, List, length, sym, subst, arith}
+use Rattle.std.proofs.Common.{◌≡◌, ◌+◌, ◌++◌, ◌∙◌, List, length, sym, subst, arith}
 use Rattle.bdd_store.specs.declared.edge.Edge.{Edge}
 use Rattle.bdd_ops.specs.Together.{all_in, HasNoneWith}
 use Rattle.bdd_ops.specs.Searching.{row_at, IsNext}
-use Rattle.bdd_ops.proofs.SearchLemmas.{row_kept, row_read, row_behind}
+use Rattle.bdd_ops.proofs.PlaceLemmas.{row_kept, row_read, row_behind}
 use Rattle.bdd_ops.proofs.diagrams.Diagrams.go_on.Goals as goal
 
 pub returns-clause-kept : goal.returns-clause-kept

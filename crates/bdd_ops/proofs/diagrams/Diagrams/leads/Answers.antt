@@ -3,7 +3,7 @@ use Rattle.std.proofs.lemmas.Bool.{false≢true}
 use Rattle.bdd_ops.specs.Paths.{Agrees}
 use Rattle.bdd_ops.specs.Together.{all_in, SettlesRow}
 use Rattle.bdd_ops.proofs.RowLemmas.{agrees_above}
-use Rattle.bdd_ops.proofs.FirstLemmas.{with_forbidden, with_none}
+use Rattle.bdd_ops.proofs.FirstLemmas.{with_forbidden}
 use Rattle.bdd_ops.proofs.diagrams.Diagrams.leads.Goals as goal
 
 pub returns-then-not-allows_at-clause-none : goal.returns-then-not-allows_at-clause-none

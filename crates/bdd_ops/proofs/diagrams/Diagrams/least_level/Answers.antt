@@ -1,4 +1,4 @@
-use Rattle.std.proofs.Common.{◌≡◌, ◌<◌, length, get_or, arith}
+use Rattle.std.proofs.Common.{◌<◌, length, get_or, arith}
 use Rattle.std.proofs.lemmas.List.{get_or_default}
 use Rattle.bdd_store.specs.declared.edge.Edge.{Edge}
 use Rattle.bdd_ops.proofs.RowLemmas.{least_more}

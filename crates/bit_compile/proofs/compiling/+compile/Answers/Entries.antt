@@ -13,7 +13,6 @@ use Rattle.game_values.specs.Safety.{formulas_in}
 use Rattle.game_values.specs.declared.seen.At.TheVariants.{Now}
 use Rattle.bdd_ops.specs.Contents.{function_at}
 use Rattle.bit_compile.specs.declared.cases.CaseRoot.{CaseRoot}
-use Rattle.bit_compile.specs.declared.pairs.Test.TheVariants as test
 use Rattle.bit_compile.specs.Domains.{level_count}
 use Rattle.bit_compile.specs.Making.{Makes}
 use Rattle.bit_compile.specs.Compiled.{Case, truth_in, truths_in}

@@ -3,7 +3,7 @@ use Rattle.bdd_ops.specs.Functions.{joined, join_of}
 use Rattle.bdd_ops.specs.Contents.{function_at}
 use Rattle.bit_compile.specs.Making.{Makes}
 use Rattle.bit_compile.specs.CaseRoots.{AreKept, is_all, folded}
-use Rattle.bit_compile.proofs.folds.folded.Given as goal
+use Rattle.bit_compile.proofs.folds.joined_forth.Given as goal
 
 -- the functions so far, and those that are left
 abbrev pub invariant-loop-case : goal.invariant-loop-case
