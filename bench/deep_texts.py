@@ -218,4 +218,37 @@ LONG = [
     refused("50,000 defines of one name", HEAD + "define d := true;\n" * 50_000, NEXT + 1, 8, "8 Twice"),
 ]
 
-TEXTS = [*CHAINS, *DOUBLING, *ROWS, *NESTED, *REPEATS, *LONG]
+# ---- hidden tables at their limits, and what is no table of a strategy
+
+BITS = "spec Tables\nsys boolean g;\n" + "".join(f"env boolean q{k};\n" for k in range(8))
+PARAMETERS = ", ".join(f"q{k}" for k in range(8))
+
+
+def counting(alternatives):
+    """A pattern that counts to 64, with 8 parameters and so many alternatives in a line, and a use of it."""
+    line = " & ".join(f"(q{k % 8} | !q{k % 8})" for k in range(alternatives))
+    pattern = f"pattern p({PARAMETERS}) {{ var Int(0..63) s; ini s = 0; alw {line}; alw next(s) = (s + 1) mod 64; alwEv s = 0; }}\n"
+    return Hostile(f"a pattern at its limits, with {alternatives} alternatives in a line", BITS + pattern + f"gar p({PARAMETERS});\n", "audit ok 0\n", 0, "audit")
+
+
+def far(count):
+    """So many triggers whose cause is 7 positions long, and one that is too wide."""
+    brackets = ["".join(f" [q{(k >> j) % 8}]" for j in range(6)) for k in range(count)]
+    triggers = "".join(f"gar trig [true]* [q{k % 8}] [true]{{6}} |=>{brackets[k]};\n" for k in range(count))
+    return refused(f"{count} triggers of 128 sets, and one that is too wide", BITS + triggers + "gar trig [true]{65} |=> [g];\n", 11 + count, 5, "22 TriggerWide")
+
+
+def no_table(name, given):
+    return Hostile(f"{name} as a table", HEAD + "gar alw g;\n", "table refused\n", 13, "verify", given)
+
+
+TABLES = [
+    counting(3), counting(30), counting(300), far(10), far(500),
+    no_table("16,000,000 open brackets", "[" * 16_000_000), no_table("3,000,000 names in one another", '{"a":' * 3_000_000),
+    no_table("a number of 16,000,000 digits", '{"first":[0],"k":' + "9" * 16_000_000),
+    no_table("8,000,000 numbers", '{"first":[' + "0," * 8_000_000 + "0]}"),
+    no_table("500,000 names", "{" + ",".join(f'"k{k}":0' for k in range(500_000)) + "}"),
+    no_table("16,777,217 blanks", " " * 16_777_217),
+]  # fmt: skip
+
+TEXTS = [*CHAINS, *DOUBLING, *ROWS, *NESTED, *REPEATS, *LONG, *TABLES]

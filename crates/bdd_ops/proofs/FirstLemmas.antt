@@ -105,7 +105,7 @@ pub none_from_before : (fixed : List (Option Bool)) (f : Function) (level top : 
 none_from_before fixed f level top le none t agrees makes = none t (agrees_above fixed level top t le agrees) makes
 
 -- past the last level nothing is left to choose
-past_agrees : (fixed : List (Option Bool)) (levels : ℕ) (s : Bits) → length fixed ≡ levels → Agrees fixed levels s
+pub past_agrees : (fixed : List (Option Bool)) (levels : ℕ) (s : Bits) → length fixed ≡ levels → Agrees fixed levels s
 past_agrees fixed levels s long k above =
     let past : fixed_at fixed k ≡ None = get_or_past fixed k None (omega arith) in
     subst (λ (o : Option Bool). AgreesAt o (s k)) (sym past) tt

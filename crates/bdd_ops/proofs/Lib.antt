@@ -22,3 +22,4 @@ pub mod FirstLemmas
 pub mod SplitLemmas
 pub mod PlaceLemmas
 pub mod SearchLemmas
+pub mod WayLemmas

@@ -270,7 +270,7 @@ pending_same bits bits' levels (suc depth) same =
     let here : cost_of (next_of (bits' depth)) (levels - depth) ≡ cost_of (next_of (bits depth)) (levels - depth) = ap (λ (b : Bool). cost_of (next_of b) (levels - depth)) (same depth (omega arith)) in
     let sum : pending bits' levels depth + cost_of (next_of (bits' depth)) (levels - depth) ≡ pending bits levels depth + cost_of (next_of (bits depth)) (levels - depth) = omega (arith, rest, here) in sum
 
-pending_more : (bits : ℕ → Bool) (levels depth : ℕ) → pending bits levels (depth + 1) ≡ pending bits levels depth + cost_of (next_of (bits depth)) (levels - depth)
+pub pending_more : (bits : ℕ → Bool) (levels depth : ℕ) → pending bits levels (depth + 1) ≡ pending bits levels depth + cost_of (next_of (bits depth)) (levels - depth)
 pending_more bits levels depth = ap (pending bits levels) (add-one depth)
 
 cost_more : (count : ℕ) → 0 < count → cost count ≡ 2 * cost (count - 1) + 5

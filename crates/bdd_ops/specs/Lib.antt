@@ -7,6 +7,7 @@ pub mod Paths
 pub mod Reading
 pub mod Together
 pub mod Searching
+pub mod Ways
 pub mod Splits
 pub mod Frames
 pub mod MovedFrames

@@ -1,5 +1,5 @@
 -- The first bits, level by level and false before true, that agree with what is fixed and make a function true.
-use Rattle.std.specs.Prelude.{◌≡◌, ◌⊎◌, ◌≤◌, ◌+◌, ℕ, zero, suc, Bool, true, false, Option, Some, None, List, slice_index_or}
+use Rattle.std.specs.Prelude.{◌≡◌, ◌⊎◌, ◌≤◌, ℕ, zero, suc, Bool, true, false, Option, Some, None, List, slice_index_or}
 use Rattle.spec_model.specs.Diagrams.{Bits, Function}
 
 -- the bit is the fixed one, if one is fixed
@@ -28,9 +28,3 @@ pub record IsFirst (fixed : List (Option Bool)) (f : Function) (level count : �
 -- no bits agree and make the function true
 abbrev pub HasNone : List (Option Bool) → Function → ℕ → Type 0
 HasNone fixed f level = (t : Bits) → Agrees fixed level t → f t ≡ true → ⊥
-
--- this bit may stand at the level and does, and the bits from the next level on are the first
-pub record IsFirstAt (fixed : List (Option Bool)) (f : Function) (level count : ℕ) (bit : Bool) (s : Bits) : Type 0 where
-  pub allowed : AgreesAt (fixed_at fixed level) bit
-  pub here : s level ≡ bit
-  pub rest : IsFirst fixed f (level + 1) count s

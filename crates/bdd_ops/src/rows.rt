@@ -35,7 +35,7 @@ pub fn write_first(fixed: &[Option<bool>], out: &mut [bool])
 
 impl Diagrams {
     /// The part of an edge that a bit at a level leads to: the edge itself where it stands later.
-    fn chosen(&self, e: Edge, level: usize, bit: bool) -> Edge
+    pub(crate) fn chosen(&self, e: Edge, level: usize, bit: bool) -> Edge
         requires live { IsEdge self.now.state e.0 }
         requires below { level < self.now.state.table.levels }
         requires from { level ≤ level_at self.now e.0 }

@@ -3,8 +3,8 @@ use Rattle.std.proofs.Common.{◌≡◌, ℕ, Bool, true, false, ◌&&◌, Resul
 use Rattle.spec_model.specs.Diagrams.{Function, exists_over, and_exists_over}
 use Rattle.bdd_store.specs.State.{IsRoot, SameRoots, AddsRoot}
 use Rattle.bdd_ops.specs.Functions.{joined, join_of}
-use Rattle.bdd_ops.specs.Contents.{Contents, function_at}
-use Rattle.bdd_ops.specs.Calls.{KeepsRoots}
+use Rattle.bdd_bits.specs.Contents.{Contents, function_at}
+use Rattle.bdd_bits.specs.Calls.{KeepsRoots, SameNodes}
 use Rattle.regions.specs.declared.types.Halt.{Halt}
 use Rattle.regions.specs.declared.types.Halt.TheVariants as halt
 use Rattle.bit_compile.specs.Making.{Makes}
@@ -60,6 +60,7 @@ made_still base old new a f makes roots keeps =
       keeps = record {
         levels = keeps.levels ∙ makes.keeps.levels;
         budget = keeps.budget ∙ makes.keeps.budget;
+        order = keeps.order ∙ makes.keeps.order;
         meaning = λ n root. keeps.meaning n (root_added base old a f makes n root) ∙ makes.keeps.meaning n root;
       };
       full = λ e. not_budget e;
@@ -67,12 +68,12 @@ made_still base old new a f makes roots keeps =
 
 -- the early way's result in the place of the target
 pub early_made : (base old mid new : Contents) (target : ℕ) (f : Function) (m : Members) (levels : NextLevels) (r : Result ℕ Halt) → Makes base old (Ok target) f → AreMembers base m → Makes old mid r (avoiding (move_functions old m) levels.reply.items levels.all.items (function_at old target)) →
-    AddsRoot new.state mid.state target → new.state.table ≡ mid.state.table → Makes base new r (avoiding (move_functions base m) levels.reply.items levels.all.items f)
-early_made base old mid new target f m levels r first are makes back table =
+    AddsRoot new.state mid.state target → SameNodes mid new → Makes base new r (avoiding (move_functions base m) levels.reply.items levels.all.items f)
+early_made base old mid new target f m levels r first are makes back nodes =
     let kept = members_kept base old m first.keeps are in
     let here = subst (λ (k : MoveFunctions). Makes old mid r (avoiding k levels.reply.items levels.all.items (function_at old target))) kept makes in
     let there = subst (λ (k : Function). Makes old mid r (avoiding (move_functions base m) levels.reply.items levels.all.items k)) first.meaning here in
-    given_back base old mid new target f (avoiding (move_functions base m) levels.reply.items levels.all.items f) first back table r there
+    given_back base old mid new target f (avoiding (move_functions base m) levels.reply.items levels.all.items f) first back nodes r there
 
 -- products fit after a root was made
 pub fits_after : (old mid : Contents) (b : ℕ) (g : Function) (m : Members) (levels : NextLevels) (e : Option Early) → Makes old mid (Ok b) g → AreMembers old m → AreRootsOfEarly old e → FitsEarly (move_functions old m) levels old e → FitsEarly (move_functions mid m) levels mid e

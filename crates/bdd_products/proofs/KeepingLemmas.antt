@@ -7,13 +7,13 @@ use Rattle.spec_model.specs.Diagrams.{Diagram, Function}
 use Rattle.bdd_store.specs.declared.fault.StoreFault.{StoreFault}
 use Rattle.bdd_store.specs.declared.fault.StoreFault.TheVariants as fault
 use Rattle.bdd_store.specs.State.{IsRoot, diagram_of, SameRoots}
-use Rattle.bdd_ops.specs.Contents.{Contents, function_at}
+use Rattle.bdd_bits.specs.Contents.{Contents, function_at}
 use Rattle.bdd_ops.specs.Functions.{joined, join_of}
-use Rattle.bdd_ops.specs.Calls.{KeepsRoots, GivesRoot}
+use Rattle.bdd_bits.specs.Calls.{KeepsRoots, GivesRoot}
 use Rattle.regions.specs.declared.types.Halt.{Halt}
 use Rattle.regions.specs.declared.types.Halt.TheVariants as halt
 use Rattle.bit_compile.specs.Making.{halted, Makes, MakesOnce}
-use Rattle.bit_compile.proofs.MakingLemmas.{Reclaims, again, keeps_freed, keeps_then, fails}
+use Rattle.bit_compile.proofs.MakingLemmas.{keeps_then, fails}
 use Rattle.bdd_sets.specs.Members.{AreRoots, all_true, functions_at}
 use Rattle.bit_compile.proofs.Filled.{contains_first, contains_later}
 use Rattle.bdd_sets.specs.Lists.{MakesList}
@@ -23,16 +23,8 @@ use Rattle.bdd_sets.proofs.NamedLemmas.{map_taken}
 use Rattle.bdd_products.specs.declared.product.Product.{Product}
 use Rattle.bdd_products.specs.Products.{AreOfMembers, MakesLines, MakesProduct, LeavesRoots}
 
--- an operation on one root, tried again on what is left
-pub again_of : (F : Diagram → Function) (M : Diagram → Diagram → Type 0) (old mid freed new : Contents) (a : ℕ) (r : Result ℕ StoreFault) → IsRoot old.state a → GivesRoot old mid (Err fault.Full) (F (diagram_of old.state a)) (M (diagram_of old.state a)) → Reclaims mid freed → GivesRoot freed new r (F (diagram_of freed.state a)) (M (diagram_of freed.state a)) → MakesOnce old new (halted r) (F (diagram_of old.state a)) (M (diagram_of old.state a))
-again_of F M old mid freed new a r root first reclaims gives =
-    let f = F (diagram_of old.state a) in
-    let may = M (diagram_of old.state a) in
-    let keeps = keeps_freed old mid freed new f may first reclaims in
-    again old mid freed new f may first reclaims r (subst (λ (d : Diagram). GivesRoot freed new r (F d) (M d)) (keeps.meaning a root) gives)
-
 pub keeps_itself : (c : Contents) → KeepsRoots c c
-keeps_itself c = record { levels = refl; budget = refl; meaning = λ n root. refl }
+keeps_itself c = record { levels = refl; budget = refl; order = refl; meaning = λ n root. refl }
 
 -- a result that says more
 pub on_ok : {V : Type 0} (r : Result V Halt) (P Q : Type 0) → (P → Q) → OnOk r P → OnOk r Q

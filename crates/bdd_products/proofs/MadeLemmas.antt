@@ -4,7 +4,8 @@ use Rattle.std.proofs.lemmas.Bool.{false≢true}
 use Rattle.std.specs.declared.alloc.Global.{Global}
 use Rattle.spec_model.specs.Diagrams.{Function}
 use Rattle.bdd_store.specs.State.{IsRoot, roots_at}
-use Rattle.bdd_ops.specs.Contents.{Contents}
+use Rattle.bdd_bits.specs.Contents.{Contents}
+use Rattle.bdd_bits.specs.Calls.{SameNodes}
 use Rattle.bdd_ops.specs.Functions.{joined, join_of}
 use Rattle.regions.specs.declared.types.Halt.{Halt}
 use Rattle.bit_compile.specs.Making.{Makes}
@@ -38,6 +39,7 @@ module _ (old mid : Contents) (v : Vec ℕ Global) (first second : List Function
         keeps = record {
           levels = leaves.keeps.levels ∙ lines.keeps.levels;
           budget = leaves.keeps.budget ∙ lines.keeps.budget;
+          order = leaves.keeps.order ∙ lines.keeps.order;
           meaning = λ n root. leaves.keeps.meaning n (lines_before n root) ∙ lines.keeps.meaning n root;
         };
         full = λ e. absurd (false≢true (sym (ap is_ok e)));
@@ -46,8 +48,8 @@ module _ (old mid : Contents) (v : Vec ℕ Global) (first second : List Function
   pub lines_counted : {V : Type 0} (tried : Contents) (r : Result V Halt) → LeavesRoots mid tried r → (n : ℕ) → times_in n v.items ≤ roots_at tried.state n
   lines_counted tried r leaves n = let same = leaves.roots n in let all = lines.added n in omega (arith, same, all)
 
-  pub lines_back : {V : Type 0} (tried new : Contents) (h : Halt) (r : Result V Halt) (out : List ℕ) → r ≡ Err h → LeavesRoots mid tried r → ((n : ℕ) → roots_at tried.state n ≡ roots_at new.state n + times_in n v.items) → new.state.table ≡ tried.state.table → MakesProduct old new (Err h) first second out
-  lines_back {V} tried new h r out is leaves back table =
+  pub lines_back : {V : Type 0} (tried new : Contents) (h : Halt) (r : Result V Halt) (out : List ℕ) → r ≡ Err h → LeavesRoots mid tried r → ((n : ℕ) → roots_at tried.state n ≡ roots_at new.state n + times_in n v.items) → SameNodes tried new → MakesProduct old new (Err h) first second out
+  lines_back {V} tried new h r out is leaves back nodes =
       let refused : Makes mid tried (Err h) (λ s. true) = record { meaning = tt; added = tt; refused = leaves.roots; keeps = leaves.keeps; full = λ e. leaves.full (is ∙ ap (λ (k : Halt). Err k) (ap (halt_or h) e)) } in
-      let back_there = makes_between old mid tried new (λ n. times_in n v.items) (record { keeps = lines.keeps; added = lines.added }) back table (Err h) (λ s. true) refused in
+      let back_there = makes_between old mid tried new (λ n. times_in n v.items) (record { keeps = lines.keeps; added = lines.added }) back nodes (Err h) (λ s. true) refused in
       record { is_product = tt; members = tt; added = tt; refused = back_there.refused; keeps = back_there.keeps; full = λ e. back_there.full (ap (λ (k : Halt). Err k) (ap (halt_or h) e)) }

@@ -6,8 +6,8 @@ use Rattle.spec_model.specs.Diagrams.{Function}
 use Rattle.bdd_store.specs.State.{IsRoot}
 use Rattle.bdd_ops.specs.Functions.{is_among}
 use Rattle.bdd_ops.specs.Reading.{Ignores}
-use Rattle.bdd_ops.specs.Contents.{Contents, function_at}
-use Rattle.bdd_ops.specs.Calls.{KeepsRoots}
+use Rattle.bdd_bits.specs.Contents.{Contents, function_at}
+use Rattle.bdd_bits.specs.Calls.{KeepsRoots}
 use Rattle.bdd_sets.specs.Members.{AreRoots, all_true, functions_at}
 use Rattle.bdd_sets.proofs.SpentLemmas.{item_is, function_kept}
 use Rattle.bdd_products.specs.Products.{NoneReads, out_of, levels_of, IsProductOf, IsSpread}

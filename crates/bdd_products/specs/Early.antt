@@ -1,7 +1,7 @@
 -- The lines of a game's moves as products.
 use Rattle.std.specs.Prelude.{ℕ, ◌+◌, true, [], Option, Some, None}
 use Rattle.bdd_ops.specs.Functions.{joined, join_of}
-use Rattle.bdd_ops.specs.Contents.{Contents}
+use Rattle.bdd_bits.specs.Contents.{Contents}
 use Rattle.bdd_sets.specs.declared.moves.NextLevels.{NextLevels}
 use Rattle.bdd_sets.specs.Members.{AreRoots, functions_at}
 use Rattle.bdd_sets.specs.MoveFunctions.{MoveFunctions}

@@ -6,8 +6,8 @@ use Rattle.spec_model.specs.Diagrams.{Function}
 use Rattle.bdd_store.specs.State.{roots_at, SameRoots, IsFull}
 use Rattle.bdd_ops.specs.Functions.{is_among, joined, join_of}
 use Rattle.bdd_ops.specs.Reading.{Ignores}
-use Rattle.bdd_ops.specs.Contents.{Contents}
-use Rattle.bdd_ops.specs.Calls.{KeepsRoots}
+use Rattle.bdd_bits.specs.Contents.{Contents}
+use Rattle.bdd_bits.specs.Calls.{KeepsRoots}
 use Rattle.regions.specs.declared.types.Halt.{Halt}
 use Rattle.regions.specs.declared.types.Halt.TheVariants as halt
 use Rattle.bdd_sets.specs.Members.{functions_at}

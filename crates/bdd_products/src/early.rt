@@ -5,8 +5,9 @@ ghost use Rattle.std.specs.Prelude.{◌≡◌, ◌≤◌, ◌+◌, ℕ, true, Ok
 ghost use Rattle.spec_model.specs.Diagrams.{Function, ite, shifted};
 ghost use Rattle.bdd_store.specs.State.{IsRoot, roots_at};
 ghost use Rattle.bdd_ops.specs.Functions.{joined, join_of};
-ghost use Rattle.bdd_ops.specs.Contents.{Contents, function_at};
-ghost use Rattle.bdd_ops.specs.Calls.{KeepsRoots, RisesOver, negated};
+ghost use Rattle.bdd_bits.specs.Contents.{Contents, function_at};
+ghost use Rattle.bdd_ops.specs.Calls.{negated};
+ghost use Rattle.bdd_bits.specs.Calls.{KeepsRoots, SameNodes, RisesOver};
 ghost use Rattle.bit_compile.specs.Making.{Makes};
 ghost use Rattle.bit_compile.specs.Crowding.{HasCause};
 ghost use Rattle.bdd_sets.specs.declared.moves.NextLevels.{NextLevels};
@@ -16,7 +17,7 @@ ghost use Rattle.bdd_sets.specs.NamedGame.{IsOfStep, IsOfRest};
 ghost use Rattle.bdd_products.specs.Early.{IsEarly, FitsEarly, AreLinesOf, AreEarlyRoots, AreRootsOfEarly, roots_of_products, roots_of_early};
 
 use crate::product::{Product, taken_out};
-use bdd_ops::{Diagrams, Root};
+use bdd_bits::{Diagrams, Root};
 use bdd_sets::forcing::StepRoots;
 use bdd_sets::moves::{Members, NextLevels, avoided as avoided_plainly};
 use bdd_sets::spent::{and_spent, ite_spent, not_spent};
@@ -71,7 +72,7 @@ impl Early {
 pub fn release_early(diagrams: &mut Diagrams, early: Option<Early>)
     requires { (n : ℕ) → roots_of_early n early ≤ roots_at diagrams.old.state n }
     ensures released { (n : ℕ) → roots_at diagrams.old.state n ≡ roots_at diagrams.new.state n + roots_of_early n early }
-    ensures table { diagrams.new.state.table ≡ diagrams.old.state.table }
+    ensures nodes { SameNodes diagrams.old diagrams.new }
 {
     if let Some(early) = early {
         let Early { replies, inputs } = early;
@@ -162,7 +163,7 @@ pub fn system_states(
     requires later { AreMembers diagrams.old roots.now.later }
     requires kept { AreRootsOfEarly diagrams.old early.now }
     requires fits { FitsEarly (move_functions diagrams.old roots.now.later) levels.now diagrams.old early.now }
-    requires rising { RisesOver diagrams.old.state.table.levels levels.now.to.items (function_at diagrams.old t.now) }
+    requires rising { RisesOver diagrams.old.state.table.levels diagrams.old.order levels.now.to.items (function_at diagrams.old t.now) }
     ensures cause { let old = diagrams.old in
         HasCause old diagrams.new result (IsOfStep (lists_at old roots.now.later) levels.now (shifted levels.now.to.items (function_at old t.now))) }
     ensures made { let old = diagrams.old in
@@ -186,7 +187,7 @@ pub fn environment_states(
     requires later { AreMembers diagrams.old roots.now.later }
     requires kept { AreRootsOfEarly diagrams.old early.now }
     requires fits { FitsEarly (move_functions diagrams.old roots.now.later) levels.now diagrams.old early.now }
-    requires rising { RisesOver diagrams.old.state.table.levels levels.now.to.items (function_at diagrams.old t.now) }
+    requires rising { RisesOver diagrams.old.state.table.levels diagrams.old.order levels.now.to.items (function_at diagrams.old t.now) }
     ensures cause { let old = diagrams.old in
         HasCause old diagrams.new result (IsOfRest (lists_at old roots.now.later) levels.now (shifted levels.now.to.items (function_at old t.now))) }
     ensures made { let old = diagrams.old in

@@ -4,12 +4,12 @@ ghost use Rattle.std.specs.Prelude.{◌≡◌, ◌≤◌, true, Ok, IfOk, IfErr,
 ghost use Rattle.spec_model.specs.Diagrams.{Function};
 ghost use Rattle.bdd_store.specs.State.{IsRoot};
 ghost use Rattle.bdd_ops.specs.Functions.{joined, join_of};
-ghost use Rattle.bdd_ops.specs.Contents.{Contents, function_at};
+ghost use Rattle.bdd_bits.specs.Contents.{Contents, function_at};
 ghost use Rattle.bit_compile.specs.Making.{Makes};
 ghost use Rattle.bdd_sets.specs.Members.{AreRoots, all_true, functions_at};
 ghost use Rattle.bdd_products.specs.Products.{MakesLines};
 
-use bdd_ops::{Diagrams, Root};
+use bdd_bits::{Diagrams, Root};
 use bdd_sets::lists::push_made;
 use bdd_sets::members::with_kept;
 use bit_compile::steps::{and, constant};

@@ -3,7 +3,8 @@
 ghost use Rattle.std.specs.Prelude.{◌≡◌, ◌≤◌, ◌+◌, ℕ, List, Ok};
 ghost use Rattle.spec_model.specs.Diagrams.{Function, and_exists_over};
 ghost use Rattle.bdd_store.specs.State.{IsRoot, roots_at};
-ghost use Rattle.bdd_ops.specs.Contents.{Contents, function_at};
+ghost use Rattle.bdd_bits.specs.Contents.{Contents, function_at};
+ghost use Rattle.bdd_bits.specs.Calls.{SameNodes};
 ghost use Rattle.bit_compile.specs.Making.{Makes};
 ghost use Rattle.bdd_sets.specs.Members.{AreRoots, functions_at};
 ghost use Rattle.bdd_sets.specs.Lists.{times_in};
@@ -11,7 +12,7 @@ ghost use Rattle.bdd_products.specs.Products.{IsProduct, MakesProduct};
 
 use crate::front::lines_of;
 use crate::spreading::spread;
-use bdd_ops::{Diagrams, Root};
+use bdd_bits::{Diagrams, Root};
 use bdd_sets::lists::release_list;
 use bdd_sets::steps::and_exists;
 use regions::Halt;
@@ -53,7 +54,7 @@ impl Product {
     pub fn release(self, diagrams: &mut Diagrams)
         requires { (n : ℕ) → times_in n self.lines.items ≤ roots_at diagrams.old.state n }
         ensures released { (n : ℕ) → roots_at diagrams.old.state n ≡ roots_at diagrams.new.state n + times_in n self.lines.items }
-        ensures table { diagrams.new.state.table ≡ diagrams.old.state.table }
+        ensures nodes { SameNodes diagrams.old diagrams.new }
     {
         let Product { lines, outs: _ } = self;
         release_list(diagrams, lines);

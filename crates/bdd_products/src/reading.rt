@@ -5,12 +5,13 @@ ghost use Rattle.spec_model.specs.Diagrams.{exists_over};
 ghost use Rattle.bdd_store.specs.State.{IsRoot, diagram_of};
 ghost use Rattle.bdd_ops.specs.Functions.{is_among, join_of};
 ghost use Rattle.bdd_ops.specs.Reading.{Ignores};
-ghost use Rattle.bdd_ops.specs.Contents.{function_at};
+ghost use Rattle.bdd_bits.specs.Contents.{function_at};
+ghost use Rattle.bdd_bits.specs.Orders.{levels_of};
 ghost use Rattle.bdd_ops.specs.Steps.{IsUnfinished, IsQuantifiedPart};
 ghost use Rattle.bit_compile.specs.Making.{MakesOnce};
 ghost use Rattle.bdd_products.specs.Products.{LeavesRoots, IgnoresAll};
 
-use bdd_ops::{Diagrams, Root, StoreFault};
+use bdd_bits::{Diagrams, Root, StoreFault};
 use bit_compile::steps::told;
 use regions::Halt;
 
@@ -18,7 +19,7 @@ use regions::Halt;
 fn exists(diagrams: &mut Diagrams, a: &Root, levels: &[u32]) -> Result<Root, Halt>
     requires { IsRoot diagrams.old.state a.now }
     ensures { MakesOnce diagrams.old diagrams.new result (exists_over levels.now (function_at diagrams.old a.now))
-        (IsUnfinished (join_of false) (IsQuantifiedPart (join_of false) levels.now (diagram_of diagrams.old.state a.now))) }
+        (IsUnfinished (join_of false) (IsQuantifiedPart (join_of false) (levels_of diagrams.old.order levels.now) (diagram_of diagrams.old.state a.now))) }
 {
     match diagrams.exists(a, levels) {
         Ok(root) => Ok(root),

@@ -4,12 +4,12 @@ ghost use Rattle.std.specs.Prelude.{◌≡◌, ◌<◌, ◌||◌, ℕ, true, IfO
 ghost use Rattle.bdd_store.specs.State.{IsRoot};
 ghost use Rattle.bdd_ops.specs.Functions.{is_among};
 ghost use Rattle.bdd_ops.specs.Reading.{Ignores};
-ghost use Rattle.bdd_ops.specs.Contents.{function_at};
+ghost use Rattle.bdd_bits.specs.Contents.{function_at};
 ghost use Rattle.bdd_sets.specs.Members.{AreRoots, functions_at};
 ghost use Rattle.bdd_products.specs.Products.{LeavesRoots, IsSpread, levels_of};
 
 use crate::reading::{add_all, part_levels};
-use bdd_ops::{Diagrams, Root};
+use bdd_bits::{Diagrams, Root};
 use regions::Halt;
 use std::alloc::Global;
 

@@ -19,7 +19,7 @@ use Rattle.regions.specs.declared.types.When.TheVariants.{First, Later}
 use Rattle.regions.specs.Rules.{is_time}
 use Rattle.game_values.specs.declared.seen.At.TheVariants.{Now, Next}
 use Rattle.bdd_ops.specs.Reading.{Ignores}
-use Rattle.bdd_ops.specs.Calls.{RisesOver}
+use Rattle.bdd_bits.specs.Calls.{RisesOver}
 use Rattle.bit_compile.specs.Domains.{state_domains, level_count}
 use Rattle.bit_compile.specs.Compiled.{compiled}
 use Rattle.bit_compile.specs.CompileLaws.{IsFormulaOf, IsReadLevel}
@@ -28,7 +28,9 @@ use Rattle.bit_compile.proofs.CyclesLemmas.{take_next}
 use Rattle.bdd_sets.specs.declared.lines.Side.{Side}
 use Rattle.bdd_sets.specs.declared.lines.Side.TheVariants.{Assumptions, Guarantees}
 use Rattle.bdd_sets.specs.StateBits.{HasState}
+use Rattle.bdd_bits.specs.Orders.{BitOrder}
 use Rattle.bdd_sets.specs.MoveBits.{IsLevelOf, LeadsToNext}
+use Rattle.bdd_sets.specs.NextOrders.{KeepsNext}
 use Rattle.bdd_sets.specs.ToldMoves.{HasBefore, TellsMoves}
 use Rattle.bdd_sets.specs.Members.{all_true}
 use Rattle.bdd_sets.specs.Lines.{first_lines, safety_lines, is_late, line_functions, functions_of, functions_judged}
@@ -45,7 +47,7 @@ module _ (g : GameData) (e : Formula) (f : Function) (is : IsFormulaOf g e f) (n
       none (k, known, inl level) = outside k known level
       none (k, known, inr (level, awaited)) = absurd (false≢true (sym now ∙ awaited.0))
 
-  pub line_rises : (levels : ℕ) (to : List ℕ) → levels ≡ level_count (state_domains g) → LeadsToNext g to → RisesOver levels to f
+  pub line_rises : (levels : ℕ) (o : BitOrder) (to : List ℕ) → levels ≡ level_count (state_domains g) → LeadsToNext g to → KeepsNext g o to → RisesOver levels o to f
   line_rises = rises_over g f present_only
 
 left_false : (p q : Bool) → (p || q) ≡ false → p ≡ false

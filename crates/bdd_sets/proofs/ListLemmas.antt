@@ -5,8 +5,8 @@ use Rattle.std.proofs.lemmas.Bool.{eq-eqb, false≢true}
 use Rattle.std.specs.declared.alloc.Global.{Global}
 use Rattle.spec_model.specs.Diagrams.{Function}
 use Rattle.bdd_store.specs.State.{State, IsRoot, roots_at, AddsRoot}
-use Rattle.bdd_ops.specs.Contents.{Contents, function_at}
-use Rattle.bdd_ops.specs.Calls.{KeepsRoots}
+use Rattle.bdd_bits.specs.Contents.{Contents, function_at}
+use Rattle.bdd_bits.specs.Calls.{KeepsRoots, SameNodes}
 use Rattle.regions.specs.declared.types.Halt.{Halt}
 use Rattle.regions.specs.declared.types.Halt.TheVariants as halt
 use Rattle.bit_compile.specs.Making.{Makes}
@@ -42,7 +42,7 @@ nothing_made c f =
       meaning = tt;
       added = tt;
       refused = λ n. refl;
-      keeps = record { levels = refl; budget = refl; meaning = λ n root. refl };
+      keeps = record { levels = refl; budget = refl; order = refl; meaning = λ n root. refl };
       full = λ e. absurd (false≢true (sym (ap is_memory e)));
     }
 
@@ -77,7 +77,7 @@ no_list c v none =
       meaning = ap (functions_at c) none;
       added = λ n. (let no_times = ap (times_in n) none in omega (arith, no_times));
       refused = tt;
-      keeps = record { levels = refl; budget = refl; meaning = λ n root. refl };
+      keeps = record { levels = refl; budget = refl; order = refl; meaning = λ n root. refl };
       full = λ e. absurd (false≢true (sym (ap is_ok e)));
     }
 
@@ -102,6 +102,7 @@ module _ (base mid : Contents) (v : Vec ℕ Global) (fs : List Function) (list :
       record {
         levels = keeps.levels ∙ list.keeps.levels;
         budget = keeps.budget ∙ list.keeps.budget;
+        order = keeps.order ∙ list.keeps.order;
         meaning = λ n root. keeps.meaning n (list_before n root) ∙ list.keeps.meaning n root;
       }
 
@@ -117,16 +118,16 @@ module _ (base mid : Contents) (v : Vec ℕ Global) (fs : List Function) (list :
       }
 
   -- where the next one is refused, all are given back
-  pub list_back : (whole new : Contents) (h : Halt) (f : Function) (gs : List Function) → Makes mid whole (Err h) f → ((n : ℕ) → roots_at whole.state n ≡ roots_at new.state n + times_in n v.items) → new.state.table ≡ whole.state.table → MakesList base new (Err h) gs
-  list_back whole new h f gs makes back table =
-      list_fails base new h f gs (makes_between base mid whole new (λ n. times_in n v.items) list_between back table (Err h) f makes)
+  pub list_back : (whole new : Contents) (h : Halt) (f : Function) (gs : List Function) → Makes mid whole (Err h) f → ((n : ℕ) → roots_at whole.state n ≡ roots_at new.state n + times_in n v.items) → SameNodes whole new → MakesList base new (Err h) gs
+  list_back whole new h f gs makes back nodes =
+      list_fails base new h f gs (makes_between base mid whole new (λ n. times_in n v.items) list_between back nodes (Err h) f makes)
 
   pub counted_after : (whole : Contents) (h : Halt) (f : Function) → Makes mid whole (Err h) f → (n : ℕ) → times_in n v.items ≤ roots_at whole.state n
   counted_after whole h f makes n = let all = list_counted n in let same = makes.refused n in omega (arith, all, same)
 
   -- the root that finds no room is given back
-  pub no_room : (old new : Contents) (x : ℕ) (f : Function) → Makes mid old (Ok x) f → AddsRoot new.state old.state x → new.state.table ≡ old.state.table → Makes mid new (Err halt.Memory) f
-  no_room old new x f makes back table = given_back mid old old new x f f makes back table (Err halt.Memory) (nothing_made old f)
+  pub no_room : (old new : Contents) (x : ℕ) (f : Function) → Makes mid old (Ok x) f → AddsRoot new.state old.state x → SameNodes old new → Makes mid new (Err halt.Memory) f
+  no_room old new x f makes back nodes = given_back mid old old new x f f makes back nodes (Err halt.Memory) (nothing_made old f)
 
 -- ---- one root after the other is given back
 

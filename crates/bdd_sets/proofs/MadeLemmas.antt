@@ -14,8 +14,8 @@ use Rattle.regions.specs.declared.types.When.{When}
 use Rattle.regions.specs.declared.types.Halt.{Halt}
 use Rattle.game_values.specs.declared.seen.At.TheVariants.{Next}
 use Rattle.bdd_store.specs.State.{IsRoot, roots_at}
-use Rattle.bdd_ops.specs.Contents.{Contents, function_at}
-use Rattle.bdd_ops.specs.Calls.{KeepsRoots}
+use Rattle.bdd_bits.specs.Contents.{Contents, function_at}
+use Rattle.bdd_bits.specs.Calls.{KeepsRoots, SameNodes}
 use Rattle.bit_compile.specs.Making.{Makes}
 use Rattle.bit_compile.specs.Crowding.{HasCause}
 use Rattle.bit_compile.specs.Domains.{state_domains}
@@ -105,6 +105,7 @@ keeps_after a b c first stays second =
     record {
       levels = second.levels ∙ first.levels;
       budget = second.budget ∙ first.budget;
+      order = second.order ∙ first.order;
       meaning = λ n root. second.meaning n (stays n root) ∙ first.meaning n root;
     }
 
@@ -159,12 +160,12 @@ module _ (g : GameData) (to : List ℕ) (when : When) where
       subst (λ (k : Halt). MakesMembers g to when old new (Err k)) (sym is) (members_fail old new h fs list cause)
 
   -- where a list after another is refused, the first is given back
-  module _ (base old : Contents) (made : Vec ℕ Global) (us : List Function) (first : MakesList base old (Ok made) us) (named : (f : Function) → Contains us f → IsOfGame g f) (whole new : Contents) (h : Halt) (released : (n : ℕ) → roots_at whole.state n ≡ roots_at new.state n + times_in n made.items) (table : new.state.table ≡ whole.state.table) where
+  module _ (base old : Contents) (made : Vec ℕ Global) (us : List Function) (first : MakesList base old (Ok made) us) (named : (f : Function) → Contains us f → IsOfGame g f) (whole new : Contents) (h : Halt) (released : (n : ℕ) → roots_at whole.state n ≡ roots_at new.state n + times_in n made.items) (nodes : SameNodes whole new) where
     pub back_list : (fs gs : List Function) → MakesList old whole (Err h) fs → MakesList base new (Err h) gs
-    back_list fs gs list = list_back base old made us first whole new h (λ s. true) gs (root_fails old whole h fs (λ s. true) list) released table
+    back_list fs gs list = list_back base old made us first whole new h (λ s. true) gs (root_fails old whole h fs (λ s. true) list) released nodes
 
     pub back_cause : HasCause {V = Vec ℕ Global} old whole (Err h) (IsOfGame g) → HasCause {V = Vec ℕ Global} base new (Err h) (IsOfGame g)
-    back_cause = list_cause (IsOfGame g) (IsOfGame g) (λ f is. is) base old made us first named whole new (Err h) (Err h) (λ e. (e, table))
+    back_cause = list_cause (IsOfGame g) (IsOfGame g) (λ f is. is) base old made us first named whole new (Err h) (Err h) (λ e. (e, nodes.table))
 
     pub members_back : (fs : List Function) → MakesList old whole (Err h) fs → HasCause {V = Vec ℕ Global} old whole (Err h) (IsOfGame g) → MakesMembers g to when base new (Err h)
     members_back fs list cause = members_fail base new h [] (back_list fs [] list) (back_cause cause)

@@ -2,10 +2,12 @@
 use Rattle.std.proofs.Common.{◌≡◌, ℕ, zero, suc, ◌+◌, ◌<◌, ◌==◌, Bool, true, false, Result, Ok, Err, List, [], ◌∷◌, length, map, slice_index, cond, refl, sym, ◌∙◌, ap, subst, arith, ◌&&◌, get_or, take, IsErrAnd}
 use Rattle.std.proofs.lemmas.Bool.Decides.{nat_tests}
 use borrow.Author.Tests.{eq-eqb}
-use Rattle.spec_model.specs.Diagrams.{Function, value, and_exists_over}
+use Rattle.spec_model.specs.Diagrams.{Function, and_exists_over}
 use Rattle.bdd_store.specs.State.{IsRoot, roots_at, AddsRoot}
-use Rattle.bdd_ops.specs.Contents.{Contents, function_at}
-use Rattle.bdd_ops.specs.Calls.{KeepsRoots, negated}
+use Rattle.bdd_bits.specs.Contents.{Contents, function_at}
+use Rattle.bdd_ops.specs.Calls.{negated}
+use Rattle.bdd_bits.specs.Calls.{KeepsRoots, SameNodes}
+use Rattle.bdd_bits.proofs.CallLemmas.{keeps_function}
 use Rattle.bdd_ops.specs.Functions.{joined, join_of}
 use Rattle.regions.specs.declared.types.Halt.{Halt}
 use Rattle.bit_compile.specs.Making.{Makes}
@@ -20,7 +22,7 @@ still_root old new (Err h) f makes n root = root_stays old.state new.state n mak
 
 -- a kept diagram's function stays
 pub function_kept : (old new : Contents) → KeepsRoots old new → (n : ℕ) → IsRoot old.state n → function_at new n ≡ function_at old n
-function_kept old new keeps n root = ap value (keeps.meaning n root)
+function_kept old new keeps n root = keeps_function old new n keeps root
 
 pub functions_kept : (old new : Contents) → KeepsRoots old new → (roots : List ℕ) → AreRoots old roots → functions_at new roots ≡ functions_at old roots
 functions_kept old new keeps [] are = refl
@@ -33,16 +35,16 @@ pub roots_stay : (old new : Contents) (r : Result ℕ Halt) (f : Function) → M
 roots_stay old new r f makes roots are = λ i below. still_root old new r f makes (slice_index roots i) (are i below)
 
 -- one argument is given back, after an operation on it
-pub one_spent : (F : Function → Function) (base old mid new : Contents) (a : ℕ) (f : Function) (r : Result ℕ Halt) → Makes base old (Ok a) f → Makes old mid r (F (function_at old a)) → AddsRoot new.state mid.state a → new.state.table ≡ mid.state.table → Makes base new r (F f)
-one_spent F base old mid new a f r first makes back table =
-    subst (λ (k : Function). Makes base new r (F k)) first.meaning (given_back base old mid new a f (F (function_at old a)) first back table r makes)
+pub one_spent : (F : Function → Function) (base old mid new : Contents) (a : ℕ) (f : Function) (r : Result ℕ Halt) → Makes base old (Ok a) f → Makes old mid r (F (function_at old a)) → AddsRoot new.state mid.state a → SameNodes mid new → Makes base new r (F f)
+one_spent F base old mid new a f r first makes back nodes =
+    subst (λ (k : Function). Makes base new r (F k)) first.meaning (given_back base old mid new a f (F (function_at old a)) first back nodes r makes)
 
 -- two are
-pub two_spent : (F : Function → Function → Function) (base before old mid mid' new : Contents) (a b : ℕ) (f g : Function) (r : Result ℕ Halt) → Makes base before (Ok a) f → Makes before old (Ok b) g → Makes old mid r (F (function_at old a) (function_at old b)) → AddsRoot mid'.state mid.state b → mid'.state.table ≡ mid.state.table → AddsRoot new.state mid'.state a → new.state.table ≡ mid'.state.table → Makes base new r (F f g)
-two_spent F base before old mid mid' new a b f g r first second makes back_b table_b back_a table_a =
+pub two_spent : (F : Function → Function → Function) (base before old mid mid' new : Contents) (a b : ℕ) (f g : Function) (r : Result ℕ Halt) → Makes base before (Ok a) f → Makes before old (Ok b) g → Makes old mid r (F (function_at old a) (function_at old b)) → AddsRoot mid'.state mid.state b → SameNodes mid mid' → AddsRoot new.state mid'.state a → SameNodes mid' new → Makes base new r (F f g)
+two_spent F base before old mid mid' new a b f g r first second makes back_b nodes_b back_a nodes_a =
     let whole = F (function_at old a) (function_at old b) in
-    let one = given_back before old mid mid' b g whole second back_b table_b r makes in
-    let both = given_back base before mid' new a f whole first back_a table_a r one in
+    let one = given_back before old mid mid' b g whole second back_b nodes_b r makes in
+    let both = given_back base before mid' new a f whole first back_a nodes_a r one in
     let a_is : function_at old a ≡ f = function_kept before old second.keeps a (is_root base before a f first) ∙ first.meaning in
     let with_b = subst (λ (k : Function). Makes base new r (F (function_at old a) k)) second.meaning both in
     subst (λ (k : Function). Makes base new r (F k g)) a_is with_b

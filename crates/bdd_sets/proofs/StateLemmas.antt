@@ -7,7 +7,7 @@ use Rattle.game_values.specs.declared.seen.At.TheVariants.{Now, Next}
 use Rattle.regions.specs.declared.types.Halt.{Halt}
 use Rattle.regions.specs.declared.types.When.TheVariants.{Later}
 use Rattle.bdd_ops.specs.Functions.{joined, join_of}
-use Rattle.bdd_ops.specs.Contents.{Contents, function_at}
+use Rattle.bdd_bits.specs.Contents.{Contents, function_at}
 use Rattle.bdd_ops.specs.Calls.{negated}
 use Rattle.bit_compile.specs.Making.{Makes}
 use Rattle.bdd_sets.specs.declared.moves.NextLevels.{NextLevels}

@@ -6,10 +6,12 @@ use Rattle.spec_model.specs.Sets.{StateSet, all_states, no_states, both, either,
 use Rattle.game_values.specs.declared.seen.At.{At}
 use Rattle.game_values.specs.declared.seen.At.TheVariants.{Now, Next}
 use Rattle.bdd_ops.specs.Functions.{joined, join_of}
-use Rattle.bdd_ops.specs.Calls.{RisesOver}
+use Rattle.bdd_bits.specs.Orders.{BitOrder}
+use Rattle.bdd_bits.specs.Calls.{RisesOver}
 use Rattle.bit_compile.specs.Domains.{state_domains, level_count}
 use Rattle.bdd_sets.specs.StateBits.{Tells}
 use Rattle.bdd_sets.specs.MoveBits.{LeadsToNext}
+use Rattle.bdd_sets.specs.NextOrders.{KeepsNext}
 
 -- what the operations make of functions that tell sets
 pub record OperationsTell (g : GameData) (at : At) (f h : Function) (t u : StateSet) : Type 0 where
@@ -25,5 +27,5 @@ pub record AreOneTogether (g : GameData) (at : At) (f h : Function) (t u : State
 
 -- a function that tells a set at the present bits may be moved to the next ones, and tells it there
 pub record MovesToNext (g : GameData) (to : List ℕ) (f : Function) (t : StateSet) : Type 0 where
-  pub rises : LeadsToNext g to → Tells g Now f t → RisesOver (level_count (state_domains g)) to f
+  pub rises : (o : BitOrder) → LeadsToNext g to → KeepsNext g o to → Tells g Now f t → RisesOver (level_count (state_domains g)) o to f
   pub told : LeadsToNext g to → Tells g Now f t → Tells g Next (shifted to f) t

@@ -1,6 +1,7 @@
 pub mod Laws
 pub mod StateBits
 pub mod MoveBits
+pub mod NextOrders
 pub mod ToldMoves
 pub mod MoveFunctions
 pub mod Members

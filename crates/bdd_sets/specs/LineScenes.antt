@@ -11,13 +11,14 @@ use Rattle.spec_model.specs.Steps.{Before, assumptions_hold, guarantees_hold}
 use Rattle.spec_model.specs.WellMade.{WellMade, scope_of, is_step_formula}
 use Rattle.spec_model.specs.Diagrams.{Function}
 use Rattle.regions.specs.declared.types.Halt.{Halt}
-use Rattle.bdd_ops.specs.Contents.{Contents}
-use Rattle.bit_compile.specs.Domains.{state_domains, level_count}
+use Rattle.bdd_bits.specs.Contents.{Contents}
+use Rattle.bit_compile.specs.Domains.{state_domains}
 use Rattle.bdd_sets.specs.declared.lines.Side.{Side}
 use Rattle.bdd_sets.specs.declared.lines.Side.TheVariants.{Assumptions, Guarantees}
 use Rattle.bdd_sets.specs.declared.lines.LineScene.{LineScene}
 use Rattle.bdd_sets.specs.declared.moves.Members.{Members}
 use Rattle.bdd_sets.specs.MoveBits.{LeadsToNext}
+use Rattle.bdd_sets.specs.NextOrders.{FitsNext}
 use Rattle.bdd_sets.specs.Lists.{times_in, MakesList}
 
 -- ---- what lines are compiled in
@@ -25,15 +26,15 @@ use Rattle.bdd_sets.specs.Lists.{times_in, MakesList}
 abbrev pub game_seen : LineScene → GameData
 game_seen s = game_data s.game.now
 
--- how many levels the bits of its states and of the next ones have
-abbrev pub scene_levels : LineScene → ℕ
-scene_levels s = level_count (state_domains (game_seen s))
-
 -- the game is well made, and the bits and the levels are its own
 pub record IsLineScene (s : LineScene) : Type 0 where
   pub made : WellMade (game_seen s)
   pub codes : s.codes.now ≡ state_domains (game_seen s)
   pub to : LeadsToNext (game_seen s) s.to.now
+
+-- the store is one for the bits of the scene's game
+abbrev pub FitsScene : Contents → LineScene → Type 0
+FitsScene c s = FitsNext (game_seen s) s.to.now c
 
 -- ---- lines
 

@@ -7,8 +7,8 @@ use Rattle.spec_model.specs.Games.{GameData}
 use Rattle.regions.specs.declared.types.When.{When}
 use Rattle.regions.specs.declared.types.Halt.{Halt}
 use Rattle.bdd_store.specs.State.{roots_at, SameRoots}
-use Rattle.bdd_ops.specs.Contents.{Contents}
-use Rattle.bdd_ops.specs.Calls.{KeepsRoots}
+use Rattle.bdd_bits.specs.Contents.{Contents}
+use Rattle.bdd_bits.specs.Calls.{KeepsRoots}
 use Rattle.bit_compile.specs.Crowding.{HasCause}
 use Rattle.bit_compile.specs.Named.{IsNamedOf}
 use Rattle.bdd_sets.specs.declared.moves.Members.{Members}

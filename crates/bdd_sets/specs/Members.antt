@@ -2,7 +2,7 @@
 use Rattle.std.specs.Prelude.{◌<◌, ℕ, List, map, length, slice_index, ◌≡◌, ◌⊎◌}
 use Rattle.spec_model.specs.Diagrams.{Function}
 use Rattle.bdd_store.specs.State.{IsRoot}
-use Rattle.bdd_ops.specs.Contents.{Contents, function_at}
+use Rattle.bdd_bits.specs.Contents.{Contents, function_at}
 use Rattle.bdd_sets.specs.declared.moves.Members.{Members}
 pub use Rattle.bdd_sets.specs.MoveFunctions.{all_true, MoveFunctions, reply_of, avoiding}
 use Rattle.bdd_sets.specs.NamedMoves.{MoveLists, outputs, inputs, IsFirstOfAll}

@@ -12,7 +12,7 @@ ghost use Rattle.bit_compile.specs.Crowding.{HasCause};
 ghost use Rattle.bdd_sets.specs.Goals.{TellGoals, IsOfGoals};
 
 use crate::lists::push_made;
-use bdd_ops::{Diagrams, Root};
+use bdd_bits::{Diagrams, Root};
 use bit_compile::{Codes, compile};
 use regions::Halt;
 use spec_model::game::{Game, Goal};

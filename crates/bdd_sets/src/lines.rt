@@ -6,7 +6,7 @@
 ghost use Rattle.std.specs.Prelude.{◌≡◌, ◌⊎◌, ◌++◌, List, Ok, map, true, false, IfOk};
 ghost use Rattle.std.specs.List.{Contains};
 ghost use Rattle.spec_model.specs.Diagrams.{Function};
-ghost use Rattle.bdd_ops.specs.Contents.{Contents};
+ghost use Rattle.bdd_bits.specs.Contents.{Contents};
 ghost use Rattle.bit_compile.specs.Crowding.{HasCause};
 ghost use Rattle.bit_compile.specs.Named.{IsNamedOf};
 ghost use Rattle.bdd_sets.specs.NamedGame.{IsOfGame};
@@ -18,12 +18,12 @@ ghost use Rattle.spec_model.specs.WellMade.{WellMade, scope_of, is_step_formula}
 ghost use Rattle.bit_compile.specs.Making.{Makes};
 ghost use Rattle.bdd_sets.specs.Lists.{MakesList};
 ghost use Rattle.bdd_sets.specs.Lines.{first_lines, safety_lines, is_late, is_judged_at};
-ghost use Rattle.bdd_sets.specs.LineScenes.{IsLineScene, game_seen, scene_levels, line_data, AreStepLines, IsMade, Appends};
+ghost use Rattle.bdd_sets.specs.LineScenes.{IsLineScene, game_seen, FitsScene, line_data, AreStepLines, IsMade, Appends};
 ghost use Rattle.bdd_sets.specs.Lines.{line_function, line_functions, functions_of, first_functions, functions_judged};
 
 use crate::lists::{push_made, release_list};
 use crate::spent::shift_spent;
-use bdd_ops::{Diagrams, Root};
+use bdd_bits::{Diagrams, Root};
 use bit_compile::{Codes, OutOfMemory, compile};
 use game_values::late::{nexts, waits};
 use regions::{Halt, When};
@@ -56,7 +56,7 @@ impl<'a> LineScene<'a> {
 /// The diagram of one line. Refusals are those of `compile`.
 fn line_root(diagrams: &mut Diagrams, scene: &LineScene, late: bool, e: &Expr) -> Result<Root, Halt>
     requires scene { IsLineScene scene.now }
-    requires levels { diagrams.old.state.table.levels ≡ scene_levels scene.now }
+    requires fits { FitsScene diagrams.old scene.now }
     requires formula { is_step_formula (scope_of (game_seen scene.now)) (formula e.now) ≡ true }
     requires late { late ≡ false → has_next (formula e.now) ≡ false }
     ensures made { let g = game_seen scene.now in
@@ -91,7 +91,7 @@ fn with_line(
     so_far: Vec<Root>,
 ) -> Result<Vec<Root>, Halt>
     requires scene { IsLineScene scene.now }
-    requires levels { diagrams.old.state.table.levels ≡ scene_levels scene.now }
+    requires fits { FitsScene diagrams.old scene.now }
     requires formula { is_step_formula (scope_of (game_seen scene.now)) (formula e.now) ≡ true }
     requires late { late ≡ false → has_next (formula e.now) ≡ false }
     requires so_far { IsMade diagrams.old so_far }
@@ -131,7 +131,7 @@ fn with_lines(
     so_far: Vec<Root>,
 ) -> Result<Vec<Root>, Halt>
     requires scene { IsLineScene scene.now }
-    requires levels { diagrams.old.state.table.levels ≡ scene_levels scene.now }
+    requires fits { FitsScene diagrams.old scene.now }
     requires formulas { AreStepLines (game_seen scene.now) (line_data lines.now) }
     requires so_far { IsMade diagrams.old so_far }
     ensures made { let g = game_seen scene.now in
@@ -180,7 +180,7 @@ fn first_roots(
     side: Side,
 ) -> Result<Vec<Root>, Halt>
     requires scene { IsLineScene scene.now }
-    requires levels { diagrams.old.state.table.levels ≡ scene_levels scene.now }
+    requires fits { FitsScene diagrams.old scene.now }
     ensures made { let g = game_seen scene.now in
         MakesList diagrams.old diagrams.new result (first_functions g scene.now.to.now side when) }
     ensures cause { HasCause diagrams.old diagrams.new result (IsOfGame (game_seen scene.now)) }
@@ -204,7 +204,7 @@ pub fn line_roots(
     side: Side,
 ) -> Result<Vec<Root>, Halt>
     requires scene { IsLineScene scene.now }
-    requires levels { diagrams.old.state.table.levels ≡ scene_levels scene.now }
+    requires fits { FitsScene diagrams.old scene.now }
     ensures made { let g = game_seen scene.now in
         MakesList diagrams.old diagrams.new result (functions_judged g scene.now.to.now side when) }
     ensures cause { HasCause diagrams.old diagrams.new result (IsOfGame (game_seen scene.now)) }

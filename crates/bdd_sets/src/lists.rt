@@ -3,18 +3,19 @@
 ghost use Rattle.std.specs.Prelude.{◌≡◌, ◌+◌, ◌≤◌, ◌++◌, ◌∷◌, [], ℕ, Ok, Err, List};
 ghost use Rattle.spec_model.specs.Diagrams.{Function};
 ghost use Rattle.bdd_store.specs.State.{roots_at};
-ghost use Rattle.bdd_ops.specs.Contents.{Contents};
+ghost use Rattle.bdd_bits.specs.Contents.{Contents};
+ghost use Rattle.bdd_bits.specs.Calls.{SameNodes};
 ghost use Rattle.bit_compile.specs.Making.{Makes};
 ghost use Rattle.bdd_sets.specs.Lists.{MakesList, times_in};
 
-use bdd_ops::{Diagrams, Root};
+use bdd_bits::{Diagrams, Root};
 use regions::Halt;
 
 /// Gives all roots back.
 pub fn release_list(diagrams: &mut Diagrams, mut roots: Vec<Root>)
     requires { (n : ℕ) → times_in n roots.items ≤ roots_at diagrams.old.state n }
     ensures released { (n : ℕ) → roots_at diagrams.old.state n ≡ roots_at diagrams.new.state n + times_in n roots.items }
-    ensures table { diagrams.new.state.table ≡ diagrams.old.state.table }
+    ensures nodes { SameNodes diagrams.old diagrams.new }
 {
     while let Some(root) = roots.pop() {
         diagrams.release(root);

@@ -4,14 +4,15 @@ ghost use Rattle.std.specs.Prelude.{◌≡◌, ◌++◌, List, Ok, Err};
 ghost use Rattle.spec_model.specs.Diagrams.{Function};
 ghost use Rattle.spec_model.specs.GameViews.{game_data};
 ghost use Rattle.spec_model.specs.WellMade.{WellMade};
-ghost use Rattle.bdd_ops.specs.Contents.{Contents};
-ghost use Rattle.bit_compile.specs.Domains.{state_domains, level_count};
+ghost use Rattle.bdd_bits.specs.Contents.{Contents};
+ghost use Rattle.bit_compile.specs.Domains.{state_domains};
+ghost use Rattle.bdd_sets.specs.NextOrders.{FitsNext};
 ghost use Rattle.bdd_sets.specs.ToldMoves.{TellsMoves, follows};
 ghost use Rattle.bdd_sets.specs.Members.{AreRoots, all_true, functions_at};
 ghost use Rattle.bdd_sets.specs.Forcing.{AreLevelsOf};
 ghost use Rattle.bdd_sets.specs.Lists.{MakesList};
 ghost use Rattle.bdd_sets.specs.Lines.{side_functions};
-ghost use Rattle.bdd_sets.specs.LineScenes.{IsLineScene, game_seen, scene_levels, IsMade};
+ghost use Rattle.bdd_sets.specs.LineScenes.{IsLineScene, game_seen, FitsScene, IsMade};
 ghost use Rattle.bdd_sets.specs.Updates.{update_functions};
 ghost use Rattle.bit_compile.specs.Crowding.{HasCause};
 ghost use Rattle.bdd_sets.specs.NamedGame.{IsOfGame};
@@ -21,7 +22,7 @@ use crate::lines::{LineScene, Side, line_roots};
 use crate::lists::{push_made, release_list};
 use crate::moves::{Members, NextLevels};
 use crate::updates::update_members;
-use bdd_ops::{Diagrams, Root};
+use bdd_bits::{Diagrams, Root};
 use bit_compile::Codes;
 use bit_compile::proper::proper;
 use bit_compile::steps::keep;
@@ -37,7 +38,7 @@ fn side_roots(
     side: Side,
 ) -> Result<Vec<Root>, Halt>
     requires scene { IsLineScene scene.now }
-    requires levels { diagrams.old.state.table.levels ≡ scene_levels scene.now }
+    requires fits { FitsScene diagrams.old scene.now }
     ensures made { let g = game_seen scene.now in
         MakesList diagrams.old diagrams.new result (side_functions g scene.now.to.now side when) }
     ensures cause { HasCause diagrams.old diagrams.new result (IsOfGame (game_seen scene.now)) }
@@ -77,7 +78,7 @@ fn input_roots(
     update: &[Root],
 ) -> Result<Vec<Root>, Halt>
     requires scene { IsLineScene scene.now }
-    requires levels { diagrams.old.state.table.levels ≡ scene_levels scene.now }
+    requires fits { FitsScene diagrams.old scene.now }
     requires update { AreRoots diagrams.old update.now }
     ensures made { let g = game_seen scene.now in
         MakesList diagrams.old diagrams.new result
@@ -97,7 +98,7 @@ fn with_inputs(
     outputs: Vec<Root>,
 ) -> Result<Members, Halt>
     requires scene { IsLineScene scene.now }
-    requires levels { diagrams.old.state.table.levels ≡ scene_levels scene.now }
+    requires fits { FitsScene diagrams.old scene.now }
     requires lists { (base mid : Contents) × (us os : List Function) ×
         MakesList base mid (Ok update) us × MakesList mid diagrams.old (Ok outputs) os }
     ensures { let g = game_seen scene.now in
@@ -127,7 +128,7 @@ fn with_lines_of(
     update: Vec<Root>,
 ) -> Result<Members, Halt>
     requires scene { IsLineScene scene.now }
-    requires levels { diagrams.old.state.table.levels ≡ scene_levels scene.now }
+    requires fits { FitsScene diagrams.old scene.now }
     requires list { IsMade diagrams.old update }
     ensures { let g = game_seen scene.now in
         (base : Contents) → MakesList base diagrams.old (Ok update) (update_functions g when) →
@@ -152,7 +153,7 @@ fn members_at(
 ) -> Result<Members, Halt>
     requires made { WellMade (game_data game.now) }
     requires codes { codes.now ≡ state_domains (game_data game.now) }
-    requires levels { diagrams.old.state.table.levels ≡ level_count (state_domains (game_data game.now)) }
+    requires fits { FitsNext (game_data game.now) levels.now.to.items diagrams.old }
     requires lists { AreLevelsOf (game_data game.now) levels.now }
     ensures { MakesMembers (game_data game.now) levels.now.to.items when diagrams.old diagrams.new result }
 {
@@ -174,7 +175,7 @@ pub fn first_members(
 ) -> Result<Members, Halt>
     requires made { WellMade (game_data game.now) }
     requires codes { codes.now ≡ state_domains (game_data game.now) }
-    requires levels { diagrams.old.state.table.levels ≡ level_count (state_domains (game_data game.now)) }
+    requires fits { FitsNext (game_data game.now) levels.now.to.items diagrams.old }
     requires lists { AreLevelsOf (game_data game.now) levels.now }
     ensures { MakesMembers (game_data game.now) levels.now.to.items When.First diagrams.old diagrams.new result }
 {
@@ -190,7 +191,7 @@ pub fn later_members(
 ) -> Result<Members, Halt>
     requires made { WellMade (game_data game.now) }
     requires codes { codes.now ≡ state_domains (game_data game.now) }
-    requires levels { diagrams.old.state.table.levels ≡ level_count (state_domains (game_data game.now)) }
+    requires fits { FitsNext (game_data game.now) levels.now.to.items diagrams.old }
     requires lists { AreLevelsOf (game_data game.now) levels.now }
     ensures { MakesMembers (game_data game.now) levels.now.to.items When.Later diagrams.old diagrams.new result }
 {

@@ -3,7 +3,7 @@
 
 ghost use Rattle.std.specs.Prelude.{Ok};
 ghost use Rattle.spec_model.specs.Diagrams.{Function};
-ghost use Rattle.bdd_ops.specs.Contents.{Contents};
+ghost use Rattle.bdd_bits.specs.Contents.{Contents};
 ghost use Rattle.bdd_ops.specs.Calls.{negated};
 ghost use Rattle.bit_compile.specs.Making.{Makes};
 ghost use Rattle.bdd_sets.specs.Members.{AreMembers, move_functions, reply_of, avoiding, lists_at};
@@ -11,7 +11,7 @@ ghost use Rattle.bit_compile.specs.Crowding.{HasCause};
 ghost use Rattle.bdd_sets.specs.NamedMoves.{IsOfAvoiding};
 
 use crate::spent::{beside, exists_spent, join_spent, not_spent};
-use bdd_ops::{Diagrams, Root};
+use bdd_bits::{Diagrams, Root};
 use regions::Halt;
 
 /// The lines of the first moves or of later ones, each as its diagram. Inputs and outputs have, after their lines, the

@@ -7,15 +7,16 @@ ghost use Rattle.std.specs.Prelude.{◌≡◌, ◌<◌, true, Ok, Err, IfOk, IfE
 ghost use Rattle.spec_model.specs.Diagrams.{Function, ite, and_exists_over, shifted};
 ghost use Rattle.bdd_store.specs.State.{IsRoot, roots_at};
 ghost use Rattle.bdd_ops.specs.Functions.{joined, join_of};
-ghost use Rattle.bdd_ops.specs.Contents.{Contents, function_at};
-ghost use Rattle.bdd_ops.specs.Calls.{negated, RisesOver};
+ghost use Rattle.bdd_bits.specs.Contents.{Contents, function_at};
+ghost use Rattle.bdd_ops.specs.Calls.{negated};
+ghost use Rattle.bdd_bits.specs.Calls.{RisesOver};
 ghost use Rattle.bit_compile.specs.Making.{Makes};
 ghost use Rattle.bdd_sets.specs.Members.{AreRoots, all_true, functions_at, IsThis, IsEither, IsBesideAll};
 ghost use Rattle.bit_compile.specs.Crowding.{HasCause};
 ghost use Rattle.bdd_sets.specs.NamedMoves.{IsFirstOfAll};
 
 use crate::steps::{and_exists, ite, shift};
-use bdd_ops::{Diagrams, Root};
+use bdd_bits::{Diagrams, Root};
 use bit_compile::steps::{and, not, told};
 use regions::Halt;
 
@@ -86,7 +87,7 @@ pub fn ite_spent(diagrams: &mut Diagrams, a: Root, b: &Root, c: &Root) -> Result
 /// The diagram that reads at level `to[k]` what `a` reads at level `k`. The latter is given back.
 pub fn shift_spent(diagrams: &mut Diagrams, a: Root, to: &[u32]) -> Result<Root, Halt>
     requires kept { IsRoot diagrams.old.state a }
-    requires rising { RisesOver diagrams.old.state.table.levels to.now (function_at diagrams.old a) }
+    requires rising { RisesOver diagrams.old.state.table.levels diagrams.old.order to.now (function_at diagrams.old a) }
     ensures made { (base : Contents) (f : Function) → Makes base diagrams.old (Ok a) f → Makes base diagrams.new result (shifted to.now f) }
     ensures cause { (base : Contents) (f : Function) → Makes base diagrams.old (Ok a) f → HasCause base diagrams.new result (IsThis f) }
 {

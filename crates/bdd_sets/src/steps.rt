@@ -4,12 +4,13 @@ ghost use Rattle.std.specs.Prelude.{false};
 ghost use Rattle.spec_model.specs.Diagrams.{ite, and_exists_over, shifted};
 ghost use Rattle.bdd_store.specs.State.{IsRoot, diagram_of};
 ghost use Rattle.bdd_ops.specs.Functions.{join_of};
-ghost use Rattle.bdd_ops.specs.Contents.{function_at};
+ghost use Rattle.bdd_bits.specs.Contents.{function_at};
 ghost use Rattle.bdd_ops.specs.Steps.{IsChoiceOfParts, IsUnfinished, IsRelatedPart, IsShiftedPart};
-ghost use Rattle.bdd_ops.specs.Calls.{RisesOver};
+ghost use Rattle.bdd_bits.specs.Calls.{RisesOver};
+ghost use Rattle.bdd_bits.specs.Orders.{levels_of, moved_levels};
 ghost use Rattle.bit_compile.specs.Making.{MakesOnce};
 
-use bdd_ops::{Diagrams, Root, StoreFault};
+use bdd_bits::{Diagrams, Root, StoreFault};
 use bit_compile::steps::told;
 use regions::Halt;
 
@@ -34,7 +35,7 @@ pub fn ite(diagrams: &mut Diagrams, a: &Root, b: &Root, c: &Root) -> Result<Root
 pub fn and_exists(diagrams: &mut Diagrams, a: &Root, b: &Root, levels: &[u32]) -> Result<Root, Halt>
     requires a_kept { IsRoot diagrams.old.state a.now }
     requires b_kept { IsRoot diagrams.old.state b.now }
-    ensures { MakesOnce diagrams.old diagrams.new result (and_exists_over levels.now (function_at diagrams.old a.now) (function_at diagrams.old b.now)) (IsUnfinished (join_of false) (IsRelatedPart levels.now (diagram_of diagrams.old.state a.now) (diagram_of diagrams.old.state b.now))) }
+    ensures { MakesOnce diagrams.old diagrams.new result (and_exists_over levels.now (function_at diagrams.old a.now) (function_at diagrams.old b.now)) (IsUnfinished (join_of false) (IsRelatedPart (levels_of diagrams.old.order levels.now) (diagram_of diagrams.old.state a.now) (diagram_of diagrams.old.state b.now))) }
 {
     match diagrams.and_exists(a, b, levels) {
         Ok(root) => Ok(root),
@@ -49,8 +50,8 @@ pub fn and_exists(diagrams: &mut Diagrams, a: &Root, b: &Root, levels: &[u32]) -
 /// The diagram that reads at level `to[k]` what `a` reads at level `k`.
 pub fn shift(diagrams: &mut Diagrams, a: &Root, to: &[u32]) -> Result<Root, Halt>
     requires kept { IsRoot diagrams.old.state a.now }
-    requires rising { RisesOver diagrams.old.state.table.levels to.now (function_at diagrams.old a.now) }
-    ensures { MakesOnce diagrams.old diagrams.new result (shifted to.now (function_at diagrams.old a.now)) (IsShiftedPart to.now (diagram_of diagrams.old.state a.now)) }
+    requires rising { RisesOver diagrams.old.state.table.levels diagrams.old.order to.now (function_at diagrams.old a.now) }
+    ensures { MakesOnce diagrams.old diagrams.new result (shifted to.now (function_at diagrams.old a.now)) (IsShiftedPart (moved_levels diagrams.old.order to.now) (diagram_of diagrams.old.state a.now)) }
 {
     match diagrams.shift(a, to) {
         Ok(root) => Ok(root),

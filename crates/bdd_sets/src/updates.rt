@@ -14,7 +14,7 @@ ghost use Rattle.bit_compile.specs.Crowding.{HasCause};
 ghost use Rattle.bdd_sets.specs.NamedGame.{IsOfGame};
 
 use crate::lists::push_made;
-use bdd_ops::{Diagrams, Root};
+use bdd_bits::{Diagrams, Root};
 use bit_compile::{Codes, update};
 use game_values::seen::At;
 use regions::{Halt, When};

@@ -6,10 +6,11 @@ use Rattle.std.proofs.Common.{Vec, vec_len, is_ok}
 use Rattle.std.proofs.lemmas.Bool.Decides.{nat_tests}
 use Rattle.std.proofs.lemmas.Bool.{eq-eqb, false≢true}
 use Rattle.node_table.specs.Table.{diagram_at}
-use Rattle.spec_model.specs.Diagrams.{Function, value}
+use Rattle.spec_model.specs.Diagrams.{Function}
 use Rattle.bdd_store.specs.State.{State, IsRoot, roots_at, AddsRoot, IsFilled}
-use Rattle.bdd_ops.specs.Contents.{Contents, function_at}
-use Rattle.bdd_ops.specs.Calls.{KeepsRoots}
+use Rattle.bdd_bits.specs.Contents.{Contents, function_at}
+use Rattle.bdd_bits.specs.Calls.{KeepsRoots, SameNodes}
+use Rattle.bdd_bits.proofs.CallLemmas.{keeps_function, same_function}
 use Rattle.regions.specs.declared.types.Halt.{Halt}
 use Rattle.game_values.proofs.Typed.{count-cons}
 use Rattle.bit_compile.specs.declared.cases.CaseRoot.{CaseRoot}
@@ -45,7 +46,7 @@ root_before old mid xs cs adds n root = let more = adds.added n in omega (arith,
 
 -- kept roots have the functions that they had
 pub function_stays : (old mid : Contents) (n : ℕ) → KeepsRoots old mid → IsRoot old.state n → function_at mid n ≡ function_at old n
-function_stays old mid n keeps root = ap value (keeps.meaning n root)
+function_stays old mid n keeps root = keeps_function old mid n keeps root
 
 pub cases_stay : (old mid : Contents) (xs : List CaseRoot) → KeepsRoots old mid → AreKept old.state xs → cases_at mid xs ≡ cases_at old xs
 cases_stay old mid [] keeps kept = refl
@@ -61,6 +62,12 @@ functions_stay old mid (x ∷ xs) keeps kept =
     let rest = functions_stay old mid xs keeps kept.1 in
     ap (λ (f : Function). f ∷ map (λ (y : CaseRoot). function_at mid y.root) xs) first ∙ ap (λ (fs : List Function). function_at old x.root ∷ fs) rest
 
+-- with the same nodes and order cases are what they were
+same_cases : (a b : Contents) → SameNodes a b → (xs : List CaseRoot) → cases_at b xs ≡ cases_at a xs
+same_cases a b same [] = refl
+same_cases a b same (x ∷ xs) =
+    ap (λ (f : Function). record { value = x.value; holds = f } ∷ cases_at b xs) (same_function a b x.root same) ∙ ap (λ (cs : List Case). case_at a x ∷ cs) (same_cases a b same xs)
+
 -- ---- what is kept besides, for a while
 
 pub record Between (old mid : Contents) (extra : ℕ → ℕ) : Type 0 where
@@ -73,22 +80,23 @@ between_root old mid b g makes = record { keeps = makes.keeps; added = makes.add
 pub between_cases : (old mid : Contents) (xs : List CaseRoot) (cs : List Case) → AddsCases old mid xs cs → KeepsRoots old mid → Between old mid (roots_in xs)
 between_cases old mid xs cs adds keeps = record { keeps = keeps; added = adds.added }
 
-module _ (old mid whole new : Contents) (extra : ℕ → ℕ) (first : Between old mid extra) (back : (n : ℕ) → roots_at whole.state n ≡ roots_at new.state n + extra n) (table : new.state.table ≡ whole.state.table) where
+module _ (old mid whole new : Contents) (extra : ℕ → ℕ) (first : Between old mid extra) (back : (n : ℕ) → roots_at whole.state n ≡ roots_at new.state n + extra n) (nodes : SameNodes whole new) where
   root_stays_between : (n : ℕ) → IsRoot old.state n → IsRoot mid.state n
   root_stays_between n root = let more = first.added n in omega (arith, more, root)
 
   pub keeps_between : KeepsRoots mid whole → KeepsRoots old new
   keeps_between keeps =
       record {
-        levels = ap (λ t. t.levels) table ∙ (keeps.levels ∙ first.keeps.levels);
-        budget = ap (λ t. t.budget) table ∙ (keeps.budget ∙ first.keeps.budget);
-        meaning = λ n root. ap (λ t. diagram_at t n) table ∙ (keeps.meaning n (root_stays_between n root) ∙ first.keeps.meaning n root);
+        levels = ap (λ t. t.levels) nodes.table ∙ (keeps.levels ∙ first.keeps.levels);
+        budget = ap (λ t. t.budget) nodes.table ∙ (keeps.budget ∙ first.keeps.budget);
+        order = nodes.order ∙ (keeps.order ∙ first.keeps.order);
+        meaning = λ n root. ap (λ t. diagram_at t n) nodes.table ∙ (keeps.meaning n (root_stays_between n root) ∙ first.keeps.meaning n root);
       }
 
   pub makes_between : (r : Result ℕ Halt) (f : Function) → Makes mid whole r f → Makes old new r f
   makes_between (Ok r) f makes =
       record {
-        meaning = ap (λ t. value (diagram_at t r)) table ∙ makes.meaning;
+        meaning = same_function whole new r nodes ∙ makes.meaning;
         added = λ n. (let one = back n in let two = makes.added n in let three = first.added n in omega (arith, one, two, three));
         refused = tt;
         keeps = keeps_between makes.keeps;
@@ -100,7 +108,7 @@ module _ (old mid whole new : Contents) (extra : ℕ → ℕ) (first : Between o
         added = tt;
         refused = λ n. (let one = back n in let two = makes.refused n in let three = first.added n in omega (arith, one, two, three));
         keeps = keeps_between makes.keeps;
-        full = λ e. subst IsFilled (sym table) (makes.full e);
+        full = λ e. subst IsFilled (sym nodes.table) (makes.full e);
       }
 
   pub leaves_between : {V : Type 0} (r : Result V Halt) → Leaves mid whole r → Leaves old new r
@@ -108,19 +116,19 @@ module _ (old mid whole new : Contents) (extra : ℕ → ℕ) (first : Between o
       record {
         refused = tt;
         keeps = keeps_between leaves.keeps;
-        full = λ e. subst IsFilled (sym table) (leaves.full e);
+        full = λ e. subst IsFilled (sym nodes.table) (leaves.full e);
       }
   leaves_between (Err h) leaves =
       record {
         refused = λ n. (let one = back n in let two = leaves.refused n in let three = first.added n in omega (arith, one, two, three));
         keeps = keeps_between leaves.keeps;
-        full = λ e. subst IsFilled (sym table) (leaves.full e);
+        full = λ e. subst IsFilled (sym nodes.table) (leaves.full e);
       }
 
   pub adds_between : (xs : List CaseRoot) (cs : List Case) → AddsCases mid whole xs cs → AddsCases old new xs cs
   adds_between xs cs adds =
       record {
-        are = ap (λ t. map (λ (x : CaseRoot). record { value = x.value; holds = value (diagram_at t x.root) }) xs) table ∙ adds.are;
+        are = same_cases whole new nodes xs ∙ adds.are;
         added = λ n. (let one = back n in let two = adds.added n in let three = first.added n in omega (arith, one, two, three));
       }
 
@@ -165,6 +173,7 @@ keeps_more old mid new xs cs adds first second =
     record {
       levels = second.levels ∙ first.levels;
       budget = second.budget ∙ first.budget;
+      order = second.order ∙ first.order;
       meaning = λ n root. second.meaning n (root_before old mid xs cs adds n root) ∙ first.meaning n root;
     }
 
@@ -183,13 +192,13 @@ together_left items mid whole xs (Ok v) cs has adds leaves k = let more = adds.a
 together_left items mid whole xs (Err h) cs has adds leaves k = let same = leaves.refused k in let all = has k in omega (arith, same, all)
 
 -- what cases made on the way lead to, once they are given back
-pub through_cases : (old mid whole new : Contents) (xs : List CaseRoot) (cs : List Case) (r : Result ℕ Halt) (f g : Function) → AddsCases old mid xs cs → KeepsRoots old mid → Makes mid whole r g → g ≡ f → ((n : ℕ) → roots_at whole.state n ≡ roots_at new.state n + roots_in xs n) → new.state.table ≡ whole.state.table → Makes old new r f
-through_cases old mid whole new xs cs r f g adds keeps makes is back table =
-    makes_between old mid whole new (roots_in xs) (between_cases old mid xs cs adds keeps) back table r f (subst (λ (h : Function). Makes mid whole r h) is makes)
+pub through_cases : (old mid whole new : Contents) (xs : List CaseRoot) (cs : List Case) (r : Result ℕ Halt) (f g : Function) → AddsCases old mid xs cs → KeepsRoots old mid → Makes mid whole r g → g ≡ f → ((n : ℕ) → roots_at whole.state n ≡ roots_at new.state n + roots_in xs n) → SameNodes whole new → Makes old new r f
+through_cases old mid whole new xs cs r f g adds keeps makes is back nodes =
+    makes_between old mid whole new (roots_in xs) (between_cases old mid xs cs adds keeps) back nodes r f (subst (λ (h : Function). Makes mid whole r h) is makes)
 
-pub cases_through : {V : Type 0} (items : V → List CaseRoot) (old mid whole new : Contents) (extra : ℕ → ℕ) (r : Result V Halt) (cs ds : List Case) → Between old mid extra → IfOk r (λ v. AddsCases mid whole (items v) ds) → ds ≡ cs → ((n : ℕ) → roots_at whole.state n ≡ roots_at new.state n + extra n) → new.state.table ≡ whole.state.table → IfOk r (λ v. AddsCases old new (items v) cs)
-cases_through items old mid whole new extra (Ok v) cs ds between adds is back table = adds_between old mid whole new extra between back table (items v) cs (subst (λ (es : List Case). AddsCases mid whole (items v) es) is adds)
-cases_through items old mid whole new extra (Err h) cs ds between adds is back table = tt
+pub cases_through : {V : Type 0} (items : V → List CaseRoot) (old mid whole new : Contents) (extra : ℕ → ℕ) (r : Result V Halt) (cs ds : List Case) → Between old mid extra → IfOk r (λ v. AddsCases mid whole (items v) ds) → ds ≡ cs → ((n : ℕ) → roots_at whole.state n ≡ roots_at new.state n + extra n) → SameNodes whole new → IfOk r (λ v. AddsCases old new (items v) cs)
+cases_through items old mid whole new extra (Ok v) cs ds between adds is back nodes = adds_between old mid whole new extra between back nodes (items v) cs (subst (λ (es : List Case). AddsCases mid whole (items v) es) is adds)
+cases_through items old mid whole new extra (Err h) cs ds between adds is back nodes = tt
 
 -- ---- one root after the other is given back
 

@@ -9,7 +9,7 @@ use Rattle.spec_model.specs.declared.value.Value.{Value}
 use Rattle.spec_model.specs.Diagrams.{Bits, Function}
 use Rattle.regions.specs.declared.types.Halt.{Halt}
 use Rattle.bdd_store.specs.State.{State, IsRoot}
-use Rattle.bdd_ops.specs.Contents.{Contents, function_at}
+use Rattle.bdd_bits.specs.Contents.{Contents, function_at}
 use Rattle.bit_compile.specs.declared.cases.CaseRoot.{CaseRoot}
 use Rattle.bit_compile.specs.Making.{Makes}
 use Rattle.bit_compile.specs.Compiled.{Case, some_of, some_pair}

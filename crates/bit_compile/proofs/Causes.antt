@@ -7,10 +7,13 @@ use Rattle.spec_model.specs.Diagrams.{Diagram, Function, value, IsReduced}
 use Rattle.node_table.specs.Table.{Table, IsLive, diagram_at}
 use Rattle.node_table.proofs.Meaning.{diagram_at-reduced}
 use Rattle.bdd_store.specs.State.{State, IsRoot, roots_at, diagram_of, SameRoots}
-use Rattle.bdd_ops.specs.Contents.{Contents, function_at}
+use Rattle.bdd_bits.specs.Contents.{Contents, function_of, function_at}
+use Rattle.bdd_bits.specs.Orders.{level_of}
+use Rattle.bdd_bits.proofs.CallLemmas.{same_order}
 use Rattle.bdd_ops.specs.Functions.{join_of}
 use Rattle.bdd_ops.specs.Steps.{IsJoinOfParts}
-use Rattle.bdd_ops.specs.Calls.{KeepsRoots, HasRoots, IsNegatedPart}
+use Rattle.bdd_ops.specs.Calls.{HasRoots, IsNegatedPart}
+use Rattle.bdd_bits.specs.Calls.{KeepsRoots, SameNodes}
 use Rattle.regions.specs.declared.types.Halt.{Halt}
 use Rattle.regions.specs.declared.types.Halt.TheVariants as halt
 use Rattle.bit_compile.specs.declared.cases.CaseRoot.{CaseRoot}
@@ -65,36 +68,36 @@ cause_handed old new r r' h N is is' cause =
     before e = is ∙ ap (λ (k : Halt). Err k) (ap (halt_or h) (sym is' ∙ e))
 
 module _ (M N : Function → Type 0) (wider : (f : Function) → M f → N f) where
-  held_wider : (old : State) (d : Diagram) → IsHeldSince old M d → IsHeldSince old N d
+  held_wider : (old : Contents) (d : Diagram) → IsHeldSince old M d → IsHeldSince old N d
   held_wider old d (inl root) = inl root
-  held_wider old d (inr named) = inr (wider (value d) named)
+  held_wider old d (inr named) = inr (wider (function_of old d) named)
 
   pub cause_wider : {V : Type 0} (old new : Contents) (r : Result V Halt) → HasCause old new r M → HasCause old new r N
   cause_wider old new r cause =
       record {
-        crowded = λ e. crowded_wider new.state.table (IsHeldSince old.state M) (IsHeldSince old.state N) (held_wider old.state) (cause.crowded e);
+        crowded = λ e. crowded_wider new.state.table (IsHeldSince old M) (IsHeldSince old N) (held_wider old) (cause.crowded e);
         rooted = cause.rooted;
       }
 
   -- ---- where one was
 
   module _ (old mid : Contents) (b : ℕ) (g : Function) (first : Makes old mid (Ok b) g) (named : N g) where
-    by_root : (d : Diagram) (r : ℕ) → IsRoot mid.state r → d ≡ diagram_of mid.state r → ((r == b) ≡ true) × (r ≡ b) ⊎ ((r == b) ≡ false) × (r ≡ b → ⊥) → IsHeldSince old.state N d
-    by_root d r root is (inl same) = inr (subst N (sym (ap value (is ∙ ap (λ (k : ℕ). diagram_of mid.state k) same.1) ∙ first.meaning)) named)
+    by_root : (d : Diagram) (r : ℕ) → IsRoot mid.state r → d ≡ diagram_of mid.state r → ((r == b) ≡ true) × (r ≡ b) ⊎ ((r == b) ≡ false) × (r ≡ b → ⊥) → IsHeldSince old N d
+    by_root d r root is (inl same) = inr (subst N (sym (sym (same_order old mid d first.keeps.order) ∙ (ap (function_of mid) (is ∙ ap (λ (k : ℕ). diagram_of mid.state k) same.1) ∙ first.meaning))) named)
     by_root d r root is (inr other) =
         let more : roots_at mid.state r ≡ roots_at old.state r + 0 = subst (λ (c : Bool). roots_at mid.state r ≡ roots_at old.state r + cond c 1 0) other.0 (first.added r) in
         let before : IsRoot old.state r = omega (arith, more, root) in
         inl (r, before, is ∙ first.keeps.meaning r before)
 
-    held_back : (d : Diagram) → IsHeldSince mid.state M d → IsHeldSince old.state N d
+    held_back : (d : Diagram) → IsHeldSince mid M d → IsHeldSince old N d
     held_back d (inl held) = by_root d held.0 held.1 held.2 (eqb_tells held.0 b)
-    held_back d (inr is) = inr (wider (value d) is)
+    held_back d (inr is) = inr (subst N (same_order old mid d first.keeps.order) (wider (function_of mid d) is))
 
-    pub cause_back : {V : Type 0} (whole new : Contents) (r : Result V Halt) → new.state.table ≡ whole.state.table → HasCause mid whole r M → HasCause old new r N
-    cause_back whole new r table cause =
+    pub cause_back : {V : Type 0} (whole new : Contents) (r : Result V Halt) → SameNodes whole new → HasCause mid whole r M → HasCause old new r N
+    cause_back whole new r nodes cause =
         record {
-          crowded = λ e. subst (λ (t : Table). IsCrowdedBy t (IsHeldSince old.state N)) (sym table) (crowded_wider whole.state.table (IsHeldSince mid.state M) (IsHeldSince old.state N) held_back (cause.crowded e));
-          rooted = λ e n root. subst (λ (t : Table). IsLive t n) (sym table) (cause.rooted e n (root_added old mid b g first n root));
+          crowded = λ e. subst (λ (t : Table). IsCrowdedBy t (IsHeldSince old N)) (sym nodes.table) (crowded_wider whole.state.table (IsHeldSince mid M) (IsHeldSince old N) held_back (cause.crowded e));
+          rooted = λ e n root. subst (λ (t : Table). IsLive t n) (sym nodes.table) (cause.rooted e n (root_added old mid b g first n root));
         }
 
   -- ---- where several were
@@ -109,23 +112,23 @@ module _ (M N : Function → Type 0) (wider : (f : Function) → M f → N f) wh
   ]
 
   module _ (old mid : Contents) (xs : List CaseRoot) (cs : List Case) (adds : AddsCases old mid xs cs) (keeps : KeepsRoots old mid) (named : AllByRecursion (λ (x : Case). N x.holds) cs) where
-    by_count : (d : Diagram) (r : ℕ) → IsRoot mid.state r → d ≡ diagram_of mid.state r → (0 < roots_at old.state r) ⊎ (roots_at old.state r ≤ 0) → IsHeldSince old.state N d
+    by_count : (d : Diagram) (r : ℕ) → IsRoot mid.state r → d ≡ diagram_of mid.state r → (0 < roots_at old.state r) ⊎ (roots_at old.state r ≤ 0) → IsHeldSince old N d
     by_count d r root is (inl before) = inl (r, before, is ∙ keeps.meaning r before)
     by_count d r root is (inr none) =
         let more = adds.added r in
         let some : 0 < roots_in xs r = omega (arith, more, root, none) in
         let all : AllByRecursion (λ (x : Case). N x.holds) (cases_at mid xs) = subst (λ (ds : List Case). AllByRecursion (λ (x : Case). N x.holds) ds) (sym adds.are) named in
-        inr (subst N (sym (ap value is)) (among mid xs r all some))
+        inr (subst N (sym (ap (function_of mid) is) ∙ same_order old mid d keeps.order) (among mid xs r all some))
 
-    held_among : (d : Diagram) → IsHeldSince mid.state M d → IsHeldSince old.state N d
+    held_among : (d : Diagram) → IsHeldSince mid M d → IsHeldSince old N d
     held_among d (inl held) = by_count d held.0 held.1 held.2 (cases_lt 0 (roots_at old.state held.0))
-    held_among d (inr is) = inr (wider (value d) is)
+    held_among d (inr is) = inr (subst N (same_order old mid d keeps.order) (wider (function_of mid d) is))
 
-    pub cause_among : {V : Type 0} (whole new : Contents) (r : Result V Halt) → new.state.table ≡ whole.state.table → HasCause mid whole r M → HasCause old new r N
-    cause_among whole new r table cause =
+    pub cause_among : {V : Type 0} (whole new : Contents) (r : Result V Halt) → SameNodes whole new → HasCause mid whole r M → HasCause old new r N
+    cause_among whole new r nodes cause =
         record {
-          crowded = λ e. subst (λ (t : Table). IsCrowdedBy t (IsHeldSince old.state N)) (sym table) (crowded_wider whole.state.table (IsHeldSince mid.state M) (IsHeldSince old.state N) held_among (cause.crowded e));
-          rooted = λ e n root. subst (λ (t : Table). IsLive t n) (sym table) (cause.rooted e n (let more = adds.added n in omega (arith, more, root)));
+          crowded = λ e. subst (λ (t : Table). IsCrowdedBy t (IsHeldSince old N)) (sym nodes.table) (crowded_wider whole.state.table (IsHeldSince mid M) (IsHeldSince old N) held_among (cause.crowded e));
+          rooted = λ e n root. subst (λ (t : Table). IsLive t n) (sym nodes.table) (cause.rooted e n (let more = adds.added n in omega (arith, more, root)));
         }
 
 -- ---- after a refusal, whose nodes are given back
@@ -133,15 +136,15 @@ module _ (M N : Function → Type 0) (wider : (f : Function) → M f → N f) wh
 pub cause_after : {V : Type 0} (old mid new : Contents) (r : Result V Halt) (N : Function → Type 0) → SameRoots old.state mid.state → KeepsRoots old mid → HasCause mid new r N → HasCause old new r N
 cause_after old mid new r N same keeps cause =
     record {
-      crowded = λ e. crowded_wider new.state.table (IsHeldSince mid.state N) (IsHeldSince old.state N) back (cause.crowded e);
+      crowded = λ e. crowded_wider new.state.table (IsHeldSince mid N) (IsHeldSince old N) back (cause.crowded e);
       rooted = λ e n root. cause.rooted e n (root_stays old.state mid.state n same root);
     }
   where
-    back : (d : Diagram) → IsHeldSince mid.state N d → IsHeldSince old.state N d
+    back : (d : Diagram) → IsHeldSince mid N d → IsHeldSince old N d
     back d (inl held) =
         let before : IsRoot old.state held.0 = subst (λ (k : ℕ). 0 < k) (same held.0) held.1 in
         inl (held.0, before, held.2 ∙ keeps.meaning held.0 before)
-    back d (inr named) = inr named
+    back d (inr named) = inr (subst N (same_order old mid d keeps.order) named)
 
 -- ---- one operation
 
@@ -153,7 +156,7 @@ pub root_kept : (old : State) (n : ℕ) → IsRoot old n → IsKeptRoot old (dia
 root_kept old n root = (n, root, refl)
 
 module _ (old new : Contents) (f : Function) (running : Running) (N : Function → Type 0) (kept : AllByRecursion (IsKeptRoot old.state) (arguments_of running)) where
-  needed_once : (n : ℕ) → SameRoots old.state new.state → KeepsRoots old new → HasRoots new.state → IsNeeded new.state (IsUnfinishedOf running) n → (n < 2) ⊎ (StandsIn new.state.table (IsHeldSince old.state N) n ⊎ IsUnfinishedOf running (diagram_of new.state n))
+  needed_once : (n : ℕ) → SameRoots old.state new.state → KeepsRoots old new → HasRoots new.state → IsNeeded new.state (IsUnfinishedOf running) n → (n < 2) ⊎ (StandsIn new.state.table (IsHeldSince old N) n ⊎ IsUnfinishedOf running (diagram_of new.state n))
   needed_once n same keeps rooted (inl constant) = inl constant
   needed_once n same keeps rooted (inr (inl stands)) =
       let r = stands.0 in
@@ -173,7 +176,7 @@ module _ (old new : Contents) (f : Function) (running : Running) (N : Function �
         crowded = λ e. (let cause = makes.cause e in record {
           filled = cause.full;
           running = running;
-          on_held = all_wider (IsKeptRoot old.state) (IsHeldSince old.state N) (λ d k. inl k) (arguments_of running) kept;
+          on_held = all_wider (IsKeptRoot old.state) (IsHeldSince old N) (λ d k. inl k) (arguments_of running) kept;
           reduced = all_wider (IsKeptRoot old.state) IsReduced (reduced_root makes.makes.refused makes.makes.keeps cause) (arguments_of running) kept;
           needed = λ n edge. needed_once n makes.makes.refused makes.makes.keeps cause.rooted (cause.needed n edge);
         });
@@ -181,8 +184,8 @@ module _ (old new : Contents) (f : Function) (running : Running) (N : Function �
       }
 
 -- each operation on roots that are kept
-pub cause_bit : (old new : Contents) (level : ℕ) (f : Function) (N : Function → Type 0) (r : Result ℕ Halt) → MakesOnce old new r f (λ made. value made ≡ (λ s. s level)) → HasCause old new r N
-cause_bit old new level f N r makes = cause_once old new f (bit level) N tt r makes
+pub cause_bit : (old new : Contents) (level : ℕ) (f : Function) (N : Function → Type 0) (r : Result ℕ Halt) → MakesOnce old new r f (λ made. value made ≡ (λ s. s (level_of old.order level))) → HasCause old new r N
+cause_bit old new level f N r makes = cause_once old new f (bit (level_of old.order level)) N tt r makes
 
 pub cause_not : (old new : Contents) (a : ℕ) (f : Function) (N : Function → Type 0) (r : Result ℕ Halt) → IsRoot old.state a → MakesOnce old new r f (IsNegatedPart (diagram_of old.state a)) → HasCause old new r N
 cause_not old new a f N r root makes = cause_once old new f (negation (diagram_of old.state a)) N (root_kept old.state a root, tt) r makes

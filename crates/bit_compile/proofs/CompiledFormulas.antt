@@ -4,7 +4,7 @@ use Rattle.spec_model.specs.Syntax.{Formula}
 use Rattle.spec_model.specs.Games.{GameData}
 use Rattle.spec_model.specs.Diagrams.{Function}
 use Rattle.spec_model.specs.WellMade.{WellMade, scope_of, is_step_formula}
-use Rattle.bdd_ops.specs.Contents.{Contents, function_at}
+use Rattle.bdd_bits.specs.Contents.{Contents, function_at}
 use Rattle.regions.specs.declared.types.Halt.{Halt}
 use Rattle.bit_compile.specs.Making.{Makes}
 use Rattle.bit_compile.specs.Compiled.{compiled}

@@ -12,8 +12,9 @@ use Rattle.spec_model.specs.Syntax.{Formula, Comparison, Equivalence, Formulas, 
 use Rattle.spec_model.specs.Diagrams.{Function}
 use Rattle.game_values.specs.declared.seen.At.{At}
 use Rattle.bdd_store.specs.State.{IsRoot, diagram_of, roots_at, AddsRoot}
-use Rattle.bdd_ops.specs.Calls.{IsNegatedPart, KeepsRoots, negated}
-use Rattle.bdd_ops.specs.Contents.{Contents, function_at}
+use Rattle.bdd_ops.specs.Calls.{IsNegatedPart, negated}
+use Rattle.bdd_bits.specs.Calls.{KeepsRoots, SameNodes}
+use Rattle.bdd_bits.specs.Contents.{Contents, function_at}
 use Rattle.bdd_ops.specs.Functions.{join_of, joined}
 use Rattle.bdd_ops.specs.Steps.{IsJoinOfParts}
 use Rattle.regions.specs.declared.types.Halt.{Halt}
@@ -74,7 +75,7 @@ module _ (s : Scene) (at : At) (old new : Contents) where
       let all = either_named (AreOfFormulas (game_seen s) (entries_seen s) at es) (IsOfTablesIn s) (IsNamedIn s at e) members (λ f is. inr is) in
       made_wider (either (AreNamedIn s at es) (IsFirstOf how fs)) (IsNamedIn s at e) (either_named (AreNamedIn s at es) (IsFirstOf how fs) (IsNamedIn s at e) all first) old new r (folded how fs) made
 
-module _ (s : Scene) (at : At) (old mid whole new : Contents) (table : new.state.table ≡ whole.state.table) where
+module _ (s : Scene) (at : At) (old mid whole new : Contents) (nodes : SameNodes whole new) where
   -- ---- a root was made on the way
 
   module _ (root : ℕ) (back : AddsRoot new.state whole.state root) where
@@ -86,7 +87,7 @@ module _ (s : Scene) (at : At) (old mid whole new : Contents) (table : new.state
           made = subst (λ (g : Function). Makes mid whole r (is_not g)) first.meaning once.makes;
           cause = cause_not mid whole root (is_not (function_at mid root)) NoFunction r (is_root old mid root truth first) once;
         } in
-        named_back NoFunction named (no_name named) old mid root truth first (inl (inl (inl refl))) whole new back table r (is_not truth) then
+        named_back NoFunction named (no_name named) old mid root truth first (inl (inl (inl refl))) whole new back nodes r (is_not truth) then
 
     pub implied_made : (a b : Formula) (r : Result ℕ Halt) → Makes old mid (Ok root) (is_not (truth_seen s at a)) → MakesNamed mid whole r (λ bits. function_at mid root bits || truth_seen s at b bits) (IsNamedIn s at b) → MakesNamed old new r (implied (truth_seen s at a) (truth_seen s at b)) (IsNamedIn s at (Implication a b))
     implied_made a b r first then =
@@ -94,7 +95,7 @@ module _ (s : Scene) (at : At) (old mid whole new : Contents) (table : new.state
         let named = IsNamedIn s at (Implication a b) in
         let is = subst (λ (g : Function). MakesNamed mid whole r (λ bits. g bits || truth_seen s at b bits) (IsNamedIn s at b)) first.meaning then in
         named_back (IsNamedIn s at b) named (part_named s at b b named (λ f is. inl (inr (inr is))) (λ f is. inr is)) old mid root other first (inl (inr (inl (inl (inr refl)))))
-        whole new back table r (λ bits. other bits || truth_seen s at b bits) is
+        whole new back nodes r (λ bits. other bits || truth_seen s at b bits) is
 
     pub or_made : (n : ℕ) (e : Formula) (r : Result ℕ Halt) → IsRoot old.state n → Makes old mid (Ok root) (truth_seen s at e) →
         MakesOnce mid whole r (joined (join_of false) (function_at mid n) (function_at mid root)) (IsJoinOfParts (join_of false) (diagram_of mid.state n) (diagram_of mid.state root)) →
@@ -107,7 +108,7 @@ module _ (s : Scene) (at : At) (old mid whole new : Contents) (table : new.state
           made = subst (λ (g : Function). Makes mid whole r g) is once.makes;
           cause = cause_join false mid whole n root (joined (join_of false) (function_at mid n) (function_at mid root)) NoFunction r (root_added old mid root truth first n kept) (is_root old mid root truth first) once;
         } in
-        named_back NoFunction named (no_name named) old mid root truth first (inl (inl (inl refl))) whole new back table r (joined (join_of false) (function_at old n) truth) then
+        named_back NoFunction named (no_name named) old mid root truth first (inl (inl (inl refl))) whole new back nodes r (joined (join_of false) (function_at old n) truth) then
 
     pub equivalent_made : (a b : Formula) (r : Result ℕ Halt) → Makes old mid (Ok root) (truth_seen s at a) → MakesNamed mid whole r (same_truth (function_at mid root) (truth_seen s at b)) (IsNamedOr s at b (IsOfSame (function_at mid root) (truth_seen s at b))) → MakesNamed old new r (same_truth (truth_seen s at a) (truth_seen s at b)) (IsNamedIn s at (Equivalence a b))
     equivalent_made a b r first then =
@@ -117,7 +118,7 @@ module _ (s : Scene) (at : At) (old mid whole new : Contents) (table : new.state
         let right = part_named s at b b named (λ f is. inl (inr (inl (inr is)))) (λ f is. inr is) in
         let is = subst (λ (h : Function). MakesNamed mid whole r (same_truth h g) (IsNamedOr s at b (IsOfSame h g))) first.meaning then in
         named_back (IsNamedOr s at b (IsOfSame f g)) named (either_named (IsNamedIn s at b) (IsOfSame f g) named right (λ f is. inl (inr (inr is)))) old mid root f first (inl (inr (inl (inl (inl (inl refl))))))
-        whole new back table r (same_truth f g) is
+        whole new back nodes r (same_truth f g) is
 
     pub same_made : (n : ℕ) (e : Formula) (r : Result ℕ Halt) → IsRoot old.state n → Makes old mid (Ok root) (truth_seen s at e) → MakesNamed mid whole r (same_truth (function_at mid n) (function_at mid root)) (IsOfSame (function_at mid n) (function_at mid root)) → MakesNamed old new r (same_truth (function_at old n) (truth_seen s at e)) (IsNamedOr s at e (IsOfSame (function_at old n) (truth_seen s at e)))
     same_made n e r kept first then =
@@ -125,12 +126,12 @@ module _ (s : Scene) (at : At) (old mid whole new : Contents) (table : new.state
         let truth = truth_seen s at e in
         let same : Function → Function → Type 0 = λ f g. MakesNamed mid whole r (same_truth f g) (IsOfSame f g) in
         let one = subst (λ (h : Function). same h (function_at mid root)) (function_stays old mid n first.keeps kept) then in
-        named_back (IsOfSame f truth) (IsNamedOr s at e (IsOfSame f truth)) (λ f is. inr is) old mid root truth first (inl (inl (inl (inl refl)))) whole new back table r (same_truth f truth) (subst (same f) first.meaning one)
+        named_back (IsOfSame f truth) (IsNamedOr s at e (IsOfSame f truth)) (λ f is. inr is) old mid root truth first (inl (inl (inl (inl refl)))) whole new back nodes r (same_truth f truth) (subst (same f) first.meaning one)
 
     pub both_made_with : (e : Formula) (r : Result (Vec CaseRoot Global) Halt) → Makes old mid (Ok root) (truth_seen s at e) → MakesCases mid whole r (both_truths (function_at mid root)) (IsTruth (function_at mid root)) → MakesCases old new r (both_truths (truth_seen s at e)) (IsNamedIn s at e)
     both_made_with e r first then =
         let truth = truth_seen s at e in
-        cases_back (IsTruth truth) (IsNamedIn s at e) (λ f is. inl (inl is)) old mid root truth first (inl (inl (inl refl))) whole new back table r (both_truths truth) (subst (λ (f : Function). MakesCases mid whole r (both_truths f) (IsTruth f)) first.meaning then)
+        cases_back (IsTruth truth) (IsNamedIn s at e) (λ f is. inl (inl is)) old mid root truth first (inl (inl (inl refl))) whole new back nodes r (both_truths truth) (subst (λ (f : Function). MakesCases mid whole r (both_truths f) (IsTruth f)) first.meaning then)
 
   -- ---- cases were made on the way
 
@@ -144,7 +145,7 @@ module _ (s : Scene) (at : At) (old mid whole new : Contents) (table : new.state
         let named = either (AreNamedIn s at es) (IsFirstOf how fs) in
         let is = subst (λ (hs : List Function). MakesNamed mid whole r (folded how hs) (IsFirstOf how hs)) (functions_of mid seen fs (seen_are old mid items seen cs adds keeps read)) then in
         named_among old mid items seen cs adds keeps read (IsFirstOf how fs) named (λ f is. inr is) (named_wider (AreOfFormulas (game_seen s) (entries_seen s) at es) named (λ f is. inl (inl is)) cs (members_named (game_seen s) (entries_seen s) at es))
-        whole new back table r (folded how fs) is
+        whole new back nodes r (folded how fs) is
 
     module _ (a : Formula) (adds : AddsCases old mid items (cases_seen s at a)) where
       -- the cases of a formula are named wherever its parts are
@@ -166,7 +167,7 @@ module _ (s : Scene) (at : At) (old mid whole new : Contents) (table : new.state
           let right = part_named s at b b named (λ f is. inl (inr (inl (inr is)))) (λ f is. inr is) in
           let is = subst (λ (cs : List Case). MakesNamed mid whole r (some_pair passing cs ys) (IsNamedOr s at b (IsOfPairs passing cs ys))) are then in
           named_among old mid items seen xs adds keeps read (IsNamedOr s at b (IsOfPairs passing xs ys)) named (either_named (IsNamedIn s at b) (IsOfPairs passing xs ys) named right (λ f is. inl (inr (inr is)))) (held_as named (λ f is. inl (inr (inl (inl is)))))
-          whole new back table r (some_pair passing xs ys) is
+          whole new back nodes r (some_pair passing xs ys) is
 
       pub compared_with_made : (c : Compare) (kept : List CaseRoot) (r : Result ℕ Halt) → AreKept old.state kept → MakesNamed mid whole r (some_pair (passes (test.Compared c)) (cases_at mid kept) (cases_at mid seen)) (IsOfPairs (passes (test.Compared c)) (cases_at mid kept) (cases_at mid seen)) →
           MakesNamed old new r (some_pair (passes (test.Compared c)) (cases_at old kept) (cases_seen s at a)) (IsNamedOr s at a (IsOfPairs (passes (test.Compared c)) (cases_at old kept) (cases_seen s at a)))
@@ -175,7 +176,7 @@ module _ (s : Scene) (at : At) (old mid whole new : Contents) (table : new.state
           let passing = passes (test.Compared c) in
           let pairs = IsOfPairs passing (cases_at old kept) ys in
           let named = IsNamedOr s at a pairs in
-          named_among old mid items seen ys adds keeps read pairs named (λ f is. inr is) (held_as named (λ f is. inl (inl is))) whole new back table r (some_pair passing (cases_at old kept) ys)
+          named_among old mid items seen ys adds keeps read pairs named (λ f is. inr is) (held_as named (λ f is. inl (inl is))) whole new back nodes r (some_pair passing (cases_at old kept) ys)
           (pairs_made old mid items seen ys adds keeps read whole kept still passing r then)
 
       pub operated_made : (op : Operation) (b : Formula) (r : Result (Vec CaseRoot Global) Halt) →
@@ -190,7 +191,7 @@ module _ (s : Scene) (at : At) (old mid whole new : Contents) (table : new.state
           let made : List Case → List Value → Type 0 = λ cs ws. MakesCases mid whole r (results op cs ys (vs ws)) (step cs ws) in
           let is = subst (λ (cs : List Case). made cs (values_in (game_seen s) a)) are (subst (made (cases_at mid seen)) values then) in
           let named = IsOfOperated s at op a b in
-          cases_among old mid items seen xs adds keeps read (step xs (values_in (game_seen s) a)) named (λ f is. inr is) (held_as named (λ f is. inl (inl is))) whole new back table r (operated_cases (game_seen s) (entries_seen s) at op a b) is
+          cases_among old mid items seen xs adds keeps read (step xs (values_in (game_seen s) a)) named (λ f is. inr is) (held_as named (λ f is. inl (inl is))) whole new back nodes r (operated_cases (game_seen s) (entries_seen s) at op a b) is
 
       pub operated_with_made : (op : Operation) (kept : List CaseRoot) (r : Result (Vec CaseRoot Global) Halt) → AreKept old.state kept →
           MakesCases mid whole r (results op (cases_at mid kept) (cases_at mid seen) (values_of (span_of op (map (λ (x : CaseRoot). x.value) kept) (map (λ (x : CaseRoot). x.value) seen))))
@@ -202,7 +203,7 @@ module _ (s : Scene) (at : At) (old mid whole new : Contents) (table : new.state
           let vs = values_of (span_of op (map (λ (x : CaseRoot). x.value) kept) (values_in (game_seen s) a)) in
           let step = IsOfResults op (cases_at old kept) ys vs in
           let named = IsNamedOr s at a step in
-          cases_among old mid items seen ys adds keeps read step named (λ f is. inr is) (held_as named (λ f is. inl (inl is))) whole new back table r (results op (cases_at old kept) ys vs)
+          cases_among old mid items seen ys adds keeps read step named (λ f is. inr is) (held_as named (λ f is. inl (inl is))) whole new back nodes r (results op (cases_at old kept) ys vs)
           (results_made old mid items seen ys adds keeps read whole kept still op (values_in (game_seen s) a) r (values-cases (game_seen s) (entries_seen s) at a) then)
 
       pub remainders_made : (n z : ℤ) (r : Result (Vec CaseRoot Global) Halt) → z ≡ n →
@@ -216,4 +217,4 @@ module _ (s : Scene) (at : At) (old mid whole new : Contents) (table : new.state
           let made : List Case → List Value → ℤ → Type 0 = λ cs ws k. MakesCases mid whole r (results Mod cs (only (value.Int k)) (vs ws k)) (IsOfRemainders cs k (vs ws k)) in
           let one = subst (λ (ws : List Value). made (cases_at mid seen) ws n) values (subst (made (cases_at mid seen) (map (λ (x : CaseRoot). x.value) seen)) fits then) in
           let is = subst (λ (cs : List Case). made cs (values_in (game_seen s) a) n) are one in
-          cases_among old mid items seen xs adds keeps read (IsOfRemainders xs n (vs (values_in (game_seen s) a) n)) named (λ f is. inl (inr (inr is))) (held_as named (λ f is. inl (inr (inl is)))) whole new back table r (cases_seen s at (Remainder a n)) is
+          cases_among old mid items seen xs adds keeps read (IsOfRemainders xs n (vs (values_in (game_seen s) a) n)) named (λ f is. inl (inr (inr is))) (held_as named (λ f is. inl (inr (inl is)))) whole new back nodes r (cases_seen s at (Remainder a n)) is

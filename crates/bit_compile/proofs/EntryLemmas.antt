@@ -8,7 +8,7 @@ use Rattle.spec_model.specs.Games.{GameData}
 use Rattle.spec_model.specs.Diagrams.{Function}
 use Rattle.game_values.specs.declared.seen.At.{At}
 use Rattle.game_values.specs.declared.seen.At.TheVariants.{Now}
-use Rattle.bdd_ops.specs.Contents.{Contents, function_at}
+use Rattle.bdd_bits.specs.Contents.{Contents, function_at}
 use Rattle.bit_compile.specs.declared.cases.CaseRoot.{CaseRoot}
 use Rattle.bit_compile.specs.Domains.{state_domains}
 use Rattle.bit_compile.specs.Compiled.{Case, Entries, entries_after, entries_of, entry_of, never, table_entries, table_truth, table_update, truth_in, truths_in, updates_after}

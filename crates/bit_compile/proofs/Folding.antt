@@ -9,7 +9,8 @@ use Rattle.spec_model.specs.Diagrams.{Bits, Function}
 use Rattle.bdd_store.specs.State.{AddsRoot, IsRoot}
 use Rattle.regions.specs.declared.types.Halt.{Halt}
 use Rattle.bdd_ops.specs.Functions.{Join, joined, join_of}
-use Rattle.bdd_ops.specs.Contents.{Contents, function_at}
+use Rattle.bdd_bits.specs.Contents.{Contents, function_at}
+use Rattle.bdd_bits.specs.Calls.{SameNodes}
 use Rattle.bdd_ops.specs.Calls.{negated}
 use Rattle.bit_compile.proofs.NumberLemmas.{same_bools}
 use Rattle.bit_compile.proofs.MakingLemmas.{fails, given_back, is_root, root_added}
@@ -109,8 +110,8 @@ pub own : (old mid : Contents) (r : ℕ) (f : Function) → Makes old mid (Ok r)
 own old mid r f makes = record { meaning = refl; added = makes.added; refused = makes.refused; keeps = makes.keeps; full = makes.full }
 
 -- a new root is made with the one so far, which is given back
-pub turn : (first l mid new : Contents) (row : ℕ) (r : Result ℕ Halt) (g g' : Function) → Makes first l (Ok row) (function_at l row) → Makes l mid r g → g ≡ g' → AddsRoot new.state mid.state row → new.state.table ≡ mid.state.table → Makes first new r g'
-turn first l mid new row r g g' made step is back table = given_back first l mid new row (function_at l row) g' made back table r (subst (λ (f : Function). Makes l mid r f) is step)
+pub turn : (first l mid new : Contents) (row : ℕ) (r : Result ℕ Halt) (g g' : Function) → Makes first l (Ok row) (function_at l row) → Makes l mid r g → g ≡ g' → AddsRoot new.state mid.state row → SameNodes mid new → Makes first new r g'
+turn first l mid new row r g g' made step is back nodes = given_back first l mid new row (function_at l row) g' made back nodes r (subst (λ (f : Function). Makes l mid r f) is step)
 
 -- the sum, or both where they are wanted
 abbrev pub with_pair : Function → Bool → Function → Function → Function

@@ -33,3 +33,4 @@ pub mod Readiness
 pub mod NamedSteps
 pub mod UpdateMeanings
 pub mod EquationLemmas
+pub mod BoundLemmas

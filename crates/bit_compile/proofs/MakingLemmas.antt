@@ -8,8 +8,10 @@ use Rattle.spec_model.specs.Diagrams.{Diagram, Function, IsPartOf, value}
 use Rattle.bdd_store.specs.declared.fault.StoreFault.{StoreFault}
 use Rattle.bdd_store.specs.declared.fault.StoreFault.TheVariants as fault
 use Rattle.bdd_store.specs.State.{State, IsEdge, IsRoot, IsReached, diagram_of, AddsRoot, SameRoots, WasThere, IsFilled}
-use Rattle.bdd_ops.specs.Contents.{Contents}
-use Rattle.bdd_ops.specs.Calls.{GivesRoot, KeepsRoots}
+use Rattle.bdd_bits.specs.Contents.{Contents}
+use Rattle.bdd_bits.specs.Orders.{BitOrder}
+use Rattle.bdd_bits.specs.Calls.{GivesRoot, KeepsRoots, SameNodes}
+use Rattle.bdd_bits.proofs.CallLemmas.{same_function}
 use Rattle.regions.specs.declared.types.Halt.{Halt}
 use Rattle.regions.specs.declared.types.Halt.TheVariants as halt
 use Rattle.bit_compile.specs.Codes.{has_number}
@@ -23,6 +25,7 @@ keeps_then a b c first same second =
     record {
       levels = second.levels ∙ first.levels;
       budget = second.budget ∙ first.budget;
+      order = second.order ∙ first.order;
       meaning = λ n root. second.meaning n (root_stays a.state b.state n same root) ∙ first.meaning n root;
     }
 
@@ -120,15 +123,24 @@ module _ (old mid freed new : Contents) (f : Function) (MayMake : Diagram → Ty
         cause = λ e. not_memory (Err halt.Memory) refl e;
       }
 
+-- an operation told by the order, tried again on what is left
+pub again_under : (F : BitOrder → Function) (M : BitOrder → Diagram → Type 0) (old mid freed new : Contents) (r : Result ℕ StoreFault) → GivesRoot old mid (Err fault.Full) (F old.order) (M old.order) → Reclaims mid freed → GivesRoot freed new r (F freed.order) (M freed.order) → MakesOnce old new (halted r) (F old.order) (M old.order)
+again_under F M old mid freed new r first reclaims gives =
+    let keeps = keeps_freed old mid freed new (F old.order) (M old.order) first reclaims in
+    again old mid freed new (F old.order) (M old.order) first reclaims r (subst (λ (o : BitOrder). GivesRoot freed new r (F o) (M o)) keeps.order gives)
+
 -- an operation on two kept roots, tried again on what is left
-pub again_on : (F : Diagram → Diagram → Function) (M : Diagram → Diagram → Diagram → Type 0) (old mid freed new : Contents) (a b : ℕ) (r : Result ℕ StoreFault) → IsRoot old.state a → IsRoot old.state b → GivesRoot old mid (Err fault.Full) (F (diagram_of old.state a) (diagram_of old.state b)) (M (diagram_of old.state a) (diagram_of old.state b)) → Reclaims mid freed → GivesRoot freed new r (F (diagram_of freed.state a) (diagram_of freed.state b)) (M (diagram_of freed.state a) (diagram_of freed.state b)) → MakesOnce old new (halted r) (F (diagram_of old.state a) (diagram_of old.state b)) (M (diagram_of old.state a) (diagram_of old.state b))
+pub again_on : (F : BitOrder → Diagram → Diagram → Function) (M : BitOrder → Diagram → Diagram → Diagram → Type 0) (old mid freed new : Contents) (a b : ℕ) (r : Result ℕ StoreFault) → IsRoot old.state a → IsRoot old.state b →
+    GivesRoot old mid (Err fault.Full) (F old.order (diagram_of old.state a) (diagram_of old.state b)) (M old.order (diagram_of old.state a) (diagram_of old.state b)) → Reclaims mid freed →
+    GivesRoot freed new r (F freed.order (diagram_of freed.state a) (diagram_of freed.state b)) (M freed.order (diagram_of freed.state a) (diagram_of freed.state b)) →
+    MakesOnce old new (halted r) (F old.order (diagram_of old.state a) (diagram_of old.state b)) (M old.order (diagram_of old.state a) (diagram_of old.state b))
 again_on F M old mid freed new a b r root_a root_b first reclaims gives =
-    let f = F (diagram_of old.state a) (diagram_of old.state b) in
-    let may = M (diagram_of old.state a) (diagram_of old.state b) in
-    let keeps = keeps_freed old mid freed new f may first reclaims in
-    let with_a = subst (λ (d : Diagram). GivesRoot freed new r (F d (diagram_of freed.state b)) (M d (diagram_of freed.state b))) (keeps.meaning a root_a) gives in
-    let with_b = subst (λ (d : Diagram). GivesRoot freed new r (F (diagram_of old.state a) d) (M (diagram_of old.state a) d)) (keeps.meaning b root_b) with_a in
-    again old mid freed new f may first reclaims r with_b
+    let da = diagram_of old.state a in
+    let db = diagram_of old.state b in
+    let keeps = keeps_freed old mid freed new (F old.order da db) (M old.order da db) first reclaims in
+    let with_a = subst (λ (d : Diagram). GivesRoot freed new r (F freed.order d (diagram_of freed.state b)) (M freed.order d (diagram_of freed.state b))) (keeps.meaning a root_a) gives in
+    let with_b = subst (λ (d : Diagram). GivesRoot freed new r (F freed.order da d) (M freed.order da d)) (keeps.meaning b root_b) with_a in
+    again_under (λ (o : BitOrder). F o da db) (λ (o : BitOrder). M o da db) old mid freed new r first reclaims with_b
 
 pub told_makes : (old new : Contents) (r : Result ℕ StoreFault) (f : Function) (MayMake : Diagram → Type 0) → GivesRoot old new r f MayMake → Makes old new (halted r) f
 told_makes old new (Ok r) f MayMake gives = record { meaning = gives.meaning; added = gives.added; refused = gives.refused; keeps = gives.keeps; full = λ e. not_budget e }
@@ -152,19 +164,20 @@ pub is_root : (old mid : Contents) (b : ℕ) (g : Function) → Makes old mid (O
 is_root old mid b g makes = let more = makes.added b in grind (arith, more, nat_tests)
 
 -- a root that was made on the way is given back
-module _ (old mid whole new : Contents) (b : ℕ) (g f : Function) (first : Makes old mid (Ok b) g) (back : AddsRoot new.state whole.state b) (table : new.state.table ≡ whole.state.table) where
+module _ (old mid whole new : Contents) (b : ℕ) (g f : Function) (first : Makes old mid (Ok b) g) (back : AddsRoot new.state whole.state b) (nodes : SameNodes whole new) where
   keeps_back : KeepsRoots mid whole → KeepsRoots old new
   keeps_back keeps =
       record {
-        levels = ap (λ t. t.levels) table ∙ (keeps.levels ∙ first.keeps.levels);
-        budget = ap (λ t. t.budget) table ∙ (keeps.budget ∙ first.keeps.budget);
-        meaning = λ n root. ap (λ t. diagram_at t n) table ∙ (keeps.meaning n (root_added old mid b g first n root) ∙ first.keeps.meaning n root);
+        levels = ap (λ t. t.levels) nodes.table ∙ (keeps.levels ∙ first.keeps.levels);
+        budget = ap (λ t. t.budget) nodes.table ∙ (keeps.budget ∙ first.keeps.budget);
+        order = nodes.order ∙ (keeps.order ∙ first.keeps.order);
+        meaning = λ n root. ap (λ t. diagram_at t n) nodes.table ∙ (keeps.meaning n (root_added old mid b g first n root) ∙ first.keeps.meaning n root);
       }
 
   pub given_back : (r : Result ℕ Halt) → Makes mid whole r f → Makes old new r f
   given_back (Ok r) makes =
       record {
-        meaning = ap (λ t. value (diagram_at t r)) table ∙ makes.meaning;
+        meaning = same_function whole new r nodes ∙ makes.meaning;
         added = λ n. (let one = back n in let two = makes.added n in let three = first.added n in omega (arith, one, two, three));
         refused = tt;
         keeps = keeps_back makes.keeps;
@@ -176,7 +189,7 @@ module _ (old mid whole new : Contents) (b : ℕ) (g f : Function) (first : Make
         added = tt;
         refused = λ n. (let one = back n in let two = makes.refused n in let three = first.added n in omega (arith, one, two, three));
         keeps = keeps_back makes.keeps;
-        full = λ e. subst IsFilled (sym table) (makes.full e);
+        full = λ e. subst IsFilled (sym nodes.table) (makes.full e);
       }
 
 -- a digit before others

@@ -16,7 +16,7 @@ use Rattle.spec_model.specs.Diagrams.{Function}
 use Rattle.game_values.specs.Safety.{formulas_in}
 use Rattle.game_values.specs.declared.seen.At.{At}
 use Rattle.game_values.specs.declared.seen.At.TheVariants.{Now, Next}
-use Rattle.bdd_ops.specs.Contents.{Contents, function_at}
+use Rattle.bdd_bits.specs.Contents.{Contents, function_at}
 use Rattle.bit_compile.specs.declared.cases.CaseRoot.{CaseRoot}
 use Rattle.bit_compile.specs.declared.scenes.Scene.{Scene}
 use Rattle.bit_compile.specs.declared.operation.Operation.{Operation}

@@ -10,7 +10,7 @@ use Rattle.spec_model.specs.declared.value.Value.TheVariants as value
 use Rattle.spec_model.specs.Values.{truth_of}
 use Rattle.spec_model.specs.Diagrams.{Bits, Function}
 use Rattle.bdd_ops.specs.Functions.{joined, join_of}
-use Rattle.bdd_ops.specs.Contents.{Contents}
+use Rattle.bdd_bits.specs.Contents.{Contents}
 use Rattle.bit_compile.specs.declared.folds.Fold.{Fold}
 use Rattle.bit_compile.specs.declared.folds.Fold.TheVariants as fold
 use Rattle.bit_compile.specs.Codes.{has_number}

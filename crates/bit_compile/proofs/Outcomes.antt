@@ -6,8 +6,8 @@ use Rattle.spec_model.specs.declared.value.Value.{Value}
 use Rattle.spec_model.specs.Values.{values_of}
 use Rattle.spec_model.specs.Diagrams.{Function}
 use Rattle.bdd_store.specs.State.{roots_at, AddsRoot}
-use Rattle.bdd_ops.specs.Contents.{Contents}
-use Rattle.bdd_ops.specs.Calls.{KeepsRoots}
+use Rattle.bdd_bits.specs.Contents.{Contents}
+use Rattle.bdd_bits.specs.Calls.{KeepsRoots, SameNodes}
 use Rattle.regions.specs.declared.types.Halt.{Halt}
 use Rattle.bit_compile.specs.declared.cases.CaseRoot.{CaseRoot}
 use Rattle.bit_compile.specs.declared.operation.Operation.{Operation}
@@ -55,41 +55,41 @@ module _ {V : Type 0} (old new : Contents) (r : Result V Halt) (h : Halt) (N : F
 -- ---- a root that was made on the way is given back
 
 module _ (M N : Function → Type 0) (wider : (f : Function) → M f → N f) (old mid : Contents) (b : ℕ) (g : Function) (first : Makes old mid (Ok b) g) (named : N g)
-    (whole new : Contents) (back : AddsRoot new.state whole.state b) (table : new.state.table ≡ whole.state.table) where
+    (whole new : Contents) (back : AddsRoot new.state whole.state b) (nodes : SameNodes whole new) where
   pub named_back : (r : Result ℕ Halt) (f : Function) → MakesNamed mid whole r f M → MakesNamed old new r f N
   named_back r f then =
       record {
-        made = given_back old mid whole new b g f first back table r then.made;
-        cause = cause_back M N wider old mid b g first named whole new r table then.cause;
+        made = given_back old mid whole new b g f first back nodes r then.made;
+        cause = cause_back M N wider old mid b g first named whole new r nodes then.cause;
       }
 
   pub cases_back : (r : Result (Vec CaseRoot Global) Halt) (cs : List Case) → MakesCases mid whole r cs M → MakesCases old new r cs N
   cases_back r cs then =
       let between = between_root old mid b g first in
       record {
-        made = cases_through (λ (v : Vec CaseRoot Global). v.items) old mid whole new _ r cs cs between then.made refl back table;
-        leaves = leaves_between old mid whole new _ between back table r then.leaves;
-        cause = cause_back M N wider old mid b g first named whole new r table then.cause;
+        made = cases_through (λ (v : Vec CaseRoot Global). v.items) old mid whole new _ r cs cs between then.made refl back nodes;
+        leaves = leaves_between old mid whole new _ between back nodes r then.leaves;
+        cause = cause_back M N wider old mid b g first named whole new r nodes then.cause;
       }
 
 -- ---- cases that were made on the way are read as `seen`, and given back
 
 module _ (old mid : Contents) (made seen : List CaseRoot) (cs : List Case) (adds : AddsCases old mid made cs) (keeps : KeepsRoots old mid) (same : seen ≡ made) where
   module _ (M N : Function → Type 0) (wider : (f : Function) → M f → N f) (named : AllByRecursion (λ (x : Case). N x.holds) cs)
-      (whole new : Contents) (back : (n : ℕ) → roots_at whole.state n ≡ roots_at new.state n + roots_in made n) (table : new.state.table ≡ whole.state.table) where
+      (whole new : Contents) (back : (n : ℕ) → roots_at whole.state n ≡ roots_at new.state n + roots_in made n) (nodes : SameNodes whole new) where
     pub named_among : (r : Result ℕ Halt) (f : Function) → MakesNamed mid whole r f M → MakesNamed old new r f N
     named_among r f then =
         record {
-          made = made_through old mid made seen cs adds keeps same whole new back table r f f then.made refl;
-          cause = cause_among M N wider old mid made cs adds keeps named whole new r table then.cause;
+          made = made_through old mid made seen cs adds keeps same whole new back nodes r f f then.made refl;
+          cause = cause_among M N wider old mid made cs adds keeps named whole new r nodes then.cause;
         }
 
     pub cases_among : (r : Result (Vec CaseRoot Global) Halt) (ds : List Case) → MakesCases mid whole r ds M → MakesCases old new r ds N
     cases_among r ds then =
         record {
-          made = cases_with old mid made seen cs adds keeps same whole new back table (λ (v : Vec CaseRoot Global). v.items) r ds ds then.made refl;
-          leaves = made_leaves old mid made seen cs adds keeps same whole new back table r then.leaves;
-          cause = cause_among M N wider old mid made cs adds keeps named whole new r table then.cause;
+          made = cases_with old mid made seen cs adds keeps same whole new back nodes (λ (v : Vec CaseRoot Global). v.items) r ds ds then.made refl;
+          leaves = made_leaves old mid made seen cs adds keeps same whole new back nodes r then.leaves;
+          cause = cause_among M N wider old mid made cs adds keeps named whole new r nodes then.cause;
         }
 
   module _ (whole : Contents) (kept : List CaseRoot) (still : AreKept old.state kept) where

@@ -5,8 +5,8 @@ use Rattle.std.specs.Bool.{beq}
 use Rattle.spec_model.specs.Values.{same_value}
 use Rattle.spec_model.specs.Diagrams.{Function}
 use Rattle.bdd_store.specs.State.{IsRoot, roots_at}
-use Rattle.bdd_ops.specs.Contents.{Contents}
-use Rattle.bdd_ops.specs.Calls.{KeepsRoots}
+use Rattle.bdd_bits.specs.Contents.{Contents}
+use Rattle.bdd_bits.specs.Calls.{KeepsRoots, SameNodes}
 use Rattle.regions.specs.declared.types.Halt.{Halt}
 use Rattle.bit_compile.specs.declared.cases.CaseRoot.{CaseRoot}
 use Rattle.bit_compile.specs.Making.{Makes}
@@ -42,16 +42,16 @@ module _ (old mid : Contents) (made seen : List CaseRoot) (cs : List Case) (adds
   pub other_kept : (n : ℕ) → IsRoot old.state n → IsRoot mid.state n
   other_kept n root = root_before old mid made cs adds n root
 
-  module _ (whole new : Contents) (back : (n : ℕ) → roots_at whole.state n ≡ roots_at new.state n + roots_in made n) (table : new.state.table ≡ whole.state.table) where
+  module _ (whole new : Contents) (back : (n : ℕ) → roots_at whole.state n ≡ roots_at new.state n + roots_in made n) (nodes : SameNodes whole new) where
     -- a function of what was made, once that is given back
     pub made_through : (r : Result ℕ Halt) (f g : Function) → Makes mid whole r g → g ≡ f → Makes old new r f
-    made_through r f g makes is = through_cases old mid whole new made cs r f g adds keeps makes is back table
+    made_through r f g makes is = through_cases old mid whole new made cs r f g adds keeps makes is back nodes
 
     pub made_leaves : {V : Type 0} (r : Result V Halt) → Leaves mid whole r → Leaves old new r
-    made_leaves r leaves = leaves_between old mid whole new (roots_in made) (between_cases old mid made cs adds keeps) back table r leaves
+    made_leaves r leaves = leaves_between old mid whole new (roots_in made) (between_cases old mid made cs adds keeps) back nodes r leaves
 
     pub cases_with : {V : Type 0} (items : V → List CaseRoot) (r : Result V Halt) (ds es : List Case) → IfOk r (λ v. AddsCases mid whole (items v) ds) → ds ≡ es → IfOk r (λ v. AddsCases old new (items v) es)
-    cases_with items r ds es more is = cases_through items old mid whole new (roots_in made) r es ds (between_cases old mid made cs adds keeps) more is back table
+    cases_with items r ds es more is = cases_through items old mid whole new (roots_in made) r es ds (between_cases old mid made cs adds keeps) more is back nodes
 
 -- ---- truth values
 

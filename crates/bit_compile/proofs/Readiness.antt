@@ -5,8 +5,8 @@ use Rattle.spec_model.specs.declared.value.Value.{Value}
 use Rattle.spec_model.specs.Values.{number_of}
 use Rattle.spec_model.specs.Diagrams.{Function}
 use Rattle.bdd_store.specs.State.{IsRoot}
-use Rattle.bdd_ops.specs.Contents.{Contents}
-use Rattle.bdd_ops.specs.Calls.{KeepsRoots}
+use Rattle.bdd_bits.specs.Contents.{Contents}
+use Rattle.bdd_bits.specs.Calls.{KeepsRoots}
 use Rattle.bit_compile.specs.declared.cases.Source.{Source}
 use Rattle.bit_compile.specs.declared.cases.Source.TheVariants as source
 use Rattle.bit_compile.specs.Domains.{level_count}

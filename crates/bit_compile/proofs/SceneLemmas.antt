@@ -12,7 +12,7 @@ use Rattle.spec_model.specs.Games.{GameData}
 use Rattle.spec_model.specs.Diagrams.{Function}
 use Rattle.game_values.specs.Safety.{formulas_in}
 use Rattle.game_values.specs.declared.seen.At.TheVariants.{Now}
-use Rattle.bdd_ops.specs.Contents.{Contents, function_at}
+use Rattle.bdd_bits.specs.Contents.{Contents, function_at}
 use Rattle.bit_compile.specs.declared.cases.CaseRoot.{CaseRoot}
 use Rattle.bit_compile.specs.declared.scenes.Scene.{Scene}
 use Rattle.bit_compile.specs.Domains.{state_domains, table_domain}

@@ -9,8 +9,8 @@ use Rattle.spec_model.specs.Meaning.{compare_values}
 use Rattle.spec_model.specs.Views.{domain_data}
 use Rattle.spec_model.specs.Diagrams.{Function}
 use Rattle.bdd_store.specs.State.{State, IsRoot, roots_at, SameRoots, IsFull}
-use Rattle.bdd_ops.specs.Contents.{Contents, function_at}
-use Rattle.bdd_ops.specs.Calls.{KeepsRoots}
+use Rattle.bdd_bits.specs.Contents.{Contents, function_at}
+use Rattle.bdd_bits.specs.Calls.{KeepsRoots}
 use Rattle.regions.specs.declared.types.Halt.{Halt}
 use Rattle.regions.specs.declared.types.Halt.TheVariants as halt
 use Rattle.bit_compile.specs.declared.cases.CaseRoot.{CaseRoot}

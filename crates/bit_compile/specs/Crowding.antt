@@ -1,10 +1,10 @@
 -- What a budget is filled with where it ends a call: diagrams that are held, and what one operation on them made so far.
 use Rattle.std.specs.Prelude.{◌≡◌, ◌<◌, ◌⊎◌, ℕ, Result, Err}
 use Rattle.std.specs.List.{AllByRecursion}
-use Rattle.spec_model.specs.Diagrams.{Diagram, Function, value, IsPartOf, IsReduced}
+use Rattle.spec_model.specs.Diagrams.{Diagram, Function, IsPartOf, IsReduced}
 use Rattle.node_table.specs.Table.{Table, IsLive, diagram_at}
-use Rattle.bdd_store.specs.State.{State, IsEdge, IsRoot, diagram_of, IsFilled}
-use Rattle.bdd_ops.specs.Contents.{Contents}
+use Rattle.bdd_store.specs.State.{IsEdge, IsRoot, diagram_of, IsFilled}
+use Rattle.bdd_bits.specs.Contents.{Contents, function_of}
 use Rattle.regions.specs.declared.types.Halt.{Halt}
 use Rattle.bit_compile.specs.Making.{Makes}
 use Rattle.regions.specs.declared.types.Halt.TheVariants as halt
@@ -27,13 +27,13 @@ pub record IsCrowdedBy (t : Table) (IsHeld : Diagram → Type 0) : Type 0 where
   pub needed : (n : ℕ) → IsLive t n → (n < 2) ⊎ (StandsIn t IsHeld n ⊎ IsUnfinishedOf running (diagram_at t n))
 
 -- a root of the diagram was kept, or its function is named
-abbrev pub IsHeldSince : State → (Function → Type 0) → Diagram → Type 0
-IsHeldSince old IsNamed d = ((r : ℕ) × IsRoot old r × (d ≡ diagram_of old r)) ⊎ IsNamed (value d)
+abbrev pub IsHeldSince : Contents → (Function → Type 0) → Diagram → Type 0
+IsHeldSince old IsNamed d = ((r : ℕ) × IsRoot old.state r × (d ≡ diagram_of old.state r)) ⊎ IsNamed (function_of old d)
 
 -- `Budget` comes only where the diagrams kept at first, which are all there, and diagrams of named functions, with the
 -- unfinished results of one operation on them, are exactly as many nodes as the budget
 pub record HasCause {V : Type 0} (old new : Contents) (result : Result V Halt) (IsNamed : Function → Type 0) : Type 0 where
-  pub crowded : result ≡ Err halt.Budget → IsCrowdedBy new.state.table (IsHeldSince old.state IsNamed)
+  pub crowded : result ≡ Err halt.Budget → IsCrowdedBy new.state.table (IsHeldSince old IsNamed)
   pub rooted : result ≡ Err halt.Budget → (n : ℕ) → IsRoot old.state n → IsEdge new.state n
 
 -- a root of this function, or a refusal that leaves what is kept and has this cause

@@ -16,3 +16,4 @@ pub mod Proper
 pub mod Named
 pub mod NamedScenes
 pub mod Equations
+pub mod Bounds

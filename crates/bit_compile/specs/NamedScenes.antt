@@ -6,7 +6,7 @@ use Rattle.spec_model.specs.Views.{domain_data}
 use Rattle.spec_model.specs.Syntax.{Formula, Formulas}
 use Rattle.spec_model.specs.Diagrams.{Function}
 use Rattle.game_values.specs.declared.seen.At.{At}
-use Rattle.bdd_ops.specs.Contents.{Contents, function_at}
+use Rattle.bdd_bits.specs.Contents.{Contents, function_at}
 use Rattle.bit_compile.specs.declared.operation.Operation.{Operation}
 use Rattle.bit_compile.specs.declared.cases.Source.{Source}
 use Rattle.bit_compile.specs.declared.cases.Source.TheVariants as source

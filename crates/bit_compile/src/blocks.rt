@@ -5,7 +5,7 @@ ghost use Rattle.std.specs.Prelude.{◌≡◌, ◌||◌, ◌&&◌, map};
 ghost use Rattle.std.specs.List.{list_all};
 ghost use Rattle.std.specs.Bool.{beq};
 ghost use Rattle.bdd_store.specs.State.{IsRoot};
-ghost use Rattle.bdd_ops.specs.Contents.{function_at};
+ghost use Rattle.bdd_bits.specs.Contents.{function_at};
 ghost use Rattle.bit_compile.specs.Making.{Makes};
 ghost use Rattle.bit_compile.specs.Compiled.{some_of, some_pair};
 ghost use Rattle.bit_compile.specs.CaseRoots.{AreKept, cases_at, passes as passes_lem};
@@ -16,7 +16,7 @@ use crate::cases::CaseRoot;
 use crate::folds::{Fold, and_some, folded};
 use crate::pairs::{Test, pair_by_pair, passes};
 use crate::steps::{constant, or};
-use bdd_ops::{Diagrams, Root};
+use bdd_bits::{Diagrams, Root};
 use regions::Halt;
 use spec_model::value::Value;
 

@@ -3,7 +3,8 @@
 ghost use Rattle.std.specs.Prelude.{◌≡◌, ℕ, ◌+◌};
 ghost use Rattle.std.specs.List.{AllByRecursion};
 ghost use Rattle.bdd_store.specs.State.{IsRoot, roots_at};
-ghost use Rattle.bdd_ops.specs.Contents.{function_at};
+ghost use Rattle.bdd_bits.specs.Contents.{function_at};
+ghost use Rattle.bdd_bits.specs.Calls.{SameNodes};
 ghost use Rattle.bit_compile.specs.Making.{Makes};
 ghost use Rattle.bit_compile.specs.Compiled.{both_truths};
 ghost use Rattle.bit_compile.specs.CaseRoots.{HasTogether, MakesCases, IsReady, had_by, truth_had, cases_by, roots_in};
@@ -19,7 +20,7 @@ use crate::letters::letter_root;
 use crate::operation::Operation;
 use crate::pairs::Test;
 use crate::steps::{constant, keep, not};
-use bdd_ops::{Diagrams, Root};
+use bdd_bits::{Diagrams, Root};
 use game_values::seen::At;
 use game_values::values::{number, truth};
 use regions::Halt;
@@ -55,7 +56,7 @@ pub enum Source<'a> {
 pub fn release_all(diagrams: &mut Diagrams, mut cases: Vec<CaseRoot>)
     requires { HasTogether diagrams.old.state cases.items }
     ensures released { (n : ℕ) → roots_at diagrams.old.state n ≡ roots_at diagrams.new.state n + roots_in cases.items n }
-    ensures table { diagrams.new.state.table ≡ diagrams.old.state.table }
+    ensures nodes { SameNodes diagrams.old diagrams.new }
 {
     while let Some(case) = cases.pop() {
         let CaseRoot { value: _, root } = case;

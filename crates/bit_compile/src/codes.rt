@@ -20,7 +20,7 @@ use crate::domains::{code, copy, domain_of, size};
 use crate::named::number;
 use crate::numbers::{width_for, write_number};
 use crate::slots::Slot;
-use bdd_ops::{Diagrams, Root};
+use bdd_bits::{Diagrams, Root};
 use game_values::seen::At;
 use regions::Halt;
 use spec_model::game::{Game, Hidden};

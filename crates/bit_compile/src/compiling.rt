@@ -1,22 +1,21 @@
 //! The diagram of a formula, by cases on the expression.
 
-ghost use Rattle.std.specs.Prelude.{◌≤◌, ◌||◌, map, ◌⊎◌};
-ghost use Rattle.spec_model.specs.Syntax.{Comparison, Remainder, Implication, Equivalence};
+ghost use Rattle.std.specs.Prelude.{◌≤◌, ◌||◌, ◌⊎◌};
+ghost use Rattle.spec_model.specs.Syntax.{Comparison, Implication, Equivalence};
 ghost use Rattle.spec_model.specs.Views.{formula};
-ghost use Rattle.spec_model.specs.Values.{values_of};
 ghost use Rattle.game_values.specs.Safety.{formulas_in};
 ghost use Rattle.bdd_store.specs.State.{IsRoot};
-ghost use Rattle.bdd_ops.specs.Contents.{function_at};
+ghost use Rattle.bdd_bits.specs.Contents.{function_at};
 ghost use Rattle.bit_compile.specs.Domains.{level_count};
-ghost use Rattle.bit_compile.specs.Laid.{IsCountable};
-ghost use Rattle.bit_compile.specs.Compiled.{truths_in, entry_of, is_not, implied, same_truth, both_truths, some_pair, results, values_in, span_of};
+ghost use Rattle.bit_compile.specs.Compiled.{truths_in, entry_of, is_not, implied, same_truth, both_truths, some_pair};
 ghost use Rattle.bit_compile.specs.CaseRoots.{AreKept, MakesCases, cases_at, folded as folded_lem, passes, true_cases};
 ghost use Rattle.bit_compile.specs.Scenes.{IsScene, cases_seen, codes_seen, entries_seen, game_seen, truth_seen};
-ghost use Rattle.bit_compile.specs.Known.{IsKnown, AreKnown, operated_cases};
+ghost use Rattle.bit_compile.specs.Known.{IsKnown, AreKnown};
 ghost use Rattle.bit_compile.specs.Crowding.{MakesNamed};
-ghost use Rattle.bit_compile.specs.Named.{IsOfSame, IsFirstOf, IsOfPairs, IsOfResults};
-ghost use Rattle.bit_compile.specs.NamedScenes.{IsNamedIn, IsNamedOr, AreNamedIn, IsOfTablesIn, IsOfOperated};
+ghost use Rattle.bit_compile.specs.Named.{IsOfSame, IsFirstOf, IsOfPairs};
+ghost use Rattle.bit_compile.specs.NamedScenes.{IsNamedIn, IsNamedOr, AreNamedIn, IsOfTablesIn};
 
+use crate::arithmetic::{operated, remainders};
 use crate::blocks::pair_root;
 use crate::cases::{CaseRoot, Source, cases_from, cases_of_truth, release_all};
 use crate::folds::{Fold, folded};
@@ -24,9 +23,9 @@ use crate::operation::Operation;
 use crate::pairs::Test;
 use crate::reading::{decided_by, variable_cases, variable_root};
 use crate::scenes::Scene;
-use crate::spans::{operation_cases, remainder_cases, same_root, table_root};
+use crate::spans::{same_root, table_root};
 use crate::steps::{constant, not, or};
-use bdd_ops::{Diagrams, Root};
+use bdd_bits::{Diagrams, Root};
 use game_values::seen::At;
 use game_values::values::truth;
 use regions::Halt;
@@ -314,7 +313,12 @@ fn entry_root(diagrams: &mut Diagrams, scene: &Scene, h: usize, n: usize) -> Res
 
 /// Each value that a formula may have, with where it has it.
 #[cycle(compile)]
-fn cases_of(diagrams: &mut Diagrams, scene: &Scene, at: At, e: &Expr) -> Result<Vec<CaseRoot>, Halt>
+pub fn cases_of(
+    diagrams: &mut Diagrams,
+    scene: &Scene,
+    at: At,
+    e: &Expr,
+) -> Result<Vec<CaseRoot>, Halt>
     requires scene { IsScene scene.now }
     requires levels { level_count (codes_seen scene.now) ≤ diagrams.old.state.table.levels }
     requires known { IsKnown (game_seen scene.now) (formula e.now) }
@@ -355,73 +359,5 @@ fn both_cases(
     let root = truth_root(diagrams, scene, at, e)?;
     let cases = cases_of_truth(diagrams, scene.alloc(), &root);
     diagrams.release(root);
-    cases
-}
-
-/// Each number that an operation gives, with where it is had.
-#[cycle(compile)]
-fn operated(
-    diagrams: &mut Diagrams,
-    scene: &Scene,
-    at: At,
-    op: Operation,
-    a: &Expr,
-    b: &Expr,
-) -> Result<Vec<CaseRoot>, Halt>
-    requires scene { IsScene scene.now }
-    requires levels { level_count (codes_seen scene.now) ≤ diagrams.old.state.table.levels }
-    requires a_known { IsKnown (game_seen scene.now) (formula a.now) }
-    requires b_known { IsKnown (game_seen scene.now) (formula b.now) }
-    requires span { IsCountable (span_of op (values_in (game_seen scene.now) (formula a.now)) (values_in (game_seen scene.now) (formula b.now))) }
-    ensures { let s = scene.now in
-        MakesCases diagrams.old diagrams.new result (operated_cases (game_seen s) (entries_seen s) at op (formula a.now) (formula b.now)) (IsOfOperated s at op (formula a.now) (formula b.now)) }
-{
-    let xs = cases_of(diagrams, scene, at, a)?;
-    let cases = operated_with(diagrams, scene, at, op, &xs, b);
-    release_all(diagrams, xs);
-    cases
-}
-
-/// Each number that an operation gives on these values and on those of a formula, with where it is had.
-#[cycle(compile)]
-fn operated_with(
-    diagrams: &mut Diagrams,
-    scene: &Scene,
-    at: At,
-    op: Operation,
-    xs: &[CaseRoot],
-    b: &Expr,
-) -> Result<Vec<CaseRoot>, Halt>
-    requires scene { IsScene scene.now }
-    requires levels { level_count (codes_seen scene.now) ≤ diagrams.old.state.table.levels }
-    requires known { IsKnown (game_seen scene.now) (formula b.now) }
-    requires span { IsCountable (span_of op (map (λ x. x.value) xs.now) (values_in (game_seen scene.now) (formula b.now))) }
-    requires kept { AreKept diagrams.old.state xs.now }
-    ensures { let c = diagrams.old in let s = scene.now in let had = cases_at c xs.now in let ys = cases_seen s at (formula b.now) in let vs = values_of (span_of op (map (λ x. x.value) xs.now) (values_in (game_seen s) (formula b.now))) in
-        MakesCases c diagrams.new result (results op had ys vs) (IsNamedOr s at (formula b.now) (IsOfResults op had ys vs)) }
-{
-    let ys = cases_of(diagrams, scene, at, b)?;
-    let cases = operation_cases(diagrams, scene.alloc(), op, xs, &ys);
-    release_all(diagrams, ys);
-    cases
-}
-
-/// Each remainder of a formula's number, with where it is had.
-#[cycle(compile)]
-fn remainders(
-    diagrams: &mut Diagrams,
-    scene: &Scene,
-    at: At,
-    a: &Expr,
-    n: i64,
-) -> Result<Vec<CaseRoot>, Halt>
-    requires scene { IsScene scene.now }
-    requires levels { level_count (codes_seen scene.now) ≤ diagrams.old.state.table.levels }
-    requires known { IsKnown (game_seen scene.now) (Remainder (formula a.now) n) }
-    ensures { MakesCases diagrams.old diagrams.new result (cases_seen scene.now at (Remainder (formula a.now) n)) (IsNamedIn scene.now at (Remainder (formula a.now) n)) }
-{
-    let xs = cases_of(diagrams, scene, at, a)?;
-    let cases = remainder_cases(diagrams, scene.alloc(), &xs, n);
-    release_all(diagrams, xs);
     cases
 }

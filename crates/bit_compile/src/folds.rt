@@ -2,7 +2,7 @@
 
 ghost use Rattle.std.specs.Prelude.{◌≡◌, ◌&&◌, map};
 ghost use Rattle.bdd_store.specs.State.{IsRoot};
-ghost use Rattle.bdd_ops.specs.Contents.{function_at};
+ghost use Rattle.bdd_bits.specs.Contents.{function_at};
 ghost use Rattle.bdd_ops.specs.Functions.{joined, join_of};
 ghost use Rattle.bit_compile.specs.Making.{Makes};
 ghost use Rattle.bit_compile.specs.Compiled.{some_of};
@@ -13,7 +13,7 @@ ghost use Rattle.bit_compile.specs.Named.{IsFirstOf};
 
 use crate::cases::CaseRoot;
 use crate::steps::{and, constant, or};
-use bdd_ops::{Diagrams, Root};
+use bdd_bits::{Diagrams, Root};
 use regions::Halt;
 
 /// How functions are joined.
@@ -36,7 +36,7 @@ fn starts_true(fold: Fold) -> bool
 }
 
 /// Where both are true, or one of them is.
-fn join_root(diagrams: &mut Diagrams, fold: Fold, a: &Root, b: &Root) -> Result<Root, Halt>
+pub fn join_root(diagrams: &mut Diagrams, fold: Fold, a: &Root, b: &Root) -> Result<Root, Halt>
     requires a_kept { IsRoot diagrams.old.state a.now }
     requires b_kept { IsRoot diagrams.old.state b.now }
     ensures made { Makes diagrams.old diagrams.new result (joined (join_of (is_all fold)) (function_at diagrams.old a.now) (function_at diagrams.old b.now)) }

@@ -2,7 +2,7 @@
 
 ghost use Rattle.std.specs.Prelude.{◌==◌, ◌&&◌, ◌%◌, map, ◌≡◌};
 ghost use Rattle.bdd_store.specs.State.{IsRoot};
-ghost use Rattle.bdd_ops.specs.Contents.{function_at};
+ghost use Rattle.bdd_bits.specs.Contents.{function_at};
 ghost use Rattle.bit_compile.specs.Making.{Makes};
 ghost use Rattle.bit_compile.specs.Compiled.{is_letter, is_not};
 ghost use Rattle.bit_compile.specs.CaseRoots.{AreKept};
@@ -12,7 +12,7 @@ ghost use Rattle.bit_compile.specs.Named.{IsOfLetter};
 
 use crate::cases::CaseRoot;
 use crate::steps::{and, constant, not};
-use bdd_ops::{Diagrams, Root};
+use bdd_bits::{Diagrams, Root};
 use regions::Halt;
 
 /// Where the product is true, and the atom is as wanted.

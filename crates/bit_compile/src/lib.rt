@@ -13,7 +13,9 @@
 //! Path: game, operations → **codes** → regions as diagrams.
 #![tactic(auto)]
 
+mod arithmetic;
 mod blocks;
+mod bounds;
 pub mod cases;
 mod codes;
 mod compiling;

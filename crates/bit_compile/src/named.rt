@@ -2,7 +2,7 @@
 
 ghost use Rattle.std.specs.Prelude.{◌+◌, ◌<◌, ◌≤◌, ◌^◌};
 ghost use Rattle.bdd_store.specs.State.{IsRoot};
-ghost use Rattle.bdd_ops.specs.Contents.{function_at};
+ghost use Rattle.bdd_bits.specs.Contents.{function_at};
 ghost use Rattle.bit_compile.specs.Codes.{has_number};
 ghost use Rattle.bit_compile.specs.Making.{Makes, digit, with_digit};
 ghost use Rattle.bit_compile.specs.Crowding.{HasCause};
@@ -10,11 +10,11 @@ ghost use Rattle.bit_compile.specs.NamedCodes.{IsDigit, IsOfNumber};
 
 use crate::numbers::power;
 use crate::steps::{and, not, told, var};
-use bdd_ops::{Diagrams, Root};
+use bdd_bits::{Diagrams, Root};
 use regions::Halt;
 
 /// The diagram that is true where a level's bit is this one.
-fn digit_root(diagrams: &mut Diagrams, level: u32, high: bool) -> Result<Root, Halt>
+pub fn digit_root(diagrams: &mut Diagrams, level: u32, high: bool) -> Result<Root, Halt>
     requires { level < diagrams.old.state.table.levels }
     ensures made { Makes diagrams.old diagrams.new result (digit level high) }
     ensures cause { HasCause diagrams.old diagrams.new result (IsDigit level) }

@@ -5,7 +5,7 @@ ghost use Rattle.std.specs.Prelude.{◌≡◌, ◌<◌, ◌&&◌, ◌||◌, ◌+
 ghost use Rattle.std.specs.List.{list_any};
 ghost use Rattle.spec_model.specs.Values.{number_of};
 ghost use Rattle.bdd_store.specs.State.{IsRoot};
-ghost use Rattle.bdd_ops.specs.Contents.{function_at};
+ghost use Rattle.bdd_bits.specs.Contents.{function_at};
 ghost use Rattle.bit_compile.specs.Making.{Makes};
 ghost use Rattle.bit_compile.specs.Compiled.{some_pair, in_table as in_table_lem, leads as leads_lem};
 ghost use Rattle.bit_compile.specs.CaseRoots.{AreKept, cases_at, passes as passes_lem, case_at};
@@ -15,7 +15,7 @@ ghost use Rattle.bit_compile.specs.Named.{IsBoth, IsOfRow, IsOfPairs};
 use crate::cases::CaseRoot;
 use crate::operation::{Operation, gives};
 use crate::steps::{and, constant, keep, or};
-use bdd_ops::{Diagrams, Root};
+use bdd_bits::{Diagrams, Root};
 use game_values::cells::{bit_in, number_in};
 use game_values::values::{compares, number};
 use regions::Halt;

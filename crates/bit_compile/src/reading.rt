@@ -18,7 +18,7 @@ use crate::cases::CaseRoot;
 use crate::domains::code;
 use crate::scenes::Scene;
 use crate::spans::coded_cases;
-use bdd_ops::{Diagrams, Root};
+use bdd_bits::{Diagrams, Root};
 use game_values::seen::At;
 use regions::Halt;
 use spec_model::expr::{Compare, Expr};

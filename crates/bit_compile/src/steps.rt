@@ -8,12 +8,13 @@ ghost use Rattle.std.specs.Prelude.{◌≡◌, ◌<◌, true, false, Err};
 ghost use Rattle.spec_model.specs.Diagrams.{value};
 ghost use Rattle.bdd_store.specs.State.{IsRoot, diagram_of};
 ghost use Rattle.bdd_ops.specs.Functions.{joined, join_of};
-ghost use Rattle.bdd_ops.specs.Contents.{function_at};
+ghost use Rattle.bdd_bits.specs.Contents.{function_at};
+ghost use Rattle.bdd_bits.specs.Orders.{level_of};
 ghost use Rattle.bdd_ops.specs.Steps.{IsJoinOfParts};
 ghost use Rattle.bdd_ops.specs.Calls.{negated, IsNegatedPart};
 ghost use Rattle.bit_compile.specs.Making.{halted, Makes, MakesOnce};
 
-use bdd_ops::{Diagrams, Root, StoreFault};
+use bdd_bits::{Diagrams, Root, StoreFault};
 use regions::Halt;
 
 /// A store's refusal as a halt.
@@ -97,7 +98,7 @@ pub fn not(diagrams: &mut Diagrams, a: &Root) -> Result<Root, Halt>
 /// The diagram that is true where the level's bit is.
 pub fn var(diagrams: &mut Diagrams, level: u32) -> Result<Root, Halt>
     requires { level < diagrams.old.state.table.levels }
-    ensures { MakesOnce diagrams.old diagrams.new result (λ s. s level) (λ made. value made ≡ (λ s. s level)) }
+    ensures { MakesOnce diagrams.old diagrams.new result (λ s. s level) (λ made. value made ≡ (λ s. s (level_of diagrams.old.order level))) }
 {
     match diagrams.var(level) {
         Ok(root) => Ok(root),

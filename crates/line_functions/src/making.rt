@@ -15,7 +15,7 @@ ghost use Rattle.line_functions.specs.Asking.{IsScene, game_seen, formulas_seen}
 
 use crate::formulas::formulas_of;
 use crate::slots::{Marks, TimedSlot};
-use bdd_ops::{Diagrams, Root};
+use bdd_bits::{Diagrams, Root};
 use bdd_sets::lists::push_made;
 use bit_compile::proper::and_some_value;
 use bit_compile::{Codes, compile};

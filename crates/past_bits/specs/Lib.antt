@@ -1,4 +1,5 @@
 pub mod Tables
 pub mod Entries
+pub mod Digests
 pub mod Bits
 pub mod Laws

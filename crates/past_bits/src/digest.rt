@@ -1,15 +1,28 @@
 //! A number that is most often another one for another tree.
 
+ghost use Rattle.std.specs.Prelude.{◌≡◌};
+ghost use Rattle.spec_model.specs.Syntax.{PastOf};
+ghost use Rattle.spec_model.specs.Views.{formula};
+ghost use Rattle.game_values.specs.Safety.{formulas_in};
+ghost use Rattle.past_bits.specs.Digests.{mixed as mixed_lem, value_digest, digest_from, digest_from_each, digest_of as digest_of_lem};
+
+use crate::same::number_of_past;
 use spec_model::expr::{Expr, Past};
 use spec_model::value::Value;
 
-fn mixed(sum: u64, part: u64) -> u64 {
+#[tactic(auto, unfolding(crate::specs::Digests::mixed))]
+fn mixed(sum: u64, part: u64) -> u64
+    ensures { result ≡ mixed_lem sum part }
+{
     (sum ^ part)
         .wrapping_mul(0x0000_0100_0000_01b3)
         .rotate_left(23)
 }
 
-fn digest_of_value(v: Value) -> u64 {
+#[tactic(auto, unfolding(crate::specs::Digests::value_digest))]
+fn digest_of_value(v: Value) -> u64
+    ensures { result ≡ value_digest v }
+{
     match v {
         Value::Bool(b) => u64::from(b),
         Value::Int(z) => z.cast_unsigned().wrapping_add(7),
@@ -18,7 +31,9 @@ fn digest_of_value(v: Value) -> u64 {
 }
 
 #[cycle(digests)]
-fn digest_of(sum: u64, e: &Expr) -> u64 {
+fn digest_of(sum: u64, e: &Expr) -> u64
+    ensures { result ≡ digest_from sum (formula e.now) }
+{
     match e {
         Expr::Const(v) => mixed(mixed(sum, 1), digest_of_value(*v)),
         Expr::Var(k) => mixed(mixed(sum, 2), u64::from(*k)),
@@ -34,32 +49,32 @@ fn digest_of(sum: u64, e: &Expr) -> u64 {
         Expr::Mul(a, b) => digest_of(digest_of(mixed(sum, 12), a), b),
         Expr::Mod(a, n) => digest_of(mixed(mixed(sum, 13), n.cast_unsigned()), a),
         Expr::Past(op, es) => digest_of_past(sum, *op, es),
-        Expr::Table(h, n) => mixed(mixed(mixed(sum, 20), u64::from(*h)), u64::from(*n)),
+        Expr::Table(h, n) => mixed(mixed(mixed(sum, 15), u64::from(*h)), u64::from(*n)),
     }
 }
 
 #[cycle(digests)]
-fn digest_of_past(sum: u64, op: Past, es: &[Expr]) -> u64 {
-    let kind = match op {
-        Past::Prev => 14,
-        Past::Once => 15,
-        Past::Historically => 16,
-        Past::Since => 17,
-        Past::Triggered => 18,
-    };
-    digest_of_each(mixed(sum, kind), es)
+fn digest_of_past(sum: u64, op: Past, es: &[Expr]) -> u64
+    ensures { result ≡ digest_from sum (PastOf op (formulas_in es.now)) }
+{
+    digest_of_each(mixed(mixed(sum, 14), u64::from(number_of_past(op))), es)
 }
 
 #[cycle(digests)]
-fn digest_of_each(sum: u64, es: &[Expr]) -> u64 {
-    let mut sum = mixed(sum, es.len() as u64);
+fn digest_of_each(sum: u64, es: &[Expr]) -> u64
+    ensures { result ≡ digest_from_each sum (formulas_in es.now) }
+{
+    let mut digest = sum;
     for e in es {
-        sum = digest_of(sum, e);
+        digest = digest_of(digest, e);
     }
-    sum
+    mixed(digest, 16)
 }
 
+#[tactic(auto, unfolding(crate::specs::Digests::digest_of))]
 /// The digest of a past operator.
-pub fn digest(op: Past, operands: &[Expr]) -> u64 {
+pub fn digest(op: Past, operands: &[Expr]) -> u64
+    ensures { result ≡ digest_of_lem (PastOf op (formulas_in operands.now)) }
+{
     digest_of_past(0, op, operands)
 }

@@ -32,7 +32,7 @@ fn is_operator(o: &Operator<'_>, op: Past, operands: &[Expr]) -> bool
 #[derive(Drop)]
 pub struct Operators<'a> {
     found: Vec<Operator<'a>>,
-    /// A place by the digest of the tree that stands there. A digest is a guess: what stands there is compared.
+    /// A place by the digest of each tree. Of trees with one digest it is the last one's, so what stands there is compared.
     places: IndexMap<u64, usize>,
 }
 
@@ -49,7 +49,7 @@ impl<'a> Model for Operators<'a> {
 
     ghost view = { λ o. o.found.items };
 
-    ghost invariant = { λ o. AreNumbered o.found.items };
+    ghost invariant = { λ o. AreNumbered o.found.items o.places };
 }
 
 impl<'a> Operators<'a> {
@@ -74,20 +74,22 @@ impl<'a> Operators<'a> {
         self.found.len()
     }
 
-    #[tactic(auto, using(crate::proofs::Places::guessed))]
-    /// The place of an operator; one that isn't there has the place past all. Mostly only such a one is compared with each.
+    #[tactic(auto, using(crate::proofs::Places::guessed, crate::proofs::Places::unknown))]
+    /// The place of an operator; one that isn't there has the place past all. Only one whose digest another one has too is
+    /// compared with each.
     pub fn place(&self, op: Past, operands: &[Expr]) -> usize
         ensures { result ≡ place_of (map tree_of self.now) (PastOf op (formulas_in operands.now)) }
     {
-        if let Some(guess) = self.places.get(&digest(op, operands)) {
-            if *guess < self.found.len() && is_operator(&self.found[*guess], op, operands) {
-                return *guess;
-            }
+        let Some(guess) = self.places.get(&digest(op, operands)) else {
+            return self.found.len();
+        };
+        if *guess < self.found.len() && is_operator(&self.found[*guess], op, operands) {
+            return *guess;
         }
         self.searched(op, operands)
     }
 
-    #[tactic(auto, using(crate::proofs::Places::kept, crate::proofs::Places::place_small, crate::proofs::Places::new_one, crate::proofs::Places::numbered_more))]
+    #[tactic(auto, using(crate::proofs::Places::kept, crate::proofs::Places::place_small, crate::proofs::Places::new_one, crate::proofs::Places::numbered_more, crate::proofs::Places::numbered_still, crate::proofs::Places::numbered_unchanged))]
     /// Adds an operator, unless it is there. There is no number for one past 2^32, and no memory.
     pub fn add(&mut self, op: Past, operands: &'a [Expr]) -> Result<(), AllocError>
         ensures { OnOk result (map tree_of self.new ≡ with_operator (map tree_of self.old) (PastOf op (formulas_in operands.now))) }

@@ -9,8 +9,9 @@ use Rattle.regions.specs.declared.types.Halt.{Halt}
 use Rattle.regions.specs.declared.types.Halt.TheVariants as halt
 use Rattle.regions.specs.declared.types.When.TheVariants.{First}
 use Rattle.bdd_store.specs.State.{IsRoot}
+use Rattle.bdd_sets.proofs.ShiftLemmas.{fits_kept}
 use Rattle.region_bdd.proofs.FewNodes.{few_nodes}
-use Rattle.bdd_ops.specs.Contents.{Contents}
+use Rattle.bdd_bits.specs.Contents.{Contents}
 use Rattle.bit_compile.specs.Making.{Makes}
 use Rattle.bit_compile.proofs.MakingLemmas.{is_root}
 use Rattle.bdd_sets.specs.declared.moves.NextLevels.{NextLevels}
@@ -21,11 +22,12 @@ use Rattle.region_bdd.specs.declared.own.Own.{Own}
 use Rattle.region_bdd.specs.declared.own.Refused.{Refused}
 use Rattle.region_bdd.specs.Slots.{shown_of}
 use Rattle.region_bdd.specs.Asking.{Answers, SettlesAnswer}
-use Rattle.region_bdd.specs.Crowding.{IsOfCall, FillsBudget}
+use Rattle.region_bdd.specs.Crowding.{IsOfCall, FillsIn}
 use Rattle.bit_compile.specs.Crowding.{HasCause}
 use Rattle.bdd_sets.specs.NamedGame.{IsOfGame}
 use Rattle.region_bdd.proofs.Refusals.{jam_of, still_named, refusal_fills, is_jammed}
 use Rattle.region_bdd.specs.Object.{IsObject, OwnIsNamed, call_of, argument_in, kept_of}
+use Rattle.region_bdd.proofs.BoundLaws.{same_bound}
 use Rattle.region_bdd.proofs.ObjectLaws.{none_refused, sound_same, stays_same, halts_memory, halts_budget, early_fits}
 
 -- what is told before the first move is one truth value
@@ -65,9 +67,9 @@ pub record Told (g : GameData) (own : Own) (lists : NextLevels) (c c' : Contents
 module _ (g : GameData) (own : Own) (lists : NextLevels) (c c' : Contents) (slots : List Slot) (object : IsObject g c own lists slots None) (fact : Type 0) (why : Refused) (arguments : List Meaning)
     (arguments_are : argument_in g (map (shown_of c) slots) why.first ++ argument_in g (map (shown_of c) slots) why.second ≡ arguments) where
   still : Answers c c' (Err halt.Memory) fact → IsObject g c' own lists slots None
-  still asked = record { made = object.made; levels = asked.keeps.levels ∙ object.levels; lists_are = object.lists_are; early = early_fits g own c c' slots object.sound asked.keeps lists object.early; named = still_named g own lists c c' slots object asked.keeps; sound = sound_same g own c c' slots object.sound asked.keeps asked.roots; unspent = object.unspent; tight = tt; jammed = tt }
+  still asked = record { made = object.made; fits = fits_kept g lists.to.items c c' asked.keeps object.fits; lists_are = object.lists_are; early = early_fits g own c c' slots object.sound asked.keeps lists object.early; named = still_named g own lists c c' slots object asked.keeps; sound = sound_same g own c c' slots object.sound asked.keeps asked.roots; unspent = object.unspent; tight = tt; jammed = tt }
 
-  told_plain : (made : Result Bool Halt) → Answers c c' made fact → (made ≡ Err halt.Budget → ∥ FillsBudget g c'.state.table.budget (jam_of g c' slots (call_of why.asked) arguments) ∥₁) → (result : Result Bool Halt) (refused : Option Refused) → SettlesAnswer refused made result why → Told g own lists c c' slots None refused result fact (call_of why.asked) arguments
+  told_plain : (made : Result Bool Halt) → Answers c c' made fact → (made ≡ Err halt.Budget → FillsIn g c' (jam_of g c' slots (call_of why.asked) arguments)) → (result : Result Bool Halt) (refused : Option Refused) → SettlesAnswer refused made result why → Told g own lists c c' slots None refused result fact (call_of why.asked) arguments
   told_plain (Ok said) asked fills result refused settles =
       subst (λ (r : Result Bool Halt). Told g own lists c c' slots None refused r fact (call_of why.asked) arguments) (sym settles.0)
       (subst (λ (o : Option Refused). Told g own lists c c' slots None o (Ok said) fact (call_of why.asked) arguments) (sym settles.1)
@@ -75,8 +77,8 @@ module _ (g : GameData) (own : Own) (lists : NextLevels) (c c' : Contents) (slot
         answer = asked.answer;
         stays = stays_same g own c c' slots object.sound asked.keeps None;
         halted = tt;
-        same = record { game = refl; bound = asked.keeps.budget };
-        object = record { made = object.made; levels = asked.keeps.levels ∙ object.levels; lists_are = object.lists_are; early = early_fits g own c c' slots object.sound asked.keeps lists object.early; named = still_named g own lists c c' slots object asked.keeps; sound = sound_same g own c c' slots object.sound asked.keeps asked.roots; unspent = object.unspent; tight = tt; jammed = tt };
+        same = record { game = refl; bound = same_bound c c' asked.keeps };
+        object = record { made = object.made; fits = fits_kept g lists.to.items c c' asked.keeps object.fits; lists_are = object.lists_are; early = early_fits g own c c' slots object.sound asked.keeps lists object.early; named = still_named g own lists c c' slots object asked.keeps; sound = sound_same g own c c' slots object.sound asked.keeps asked.roots; unspent = object.unspent; tight = tt; jammed = tt };
       }))
   told_plain (Err halt.Memory) asked fills result refused settles =
       subst (λ (r : Result Bool Halt). Told g own lists c c' slots None refused r fact (call_of why.asked) arguments) (sym settles.0)
@@ -85,7 +87,7 @@ module _ (g : GameData) (own : Own) (lists : NextLevels) (c c' : Contents) (slot
         answer = tt;
         stays = tt;
         halted = halts_memory g own c c' slots object.sound asked.keeps (call_of why.asked) arguments;
-        same = record { game = refl; bound = asked.keeps.budget };
+        same = record { game = refl; bound = same_bound c c' asked.keeps };
         object = still asked;
       }))
   told_plain (Err halt.Budget) asked fills result refused settles =
@@ -95,8 +97,8 @@ module _ (g : GameData) (own : Own) (lists : NextLevels) (c c' : Contents) (slot
         answer = tt;
         stays = tt;
         halted = halts_budget g own c c' slots object.sound asked.keeps why (call_of why.asked) arguments object.unspent refl arguments_are;
-        same = record { game = refl; bound = asked.keeps.budget };
-        object = record { made = object.made; levels = asked.keeps.levels ∙ object.levels; lists_are = object.lists_are; early = early_fits g own c c' slots object.sound asked.keeps lists object.early; named = still_named g own lists c c' slots object asked.keeps; sound = sound_same g own c c' slots object.sound asked.keeps asked.roots; unspent = tt; tight = few_nodes c'.state.table (asked.full refl); jammed = is_jammed g own lists c c' slots object asked.keeps why arguments arguments_are (fills refl) };
+        same = record { game = refl; bound = same_bound c c' asked.keeps };
+        object = record { made = object.made; fits = fits_kept g lists.to.items c c' asked.keeps object.fits; lists_are = object.lists_are; early = early_fits g own c c' slots object.sound asked.keeps lists object.early; named = still_named g own lists c c' slots object asked.keeps; sound = sound_same g own c c' slots object.sound asked.keeps asked.roots; unspent = tt; tight = few_nodes c'.state.table (asked.full refl); jammed = is_jammed g own lists c c' slots object asked.keeps why arguments arguments_are (fills refl) };
       }))
 
 pub told : (g : GameData) (own : Own) (lists : NextLevels) (c c' : Contents) (slots : List Slot) (was refused : Option Refused) (object : IsObject g c own lists slots was) → (kept_of g c slots was).jam ≡ None → (fact : Type 0) (why : Refused) (arguments : List Meaning) →

@@ -6,8 +6,9 @@ use Rattle.spec_model.specs.Games.{GameData}
 use Rattle.regions.specs.declared.types.When.{When}
 use Rattle.regions.specs.declared.types.When.TheVariants.{First, Later}
 use Rattle.regions.specs.declared.types.Halt.{Halt}
-use Rattle.bdd_ops.specs.Contents.{Contents, function_at}
-use Rattle.bdd_ops.specs.Calls.{KeepsRoots, negated}
+use Rattle.bdd_bits.specs.Contents.{Contents, function_at}
+use Rattle.bdd_ops.specs.Calls.{negated}
+use Rattle.bdd_bits.specs.Calls.{KeepsRoots}
 use Rattle.bit_compile.specs.Crowding.{HasCause}
 use Rattle.bit_compile.proofs.Causes.{cause_ok, cause_handed}
 use Rattle.bdd_sets.specs.declared.moves.NextLevels.{NextLevels}

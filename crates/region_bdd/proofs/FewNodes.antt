@@ -8,7 +8,7 @@ use Rattle.std.proofs.lemmas.Bool.{cases_lt, eqb-true, eqb-false, false≢true}
 use Rattle.std.specs.List.{Contains}
 use Rattle.std.proofs.lemmas.List.Elements.{Contains-get_or, Contains-append_cases}
 use Rattle.spec_model.specs.Diagrams.{Diagram, constant, branch, Function, IsLater, IsReduced, IsWithin, IsPartOf}
-use Rattle.node_table.specs.Table.{Table, count_of, IsLive, IsSound, diagram_at}
+use Rattle.node_table.specs.Table.{Table, IsLive, diagram_at}
 use Rattle.node_table.proofs.Meaning.{diagram_at-reduced, diagram_at-within, one_node}
 use Rattle.bdd_store.specs.State.{IsFilled}
 use Rattle.bit_compile.specs.Crowding.{IsUnfinishedOf}

@@ -18,8 +18,8 @@ use Rattle.regions.specs.Rules.{AreBefore, outputs_into, inputs_into}
 use Rattle.game_values.specs.declared.seen.At.TheVariants.{Now, Next}
 use Rattle.bdd_store.specs.State.{IsRoot}
 use Rattle.bdd_ops.specs.Paths.{Agrees, IsFirst, HasNone}
-use Rattle.bdd_ops.specs.Contents.{Contents, function_at}
-use Rattle.bdd_ops.specs.Together.{all_of}
+use Rattle.bdd_bits.specs.Contents.{Contents, function_at}
+use Rattle.bdd_bits.specs.Paths.{all_of}
 use Rattle.bit_compile.specs.Domains.{table_domain, state_domains, level_count}
 use Rattle.bit_compile.proofs.LawLemmas.{state_listed}
 use Rattle.bdd_sets.specs.declared.moves.Members.{Members}

@@ -12,7 +12,7 @@ use Rattle.regions.specs.declared.types.Recur.{Recur}
 use Rattle.regions.specs.declared.types.Recur.TheVariants.{Assumption, Guarantee}
 use Rattle.regions.specs.Rules.{goals_like, number_of, states_holding}
 use Rattle.bdd_store.specs.State.{IsRoot}
-use Rattle.bdd_ops.specs.Contents.{Contents, function_at}
+use Rattle.bdd_bits.specs.Contents.{Contents, function_at}
 use Rattle.bdd_ops.specs.Functions.{joined, join_of}
 use Rattle.bdd_sets.specs.declared.moves.NextLevels.{NextLevels}
 use Rattle.bdd_sets.specs.StateBits.{Tells}

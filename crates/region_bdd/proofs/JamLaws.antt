@@ -1,5 +1,5 @@
 -- What fills the budget where a call of the object is refused.
-use Rattle.std.proofs.Common.{◌≡◌, ◌⊎◌, inl, inr, ℕ, zero, suc, ◌+◌, ◌<◌, ◌≤◌, ◌==◌, Bool, true, false, cond, List, [], ◌∷◌, ◌++◌, length, map, Option, Some, None, Result, Err, refl, sym, ◌∙◌, ap, subst, arith}
+use Rattle.std.proofs.Common.{◌≡◌, ◌⊎◌, inl, inr, ℕ, zero, suc, ◌<◌, true, false, cond, List, [], ◌∷◌, ◌++◌, length, map, Option, Some, None, Result, Err, refl, sym, ◌∙◌, ap, subst, arith}
 use Rattle.std.proofs.Math.Logic.{∥∥₁_map, ∥∥₁_map₂}
 use Rattle.std.specs.List.{AllByRecursion, Contains}
 use Rattle.std.proofs.lemmas.Bool.{cases_lt}
@@ -16,8 +16,10 @@ use Rattle.regions.specs.declared.types.Halt.TheVariants as halt
 use Rattle.regions.specs.Kept.{Meaning, States, Outputs, Inputs, Call, Jam}
 use Rattle.node_table.specs.Table.{diagram_at, IsLive}
 use Rattle.bdd_store.specs.State.{IsRoot, diagram_of, SameRoots}
-use Rattle.bdd_ops.specs.Contents.{Contents, function_at}
-use Rattle.bdd_ops.specs.Calls.{KeepsRoots}
+use Rattle.bdd_bits.specs.Orders.{IsDeclared as IsDeclaredOrder}
+use Rattle.bdd_bits.specs.Contents.{Contents, function_at, IsDeclared}
+use Rattle.bdd_bits.specs.Calls.{KeepsRoots}
+use Rattle.bdd_bits.proofs.CallLemmas.{declared_function}
 use Rattle.bit_compile.specs.Crowding.{IsHeldSince, HasCause, IsCrowdedBy}
 use Rattle.bit_compile.specs.Domains.{state_domains, level_count}
 use Rattle.bit_compile.specs.Filling.{FillTogether}
@@ -44,15 +46,16 @@ use Rattle.region_bdd.specs.declared.slots.Slot.{Slot}
 use Rattle.region_bdd.specs.declared.slots.Slot.TheVariants.{Free, Taken, Spent}
 use Rattle.region_bdd.specs.declared.object.RegionBdd.{RegionBdd}
 use Rattle.region_bdd.specs.declared.own.Own.{Own}
-use Rattle.region_bdd.specs.Slots.{Shown, Nothing, Set, OutputsInto, InputsInto, shown_in, shown_of, shown_once, shown_meaning, meanings_in, roots_within, roots_of_slot, roots_of_slots}
+use Rattle.region_bdd.specs.Slots.{Shown, Nothing, Set, OutputsInto, InputsInto, shown_in, shown_once, shown_meaning, meanings_in, roots_within, roots_of_slot, roots_of_slots}
 use Rattle.region_bdd.specs.Object.{roots_of_own, roots_of_members, ShownFits, AllFit, NoneSpent, IsSound, OwnIsNamed}
-use Rattle.region_bdd.specs.Crowding.{LeadsInto, StandsFor, HasDiagrams, IsOfCall, IsHeldAt, FillsBudget, IsJammed}
+use Rattle.region_bdd.specs.Crowding.{LeadsInto, StandsFor, HasDiagrams, IsOfCall, IsHeldAt, FillsBudget, FillsIn, IsJammed}
 use Rattle.region_bdd.specs.Seen.{seen}
+use Rattle.region_bdd.proofs.BoundLaws.{bound_told}
 use Rattle.region_bdd.proofs.ObjectLaws.{list_same}
 
 -- what the object tells of a jam fills its budget
-pub jam_fills : (o : RegionBdd) (jam : Jam) → (seen o).jam ≡ Some jam → ∥ FillsBudget (seen o).game (seen o).bound jam ∥₁
-jam_fills o jam told = subst (IsJammed (seen o).game (seen o).bound) told o.whole.jammed
+pub jam_fills : (o : RegionBdd) (jam : Jam) → (seen o).jam ≡ Some jam → 0 < (seen o).bound → ∥ FillsBudget (seen o).game (seen o).bound jam ∥₁
+jam_fills o jam told some = subst (IsJammed (seen o).game o.diagrams) told o.whole.jammed some
 
 -- ---- the roots in slots
 
@@ -283,16 +286,20 @@ module _ (g : GameData) (c c' : Contents) where
 
 -- ---- what a jam lists is among the diagrams
 
-module _ (g : GameData) (c : Contents) (ds : List Diagram) where
+module _ (g : GameData) (c : Contents) (ds : List Diagram) (declared : IsDeclared c) where
+  -- what is told of a node's function is told of its diagram's value
+  as_value : (P : Function → Type 0) (n : ℕ) → P (function_at c n) → P (value (diagram_of c.state n))
+  as_value P n is = subst P (declared_function c (diagram_of c.state n) declared) is
+
   abbrev HasRoots : List ℕ → Type 0
   HasRoots roots = (n : ℕ) → Contains roots n → Contains ds (diagram_of c.state n)
 
   content_has : (content : Content) → HasRoots (kept_in content) → SaysAll g c (shown_in c content) → HasDiagrams g ds (shown_meaning g (shown_in c content))
-  content_has (Region root) has says = (diagram_of c.state root, has root (contains_first root []), told_itself g c (function_at c root) says)
-  content_has (OutputsKept when root) has says = (diagram_of c.state root, has root (contains_first root []), told_next g c (function_at c root) says)
+  content_has (Region root) has says = (diagram_of c.state root, has root (contains_first root []), as_value (λ f. Tells g Now f (set_at g Now (function_at c root))) root (told_itself g c (function_at c root) says))
+  content_has (OutputsKept when root) has says = (diagram_of c.state root, has root (contains_first root []), as_value (λ f. Tells g Next f (set_at g Next (function_at c root))) root (told_next g c (function_at c root) says))
   content_has (InputsKept when root leads) has says = (
-    (diagram_of c.state root, has root (contains_first root (leads ∷ [])), told_itself g c (function_at c root) says.0),
-    (diagram_of c.state leads, has leads (contains_later root leads (leads ∷ []) (contains_first leads [])), says.1),
+    (diagram_of c.state root, has root (contains_first root (leads ∷ [])), as_value (λ f. Tells g Now f (set_at g Now (function_at c root))) root (told_itself g c (function_at c root) says.0)),
+    (diagram_of c.state leads, has leads (contains_later root leads (leads ∷ []) (contains_first leads [])), as_value (LeadsInto g when (set_at g Now (function_at c root))) leads says.1),
   )
 
   content_listed : (content : Content) (slots : List Slot) → HasRoots (kept_in content) → SaysAll g c (shown_in c content) → ((m : Meaning) → Contains (listed g c slots) m → HasDiagrams g ds m) → (m : Meaning) → Contains (meanings_in g (shown_in c content ∷ map (shown_once c) slots)) m → HasDiagrams g ds m
@@ -350,28 +357,28 @@ module _ {V : Type 0} (g : GameData) (own : Own) (lists : NextLevels) (c c' : Co
   abbrev the_jam : Jam
   the_jam = record { call = asked; arguments = arguments; held = listed g c' slots }
 
-  module _ (own_is : OwnIsNamed g lists.to.items c' own) (says : AllSay g c' slots) where
+  module _ (declared : IsDeclared c') (own_is : OwnIsNamed g lists.to.items c' own) (says : AllSay g c' slots) where
     root_held : (n : ℕ) → IsRoot c'.state n → IsHeldAt g the_jam (function_at c' n)
     root_held n root = elim (cases_lt 0 (roots_of_own n own)) [
       | inl here ↦ inr (inl (own_named g c' lists.to.items lists_are.to own sound.own_fits.nothing own_is n here))
       | inr none ↦ inl (slots_listed g c' slots says n (let counted = sound.counted n in omega (arith, root, counted, none)))
     ]
 
-    is_held : (d : Diagram) → IsHeldSince c.state N d → IsHeldAt g the_jam (value d)
+    is_held : (d : Diagram) → IsHeldSince c N d → IsHeldAt g the_jam (value d)
     is_held d (inl kept) =
         let root : IsRoot c'.state kept.0 = subst (λ (k : ℕ). 0 < k) (sym (same kept.0)) kept.1 in
-        subst (IsHeldAt g the_jam) (sym (ap value (kept.2 ∙ sym (keeps.meaning kept.0 kept.1)))) (root_held kept.0 root)
-    is_held d (inr n) = elim (calls own_is (value d) n) [ inl here ↦ inr (inl here) | inr here ↦ inr (inr here) ]
+        subst (IsHeldAt g the_jam) (declared_function c' (diagram_of c'.state kept.0) declared ∙ sym (ap value (kept.2 ∙ sym (keeps.meaning kept.0 kept.1)))) (root_held kept.0 root)
+    is_held d (inr n) = elim (calls own_is (value d) (subst N (declared_function c d (subst IsDeclaredOrder keeps.order declared)) n)) [ inl here ↦ inr (inl here) | inr here ↦ inr (inr here) ]
 
     crowd : IsCrowdedBy c'.state.table (λ d. IsHeldAt g the_jam (value d))
-    crowd = crowded_wider c'.state.table (IsHeldSince c.state N) (λ d. IsHeldAt g the_jam (value d)) is_held (cause.crowded is)
+    crowd = crowded_wider c'.state.table (IsHeldSince c N) (λ d. IsHeldAt g the_jam (value d)) is_held (cause.crowded is)
 
     slot_root : (n : ℕ) → Contains (all_roots slots) n → IsLive c'.state.table n × IsHeldAt g the_jam (value (diagram_at c'.state.table n))
     slot_root n there =
         let counted = sound.counted n in
         let some = slots_there slots n there in
         let root : IsRoot c'.state n = omega (arith, counted, some) in
-        (cause.rooted is n (subst (λ (k : ℕ). 0 < k) (same n) root), root_held n root)
+        (cause.rooted is n (subst (λ (k : ℕ). 0 < k) (same n) root), subst (IsHeldAt g the_jam) (declared_function c' (diagram_of c'.state n) declared) (root_held n root))
 
     fills : FillsBudget g c'.state.table.budget the_jam
     fills =
@@ -379,8 +386,10 @@ module _ {V : Type 0} (g : GameData) (own : Own) (lists : NextLevels) (c c' : Co
         let held = IsHeldAt g the_jam in
         let kept = all_from (λ n. IsLive t n × held (value (diagram_at t n))) (all_roots slots) slot_root in
         let together = fills_with t held crowd (all_roots slots) kept in
-        record { sets = together.0; lists = slots_have g c' together.0 slots together.2 says; fill = subst (λ (n : ℕ). FillTogether n t.budget held together.0) levels_are together.1 }
+        record { sets = together.0; lists = slots_have g c' together.0 declared slots together.2 says; fill = subst (λ (n : ℕ). FillTogether n t.budget held together.0) levels_are together.1 }
 
   -- all that was held fills the budget
-  pub jam_made : ∥ FillsBudget g c'.state.table.budget the_jam ∥₁
-  jam_made = ∥∥₁_map₂ named (all_say g c' slots unspent sound.slots_fit) fills
+  pub jam_made : FillsIn g c' the_jam
+  jam_made some =
+      let told = bound_told c' some in
+      subst (λ (n : ℕ). ∥ FillsBudget g n the_jam ∥₁) (sym told.1) (∥∥₁_map₂ named (all_say g c' slots unspent sound.slots_fit) (fills told.0))

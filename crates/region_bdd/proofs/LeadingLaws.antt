@@ -9,7 +9,7 @@ use Rattle.regions.specs.declared.types.When.{When}
 use Rattle.regions.specs.declared.types.When.TheVariants.{First, Later}
 use Rattle.game_values.specs.declared.seen.At.TheVariants.{Next}
 use Rattle.bdd_store.specs.State.{IsRoot}
-use Rattle.bdd_ops.specs.Contents.{Contents, function_at}
+use Rattle.bdd_bits.specs.Contents.{Contents, function_at}
 use Rattle.bdd_ops.specs.Calls.{negated}
 use Rattle.bit_compile.specs.Making.{Makes}
 use Rattle.bit_compile.proofs.MakingLemmas.{is_root, root_added}
@@ -47,6 +47,7 @@ two_kept base old new t made root h first kept second =
       keeps = record {
         levels = second.keeps.levels ∙ first.keeps.levels;
         budget = second.keeps.budget ∙ first.keeps.budget;
+        order = second.keeps.order ∙ first.keeps.order;
         meaning = λ n there. second.keeps.meaning n (root_added base old made h first n there) ∙ first.keeps.meaning n there;
       };
       full = λ e. absurd (false≢true (sym (ap is_ok e)));

@@ -1,4 +1,5 @@
 pub mod SlotLaws
+pub mod BoundLaws
 pub mod ObjectLaws
 pub mod OutcomeLaws
 pub mod AlikeLaws

@@ -1,5 +1,5 @@
 -- Parts of the object's own diagrams, made one after the other.
-use Rattle.std.proofs.Common.{◌≡◌, ℕ, ◌+◌, ◌<◌, ◌≤◌, false, Vec, Result, Ok, Err, IfOk, IsErrAnd, List, [], ◌++◌, length, map, Option, None, inl, inr, refl, sym, ◌∙◌, ap, subst, arith, cond, ◌==◌, slice_index}
+use Rattle.std.proofs.Common.{◌≡◌, ℕ, ◌+◌, ◌<◌, false, Vec, Result, Ok, Err, IfOk, IsErrAnd, List, [], ◌++◌, length, map, Option, None, inl, inr, refl, sym, ◌∙◌, ap, subst, arith, slice_index}
 use Rattle.std.specs.List.{Contains}
 use Rattle.std.proofs.lemmas.Bool.{cases_lt}
 use Rattle.std.proofs.lemmas.List.Elements.{Contains-append_left, Contains-append_right}
@@ -18,8 +18,10 @@ use Rattle.bit_compile.specs.Domains.{state_domains, level_count}
 use Rattle.bit_compile.specs.Proper.{proper}
 use Rattle.bit_compile.specs.Named.{IsOfProper}
 use Rattle.bdd_store.specs.State.{IsRoot, roots_at, IsNewStore}
-use Rattle.bdd_ops.specs.Contents.{Contents, function_at}
-use Rattle.bdd_ops.specs.Calls.{KeepsRoots}
+use Rattle.bdd_bits.specs.Orders.{BitOrder, IsDeclared as IsDeclaredOrder, level_of}
+use Rattle.bdd_bits.specs.Contents.{Contents, function_at, IsDeclared}
+use Rattle.bdd_bits.specs.Calls.{KeepsRoots, SameNodes}
+use Rattle.bdd_bits.proofs.CallLemmas.{keeps_function, declared_function}
 use Rattle.bit_compile.specs.Making.{Makes}
 use Rattle.bit_compile.specs.Compiled.{compiled}
 use Rattle.bit_compile.specs.Crowding.{HasCause, IsHeldSince}
@@ -28,9 +30,14 @@ use Rattle.bit_compile.proofs.Causes.{cause_ok, cause_wider, crowded_wider}
 use Rattle.bit_compile.proofs.Filled.{filled_by}
 use Rattle.bdd_sets.specs.NamedMoves.{MoveLists}
 use Rattle.bdd_sets.specs.NamedGame.{IsOfGame, values, part as of_formula}
+use Rattle.bdd_sets.specs.NextOrders.{KeepsNext, FitsNext}
+use Rattle.bdd_sets.specs.MoveBits.{LeadsToNext}
+use Rattle.bdd_sets.proofs.ShiftLemmas.{declared_keeps, fits_kept}
 use Rattle.bdd_sets.proofs.CauseLemmas.{count_cause, cause_by, root_there}
 use Rattle.region_bdd.proofs.NeedLaws.{same_halt, filled_below_need}
+use Rattle.region_bdd.specs.Bound.{bound_of}
 use Rattle.region_bdd.specs.Needs.{need_of_game}
+use Rattle.region_bdd.proofs.BoundLaws.{bound_declared, same_bound}
 use Rattle.region_bdd.specs.Crowding.{IsTooSmall}
 use Rattle.region_bdd.proofs.JamLaws.{lists_same, root_is, goal_part, goal_inside, nothing_named}
 use Rattle.bdd_sets.specs.declared.moves.Members.{Members}
@@ -116,17 +123,17 @@ abbrev pub Stays : {V : Type 0} → (ℕ → V → ℕ) → (Contents → V → 
 Stays {V} times Fits = (c c' : Contents) (v : V) → KeepsRoots c c' → ((n : ℕ) → 0 < times n v → IsRoot c.state n) → Fits c v → Fits c' v
 
 pub root_stays : (f : Function) → Stays one_at (λ c root. function_at c root ≡ f)
-root_stays f c c' root keeps kept is = ap value (keeps.meaning root (kept root (let one = one_itself root in omega (arith, one)))) ∙ is
+root_stays f c c' root keeps kept is = keeps_function c c' root keeps (kept root (let one = one_itself root in omega (arith, one))) ∙ is
 
 pub goals_stay : (g : GameData) (goals : List GoalData) → Stays listed_times (FitGoals g goals)
 goals_stay g goals c c' roots keeps kept fit =
-    let same = list_same c c' roots.items (λ n some. ap value (keeps.meaning n (kept n some))) in
+    let same = list_same c c' roots.items (λ n some. keeps_function c c' n keeps (kept n some)) in
     (subst (λ (fs : List Function). TellGoals g goals fs) (sym same) fit.0, same ∙ fit.1)
 
 pub lines_stay : (g : GameData) (to : List ℕ) (when : When) → Stays roots_of_members (FitLines g to when)
 lines_stay g to when c c' m keeps kept fit = (
-  subst (λ (fs : MoveFunctions). FitMoves g when fs) (sym (members_same c c' m (λ n some. ap value (keeps.meaning n (kept n some))))) fit.0,
-  lists_same g c c' m (λ n some. ap value (keeps.meaning n (kept n some))) ∙ fit.1,
+  subst (λ (fs : MoveFunctions). FitMoves g when fs) (sym (members_same c c' m (λ n some. keeps_function c c' n keeps (kept n some)))) fit.0,
+  lists_same g c c' m (λ n some. keeps_function c c' n keeps (kept n some)) ∙ fit.1,
 )
 
 pub both_stay : {V W : Type 0} (tv : ℕ → V → ℕ) (tw : ℕ → W → ℕ) (FV : Contents → V → Type 0) (FW : Contents → W → Type 0) → Stays tv FV → Stays tw FW → Stays (in_both tv tw) (FitBoth FV FW)
@@ -147,6 +154,7 @@ module _ {V : Type 0} (tv : ℕ → V → ℕ) (FV : Contents → V → Type 0) 
       record {
         levels = keeps.levels ∙ first.keeps.levels;
         budget = keeps.budget ∙ first.keeps.budget;
+        order = keeps.order ∙ first.keeps.order;
         meaning = λ n root. keeps.meaning n (before n root) ∙ first.keeps.meaning n root;
       }
 
@@ -163,8 +171,8 @@ module _ {V : Type 0} (tv : ℕ → V → ℕ) (FV : Contents → V → Type 0) 
 
     -- where the second is refused, the first is given back
     pub part_refused : {X : Type 0} (tx : ℕ → X → ℕ) (FX : Contents → X → Type 0) (whole new : Contents) (h : Halt) → MakesPart tw FW N mid whole (Err h) → ((n : ℕ) → 0 < tv n v → N (function_at mid n)) →
-        ((n : ℕ) → roots_at whole.state n ≡ roots_at new.state n + tv n v) → new.state.table ≡ whole.state.table → MakesPart {V = X} tx FX N old new (Err h)
-    part_refused {X = X} tx FX whole new h second named back table =
+        ((n : ℕ) → roots_at whole.state n ≡ roots_at new.state n + tv n v) → SameNodes whole new → MakesPart {V = X} tx FX N old new (Err h)
+    part_refused {X = X} tx FX whole new h second named back nodes =
         let was : Result W Halt = Err h in
         let is : Result X Halt = Err h in
         record {
@@ -172,11 +180,12 @@ module _ {V : Type 0} (tv : ℕ → V → ℕ) (FV : Contents → V → Type 0) 
           added = tt;
           refused = λ n. (let one = first.added n in let two = second.refused n in let three = back n in omega (arith, one, two, three));
           keeps = record {
-            levels = ap (λ (t : Table). t.levels) table ∙ (keeps_both whole second.keeps).levels;
-            budget = ap (λ (t : Table). t.budget) table ∙ (keeps_both whole second.keeps).budget;
-            meaning = λ n root. ap (λ (t : Table). diagram_at t n) table ∙ (keeps_both whole second.keeps).meaning n root;
+            levels = ap (λ (t : Table). t.levels) nodes.table ∙ (keeps_both whole second.keeps).levels;
+            budget = ap (λ (t : Table). t.budget) nodes.table ∙ (keeps_both whole second.keeps).budget;
+            order = nodes.order ∙ (keeps_both whole second.keeps).order;
+            meaning = λ n root. ap (λ (t : Table). diagram_at t n) nodes.table ∙ (keeps_both whole second.keeps).meaning n root;
           };
-          cause = count_cause N N (λ f is. is) old mid (λ n. tv n v) first.added first.keeps named whole new was is (λ e. (same_halt e, table)) second.cause;
+          cause = count_cause N N (λ f is. is) old mid (λ n. tv n v) first.added first.keeps named whole new was is (λ e. (same_halt e, nodes.table)) second.cause;
         }
 
 -- ---- the object
@@ -241,12 +250,28 @@ later_members g mid made to N p part =
 pub early_after : (g : GameData) (mid made new : Contents) (to : List ℕ) (N : Function → Type 0) (p : (Vec ℕ Global × Vec ℕ Global) × (Members × Members)) (lists : NextLevels) (e : Option Early) → MakesPart times_in_formulas (FitFormulas g to) N mid made (Ok p) → KeepsRoots made new → FitsEarly (move_functions made p.1.1) lists new e → FitsEarly (move_functions new p.1.1) lists new e
 early_after g mid made new to N p lists e part keeps fits = subst (λ (m : MoveFunctions). FitsEarly m lists new e) (sym (members_kept made new p.1.1 keeps (later_members g mid made to N p part))) fits
 
-pub object_made : (g : GameData) (levels budget : ℕ) (made new : Contents) (own : Own) (lists : NextLevels) (slots : List Slot) → slots ≡ [] → WellMade g → levels ≡ level_count (state_domains g) → AreLevelsOf g lists → IsNewStore made.state levels budget →
+-- the declared order is one of the game's bits
+pub declared_bits : {E : Type 0} (g : GameData) (to : List ℕ) (levels : ℕ) (r : Result BitOrder E) → levels ≡ level_count (state_domains g) → LeadsToNext g to → IfOk r (λ o. length o.names ≡ levels) → IfOk r (λ o. (bit : ℕ) → level_of o bit ≡ bit) →
+    IfOk r (λ o. (length o.names ≡ level_count (state_domains g)) × KeepsNext g o to)
+declared_bits g to levels (Ok o) many leads long places = (long ∙ many, declared_keeps g o to places leads)
+declared_bits g to levels (Err e) many leads long places = tt
+
+-- a new store under an order of the game's bits that keeps the list of next ones
+pub new_fits : (g : GameData) (levels budget : ℕ) (made : Contents) (o : BitOrder) (to given : List ℕ) → IsNewStore made.state levels budget → made.order ≡ o → levels ≡ level_count (state_domains g) → given ≡ to → KeepsNext g o given → FitsNext g to made
+new_fits g levels budget made o to given store is many same keeps =
+    record { levels = store.has_levels ∙ many; rising = subst (λ (ts : List ℕ). KeepsNext g made.order ts) same (subst (λ (p : BitOrder). KeepsNext g p given) (sym is) keeps) }
+
+-- under the declared order the object shows its budget
+pub object_bound : (levels budget : ℕ) (made new : Contents) (o : BitOrder) → IsNewStore made.state levels budget → made.order ≡ o → IsDeclaredOrder o → KeepsRoots made new → bound_of new ≡ budget
+object_bound levels budget made new o store is declared keeps =
+    same_bound made new keeps ∙ (bound_declared made (subst IsDeclaredOrder (sym is) declared) ∙ store.has_budget)
+
+pub object_made : (g : GameData) (levels budget : ℕ) (made new : Contents) (own : Own) (lists : NextLevels) (slots : List Slot) → slots ≡ [] → WellMade g → AreLevelsOf g lists → IsNewStore made.state levels budget → FitsNext g lists.to.items made →
     MakesPart roots_of_own (FitOwn g lists.to.items) (IsOfGame g) made new (Ok own) → FitsOwnEarly lists new own → IsObject g new own lists slots None
-object_made g levels budget made new own lists slots empty well many are store part early =
+object_made g levels budget made new own lists slots empty well are store begun part early =
     subst (λ (ss : List Slot). IsObject g new own lists ss None) (sym empty) (record {
       made = well;
-      levels = part.keeps.levels ∙ (store.has_levels ∙ many);
+      fits = fits_kept g lists.to.items made new part.keeps begun;
       lists_are = are;
       early = early;
       named = ∣ part.fit.1 ∣₁;
@@ -261,18 +286,18 @@ object_made g levels budget made new own lists slots empty well many are store p
     })
 
 -- a refusal before there is an object: a new store keeps nothing, so that named sets alone fill it
-pub too_small : {V : Type 0} (g : GameData) (levels budget : ℕ) (made new : Contents) (r : Result V Halt) → levels ≡ level_count (state_domains g) → IsNewStore made.state levels budget → KeepsRoots made new → HasCause made new r (IsOfGame g) → r ≡ Err halt.Budget → IsTooSmall (need_of_game g) g budget
-too_small g levels budget made new r many store keeps cause e =
+pub too_small : {V : Type 0} (g : GameData) (levels budget : ℕ) (made new : Contents) (r : Result V Halt) → levels ≡ level_count (state_domains g) → IsNewStore made.state levels budget → KeepsRoots made new → HasCause made new r (IsOfGame g) → IsDeclared made → r ≡ Err halt.Budget → IsTooSmall (need_of_game g) g budget
+too_small g levels budget made new r many store keeps cause declared e =
     let t = new.state.table in
     let has_budget : t.budget ≡ budget = keeps.budget ∙ store.has_budget in
     let has_levels : t.levels ≡ levels = keeps.levels ∙ store.has_levels in
     let crowd = cause.crowded e in
-    let alone = crowded_wider t (IsHeldSince made.state (IsOfGame g)) (λ d. IsOfGame g (value d)) named crowd in
+    let alone = crowded_wider t (IsHeldSince made (IsOfGame g)) (λ d. IsOfGame g (value d)) named crowd in
     record {
       few = filled_below_need g t budget levels has_budget has_levels many crowd.filled;
       filled = subst (λ (n : ℕ). IsFilledBy (level_count (state_domains g)) n (IsOfGame g)) has_budget (subst (λ (n : ℕ). IsFilledBy n t.budget (IsOfGame g)) (has_levels ∙ many) (filled_by t (IsOfGame g) alone));
     }
   where
-    named : (d : Diagram) → IsHeldSince made.state (IsOfGame g) d → IsOfGame g (value d)
+    named : (d : Diagram) → IsHeldSince made (IsOfGame g) d → IsOfGame g (value d)
     named d (inl kept) = absurd (let root = kept.1 in let none = store.no_root kept.0 in omega (arith, root, none))
-    named d (inr is) = is
+    named d (inr is) = subst (IsOfGame g) (declared_function made d declared) is

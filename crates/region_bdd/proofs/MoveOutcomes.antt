@@ -1,6 +1,5 @@
 -- What a call that makes moves leaves, whatever came of its diagrams.
 use Rattle.std.proofs.Common.{◌≡◌, ◌⊎◌, ℕ, ◌+◌, not, List, ◌++◌, map, Option, Some, None, Result, Ok, Err, IfOk, IfErr, OnErr, refl, sym, ◌∙◌, ap, subst}
-use Rattle.std.proofs.lemmas.Bool.{false≢true}
 use Rattle.spec_model.specs.Diagrams.{Function}
 use Rattle.spec_model.specs.Games.{GameData}
 use Rattle.spec_model.specs.Sets.{StateSet}
@@ -10,9 +9,10 @@ use Rattle.regions.specs.declared.types.When.{When}
 use Rattle.regions.specs.declared.types.Halt.{Halt}
 use Rattle.regions.specs.declared.types.Halt.TheVariants as halt
 use Rattle.bdd_store.specs.State.{roots_at, SameRoots, IsFull}
+use Rattle.bdd_sets.proofs.ShiftLemmas.{fits_kept}
 use Rattle.region_bdd.proofs.FewNodes.{few_nodes}
-use Rattle.bdd_ops.specs.Contents.{Contents, function_at}
-use Rattle.bdd_ops.specs.Calls.{KeepsRoots}
+use Rattle.bdd_bits.specs.Contents.{Contents, function_at}
+use Rattle.bdd_bits.specs.Calls.{KeepsRoots}
 use Rattle.bit_compile.specs.Making.{Makes}
 use Rattle.bdd_sets.specs.declared.moves.NextLevels.{NextLevels}
 use Rattle.bdd_sets.specs.StateBits.{Tells, TellsStates, set_at}
@@ -30,12 +30,12 @@ use Rattle.region_bdd.specs.Keeping.{SettlesOutputs}
 use Rattle.region_bdd.specs.Leading.{MakesTwo, SettlesInputs}
 use Rattle.region_bdd.specs.Needs.{IsTight}
 use Rattle.region_bdd.specs.Object.{ShownFits, IsObject, IsOpen, OwnIsNamed, call_of, argument_in, jam_in, kept_of}
-use Rattle.region_bdd.specs.Crowding.{LeadsInto, IsOfCall, FillsBudget, IsJammed}
+use Rattle.region_bdd.specs.Crowding.{LeadsInto, IsOfCall, FillsIn, IsJammed}
 use Rattle.bit_compile.specs.Crowding.{HasCause}
 use Rattle.bdd_sets.specs.NamedGame.{IsOfGame}
 use Rattle.region_bdd.proofs.Refusals.{jam_of, still_named, refusal_fills, is_jammed}
-use Rattle.region_bdd.proofs.OutcomeLaws.{is_memory}
 use Rattle.region_bdd.proofs.SlotLaws.{open_taken}
+use Rattle.region_bdd.proofs.BoundLaws.{same_bound}
 use Rattle.region_bdd.proofs.ObjectLaws.{none_refused, sound_same, sound_taken, makes_item, halts_memory, halts_budget, early_fits}
 
 -- what the call answers and leaves
@@ -55,17 +55,17 @@ module _ (g : GameData) (own : Own) (lists : NextLevels) (c c' : Contents) (slot
       record {
         made = subst (λ (o : Option Refused). MakesItem (kept_of g c slots None) (kept_of g c' new o) (Move r) meaning) (sym unspent) made;
         halted = tt;
-        same = record { game = refl; bound = keeps.budget };
+        same = record { game = refl; bound = same_bound c c' keeps };
         object = record {
           made = object.made;
-          levels = keeps.levels ∙ object.levels;
+          fits = fits_kept g lists.to.items c c' keeps object.fits;
           lists_are = object.lists_are;
           early = early_fits g own c c' slots object.sound keeps lists object.early;
           named = still_named g own lists c c' slots object keeps;
           sound = sound_taken g own c c' slots object.sound keeps new r.slot content adds takes fits;
           unspent = subst (λ (o : Option Refused). IsOpen o new) (sym unspent) (open_taken slots new r.slot content takes object.unspent);
           tight = subst (λ (o : Option Refused). IsTight o c'.state.table) (sym unspent) tt;
-          jammed = subst (λ (o : Option Refused). IsJammed g c'.state.table.budget (jam_in g (map (shown_once c') new) o)) (sym unspent) tt;
+          jammed = subst (λ (o : Option Refused). IsJammed g c' (jam_in g (map (shown_once c') new) o)) (sym unspent) tt;
         };
       }
 
@@ -77,25 +77,25 @@ module _ (g : GameData) (own : Own) (lists : NextLevels) (c c' : Contents) (slot
       (record {
         made = tt;
         halted = halts_memory g own c c' slots object.sound keeps (call_of why.asked) arguments;
-        same = record { game = refl; bound = keeps.budget };
-        object = record { made = object.made; levels = keeps.levels ∙ object.levels; lists_are = object.lists_are; early = early_fits g own c c' slots object.sound keeps lists object.early; named = still_named g own lists c c' slots object keeps; sound = sound_same g own c c' slots object.sound keeps roots; unspent = object.unspent; tight = tt; jammed = tt };
+        same = record { game = refl; bound = same_bound c c' keeps };
+        object = record { made = object.made; fits = fits_kept g lists.to.items c c' keeps object.fits; lists_are = object.lists_are; early = early_fits g own c c' slots object.sound keeps lists object.early; named = still_named g own lists c c' slots object keeps; sound = sound_same g own c c' slots object.sound keeps roots; unspent = object.unspent; tight = tt; jammed = tt };
       }))
 
   -- or for want of budget
-  none_budget : SameRoots c.state c'.state → IsFull c'.state → ∥ FillsBudget g c'.state.table.budget (jam_of g c' slots (call_of why.asked) arguments) ∥₁ → new ≡ slots → refused ≡ Some why → MoveOutcome g own lists c c' slots new None refused (Err halt.Budget) meaning (call_of why.asked) arguments
+  none_budget : SameRoots c.state c'.state → IsFull c'.state → FillsIn g c' (jam_of g c' slots (call_of why.asked) arguments) → new ≡ slots → refused ≡ Some why → MoveOutcome g own lists c c' slots new None refused (Err halt.Budget) meaning (call_of why.asked) arguments
   none_budget roots full fills same told =
       subst (λ (ss : List Slot). MoveOutcome g own lists c c' slots ss None refused (Err halt.Budget) meaning (call_of why.asked) arguments) (sym same)
       (subst (λ (o : Option Refused). MoveOutcome g own lists c c' slots slots None o (Err halt.Budget) meaning (call_of why.asked) arguments) (sym told)
       (record {
         made = tt;
         halted = halts_budget g own c c' slots object.sound keeps why (call_of why.asked) arguments object.unspent refl arguments_are;
-        same = record { game = refl; bound = keeps.budget };
-        object = record { made = object.made; levels = keeps.levels ∙ object.levels; lists_are = object.lists_are; early = early_fits g own c c' slots object.sound keeps lists object.early; named = still_named g own lists c c' slots object keeps; sound = sound_same g own c c' slots object.sound keeps roots; unspent = tt; tight = few_nodes c'.state.table full; jammed = is_jammed g own lists c c' slots object keeps why arguments arguments_are fills };
+        same = record { game = refl; bound = same_bound c c' keeps };
+        object = record { made = object.made; fits = fits_kept g lists.to.items c c' keeps object.fits; lists_are = object.lists_are; early = early_fits g own c c' slots object.sound keeps lists object.early; named = still_named g own lists c c' slots object keeps; sound = sound_same g own c c' slots object.sound keeps roots; unspent = tt; tight = few_nodes c'.state.table full; jammed = is_jammed g own lists c c' slots object keeps why arguments arguments_are fills };
       }))
 
 module _ (g : GameData) (own : Own) (when : When) (lists : NextLevels) (c c' : Contents) (slots new : List Slot) (refused : Option Refused) (object : IsObject g c own lists slots None) (t : StateSet) (why : Refused) (arguments : List Meaning)
     (arguments_are : argument_in g (map (shown_of c) slots) why.first ++ argument_in g (map (shown_of c) slots) why.second ≡ arguments) where
-  outputs_outcome : (f : Function) → Tells g Next f t → (made : Result ℕ Halt) (result : Result BddMove Halt) → Makes c c' made f → (made ≡ Err halt.Budget → ∥ FillsBudget g c'.state.table.budget (jam_of g c' slots (call_of why.asked) arguments) ∥₁) → SettlesOutputs slots new refused made result when why → MoveOutcome g own lists c c' slots new None refused result (OutputMoves when t) (call_of why.asked) arguments
+  outputs_outcome : (f : Function) → Tells g Next f t → (made : Result ℕ Halt) (result : Result BddMove Halt) → Makes c c' made f → (made ≡ Err halt.Budget → FillsIn g c' (jam_of g c' slots (call_of why.asked) arguments)) → SettlesOutputs slots new refused made result when why → MoveOutcome g own lists c c' slots new None refused result (OutputMoves when t) (call_of why.asked) arguments
   outputs_outcome f tells (Ok root) (Ok r) makes fills settles =
       let told : function_at c' root ≡ f = makes.meaning in
       let fits : TellsStates g Next (function_at c' root) = subst (TellsStates g Next) (sym told) tells.states in
@@ -110,7 +110,7 @@ module _ (g : GameData) (own : Own) (when : When) (lists : NextLevels) (c c' : C
   outputs_outcome f tells (Err halt.Memory) (Err halt.Budget) makes fills settles = absurd settles
   outputs_outcome f tells (Err halt.Budget) (Err halt.Memory) makes fills settles = absurd settles
 
-  inputs_outcome : (f h : Function) → Tells g Now f t → TellsMoves g when h (λ b s. not (some_leads g (λ s. not (t s)) b s.position.input)) → ∥ LeadsInto g when t h ∥₁ → (made : Result (ℕ × ℕ) Halt) (result : Result BddMove Halt) → MakesTwo c c' made f h → (made ≡ Err halt.Budget → ∥ FillsBudget g c'.state.table.budget (jam_of g c' slots (call_of why.asked) arguments) ∥₁) → SettlesInputs slots new refused made result when why → MoveOutcome g own lists c c' slots new None refused result (InputMoves when t) (call_of why.asked) arguments
+  inputs_outcome : (f h : Function) → Tells g Now f t → TellsMoves g when h (λ b s. not (some_leads g (λ s. not (t s)) b s.position.input)) → ∥ LeadsInto g when t h ∥₁ → (made : Result (ℕ × ℕ) Halt) (result : Result BddMove Halt) → MakesTwo c c' made f h → (made ≡ Err halt.Budget → FillsIn g c' (jam_of g c' slots (call_of why.asked) arguments)) → SettlesInputs slots new refused made result when why → MoveOutcome g own lists c c' slots new None refused result (InputMoves when t) (call_of why.asked) arguments
   inputs_outcome f h tells leads into (Ok p) (Ok r) makes fills settles =
       let is : set_at g Now (function_at c' p.0) ≡ t = ap (set_at g Now) makes.first ∙ tells.set in
       let states : TellsStates g Now (function_at c' p.0) = subst (TellsStates g Now) (sym makes.first) tells.states in

@@ -1,11 +1,11 @@
 -- A store that holds its budget of nodes has a budget below the game's need.
-use Rattle.std.proofs.Common.{◌≡◌, ℕ, zero, suc, ◌+◌, ◌*◌, ◌^◌, ◌<◌, ◌≤◌, pos, ◌-ℤ◌, ◌≤ℤ◌, int_le, nat_abs, Bool, true, false, not, cond, List, [], ◌∷◌, ◌++◌, map, Option, Some, None, Result, Err, refl, sym, ◌∙◌, ap, subst, inl, inr, arith}
+use Rattle.std.proofs.Common.{◌≡◌, ℕ, zero, suc, ◌+◌, ◌*◌, ◌^◌, ◌<◌, ◌≤◌, pos, ◌-ℤ◌, ◌≤ℤ◌, Bool, true, false, not, cond, List, [], ◌∷◌, ◌++◌, map, Option, Some, None, Result, Err, refl, sym, ◌∙◌, ap, subst, inl, inr, arith}
 use Rattle.std.specs.Prelude.{sum_by}
 use Rattle.std.proofs.lemmas.Int.{ints}
 use Rattle.std.proofs.lemmas.Nat.{mul-pow, pow-add}
 use Rattle.std.proofs.lemmas.List.Sums.{sum_by-cons}
 use Rattle.std.proofs.lemmas.Bool.{cases_lt}
-use Rattle.spec_model.specs.Values.{DomainData, rising_from}
+use Rattle.spec_model.specs.Values.{DomainData}
 use Rattle.spec_model.specs.Syntax.{VariableData}
 use Rattle.spec_model.specs.Games.{GameData, HiddenData}
 use Rattle.spec_model.specs.GameViews.{game_data}
@@ -16,12 +16,13 @@ use Rattle.regions.specs.declared.types.Halt.{Halt}
 use Rattle.node_table.specs.Table.{Table}
 use Rattle.bdd_store.specs.State.{IsFilled}
 use Rattle.region_bdd.proofs.FewNodes.{few_nodes}
-use Rattle.bit_compile.specs.Domains.{table_domain, state_domains, width_of, level_count}
+use Rattle.bit_compile.specs.Domains.{table_domain, state_domains, level_count}
 use Rattle.bit_compile.proofs.DomainLemmas.{size-whole}
 use Rattle.region_bdd.specs.declared.object.RegionBdd.{RegionBdd}
 use Rattle.region_bdd.specs.declared.own.Refused.{Refused}
 use Rattle.region_bdd.specs.Needs.{bits_of_game, need_of_game, IsTight}
 use Rattle.region_bdd.specs.Seen.{seen}
+use Rattle.region_bdd.proofs.BoundLaws.{bound_most}
 
 -- ---- the levels of a game are the present and next bits of a state
 
@@ -93,4 +94,7 @@ jammed_below_need o jammed = at o.refused refl
   where
     at : (refused : Option Refused) → o.refused ≡ refused → (seen o).bound < need_of_game (seen o).game
     at None is = absurd (jammed (rw is refl))
-    at (Some r) is = below_need (game_data o.game) o.diagrams.state.table.budget o.diagrams.state.table.levels o.whole.levels (subst (λ (refused : Option Refused). IsTight refused o.diagrams.state.table) is o.whole.tight)
+    at (Some r) is =
+        let tight = subst (λ (refused : Option Refused). IsTight refused o.diagrams.state.table) is o.whole.tight in
+        let most = bound_most o.diagrams in
+        below_need (game_data o.game) (seen o).bound o.diagrams.state.table.levels o.whole.fits.levels (omega (arith, tight, most))

@@ -1,15 +1,16 @@
 -- What the object is seen as after each kind of change, and that it stays sound.
 use Rattle.std.proofs.Common.{◌≡◌, ℕ, zero, suc, ◌+◌, ◌<◌, true, false, List, [], ◌∷◌, ◌++◌, length, map, Option, Some, None, is_some, refl, sym, ◌∙◌, ap, subst, arith}
 use Rattle.std.proofs.lemmas.Bool.{false≢true}
-use Rattle.spec_model.specs.Diagrams.{Function, value}
+use Rattle.spec_model.specs.Diagrams.{Function}
 use Rattle.spec_model.specs.Games.{GameData}
 use Rattle.game_values.specs.declared.seen.At.TheVariants.{Now}
 use Rattle.regions.specs.Kept.{Item, Region as RegionItem, Meaning, States, weight, meaning_of, meanings, HasRegion, Makes, Stays, Spends, Halts, jam_after, Jam, Call}
 use Rattle.regions.specs.declared.types.Halt.TheVariants as halt
 use Rattle.node_table.specs.Table.{Table, diagram_at}
 use Rattle.bdd_store.specs.State.{IsRoot, roots_at, AddsRoot, SameRoots}
-use Rattle.bdd_ops.specs.Contents.{Contents, function_at}
-use Rattle.bdd_ops.specs.Calls.{KeepsRoots}
+use Rattle.bdd_bits.specs.Contents.{Contents, function_at}
+use Rattle.bdd_bits.specs.Calls.{KeepsRoots, SameNodes}
+use Rattle.bdd_bits.proofs.CallLemmas.{keeps_function, same_function as same_function_at}
 use Rattle.bdd_sets.specs.declared.moves.Members.{Members}
 use Rattle.bdd_sets.specs.StateBits.{set_at}
 use Rattle.bdd_sets.specs.Members.{MoveFunctions, functions_at, move_functions, all_true}
@@ -21,13 +22,14 @@ use Rattle.region_bdd.specs.declared.slots.BddRegion.{BddRegion}
 use Rattle.region_bdd.specs.declared.slots.BddMove.{BddMove}
 use Rattle.region_bdd.specs.declared.own.Own.{Own}
 use Rattle.region_bdd.specs.declared.own.Refused.{Refused}
-use Rattle.bdd_sets.specs.Lists.{one_at, times_in}
+use Rattle.bdd_sets.specs.Lists.{times_in}
 use Rattle.bdd_sets.proofs.ListLemmas.{one_itself, times_here}
 use Rattle.bdd_sets.specs.declared.moves.NextLevels.{NextLevels}
 use Rattle.bdd_products.specs.declared.early.Early.{Early}
 use Rattle.bdd_products.specs.Early.{FitsEarly, AreRootsOfEarly, roots_of_early}
 use Rattle.bdd_products.proofs.EarlyLemmas.{early_stays}
 use Rattle.region_bdd.specs.Slots.{Shown, Nothing, Set, OutputsInto, InputsInto, shown_in, shown_of, shown_once, shown_meaning, set_of, shown_at, items_from, meanings_in, kept_in, HasContent, HasRegionRoot, TakesSlot, FreesSlot, MarksSpent, roots_within, roots_of_slots}
+use Rattle.region_bdd.specs.Bound.{bound_of}
 use Rattle.region_bdd.specs.Held.{Weights, weight_is, takes, clears, slot_weighs, region_content}
 use Rattle.region_bdd.specs.Object.{own_functions, OwnFits, FitsOwnEarly, roots_of_own, roots_of_members, ShownFits, AllFit, NoneSpent, IsSound, call_of, argument_in, jam_in, kept_of}
 use Rattle.region_bdd.proofs.SlotLaws.{map-get, place_of, get_here, takes_place, clears_place, marks_place, once_marked, once_open, roots_taken, roots_freed, roots_marked, roots_among, shown_same, once_same, fit_same, fit_taken, fit_freed, fit_marked, open_freed}
@@ -89,7 +91,7 @@ module _ (g : GameData) (own : Own) where
 
   module _ (c c' : Contents) (slots : List Slot) (sound : IsSound g c own slots) (keeps : KeepsRoots c c') where
     kept_same : (n : ℕ) → IsRoot c.state n → function_at c' n ≡ function_at c n
-    kept_same n root = ap value (keeps.meaning n root)
+    kept_same n root = keeps_function c c' n keeps root
 
     pub shown_stays : map (shown_of c') slots ≡ map (shown_of c) slots
     shown_stays = shown_same c c' slots (λ n some. kept_same n (slot_root c slots sound n some))
@@ -149,19 +151,19 @@ module _ (g : GameData) (own : Own) where
     makes_item new i content item meaning taken weighs =
         record {
           held = λ w.
-              let b = c'.state.table.budget in
+              let b = bound_of c' in
               let come = takes g b None (map (shown_of c') slots) (map (shown_of c') new) i (shown_in c' content) (takes_place c' slots new i content taken) w in
               let stays = ap (λ s. weight (kept_in g b None s) w) (shown_stays c c' slots sound keeps) in
-              let any = weight_any b c.state.table.budget None None (map (shown_of c) slots) w in
+              let any = weight_any b (bound_of c) None None (map (shown_of c) slots) w in
               let is = weighs w in
               omega (arith, come, stays, any, is);
           jam = refl;
         }
 
-    same_weight : (jam : Option Jam) (refused : Option Refused) (w : Weights) → weight (kept_in g c'.state.table.budget jam (map (shown_of c') slots)) w ≡ weight (kept_of g c slots refused) w
+    same_weight : (jam : Option Jam) (refused : Option Refused) (w : Weights) → weight (kept_in g (bound_of c') jam (map (shown_of c') slots)) w ≡ weight (kept_of g c slots refused) w
     same_weight jam refused w =
-        ap (λ s. weight (kept_in g c'.state.table.budget jam s) w) (shown_stays c c' slots sound keeps)
-        ∙ weight_any c'.state.table.budget c.state.table.budget jam (jam_in g (map (shown_once c) slots) refused) (map (shown_of c) slots) w
+        ap (λ s. weight (kept_in g (bound_of c') jam s) w) (shown_stays c c' slots sound keeps)
+        ∙ weight_any (bound_of c') (bound_of c) jam (jam_in g (map (shown_once c) slots) refused) (map (shown_of c) slots) w
 
     -- nothing came, for want of memory
     pub halts_memory : (asked : Call) (arguments : List Meaning) → Halts (kept_of g c slots None) (kept_of g c' slots None) asked arguments halt.Memory
@@ -180,7 +182,7 @@ module _ (g : GameData) (own : Own) where
         once = once_stays c c' slots sound keeps ∙ once_open c slots unspent
 
         told : jam_in g (map (shown_of c) slots) (Some r) ≡ jam_after (kept_of g c slots None) asked arguments halt.Budget
-        told = λ i. Some (record { call = call_is i; arguments = arguments_are i; held = sym (meanings_are g c.state.table.budget None (map (shown_of c) slots)) i })
+        told = λ i. Some (record { call = call_is i; arguments = arguments_are i; held = sym (meanings_are g (bound_of c) None (map (shown_of c) slots)) i })
 
     pub stays_same : (refused : Option Refused) → Stays (kept_of g c slots refused) (kept_of g c' slots refused)
     stays_same refused =
@@ -199,7 +201,7 @@ none_refused g c slots (Some r) e = absurd (cc (e))
 module _ (g : GameData) (c : Contents) (slots : List Slot) (refused : Option Refused) where
   -- a held region's slot has its root
   pub region_root : (r : BddRegion) → HasRegion (kept_of g c slots refused) r → HasRegionRoot slots r.slot
-  region_root r held = let is = region_content g c.state.table.budget (jam_in g (map (shown_once c) slots) refused) (map (shown_of c) slots) r held in found slots r.slot is.0 is.1
+  region_root r held = let is = region_content g (bound_of c) (jam_in g (map (shown_once c) slots) refused) (map (shown_of c) slots) r held in found slots r.slot is.0 is.1
     where
       at : (slots : List Slot) (slot : Slot) (f : Function) → shown_of c slot ≡ Set f → (root : ℕ) × (slot ≡ Taken (Region root))
       at slots (Free next) f e = absurd (cc (e))
@@ -233,14 +235,14 @@ module _ (g : GameData) (own : Own) (c c' : Contents) (slots new : List Slot) (a
   weighs w = ap (λ s. slot_weighs g a.slot s w) shown_here ∙ ap (λ s. w (RegionItem a) (States (set_of (shown_meaning g s)))) (sym shown_here)
 
   -- a region's slot is freed and its root released
-  pub spends_freed : FreesSlot slots new a.slot → AddsRoot c'.state c.state root → c'.state.table ≡ c.state.table → NoneSpent slots →
+  pub spends_freed : FreesSlot slots new a.slot → AddsRoot c'.state c.state root → SameNodes c c' → NoneSpent slots →
       Spends (kept_of g c slots None) (kept_of g c' new None) (RegionItem a) × IsSound g c' own new × NoneSpent new
-  spends_freed freed back table clear = (
+  spends_freed freed back nodes clear = (
     record {
       held = λ w.
-          let b = c.state.table.budget in
+          let b = bound_of c in
           let gone = clears g b None (map (shown_of c) slots) (map (shown_of c) new) a.slot below (clears_place c slots new a.slot freed) w in
-          let any = weight_any g own c'.state.table.budget b None None (map (shown_of c') new) w in
+          let any = weight_any g own (bound_of c') b None None (map (shown_of c') new) w in
           let same = ap (λ s. weight (kept_in g b None s) w) (shown_same c c' new (λ n some. same_function n)) in
           let is = weighs w in
           omega (arith, gone, any, same, is);
@@ -255,14 +257,14 @@ module _ (g : GameData) (own : Own) (c c' : Contents) (slots new : List Slot) (a
   )
     where
       same_function : (n : ℕ) → function_at c' n ≡ function_at c n
-      same_function n = ap (λ (t : Table). value (diagram_at t n)) table
+      same_function n = same_function_at c c' n nodes
 
   -- a region's slot is marked, after the budget ran out
   pub spends_marked : (r : Refused) → MarksSpent slots new a.slot → Spends (kept_of g c slots (Some r)) (kept_of g c new (Some r)) (RegionItem a) × IsSound g c own new
   spends_marked r marked = (
     record {
       held = λ w.
-          let b = c.state.table.budget in
+          let b = bound_of c in
           let j = jam_in g (map (shown_once c) slots) (Some r) in
           let gone = clears g b j (map (shown_of c) slots) (map (shown_of c) new) a.slot below (marks_place c slots new a.slot marked) w in
           let any = weight_any g own b b (jam_in g (map (shown_once c) new) (Some r)) j (map (shown_of c) new) w in
@@ -278,8 +280,14 @@ module _ (g : GameData) (own : Own) (c c' : Contents) (slots new : List Slot) (a
   )
 
 -- the same nodes keep what is kept
-pub same_table : (c c' : Contents) → c'.state.table ≡ c.state.table → KeepsRoots c c'
-same_table c c' table = record { levels = ap (λ (t : Table). t.levels) table; budget = ap (λ (t : Table). t.budget) table; meaning = λ n root. ap (λ (t : Table). diagram_at t n) table }
+pub same_table : (c c' : Contents) → SameNodes c c' → KeepsRoots c c'
+same_table c c' nodes =
+    record {
+      levels = ap (λ (t : Table). t.levels) nodes.table;
+      budget = ap (λ (t : Table). t.budget) nodes.table;
+      order = nodes.order;
+      meaning = λ n root. ap (λ (t : Table). diagram_at t n) nodes.table;
+    }
 
 pub some_refused : (o : Option Refused) → is_some o ≡ true → (r : Refused) × (o ≡ Some r)
 some_refused None e = absurd (false≢true e)

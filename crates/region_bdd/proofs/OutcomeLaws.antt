@@ -10,26 +10,28 @@ use Rattle.game_values.specs.declared.seen.At.TheVariants.{Now}
 use Rattle.regions.specs.Kept.{Region as RegionItem, Meaning, States, Call, MakesRegion, Halts, IsSameGame}
 use Rattle.regions.specs.declared.types.Halt.{Halt}
 use Rattle.regions.specs.declared.types.Halt.TheVariants as halt
-use Rattle.bdd_ops.specs.Contents.{Contents, function_at}
+use Rattle.bdd_bits.specs.Contents.{Contents, function_at}
 use Rattle.bdd_store.specs.State.{SameRoots}
 use Rattle.bit_compile.specs.Making.{Makes, halted}
 use Rattle.bit_compile.specs.Crowding.{HasCause}
 use Rattle.bdd_sets.specs.NamedGame.{IsOfGame}
 use Rattle.bdd_sets.specs.declared.moves.NextLevels.{NextLevels}
 use Rattle.bdd_sets.specs.StateBits.{Tells, TellsStates, set_at}
+use Rattle.bdd_sets.proofs.ShiftLemmas.{fits_kept}
 use Rattle.region_bdd.specs.declared.slots.Content.TheVariants.{Region}
 use Rattle.region_bdd.specs.declared.slots.Slot.{Slot}
 use Rattle.region_bdd.specs.declared.slots.BddRegion.{BddRegion}
 use Rattle.region_bdd.specs.declared.own.Own.{Own}
 use Rattle.region_bdd.specs.declared.own.Refused.{Refused}
 use Rattle.region_bdd.specs.Slots.{shown_of, shown_once}
-use Rattle.region_bdd.specs.Crowding.{IsOfCall, FillsBudget, IsJammed}
+use Rattle.region_bdd.specs.Crowding.{IsOfCall, FillsIn, IsJammed}
 use Rattle.region_bdd.specs.Keeping.{Settles}
 use Rattle.region_bdd.proofs.FewNodes.{few_nodes}
 use Rattle.region_bdd.specs.Needs.{IsTight}
 use Rattle.region_bdd.specs.Object.{IsObject, IsOpen, OwnIsNamed, call_of, argument_in, jam_in, kept_of}
 use Rattle.region_bdd.proofs.Refusals.{jam_of, still_named, refusal_fills, is_jammed}
 use Rattle.region_bdd.proofs.SlotLaws.{open_taken}
+use Rattle.region_bdd.proofs.BoundLaws.{same_bound}
 use Rattle.region_bdd.proofs.ObjectLaws.{none_refused, sound_same, sound_taken, makes_item, halts_memory, halts_budget, early_fits}
 
 -- whether a result is a refusal for want of memory
@@ -47,7 +49,7 @@ pub record Outcome (g : GameData) (own : Own) (lists : NextLevels) (c c' : Conte
 
 module _ (g : GameData) (own : Own) (lists : NextLevels) (c c' : Contents) (slots new : List Slot) (refused : Option Refused) (object : IsObject g c own lists slots None) (f : Function) (t : StateSet) (tells : Tells g Now f t) (why : Refused) (arguments : List Meaning)
     (arguments_are : argument_in g (map (shown_of c) slots) why.first ++ argument_in g (map (shown_of c) slots) why.second ≡ arguments) where
-  pub outcome : (made : Result ℕ Halt) (result : Result BddRegion Halt) → Makes c c' made f → (made ≡ Err halt.Budget → ∥ FillsBudget g c'.state.table.budget (jam_of g c' slots (call_of why.asked) arguments) ∥₁) → Settles slots new refused made result why → Outcome g own lists c c' slots new refused result t (call_of why.asked) arguments
+  pub outcome : (made : Result ℕ Halt) (result : Result BddRegion Halt) → Makes c c' made f → (made ≡ Err halt.Budget → FillsIn g c' (jam_of g c' slots (call_of why.asked) arguments)) → Settles slots new refused made result why → Outcome g own lists c c' slots new refused result t (call_of why.asked) arguments
   outcome (Ok root) (Ok r) makes fills settles =
       let told : function_at c' root ≡ f = makes.meaning in
       let fits : TellsStates g Now (function_at c' root) = subst (TellsStates g Now) (sym told) tells.states in
@@ -56,17 +58,17 @@ module _ (g : GameData) (own : Own) (lists : NextLevels) (c c' : Contents) (slot
       record {
         made = subst (λ (o : Option Refused). MakesRegion (kept_of g c slots None) (kept_of g c' new o) r t) (sym settles.1) made;
         halted = tt;
-        same = record { game = refl; bound = makes.keeps.budget };
+        same = record { game = refl; bound = same_bound c c' makes.keeps };
         object = record {
           made = object.made;
-          levels = makes.keeps.levels ∙ object.levels;
+          fits = fits_kept g lists.to.items c c' makes.keeps object.fits;
           lists_are = object.lists_are;
           early = early_fits g own c c' slots object.sound makes.keeps lists object.early;
           named = still_named g own lists c c' slots object makes.keeps;
           sound = sound_taken g own c c' slots object.sound makes.keeps new r.slot (Region root) makes.added settles.0 fits;
           unspent = subst (λ (o : Option Refused). IsOpen o new) (sym settles.1) (open_taken slots new r.slot (Region root) settles.0 object.unspent);
           tight = subst (λ (o : Option Refused). IsTight o c'.state.table) (sym settles.1) tt;
-          jammed = subst (λ (o : Option Refused). IsJammed g c'.state.table.budget (jam_in g (map (shown_once c') new) o)) (sym settles.1) tt;
+          jammed = subst (λ (o : Option Refused). IsJammed g c' (jam_in g (map (shown_once c') new) o)) (sym settles.1) tt;
         };
       }
   outcome (Err halt.Memory) (Err halt.Memory) makes fills settles = at_rest new refused settles.0 settles.1
@@ -78,8 +80,8 @@ module _ (g : GameData) (own : Own) (lists : NextLevels) (c c' : Contents) (slot
           (record {
             made = tt;
             halted = halts_memory g own c c' slots object.sound makes.keeps (call_of why.asked) arguments;
-            same = record { game = refl; bound = makes.keeps.budget };
-            object = record { made = object.made; levels = makes.keeps.levels ∙ object.levels; lists_are = object.lists_are; early = early_fits g own c c' slots object.sound makes.keeps lists object.early; named = still_named g own lists c c' slots object makes.keeps; sound = sound_same g own c c' slots object.sound makes.keeps makes.refused; unspent = object.unspent; tight = tt; jammed = tt };
+            same = record { game = refl; bound = same_bound c c' makes.keeps };
+            object = record { made = object.made; fits = fits_kept g lists.to.items c c' makes.keeps object.fits; lists_are = object.lists_are; early = early_fits g own c c' slots object.sound makes.keeps lists object.early; named = still_named g own lists c c' slots object makes.keeps; sound = sound_same g own c c' slots object.sound makes.keeps makes.refused; unspent = object.unspent; tight = tt; jammed = tt };
           }))
   outcome (Err halt.Budget) (Err halt.Budget) makes fills settles = at_rest new refused settles.0 settles.1
     where
@@ -90,8 +92,8 @@ module _ (g : GameData) (own : Own) (lists : NextLevels) (c c' : Contents) (slot
           (record {
             made = tt;
             halted = halts_budget g own c c' slots object.sound makes.keeps why (call_of why.asked) arguments object.unspent refl arguments_are;
-            same = record { game = refl; bound = makes.keeps.budget };
-            object = record { made = object.made; levels = makes.keeps.levels ∙ object.levels; lists_are = object.lists_are; early = early_fits g own c c' slots object.sound makes.keeps lists object.early; named = still_named g own lists c c' slots object makes.keeps; sound = sound_same g own c c' slots object.sound makes.keeps makes.refused; unspent = tt; tight = few_nodes c'.state.table (makes.full refl); jammed = is_jammed g own lists c c' slots object makes.keeps why arguments arguments_are (fills refl) };
+            same = record { game = refl; bound = same_bound c c' makes.keeps };
+            object = record { made = object.made; fits = fits_kept g lists.to.items c c' makes.keeps object.fits; lists_are = object.lists_are; early = early_fits g own c c' slots object.sound makes.keeps lists object.early; named = still_named g own lists c c' slots object makes.keeps; sound = sound_same g own c c' slots object.sound makes.keeps makes.refused; unspent = tt; tight = few_nodes c'.state.table (makes.full refl); jammed = is_jammed g own lists c c' slots object makes.keeps why arguments arguments_are (fills refl) };
           }))
   outcome (Ok root) (Err halt.Memory) makes fills settles = absurd settles
   outcome (Ok root) (Err halt.Budget) makes fills settles = absurd settles

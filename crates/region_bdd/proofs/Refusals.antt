@@ -1,7 +1,7 @@
 -- What a refused call leaves of the object: its own diagrams stay named, and what was held fills the budget.
-use Rattle.std.proofs.Common.{◌≡◌, ◌⊎◌, inl, inr, ℕ, ◌<◌, List, [], ◌∷◌, ◌++◌, map, Option, Some, None, Result, Err, sym, ◌∙◌, ap, subst, arith}
+use Rattle.std.proofs.Common.{◌≡◌, ◌⊎◌, inl, inr, ℕ, ◌<◌, List, ◌++◌, map, Some, None, Result, Err, sym, ◌∙◌, ap, subst, arith}
 use Rattle.std.proofs.Math.Logic.{∥∥₁_map}
-use Rattle.spec_model.specs.Diagrams.{Function, value, shifted}
+use Rattle.spec_model.specs.Diagrams.{Function, shifted}
 use Rattle.spec_model.specs.Games.{GameData}
 use Rattle.spec_model.specs.Sets.{StateSet}
 use Rattle.game_values.specs.declared.seen.At.TheVariants.{Now, Next}
@@ -10,9 +10,11 @@ use Rattle.regions.specs.declared.types.When.TheVariants.{First, Later}
 use Rattle.regions.specs.declared.types.Halt.{Halt}
 use Rattle.regions.specs.declared.types.Halt.TheVariants as halt
 use Rattle.regions.specs.Kept.{Meaning, Call, Jam}
-use Rattle.bdd_store.specs.State.{IsRoot, SameRoots}
-use Rattle.bdd_ops.specs.Contents.{Contents, function_at}
-use Rattle.bdd_ops.specs.Calls.{KeepsRoots, negated}
+use Rattle.bdd_store.specs.State.{SameRoots}
+use Rattle.bdd_bits.specs.Contents.{Contents, function_at}
+use Rattle.bdd_ops.specs.Calls.{negated}
+use Rattle.bdd_bits.specs.Calls.{KeepsRoots}
+use Rattle.bdd_bits.proofs.CallLemmas.{keeps_function}
 use Rattle.bit_compile.specs.Crowding.{HasCause}
 use Rattle.bdd_sets.specs.declared.moves.NextLevels.{NextLevels}
 use Rattle.bdd_sets.specs.StateBits.{Tells}
@@ -25,9 +27,9 @@ use Rattle.region_bdd.specs.declared.slots.Slot.{Slot}
 use Rattle.region_bdd.specs.declared.own.Own.{Own}
 use Rattle.region_bdd.specs.declared.own.Refused.{Refused}
 use Rattle.region_bdd.specs.Slots.{shown_of, shown_once, meanings_in}
-use Rattle.region_bdd.specs.Object.{IsObject, IsSound, OwnIsNamed, NoneSpent, roots_of_own, argument_in, call_of, jam_in}
+use Rattle.region_bdd.specs.Object.{IsObject, OwnIsNamed, roots_of_own, argument_in, call_of, jam_in}
 use Rattle.region_bdd.specs.Leading.{members_at}
-use Rattle.region_bdd.specs.Crowding.{IsOfCall, FillsBudget, IsJammed}
+use Rattle.region_bdd.specs.Crowding.{IsOfCall, FillsIn, IsJammed}
 use Rattle.region_bdd.proofs.SlotLaws.{once_open}
 use Rattle.region_bdd.proofs.ObjectLaws.{own_root, once_stays, sound_same}
 use Rattle.region_bdd.proofs.JamLaws.{named_stays, lists_same, jam_made}
@@ -38,7 +40,7 @@ jam_of g c slots asked arguments = record { call = asked; arguments = arguments;
 
 module _ (g : GameData) (own : Own) (lists : NextLevels) (c c' : Contents) (slots : List Slot) (object : IsObject g c own lists slots None) (keeps : KeepsRoots c c') where
   pub own_same : (n : ℕ) → 0 < roots_of_own n own → function_at c' n ≡ function_at c n
-  own_same n some = ap value (keeps.meaning n (own_root g own c slots object.sound n some))
+  own_same n some = keeps_function c c' n keeps (own_root g own c slots object.sound n some)
 
   -- the object's own diagrams stay named
   pub still_named : ∥ OwnIsNamed g lists.to.items c' own ∥₁
@@ -51,18 +53,18 @@ module _ (g : GameData) (own : Own) (lists : NextLevels) (c c' : Contents) (slot
 
   -- the object tells of a jam that fills its budget
   pub is_jammed : (why : Refused) (arguments : List Meaning) → argument_in g (map (shown_of c) slots) why.first ++ argument_in g (map (shown_of c) slots) why.second ≡ arguments →
-      ∥ FillsBudget g c'.state.table.budget (jam_of g c' slots (call_of why.asked) arguments) ∥₁ → IsJammed g c'.state.table.budget (jam_in g (map (shown_once c') slots) (Some why))
+      FillsIn g c' (jam_of g c' slots (call_of why.asked) arguments) → IsJammed g c' (jam_in g (map (shown_once c') slots) (Some why))
   is_jammed why arguments are fills =
       let once : map (shown_once c') slots ≡ map (shown_of c) slots = once_stays g own c c' slots object.sound keeps ∙ once_open c slots object.unspent in
       let told : argument_in g (map (shown_once c') slots) why.first ++ argument_in g (map (shown_once c') slots) why.second ≡ arguments = ap (λ shown. argument_in g shown why.first ++ argument_in g shown why.second) once ∙ are in
-      subst (λ (ms : List Meaning). ∥ FillsBudget g c'.state.table.budget (jam_of g c' slots (call_of why.asked) ms) ∥₁) (sym told) fills
+      subst (λ (ms : List Meaning). FillsIn g c' (jam_of g c' slots (call_of why.asked) ms)) (sym told) fills
 
   module _ (same : SameRoots c.state c'.state) where
     -- a refusal fills the budget, where what its cause names is of the game or of the call
     pub refusal_fills : {V : Type 0} (N : Function → Type 0) (result : Result V Halt) → HasCause c c' result N → (asked : Call) (arguments : List Meaning) → (OwnIsNamed g lists.to.items c' own → (f : Function) → N f → IsOfGame g f ⊎ IsOfCall g asked arguments f) →
-        result ≡ Err halt.Budget → ∥ FillsBudget g c'.state.table.budget (jam_of g c' slots asked arguments) ∥₁
+        result ≡ Err halt.Budget → FillsIn g c' (jam_of g c' slots asked arguments)
     refusal_fills N result cause asked arguments calls is =
-        jam_made g own lists c c' slots (sound_same g own c c' slots object.sound keeps same) object.unspent (keeps.levels ∙ object.levels) object.lists_are still_named same keeps N result cause is asked arguments calls
+        jam_made g own lists c c' slots (sound_same g own c c' slots object.sound keeps same) object.unspent (keeps.levels ∙ object.fits.levels) object.lists_are still_named same keeps N result cause is asked arguments calls
 
 -- ---- what the formulas of a set name
 

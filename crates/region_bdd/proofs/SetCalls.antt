@@ -1,12 +1,12 @@
 -- What the calls on sets need of the object, and what they make.
-use Rattle.std.proofs.Common.{◌≡◌, ℕ, zero, suc, ◌<◌, true, List, [], ◌∷◌, ◌++◌, length, map, slice_index, Option, Some, None, sym, ◌∙◌, ap, subst, arith}
+use Rattle.std.proofs.Common.{◌≡◌, ℕ, true, List, [], ◌∷◌, ◌++◌, map, slice_index, Option, Some, None, sym, ◌∙◌, ap, subst, arith}
 use Rattle.spec_model.specs.Diagrams.{Function, ite, shifted}
 use Rattle.spec_model.specs.Games.{GameData}
 use Rattle.spec_model.specs.Sets.{all_states, no_states, rest, pre_sys, pre_env}
 use Rattle.game_values.specs.declared.seen.At.TheVariants.{Now}
 use Rattle.regions.specs.Kept.{States}
 use Rattle.bdd_store.specs.State.{IsRoot}
-use Rattle.bdd_ops.specs.Contents.{Contents, function_at}
+use Rattle.bdd_bits.specs.Contents.{Contents, function_at}
 use Rattle.bdd_ops.specs.Functions.{joined, join_of}
 use Rattle.bdd_ops.specs.Calls.{negated}
 use Rattle.bdd_sets.specs.Members.{AreMembers, move_functions, avoiding}

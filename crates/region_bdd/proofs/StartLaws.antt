@@ -5,7 +5,7 @@ use Rattle.spec_model.specs.Games.{GameData}
 use Rattle.spec_model.specs.Sets.{system_forces, environment_forces}
 use Rattle.regions.specs.declared.types.When.TheVariants.{First}
 use Rattle.game_values.specs.declared.seen.At.TheVariants.{Next}
-use Rattle.bdd_ops.specs.Contents.{Contents, function_at}
+use Rattle.bdd_bits.specs.Contents.{Contents, function_at}
 use Rattle.bdd_ops.specs.Calls.{negated}
 use Rattle.bdd_sets.specs.Members.{AreMembers, move_functions, avoiding}
 use Rattle.bdd_sets.specs.ToldMoves.{TellsBefore, some_keeps_out}

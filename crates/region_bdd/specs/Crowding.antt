@@ -7,6 +7,7 @@ use Rattle.spec_model.specs.Sets.{StateSet}
 use Rattle.game_values.specs.declared.seen.At.TheVariants.{Now, Next}
 use Rattle.regions.specs.declared.types.When.{When}
 use Rattle.regions.specs.Kept.{Meaning, States, Outputs, Inputs, Call, PreSys, PreEnv, OutMoves, InMoves, StartSys, StartEnv, Jam}
+use Rattle.bdd_bits.specs.Contents.{Contents}
 use Rattle.bdd_ops.specs.Unfinished.{negated}
 use Rattle.bit_compile.specs.Domains.{state_domains, level_count}
 use Rattle.bit_compile.specs.Filling.{FillTogether, IsFilledBy}
@@ -16,6 +17,7 @@ use Rattle.bdd_sets.specs.MoveFunctions.{reply_of}
 use Rattle.bdd_sets.specs.MoveBits.{AreLevelsOf}
 use Rattle.bdd_sets.specs.NamedMoves.{joined_lists}
 use Rattle.bdd_sets.specs.NamedGame.{IsOfGame, IsOfSet, lines_of}
+use Rattle.region_bdd.specs.Bound.{bound_of}
 
 -- ---- what a jam lists
 
@@ -72,10 +74,14 @@ pub record FillsBudget (g : GameData) (budget : ℕ) (jam : Jam) : Type 0 where
   pub lists : (m : Meaning) → Contains jam.held m → HasDiagrams g sets m
   pub fill : FillTogether (level_count (state_domains g)) budget (IsHeldAt g jam) sets
 
+-- so it is where a budget is shown
+abbrev pub FillsIn : GameData → Contents → Jam → Type 0
+FillsIn g c jam = 0 < bound_of c → ∥ FillsBudget g (bound_of c) jam ∥₁
+
 -- while the object tells it
-abbrev pub IsJammed : GameData → (budget : ℕ) → Option Jam → Type 0
-IsJammed g budget None = Unit {0}
-IsJammed g budget (Some jam) = ∥ FillsBudget g budget jam ∥₁
+abbrev pub IsJammed : GameData → Contents → Option Jam → Type 0
+IsJammed g c None = Unit {0}
+IsJammed g c (Some jam) = FillsIn g c jam
 
 -- ---- before there is an object
 

@@ -6,8 +6,8 @@ use Rattle.regions.specs.declared.types.Halt.TheVariants as halt
 use Rattle.regions.specs.declared.types.When.{When}
 use Rattle.regions.specs.declared.types.When.TheVariants.{First, Later}
 use Rattle.bdd_store.specs.State.{roots_at, SameRoots, IsFull}
-use Rattle.bdd_ops.specs.Contents.{Contents, function_at}
-use Rattle.bdd_ops.specs.Calls.{KeepsRoots}
+use Rattle.bdd_bits.specs.Contents.{Contents, function_at}
+use Rattle.bdd_bits.specs.Calls.{KeepsRoots}
 use Rattle.bdd_ops.specs.Unfinished.{negated}
 use Rattle.bdd_sets.specs.declared.moves.Members.{Members}
 use Rattle.bdd_sets.specs.declared.moves.NextLevels.{NextLevels}

@@ -1,5 +1,6 @@
 pub mod Slots
 pub mod Held
+pub mod Bound
 pub mod Needs
 pub mod Crowding
 pub mod Object

@@ -9,8 +9,8 @@ use Rattle.regions.specs.declared.types.Halt.{Halt}
 use Rattle.regions.specs.declared.types.When.{When}
 use Rattle.regions.specs.declared.types.When.TheVariants.{First, Later}
 use Rattle.bdd_store.specs.State.{roots_at, SameRoots}
-use Rattle.bdd_ops.specs.Contents.{Contents, function_at}
-use Rattle.bdd_ops.specs.Calls.{KeepsRoots}
+use Rattle.bdd_bits.specs.Contents.{Contents, function_at}
+use Rattle.bdd_bits.specs.Calls.{KeepsRoots}
 use Rattle.bit_compile.specs.Crowding.{HasCause}
 use Rattle.bit_compile.specs.Compiled.{compiled, proper}
 use Rattle.bdd_sets.specs.declared.moves.Members.{Members}

@@ -1,5 +1,5 @@
 -- How many nodes suffice for a game, whatever is made of them, and what a refusal tells of the budget.
-use Rattle.std.specs.Prelude.{ℕ, ◌+◌, ◌*◌, ◌^◌, ◌≤◌, sum_by, Option, Some, None}
+use Rattle.std.specs.Prelude.{ℕ, ◌+◌, ◌^◌, ◌≤◌, sum_by, Option, Some, None}
 use Rattle.spec_model.specs.Games.{GameData}
 use Rattle.spec_model.specs.Sizes.{domain_size}
 use Rattle.spec_model.specs.Needs.{bits_for}

@@ -1,5 +1,5 @@
 -- What an object of regions as diagrams keeps true, and what it is seen as.
-use Rattle.std.specs.Prelude.{◌≡◌, ℕ, ◌+◌, false, true, not, List, [], ◌∷◌, ◌++◌, map, Option, Some, None}
+use Rattle.std.specs.Prelude.{◌≡◌, ℕ, ◌+◌, false, not, List, [], ◌∷◌, ◌++◌, map, Option, Some, None}
 use Rattle.spec_model.specs.Diagrams.{Function}
 use Rattle.spec_model.specs.Games.{GameData}
 use Rattle.spec_model.specs.Sets.{all_states}
@@ -9,9 +9,10 @@ use Rattle.regions.specs.Kept.{Kept, Meaning, Call, Jam}
 use Rattle.regions.specs.Kept as kept
 use Rattle.regions.specs.declared.types.When.TheVariants.{First, Later}
 use Rattle.bdd_store.specs.State.{roots_at}
-use Rattle.bdd_ops.specs.Contents.{Contents, function_at}
-use Rattle.bit_compile.specs.Domains.{state_domains, level_count}
+use Rattle.bdd_bits.specs.Contents.{Contents, function_at}
+use Rattle.bit_compile.specs.Domains.{state_domains}
 use Rattle.bit_compile.specs.Compiled.{compiled, proper}
+use Rattle.bdd_sets.specs.NextOrders.{FitsNext}
 use Rattle.bdd_sets.specs.declared.moves.Members.{Members}
 use Rattle.bdd_sets.specs.StateBits.{TellsStates, Tells, set_at}
 use Rattle.bdd_sets.specs.ToldMoves.{TellsMoves, some_leads}
@@ -32,6 +33,7 @@ use Rattle.region_bdd.specs.declared.own.Own.{Own}
 use Rattle.region_bdd.specs.declared.own.Asked.{Asked}
 use Rattle.region_bdd.specs.declared.own.Asked.TheVariants as asked
 use Rattle.region_bdd.specs.declared.own.Refused.{Refused}
+use Rattle.region_bdd.specs.Bound.{bound_of}
 use Rattle.region_bdd.specs.Needs.{IsTight}
 use Rattle.region_bdd.specs.Crowding.{LeadsInto, IsJammed}
 use Rattle.region_bdd.specs.Slots.{Shown, Nothing, Set, OutputsInto, InputsInto, shown_of, shown_once, shown_meaning, shown_at, meanings_in, kept_in, roots_of_slots}
@@ -146,14 +148,14 @@ jam_in g shown (Some r) = Some (record { call = call_of r.asked; arguments = arg
 
 pub record IsObject (g : GameData) (c : Contents) (own : Own) (lists : NextLevels) (slots : List Slot) (refused : Option Refused) : Type 0 where
   pub made : WellMade g
-  pub levels : c.state.table.levels ≡ level_count (state_domains g)
+  pub fits : FitsNext g lists.to.items c
   pub lists_are : AreLevelsOf g lists
   pub early : FitsOwnEarly lists c own
   pub named : ∥ OwnIsNamed g lists.to.items c own ∥₁
   pub sound : IsSound g c own slots
   pub unspent : IsOpen refused slots
   pub tight : IsTight refused c.state.table
-  pub jammed : IsJammed g c.state.table.budget (jam_in g (map (shown_once c) slots) refused)
+  pub jammed : IsJammed g c (jam_in g (map (shown_once c) slots) refused)
 
 abbrev pub kept_of : GameData → Contents → List Slot → Option Refused → Kept BddRegion BddMove
-kept_of g c slots refused = kept_in g c.state.table.budget (jam_in g (map (shown_once c) slots) refused) (map (shown_of c) slots)
+kept_of g c slots refused = kept_in g (bound_of c) (jam_in g (map (shown_once c) slots) refused) (map (shown_of c) slots)

@@ -19,13 +19,14 @@ use Rattle.spec_model.specs.WellMade.{WellMade}
 use Rattle.regions.specs.declared.types.When.{When}
 use Rattle.game_values.specs.declared.seen.At.{At}
 use Rattle.game_values.specs.declared.seen.At.TheVariants.{Now, Next}
-use Rattle.bdd_ops.specs.Contents.{Contents}
+use Rattle.bdd_bits.specs.Contents.{Contents}
 use Rattle.bit_compile.specs.Domains.{state_domains}
 use Rattle.bit_compile.proofs.SlotLemmas.{length-assignment}
 use Rattle.bit_compile.proofs.LawLemmas.{one_state, state_listed}
 use Rattle.bdd_sets.specs.declared.moves.NextLevels.{NextLevels}
 use Rattle.bdd_sets.specs.StateBits.{bits_for, set_at, HasState, TellsStates, Tells}
 use Rattle.bdd_sets.specs.MoveBits.{AreNextOf, LeadsToNext, AreLevelsOf}
+use Rattle.bdd_sets.specs.NextOrders.{FitsNext}
 use Rattle.bdd_sets.specs.ToldMoves.{TellsMoves, IsOfNext}
 use Rattle.bdd_sets.specs.Members.{move_functions}
 use Rattle.bdd_sets.specs.MoveFunctions.{MoveFunctions}
@@ -160,15 +161,18 @@ tight_one : (refused : Option Refused) (t : Table) → IsProp (IsTight refused t
 tight_one None t = λ x y. refl
 tight_one (Some r) t = λ x y i. le_prop x y i
 
-jammed_one : (g : GameData) (budget : ℕ) (jam : Option Jam) → IsProp (IsJammed g budget jam)
-jammed_one g budget None = λ x y. refl
-jammed_one g budget (Some jam) = ∥∥₁_prop
+jammed_one : (g : GameData) (c : Contents) (jam : Option Jam) → IsProp (IsJammed g c jam)
+jammed_one g c None = λ x y. refl
+jammed_one g c (Some jam) = λ x y i declared. ∥∥₁_prop (x declared) (y declared) i
 
 next_of_one : (g : GameData) (test : ℕ → Bool) (levels : List ℕ) → IsProp (AreNextOf g test levels)
 next_of_one g test levels = λ x y i. record { has = λ k m known on level. Bool-set _ _ (x.has k m known on level) (y.has k m known on level) i; leaves = λ k m known off level. Bool-set _ _ (x.leaves k m known off level) (y.leaves k m known off level) i; leaves_present = λ k m known level. Bool-set _ _ (x.leaves_present k m known level) (y.leaves_present k m known level) i }
 
 leads_one : (g : GameData) (to : List ℕ) → IsProp (LeadsToNext g to)
 leads_one g to = λ x y i. record { long = ℕ_set _ _ x.long y.long i; to_next = λ k m known level. ℕ_set _ _ (x.to_next k m known level) (y.to_next k m known level) i }
+
+fits_one : (g : GameData) (to : List ℕ) (c : Contents) → IsProp (FitsNext g to c)
+fits_one g to c = λ x y i. record { levels = ℕ_set _ _ x.levels y.levels i; rising = λ a b p q less. le_prop (x.rising a b p q less) (y.rising a b p q less) i }
 
 lists_one : (g : GameData) (lists : NextLevels) → IsProp (AreLevelsOf g lists)
 lists_one g lists = λ x y i. record { all = next_of_one g _ _ x.all y.all i; reply = next_of_one g _ _ x.reply y.reply i; to = leads_one g _ x.to y.to i }
@@ -194,7 +198,7 @@ well_made_one : (g : GameData) → IsProp (WellMade g)
 well_made_one g = λ x y i. record { few_variables = le_prop x.few_variables y.few_variables i; names = Bool-set _ true x.names y.names i; spelled = λ k d lt. IsName-prop _ (x.spelled k d lt) (y.spelled k d lt) i; domains = Bool-set _ true x.domains y.domains i; hidden = Bool-set _ true x.hidden y.hidden i; initial_asm = Bool-set _ true x.initial_asm y.initial_asm i; initial_gar = Bool-set _ true x.initial_gar y.initial_gar i; safe_asm = Bool-set _ true x.safe_asm y.safe_asm i; safe_gar = Bool-set _ true x.safe_gar y.safe_gar i; assume = Bool-set _ true x.assume y.assume i; goals = Bool-set _ true x.goals y.goals i }
 
 pub object_is_one : (g : GameData) (c : Contents) (own : Own) (lists : NextLevels) (slots : List Slot) (refused : Option Refused) → IsProp (IsObject g c own lists slots refused)
-object_is_one g c own lists slots refused = λ x y i. record { made = well_made_one g x.made y.made i; levels = ℕ_set _ _ x.levels y.levels i; lists_are = lists_one g lists x.lists_are y.lists_are i; early = early_one (move_functions c own.step.later) lists c own.early x.early y.early i; named = ∥∥₁_prop x.named y.named i; sound = sound_one g c own slots x.sound y.sound i; unspent = open_one refused slots x.unspent y.unspent i; tight = tight_one refused c.state.table x.tight y.tight i; jammed = jammed_one g c.state.table.budget (jam_in g (map (shown_once c) slots) refused) x.jammed y.jammed i }
+object_is_one g c own lists slots refused = λ x y i. record { made = well_made_one g x.made y.made i; fits = fits_one g lists.to.items c x.fits y.fits i; lists_are = lists_one g lists x.lists_are y.lists_are i; early = early_one (move_functions c own.step.later) lists c own.early x.early y.early i; named = ∥∥₁_prop x.named y.named i; sound = sound_one g c own slots x.sound y.sound i; unspent = open_one refused slots x.unspent y.unspent i; tight = tight_one refused c.state.table x.tight y.tight i; jammed = jammed_one g c (jam_in g (map (shown_once c) slots) refused) x.jammed y.jammed i }
 
 pub room_is_one : (levels : ℕ) (own : Own) (search : Search) → IsProp (IsRoom levels own search)
 room_is_one levels own search = λ x y i. record { bits = ℕ_set _ _ x.bits y.bits i; fixed = ℕ_set _ _ x.fixed y.fixed i; levels_are = ℕ_set _ _ x.levels_are y.levels_are i; first = le_prop x.first y.first i; later = le_prop x.later y.later i; early = le_prop x.early y.early i }

@@ -6,7 +6,7 @@ use Rattle.spec_model.specs.Sets.{StateSet, no_states}
 use Rattle.game_values.specs.declared.seen.At.TheVariants.{Now, Next}
 use Rattle.regions.specs.Kept.{Kept, Item, Region as RegionItem, Move, Meaning, States, Outputs as OutputMoves, Inputs as InputMoves, Jam}
 use Rattle.regions.specs.declared.types.When.{When}
-use Rattle.bdd_ops.specs.Contents.{Contents, function_at}
+use Rattle.bdd_bits.specs.Contents.{Contents, function_at}
 use Rattle.bdd_sets.specs.StateBits.{set_at}
 use Rattle.bdd_sets.specs.Lists.{one_at}
 use Rattle.region_bdd.specs.declared.slots.Content.{Content}

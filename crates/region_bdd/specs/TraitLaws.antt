@@ -7,12 +7,13 @@ use Rattle.spec_model.specs.Sets.{all_states, IsPartOf}
 use Rattle.spec_model.specs.WellMade.{WellMade}
 use Rattle.spec_model.proofs.Closed.{closed}
 use Rattle.regions.specs.Kept.{IsExact, Jam}
-use Rattle.bdd_ops.specs.Contents.{Contents}
+use Rattle.bdd_bits.specs.Contents.{Contents}
 use Rattle.region_bdd.specs.declared.slots.Slot.{Slot}
 use Rattle.region_bdd.specs.declared.slots.BddRegion.{BddRegion}
 use Rattle.region_bdd.specs.declared.own.Refused.{Refused}
 use Rattle.region_bdd.specs.Slots.{Shown, Nothing, Set, OutputsInto, InputsInto, shown_of, shown_once, shown_meaning, set_of, shown_at, kept_in}
 use Rattle.region_bdd.specs.Held.{exact_slots}
+use Rattle.region_bdd.specs.Bound.{bound_of}
 use Rattle.region_bdd.specs.Object.{jam_in, kept_of}
 
 exact_shown : (g : GameData) (bound : ℕ) (jam : Option Jam) (shown : List Shown) → IsExact (kept_in g bound jam shown)
@@ -29,10 +30,10 @@ proper_shown g bound jam shown r s e = at (shown_at shown r.slot) e
 
 module _ (g : GameData) (c : Contents) (slots : List Slot) (refused : Option Refused) where
   pub exact_object : IsExact (kept_of g c slots refused)
-  exact_object = exact_shown g c.state.table.budget (jam_in g (map (shown_once c) slots) refused) (map (shown_of c) slots)
+  exact_object = exact_shown g (bound_of c) (jam_in g (map (shown_once c) slots) refused) (map (shown_of c) slots)
 
   pub proper_object : (r : BddRegion) → IsPartOf ((kept_of g c slots refused).set r) (all_states g)
-  proper_object r = proper_shown g c.state.table.budget (jam_in g (map (shown_once c) slots) refused) (map (shown_of c) slots) r
+  proper_object r = proper_shown g (bound_of c) (jam_in g (map (shown_once c) slots) refused) (map (shown_of c) slots) r
 
 pub closed_game : (g : GameData) → WellMade g → IsClosed g
 closed_game = closed

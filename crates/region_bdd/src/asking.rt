@@ -3,8 +3,9 @@
 ghost use Rattle.std.specs.Prelude.{◌≡◌, ◌↔◌, Err, IfOk, IfErr, IsTrue};
 ghost use Rattle.spec_model.specs.Diagrams.{Function, shifted};
 ghost use Rattle.bdd_store.specs.State.{IsRoot, AddsRoot};
-ghost use Rattle.bdd_ops.specs.Contents.{Contents, function_at};
-ghost use Rattle.bdd_ops.specs.Calls.{negated, RisesOver};
+ghost use Rattle.bdd_bits.specs.Contents.{Contents, function_at};
+ghost use Rattle.bdd_ops.specs.Calls.{negated};
+ghost use Rattle.bdd_bits.specs.Calls.{SameNodes, RisesOver};
 ghost use Rattle.bit_compile.specs.Making.{Makes};
 ghost use Rattle.bit_compile.specs.Crowding.{HasCause};
 ghost use Rattle.bdd_sets.specs.NamedGame.{IsOfStep, IsOfRest};
@@ -12,7 +13,7 @@ ghost use Rattle.bdd_sets.specs.Members.{AreMembers, move_functions, avoiding, l
 ghost use Rattle.region_bdd.specs.Asking.{Answers};
 
 use crate::own::Own;
-use bdd_ops::{Diagrams, Root};
+use bdd_bits::{Diagrams, Root};
 use bdd_sets::moves::{NextLevels, avoided};
 use bdd_sets::spent::not_spent;
 use bdd_sets::steps::shift;
@@ -28,7 +29,7 @@ pub fn avoiding_set(
     requires t { IsRoot diagrams.old.state t.now }
     requires first { AreMembers diagrams.old own.now.first }
     requires rising { let old = diagrams.old in
-        RisesOver old.state.table.levels levels.now.to.items (function_at old t.now) }
+        RisesOver old.state.table.levels old.order levels.now.to.items (function_at old t.now) }
     ensures made { let old = diagrams.old in
         let next = shifted levels.now.to.items (function_at old t.now) in
         Makes old diagrams.new result
@@ -51,7 +52,7 @@ pub fn avoiding_rest(
     requires t { IsRoot diagrams.old.state t.now }
     requires first { AreMembers diagrams.old own.now.first }
     requires rising { let old = diagrams.old in
-        RisesOver old.state.table.levels levels.now.to.items (function_at old t.now) }
+        RisesOver old.state.table.levels old.order levels.now.to.items (function_at old t.now) }
     ensures made { let old = diagrams.old in
         let next = shifted levels.now.to.items (function_at old t.now) in
         Makes old diagrams.new result
@@ -72,7 +73,7 @@ fn is_nothing(diagrams: &mut Diagrams, root: Root, nothing: &Root) -> bool
     ensures answer { let old = diagrams.old in
         IsTrue result ↔ function_at old root ≡ function_at old nothing.now }
     ensures released { AddsRoot diagrams.new.state diagrams.old.state root }
-    ensures table { diagrams.new.state.table ≡ diagrams.old.state.table }
+    ensures nodes { SameNodes diagrams.old diagrams.new }
 {
     let same = diagrams.equal(&root, nothing);
     diagrams.release(root);

@@ -2,6 +2,7 @@
 
 ghost use Rattle.std.specs.Prelude.{◌≡◌, ◌≤◌, ◌+◌, ℕ};
 ghost use Rattle.bdd_store.specs.State.{roots_at};
+ghost use Rattle.bdd_bits.specs.Calls.{SameNodes};
 ghost use Rattle.bdd_sets.specs.LineScenes.{roots_of_members};
 ghost use Rattle.region_bdd.specs.Slots.{roots_of_slot, roots_of_slots};
 ghost use Rattle.region_bdd.specs.Object.{roots_of_own};
@@ -9,7 +10,7 @@ ghost use Rattle.region_bdd.specs.Object.{roots_of_own};
 use crate::giving_back::give_back;
 use crate::own::Own;
 use crate::slots::{Slot, Slots};
-use bdd_ops::Diagrams;
+use bdd_bits::Diagrams;
 use bdd_products::early::release_early;
 use bdd_sets::forcing::StepRoots;
 use bdd_sets::lists::release_list;
@@ -19,7 +20,7 @@ use bdd_sets::moves::Members;
 pub fn release_members(diagrams: &mut Diagrams, members: Members)
     requires { (n : ℕ) → roots_of_members n members ≤ roots_at diagrams.old.state n }
     ensures released { (n : ℕ) → roots_at diagrams.old.state n ≡ roots_at diagrams.new.state n + roots_of_members n members }
-    ensures table { diagrams.new.state.table ≡ diagrams.old.state.table }
+    ensures nodes { SameNodes diagrams.old diagrams.new }
 {
     let Members {
         inputs,

@@ -13,7 +13,7 @@ ghost use Rattle.region_bdd.specs.Room.{member_count, line_count, early_count};
 ghost use Rattle.region_bdd.specs.Finding.{outputs_asked, products_asked, outputs_sought, inputs_asked, AsksFor, AreStateAt, AreStateFixed, AllowsState, IsMoveFixed};
 
 use crate::own::Own;
-use bdd_ops::{Conjunction, Diagrams, Root};
+use bdd_bits::{Conjunction, Diagrams, Root};
 use bdd_products::early::Early;
 use bdd_search::{fit, fix, loosen};
 use bdd_sets::moves::Members;

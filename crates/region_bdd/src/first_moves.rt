@@ -30,7 +30,8 @@ impl RegionBdd {
         }
         self.codes.write(At::Now, state, &mut self.search.bits);
         let root = self.slots.region(a);
-        self.diagrams.eval(root, &self.search.bits)
+        self.diagrams
+            .eval(root, &self.search.bits, &mut self.search.all)
     }
 
     /// Writes the first output, in order, that the moves give after the state and the input.

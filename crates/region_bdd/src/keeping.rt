@@ -7,7 +7,7 @@ ghost use Rattle.region_bdd.specs.Leading.{SettlesInputs};
 
 use crate::own::Refused;
 use crate::slots::{BddMove, BddRegion, Content, Slots};
-use bdd_ops::Root;
+use bdd_bits::Root;
 use regions::{Halt, When};
 
 /// Puts a region's diagram into a slot, or tells why there is none.

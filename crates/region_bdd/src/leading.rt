@@ -3,15 +3,15 @@
 ghost use Rattle.std.specs.Prelude.{◌≡◌, Ok, Err};
 ghost use Rattle.spec_model.specs.Diagrams.{Function, shifted};
 ghost use Rattle.bdd_store.specs.State.{IsRoot};
-ghost use Rattle.bdd_ops.specs.Contents.{Contents, function_at};
-ghost use Rattle.bdd_ops.specs.Calls.{RisesOver};
+ghost use Rattle.bdd_bits.specs.Contents.{Contents, function_at};
+ghost use Rattle.bdd_bits.specs.Calls.{RisesOver};
 ghost use Rattle.bit_compile.specs.Making.{Makes};
 ghost use Rattle.bit_compile.specs.Crowding.{HasCause};
 ghost use Rattle.bdd_sets.specs.NamedGame.{IsOfRest};
 ghost use Rattle.bdd_sets.specs.Members.{AreMembers, move_functions, lists_at};
 ghost use Rattle.region_bdd.specs.Leading.{leading_in, MakesTwo};
 
-use bdd_ops::{Diagrams, Root};
+use bdd_bits::{Diagrams, Root};
 use bdd_sets::moves::{Members, NextLevels, kept_out};
 use bdd_sets::spent::not_spent;
 use bdd_sets::steps::shift;
@@ -28,7 +28,7 @@ fn leading(
     requires t { IsRoot diagrams.old.state t.now }
     requires members { AreMembers diagrams.old members.now }
     requires rising { let old = diagrams.old in
-        RisesOver old.state.table.levels levels.now.to.items (function_at old t.now) }
+        RisesOver old.state.table.levels old.order levels.now.to.items (function_at old t.now) }
     ensures made { let old = diagrams.old in
         let set = function_at old t.now in
         Makes old diagrams.new result (leading_in (move_functions old members.now) levels.now set) }
@@ -67,7 +67,7 @@ pub fn with_leading(
     requires t { IsRoot diagrams.old.state t.now }
     requires members { AreMembers diagrams.old members.now }
     requires rising { let old = diagrams.old in
-        RisesOver old.state.table.levels levels.now.to.items (function_at old t.now) }
+        RisesOver old.state.table.levels old.order levels.now.to.items (function_at old t.now) }
     ensures made { let old = diagrams.old in
         let set = function_at old t.now in
         let leads = leading_in (move_functions old members.now) levels.now set in

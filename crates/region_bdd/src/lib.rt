@@ -24,6 +24,7 @@ mod leading;
 mod making;
 mod moves;
 mod object;
+mod ordering;
 mod own;
 mod search;
 mod sets;

@@ -1,10 +1,11 @@
 //! Making the object: its own diagrams, part by part. Where a part is refused, those before it are given back.
 
-ghost use Rattle.std.specs.Prelude.{◌≡◌, ◌<◌, ◌≤◌, [], None, Err, IfOk, IfSome};
+ghost use Rattle.std.specs.Prelude.{◌≡◌, ◌<◌, ◌≤◌, false, [], None, Err, IfOk, IfSome};
 ghost use Rattle.spec_model.specs.GameViews.{game_data};
 ghost use Rattle.spec_model.specs.WellMade.{WellMade};
 ghost use Rattle.bit_compile.specs.Domains.{state_domains, level_count};
 ghost use Rattle.bdd_sets.specs.Forcing.{AreLevelsOf};
+ghost use Rattle.bdd_sets.specs.NextOrders.{FitsNext};
 ghost use Rattle.region_bdd.specs.Slots.{kept_in};
 ghost use Rattle.region_bdd.specs.Object.{roots_of_own};
 ghost use Rattle.region_bdd.specs.Making.{MakesPart, times_in_sets, FitSets, times_in_goals, FitAllGoals};
@@ -19,10 +20,11 @@ ghost use Rattle.region_bdd.specs.Seen.{seen};
 
 use crate::ending::{release_members, release_own};
 use crate::object::RegionBdd;
+use crate::ordering::order_of;
 use crate::own::Own;
 use crate::search::Search;
 use crate::slots::Slots;
-use bdd_ops::{Diagrams, Root};
+use bdd_bits::{Diagrams, Root};
 use bdd_products::early::Early;
 use bdd_sets::forcing::StepRoots;
 use bdd_sets::goals::goal_roots;
@@ -84,7 +86,7 @@ fn lines(
 ) -> Result<(Members, Members), Halt>
     requires made { WellMade (game_data game.now) }
     requires codes { codes.now ≡ state_domains (game_data game.now) }
-    requires levels { diagrams.old.state.table.levels ≡ level_count (state_domains (game_data game.now)) }
+    requires fits { FitsNext (game_data game.now) levels.now.to.items diagrams.old }
     requires lists { AreLevelsOf (game_data game.now) levels.now }
     ensures { let g = game_data game.now in
         MakesPart times_in_lines (FitAllLines g levels.now.to.items) (IsOfGame g) diagrams.old diagrams.new result }
@@ -108,7 +110,7 @@ fn formulas(
 ) -> Result<((Vec<Root>, Vec<Root>), (Members, Members)), Halt>
     requires made { WellMade (game_data game.now) }
     requires codes { codes.now ≡ state_domains (game_data game.now) }
-    requires levels { diagrams.old.state.table.levels ≡ level_count (state_domains (game_data game.now)) }
+    requires fits { FitsNext (game_data game.now) levels.now.to.items diagrams.old }
     requires lists { AreLevelsOf (game_data game.now) levels.now }
     ensures { let g = game_data game.now in
         MakesPart times_in_formulas (FitFormulas g levels.now.to.items) (IsOfGame g) diagrams.old diagrams.new result }
@@ -136,7 +138,7 @@ fn own(
 ) -> Result<Own, Halt>
     requires made { WellMade (game_data game.now) }
     requires codes { codes.now ≡ state_domains (game_data game.now) }
-    requires levels { diagrams.old.state.table.levels ≡ level_count (state_domains (game_data game.now)) }
+    requires fits { FitsNext (game_data game.now) levels.now.to.items diagrams.old }
     requires lists { AreLevelsOf (game_data game.now) levels.now }
     ensures part { let g = game_data game.now in
         MakesPart roots_of_own (FitOwn g levels.now.to.items) (IsOfGame g) diagrams.old diagrams.new result }
@@ -205,21 +207,26 @@ fn room(alloc: Global, levels: u32, own: &Own) -> Result<Search, OutOfMemory>
 
 impl RegionBdd {
     /// The regions of a game, in a store of at most `budget` nodes, the two constants among them. `Budget`: sets of the game's
-    /// own formulas and one operation's unfinished results fill it exactly. `Memory`: none was given.
-    pub fn make(alloc: Global, game: Game, budget: u32) -> Result<RegionBdd, Halt>
+    /// own formulas and one operation's unfinished results fill it exactly. `Memory`: none was given. Where `near`, the bits of
+    /// a state stand near those that lines tie them to, and nothing is told of why the budget ended it.
+    pub fn make(alloc: Global, game: Game, budget: u32, near: bool) -> Result<RegionBdd, Halt>
         requires made { WellMade (game_data game) }
         requires budget { 2 ≤ budget }
-        ensures made { IfOk result (λ r. seen r ≡ kept_in (game_data game) budget None []) }
+        ensures made { IfOk result (λ r. seen r ≡ kept_in (game_data game) (seen r).bound None []) }
+        ensures bound { near ≡ false → IfOk result (λ r. (seen r).bound ≡ budget) }
         ensures cause { let g = game_data game in
-            result ≡ Err Halt.Budget → IsTooSmall (need_of_game g) g budget }
+            near ≡ false → result ≡ Err Halt.Budget → IsTooSmall (need_of_game g) g budget }
     {
         let Ok(codes) = Codes::make(alloc, &game) else {
             return Err(Halt::Memory);
         };
-        let Ok(mut diagrams) = Diagrams::make(alloc, codes.levels(), budget) else {
+        let Ok(levels) = next_levels(alloc, &codes, &game) else {
             return Err(Halt::Memory);
         };
-        let Ok(levels) = next_levels(alloc, &codes, &game) else {
+        let Ok(order) = order_of(alloc, &game, &codes, &levels.to, near) else {
+            return Err(Halt::Memory);
+        };
+        let Ok(mut diagrams) = Diagrams::make(alloc, order, budget) else {
             return Err(Halt::Memory);
         };
         let own = own(&mut diagrams, alloc, &codes, &game, &levels)?;

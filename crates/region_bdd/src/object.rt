@@ -12,7 +12,7 @@ use crate::ending::{release_own, release_slots};
 use crate::own::{Own, Refused};
 use crate::search::Search;
 use crate::slots::Slots;
-use bdd_ops::Diagrams;
+use bdd_bits::Diagrams;
 use bdd_sets::moves::NextLevels;
 use bit_compile::Codes;
 use spec_model::game::Game;

@@ -5,7 +5,7 @@ ghost use Rattle.regions.specs.Rules.{number_of};
 ghost use Rattle.region_bdd.specs.Goals.{goal_roots};
 ghost use Rattle.region_bdd.specs.Leading.{members_at};
 
-use bdd_ops::Root;
+use bdd_bits::Root;
 use bdd_products::early::Early;
 use bdd_sets::forcing::StepRoots;
 use bdd_sets::moves::Members;

@@ -2,7 +2,7 @@
 
 ghost use Rattle.std.specs.Prelude.{◌≡◌, [], IfOk, length};
 
-use bdd_ops::{Conjunction, OutOfMemory};
+use bdd_bits::{Conjunction, OutOfMemory};
 use std::alloc::Global;
 
 /// What the calls that take no memory write in.

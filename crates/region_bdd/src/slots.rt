@@ -3,7 +3,7 @@
 ghost use Rattle.std.specs.Prelude.{◌≡◌, ◌<◌, OnOk, vec_len, vec_capacity};
 ghost use Rattle.region_bdd.specs.Slots.{TakesSlot, FreesSlot, MarksSpent, HasContent, HasRegionRoot};
 
-use bdd_ops::Root;
+use bdd_bits::Root;
 use regions::When;
 use std::alloc::AllocError;
 use std::mem;

@@ -1,5 +1,5 @@
 -- A halt for want of budget comes only where the budget is below the need of the specification.
-use Rattle.std.proofs.Common.{◌≡◌, inl, inr, ℕ, ◌<◌, ◌≤◌, ◌+◌, List, [], length, Option, Some, None, Result, Ok, Err, IfErr, IsErrAnd, is_some, refl, sym, ◌∙◌, ap, subst, arith}
+use Rattle.std.proofs.Common.{◌≡◌, inl, inr, ℕ, ◌<◌, ◌≤◌, ◌+◌, List, [], length, Option, Some, None, Result, Ok, Err, IfOk, IfErr, IsErrAnd, is_some, refl, sym, ◌∙◌, ap, subst, arith}
 use Rattle.std.proofs.Math.Logic.{∥∥₁_map, ∥∥₁_elim}
 use Rattle.std.specs.Coded.{le_prop}
 use Rattle.std.proofs.lemmas.Bool.{false≢true}
@@ -17,6 +17,7 @@ use Rattle.region_bdd.specs.declared.slots.BddRegion.{BddRegion}
 use Rattle.region_bdd.specs.declared.slots.BddMove.{BddMove}
 use Rattle.region_bdd.specs.Needs.{need_of_game}
 use Rattle.region_bdd.specs.Seen.{seen}
+use Rattle.region_bdd.specs.Slots.{kept_in}
 use Rattle.region_bdd.specs.Crowding.{IsHeldAt, IsTooSmall}
 use Rattle.region_bdd.specs.declared.object.RegionBdd.{RegionBdd}
 use Rattle.region_bdd.proofs.NeedLaws.{jammed_below_need, below_need}
@@ -117,19 +118,20 @@ pub crowded_below_need : (g : GameData) (budget : ℕ) → Crowded g budget → 
 crowded_below_need g budget crowded =
     ∥∥₁_elim crowded le_prop (λ c. below_need g budget (level_count (state_domains g)) refl (few_fill (level_count (state_domains g)) budget (IsNamed g c.0) c.2.0 c.2.1))
 
--- an object that tells a jam of one moment is crowded
-jam_crowded : (o : RegionBdd) (jam : Jam) → (seen o).jam ≡ Some jam → IsOfOneMoment (seen o).game jam → Crowded (seen o).game (seen o).bound
-jam_crowded o jam told one =
+-- an object that tells a budget and a jam of one moment is crowded
+jam_crowded : (o : RegionBdd) (jam : Jam) → (seen o).jam ≡ Some jam → 0 < (seen o).bound → IsOfOneMoment (seen o).game jam → Crowded (seen o).game (seen o).bound
+jam_crowded o jam told some one =
     let g = (seen o).game in
-    ∥∥₁_map (jam_fills o jam told) (λ fills. (one.moment, one.is, (fills.sets, fill_wider (IsHeldAt g jam) (IsNamed g one.moment) (held_named g jam one) (level_count (state_domains g)) (seen o).bound fills.sets fills.fill)))
+    ∥∥₁_map (jam_fills o jam told some) (λ fills. (one.moment, one.is, (fills.sets, fill_wider (IsHeldAt g jam) (IsNamed g one.moment) (held_named g jam one) (level_count (state_domains g)) (seen o).bound fills.sets fills.fill)))
 
 -- what it may tell where what was held was fit
-pub short_by : (s : Specification) (budget : ℕ) (k : Kept BddRegion BddMove) (IsFit : Type 0) → k.game ≡ game_of s → k.bound ≡ budget → IsFit → RanOut space_kept k IsFit → IsShort budget s
-short_by s budget k IsFit game bound fit out =
+pub short_by : (s : Specification) (budget : ℕ) (k : Kept BddRegion BddMove) (IsFit : Type 0) → k.game ≡ game_of s → k.bound ≡ budget → 2 ≤ budget → IsFit → RanOut space_kept k IsFit → IsShort budget s
+short_by s budget k IsFit game bound two fit out =
     let g_is : (space_kept out.g).game ≡ game_of s = out.same.game ∙ game in
     let b_is : (space_kept out.g).bound ≡ budget = out.same.bound ∙ bound in
     let one : IsOfOneMoment (space_kept out.g).game out.jam = subst (λ (h : GameData). IsOfOneMoment h out.jam) (sym out.same.game) (out.of_one_moment fit) in
-    let crowded = jam_crowded out.g out.jam out.told one in
+    let some : 0 < (space_kept out.g).bound = omega (arith, b_is, two) in
+    let crowded = jam_crowded out.g out.jam out.told some one in
     record {
       few = below_game s (space_kept out.g).game g_is budget (subst (λ (n : ℕ). n < need_of_game (space_kept out.g).game) b_is (jammed_below_need out.g (some_not_none (space_kept out.g).jam out.jam out.told)));
       crowded = subst (λ (n : ℕ). Crowded (game_of s) n) b_is (subst (λ (h : GameData). Crowded h (space_kept out.g).bound) g_is crowded);
@@ -140,14 +142,19 @@ pub holds_nothing : {R M : Type 0} (k : Kept R M) → k.held ≡ [] → HoldsNot
 unfolding weight
 holds_nothing k none w = ap (λ is. weigh (λ i. w i (meaning_of k i)) is) none
 
-module _ (s : Specification) (budget : ℕ) (k : Kept BddRegion BddMove) (new : IsNewOf (game_of s) budget k) where
+-- a space is new as its object is
+pub new_space : (g h : GameData) → g ≡ h → (r : Result RegionBdd Halt) → IfOk r (λ o. seen o ≡ kept_in g (seen o).bound None []) → IfOk r (λ o. IsNewOf h (space_kept o))
+new_space g h is (Ok o) made = record { game = ap (λ (k : Kept BddRegion BddMove). k.game) made ∙ is; held = ap (λ (k : Kept BddRegion BddMove). k.held) made; free = ap (λ (k : Kept BddRegion BddMove). k.jam) made }
+new_space g h is (Err halt) made = tt
+
+module _ (s : Specification) (budget : ℕ) (k : Kept BddRegion BddMove) (new : IsNewOf (game_of s) k) (bound : k.bound ≡ budget) (two : 2 ≤ budget) where
   pub may_halt : (halt : Halt) → SolverHalts space_kept k halt → MayHalt budget s halt
-  may_halt Budget out = short_by s budget k (HoldsNothing k) new.game new.bound (holds_nothing k new.held) out
+  may_halt Budget out = short_by s budget k (HoldsNothing k) new.game bound two (holds_nothing k new.held) out
   may_halt Memory out = tt
 
   -- a strategy that is made of the layers
   pub play_may_halt : (mid : Kept BddRegion BddMove) → IsSameGame k mid → HoldsOneMoment mid → (halt : Halt) → PlayHalts space_kept mid halt → MayHalt budget s halt
-  play_may_halt mid same holds Budget out = short_by s budget mid (HoldsOneMoment mid) (same.game ∙ new.game) (same.bound ∙ new.bound) holds out
+  play_may_halt mid same holds Budget out = short_by s budget mid (HoldsOneMoment mid) (same.game ∙ new.game) (same.bound ∙ bound) two holds out
   play_may_halt mid same holds Memory out = tt
 
 -- a refusal that is handed on

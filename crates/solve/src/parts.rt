@@ -10,7 +10,7 @@ ghost use Rattle.solve.specs.Places.{at_places};
 ghost use Rattle.spec_model.specs.OneSpelling.{IsName-prop};
 
 use crate::answers::Numbers;
-use crate::deciding::numbers;
+use crate::deciding::part_numbers;
 use core_min::Judge;
 use regions::Halt;
 use spec_model::spec::{Line, Role, Spec};
@@ -28,6 +28,8 @@ pub struct Parts<'a> {
     part: Vec<u32>,
     /// The budget of each part.
     budget: u32,
+    /// Whether the near order comes first. One part for which the nodes ran out there ends that for all later ones.
+    near: bool,
     faults: u64,
     fault: Option<Halt>,
     /// The part that the last fault was answered for.
@@ -61,6 +63,7 @@ impl<'a> Parts<'a> {
             numbers,
             part: Vec::with_capacity(alloc, numbers.len())?,
             budget,
+            near: true,
             faults: 0,
             fault: None,
             asked: Vec::with_capacity(alloc, numbers.len())?,
@@ -88,7 +91,13 @@ impl Judge for Parts<'_> {
 
     fn wins(&mut self, kept: &[usize]) -> Result<bool, Halt> {
         pick(self.numbers, kept, &mut self.part);
-        match numbers(self.alloc, self.spec, &self.part, self.budget) {
+        match part_numbers(
+            self.alloc,
+            self.spec,
+            &self.part,
+            self.budget,
+            &mut self.near,
+        ) {
             Ok(Numbers::Realizable { .. }) => Ok(true),
             Ok(Numbers::Unrealizable { .. }) => Ok(false),
             Err(halt) => {

@@ -7,6 +7,8 @@ use Rattle.spec_model.specs.Games.{GameData}
 use Rattle.spec_model.specs.Needs.{bits_of, need_of}
 use Rattle.node_table.specs.Table.{Table, IsLive, diagram_at}
 use Rattle.bdd_store.specs.State.{State, roots_at, IsFilled}
+use Rattle.bdd_bits.specs.Contents.{Contents, IsDeclared}
+use Rattle.bdd_bits.proofs.CallLemmas.{declared_function}
 use Rattle.hidden_game.specs.GameOf.{game_of}
 use Rattle.hidden_game.proofs.FewBits.{bits_few, needs_grow}
 use Rattle.bit_compile.specs.Domains.{state_domains, level_count}
@@ -25,17 +27,19 @@ use Rattle.spec_order.specs.Crowded.{IsOfCopied, CrowdedOrder}
 
 -- ---- a store that kept nothing at first
 
+-- with each bit at the level of its number
+module _ (old : Contents) (declared : IsDeclared old) (t : Table) (N : Function → Type 0) (none : (n : ℕ) → roots_at old.state n ≡ 0) where
+  -- what is held of a formula is named
+  named : (d : Diagram) → IsHeldSince old N d → N (value d)
+  named d (inl kept) = absurd (let root = kept.1 in let no = none kept.0 in omega (arith, root, no))
+  named d (inr is) = subst N (declared_function old d declared) is
+
+  pub compiled_by_named : IsCrowdedBy t (IsHeldSince old N) → IsCrowdedBy t (λ d. N (value d))
+  compiled_by_named c = crowded_wider t (IsHeldSince old N) (λ d. N (value d)) named c
+
 module _ (old : State) (t : Table) (N : Function → Type 0) (none : (n : ℕ) → roots_at old n ≡ 0) where
   abbrev IsNamed : Diagram → Type 0
   IsNamed d = N (value d)
-
-  -- what is held of a formula is named
-  named : (d : Diagram) → IsHeldSince old N d → IsNamed d
-  named d (inl kept) = absurd (let root = kept.1 in let no = none kept.0 in omega (arith, root, no))
-  named d (inr is) = is
-
-  pub compiled_by_named : IsCrowdedBy t (IsHeldSince old N) → IsCrowdedBy t IsNamed
-  compiled_by_named c = crowded_wider t (IsHeldSince old N) IsNamed named c
 
   -- so is what is held of a copy
   copied : (d : Diagram) → copies.IsHeldSince old N d → IsNamed d

@@ -8,20 +8,24 @@ use Rattle.spec_model.specs.Games.{GameData}
 use Rattle.node_table.specs.Table.{Table}
 use Rattle.bdd_store.specs.declared.fault.StoreFault.{StoreFault}
 use Rattle.bdd_store.specs.declared.fault.StoreFault.TheVariants as store
-use Rattle.bdd_store.specs.State.{State, roots_at, IsNewStore, SameRoots}
+use Rattle.bdd_store.specs.State.{State, roots_at, diagram_of, IsNewStore, SameRoots}
 use Rattle.bdd_ops.specs.Contents.{Contents}
-use Rattle.bdd_ops.specs.Calls.{KeepsRoots}
+use Rattle.bdd_bits.specs.Orders.{BitOrder, IsDeclared as IsDeclaredOrder}
+use Rattle.bdd_bits.specs.Contents.{Contents as Bits, over_levels, IsDeclared}
+use Rattle.bdd_bits.specs.Calls.{KeepsRoots}
+use Rattle.bdd_bits.proofs.CallLemmas.{declared_function}
 use Rattle.regions.specs.declared.types.Halt.{Halt}
 use Rattle.regions.specs.declared.types.Halt.TheVariants as halt
 use Rattle.bit_compile.specs.Domains.{state_domains, level_count}
 use Rattle.bit_compile.specs.Crowding.{HasCause}
 use Rattle.bit_compile.proofs.Filled.{contains_map, fill_wider}
+use Rattle.bdd_sets.specs.Members.{functions_at as bit_functions_at}
 use Rattle.bdd_sets.specs.Lists as lists
 use Rattle.bdd_sets.specs.Lists.{MakesList}
 use Rattle.bdd_reorder.specs.Keeping as keeping
 use Rattle.bdd_reorder.specs.Crowding as copies
 use Rattle.bdd_reorder.specs.Rearranged.{IsOfCopy}
-use Rattle.bdd_reorder.specs.Making.{diagrams_at}
+use Rattle.bdd_reorder.specs.Making.{functions_at, diagrams_at}
 use Rattle.variable_order.specs.Levels.{levels_under}
 use Rattle.variable_order.specs.Sizes.{under}
 use Rattle.variable_order.specs.Climbing.{moved}
@@ -67,9 +71,9 @@ module _ (g : GameData) (budget : ℕ) where
 
 -- ---- what the lines' functions are made of
 
-pub compiling : {V : Type 0} (g : GameData) (levels budget : ℕ) (old new : Contents) (r : Result V Halt) → levels ≡ level_count (state_domains g) → IsNewStore old.state levels budget → KeepsRoots old new → HasCause old new r (IsOfLines g) → r ≡ Err halt.Budget → IsFullOrder g budget
-compiling g levels budget old new r are new_store keeps cause e =
-    inl (fills new.state.table (level_count (state_domains g)) budget (IsOfLines g) (keeps.levels ∙ (new_store.has_levels ∙ are)) (keeps.budget ∙ new_store.has_budget) (compiled_by_named old.state new.state.table (IsOfLines g) new_store.no_root (cause.crowded e)))
+pub compiling : {V : Type 0} (g : GameData) (levels budget : ℕ) (old new : Bits) (r : Result V Halt) → levels ≡ level_count (state_domains g) → IsNewStore old.state levels budget → IsDeclared old → KeepsRoots old new → HasCause old new r (IsOfLines g) → r ≡ Err halt.Budget → IsFullOrder g budget
+compiling g levels budget old new r are new_store declared keeps cause e =
+    inl (fills new.state.table (level_count (state_domains g)) budget (IsOfLines g) (keeps.levels ∙ (new_store.has_levels ∙ are)) (keeps.budget ∙ new_store.has_budget) (compiled_by_named old declared new.state.table (IsOfLines g) new_store.no_root (cause.crowded e)))
 
 -- ---- copies
 
@@ -117,14 +121,18 @@ same_times : (n : ℕ) (roots : List ℕ) → lists.times_in n roots ≡ keeping
 same_times n [] = refl
 same_times n (root ∷ roots) = ap (λ (k : ℕ). keeping.one_at n root + k) (same_times n roots)
 
+-- over levels roots have the functions that they have over bits
+same_functions : (c : Bits) (roots : List ℕ) → IsDeclared c → functions_at (over_levels c) roots ≡ bit_functions_at c roots
+same_functions c roots declared = λ i. map (λ n. sym (declared_function c (diagram_of c.state n) declared) i) roots
+
 -- those that were made are the store's
-pub lines_made : (g : GameData) (codes : List DomainData) (budget : ℕ) (old new : Contents) (v : Vec ℕ Global) → IsScene g codes → IsNewStore old.state (level_count codes) budget → MakesList old new (Ok v) (functions_of g) → HasLines g new v.items
-lines_made g codes budget old new v scene new_store made = record {
+pub lines_made : (g : GameData) (codes : List DomainData) (budget : ℕ) (old new : Bits) (v : Vec ℕ Global) → IsScene g codes → IsNewStore old.state (level_count codes) budget → IsDeclared old → MakesList old new (Ok v) (functions_of g) → HasLines g (over_levels new) v.items
+lines_made g codes budget old new v scene new_store declared made = record {
   kept = roots_kept new.state v.items (λ n some. (let same = same_times n v.items in let more = made.added n in omega (arith, same, more, some)));
-  functions = made.meaning;
+  functions = same_functions new v.items (subst (λ (o : BitOrder). IsDeclaredOrder o) (sym made.keeps.order) declared) ∙ made.meaning;
   levels = made.keeps.levels ∙ (new_store.has_levels ∙ ap level_count scene.bits);
 }
 
 -- they can be given back
-pub lines_counted : (old mid new : Contents) (v : Vec ℕ Global) (fs : List Function) → MakesList old mid (Ok v) fs → SameRoots mid.state new.state → (n : ℕ) → lists.times_in n v.items ≤ roots_at new.state n
-lines_counted old mid new v fs made same n = let more = made.added n in let stays = same n in omega (arith, more, stays)
+pub lines_counted : (old mid : Bits) (new : Contents) (v : Vec ℕ Global) (fs : List Function) → MakesList old mid (Ok v) fs → SameRoots mid.state new.state → (n : ℕ) → keeping.times_in n v.items ≤ roots_at new.state n
+lines_counted old mid new v fs made same n = let times = same_times n v.items in let more = made.added n in let stays = same n in omega (arith, times, more, stays)

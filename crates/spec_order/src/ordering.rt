@@ -6,6 +6,7 @@ ghost use Rattle.spec_model.specs.GameViews.{game_data};
 ghost use Rattle.spec_model.specs.WellTyped.{WellTyped};
 ghost use Rattle.spec_model.specs.Needs.{need_of};
 ghost use Rattle.bdd_store.specs.State.{IsNewStore};
+ghost use Rattle.bdd_bits.specs.Contents.{IsDeclared};
 ghost use Rattle.bit_compile.specs.Domains.{level_count};
 ghost use Rattle.hidden_game.specs.GameOf.{game_of};
 ghost use Rattle.spec_order.specs.Reports.{IsReport, IsReportOn};
@@ -15,8 +16,9 @@ ghost use Rattle.spec_order.specs.Scenes.{IsScene, MayHalt};
 use crate::fault::OrderFault;
 use crate::report::OrderReport;
 use crate::searching::searched;
-use bdd_ops::Diagrams;
-use bdd_sets::lists::release_list;
+use bdd_bits::Diagrams;
+use bdd_ops::Diagrams as Levels;
+use bdd_reorder::release_all;
 use bit_compile::Codes;
 use hidden_game::expand;
 use line_functions::line_functions;
@@ -27,23 +29,26 @@ use std::alloc::Global;
 /// How many declared variables there may be.
 const MOST_VARIABLES: usize = 32;
 
-/// A report on a game, whose lines' functions are made in one new store and copied into another, both of one budget.
+/// A report on a game, whose lines' functions are made in one new store, each bit at the level of its number, and copied into
+/// another, both of one budget.
 fn report_on(
     alloc: Global,
     game: &Game,
     codes: &Codes,
-    from: &mut Diagrams,
-    to: &mut Diagrams,
+    mut bits: Diagrams,
+    to: &mut Levels,
 ) -> Result<OrderReport, OrderFault>
     requires scene { IsScene (game_data game.now) codes.now }
-    requires from { IsNewStore from.old.state (level_count codes.now) to.old.state.table.budget }
+    requires bits { IsNewStore bits.state (level_count codes.now) to.old.state.table.budget }
+    requires declared { IsDeclared bits }
     requires to { IsNewStore to.old.state (level_count codes.now) to.old.state.table.budget }
     ensures report { IfOk result (IsReportOn (game_data game.now)) }
     ensures refused { IfErr result (MayHalt (game_data game.now) to.old.state.table.budget) }
 {
-    let roots = line_functions(from, codes, game)?;
-    let report = searched(alloc, game, codes, from, &roots, to);
-    release_list(from, roots);
+    let roots = line_functions(&mut bits, codes, game)?;
+    let mut from = bits.into_levels();
+    let report = searched(alloc, game, codes, &mut from, &roots, to);
+    release_all(&mut from, roots);
     report
 }
 
@@ -58,9 +63,9 @@ fn report_of(alloc: Global, spec: &Spec, budget: u32) -> Result<OrderReport, Ord
     let game = expand(alloc, spec)?;
     let codes = Codes::make(alloc, &game)?;
     let levels = codes.levels();
-    let mut from = Diagrams::make(alloc, levels, budget)?;
-    let mut to = Diagrams::make(alloc, levels, budget)?;
-    report_on(alloc, &game, &codes, &mut from, &mut to)
+    let bits = Diagrams::declared(alloc, levels, budget)?;
+    let mut to = Levels::make(alloc, levels, budget)?;
+    report_on(alloc, &game, &codes, bits, &mut to)
 }
 
 /// How many different parts the diagrams of the specification's lines have under the declared order of its variables, and the

@@ -3,7 +3,7 @@ use Rattle.std.proofs.Common.{◌≡◌, if◌then◌else◌, List, Option, Some
 use Rattle.std.specs.Prelude.{is_some}
 use Rattle.spectra_resolved.specs.declared.findings.Finding.{Finding}
 use Rattle.spectra_resolved.specs.Findings.{with_fault, with_faults, first_of_faults}
-use Rattle.spectra_brought.proofs.Found.{some_first}
+use Rattle.spectra_judge.proofs.Found.{some_first}
 use Rattle.spectra_bounds.specs.Numbers.{is_faulty}
 
 -- where there is a first one, they are told, and where there is none, others

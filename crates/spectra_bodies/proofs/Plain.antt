@@ -11,6 +11,7 @@ use Rattle.spectra_trees.specs.Faults.{WideInt, number_of}
 use Rattle.spectra_trees.specs.declared.tree.BinaryWord.{BinaryWord}
 use Rattle.spectra_trees.specs.declared.tree.BinaryWord.TheVariants as binary
 use Rattle.spectra_resolved.specs.declared.spot.Spot.{Spot}
+use Rattle.spectra_resolved.specs.declared.spot.Mark.{Mark}
 use Rattle.spectra_resolved.specs.declared.stand.Stand.{Stand}
 use Rattle.spectra_resolved.specs.declared.stand.Stand.TheVariants as stand
 use Rattle.spectra_resolved.specs.declared.tree.Leaf.{Leaf}
@@ -24,7 +25,7 @@ use Rattle.spectra_judge.specs.Operators.{is_past, takes, gives}
 use Rattle.spectra_judge.specs.declared.standing.Bans.{Bans}
 use Rattle.spectra_judge.specs.Standings.{no_bans, bans_of}
 use Rattle.spectra_judge.specs.declared.around.Around.{Around}
-use Rattle.spectra_judge.specs.Around.{nothing_open, within, is_brought}
+use Rattle.spectra_judge.specs.Around.{nothing_open, within}
 use Rattle.spectra_judge.specs.Known.{Known, Setting}
 use Rattle.spectra_judge.specs.Judged.{leaf_kind, kind_of, form_kind, wrong, wide, first_of, binary_faults, operator_faults, leaf_faults, faults, form_faults, faults_of}
 use Rattle.spectra_judge.proofs.Empty.{empty_parts, no_fault, right}
@@ -32,8 +33,7 @@ use Rattle.spectra_uses.specs.Uses.{all_uses}
 use Rattle.spectra_bounds.specs.ByUses.{is_on_cycle, made_to_depth}
 use Rattle.spectra_bounds.specs.Numbers.{both, joined_number, remainder_number, leaf_number, number_in, form_number, Constants, known_constants, is_faulty, sound_number, Constant, no_constant, each_of, constant_with, constant_of, constants}
 use Rattle.spectra_holes.specs.Holed.{part_holed, form_holed, holed}
-use Rattle.spectra_brought.specs.Names.{names_in}
-use Rattle.spectra_elaboration.specs.Putting.{Bodies, Put, placed, hole_at, leaf_put, filled, form_filled, body_put, put_deep, put_in}
+use Rattle.spectra_elaboration.specs.Putting.{Bodies, Put, placed, marked, hole_at, leaf_put, filled, form_filled, body_put, put_deep, put_in}
 use Rattle.spectra_elaboration.specs.Levels.{within_limits}
 use Rattle.spectra_notes.specs.Notes.{stand_of, known_inside, noted}
 use Rattle.spectra_bodies.specs.PutIn.{bodies, most_nodes, most_levels, made_faults, put_in_faults}
@@ -120,7 +120,7 @@ module _ (word : BinaryWord) (future : is_past word ≡ false) (whole : (j k : K
   narrow k (OneName n) (inr loose) e = refl
   narrow k Anything (inr loose) e = refl
 
-  joined_plain : (j k : Kind) (first at : Spot) (a b : ResolvedTree) → takes word j k ≡ true → is_wide (gives word j k) ≡ false → IsPlain j a → IsPlain k b
+  joined_plain : (j k : Kind) (first : Spot) (at : Mark) (a b : ResolvedTree) → takes word j k ≡ true → is_wide (gives word j k) ≡ false → IsPlain j a → IsPlain k b
       → IsPlain (gives word j k) (tree first at (Form.Binary word a b))
   joined_plain j k first at a b taken thin p q = record { kind = kind; free = free }
     where
@@ -135,17 +135,17 @@ module _ (word : BinaryWord) (future : is_past word ≡ false) (whole : (j k : K
 
       free : (s : Setting) (o : Around) → form_faults s o at (Form.Binary word a b) ≡ []
       free s o =
-          let inner = within s.known.brought (is_past word) at o in
+          let inner = within (is_past word) at o in
           let fits = takes_these s.known in
           let spans = narrow (gives word j k) (gives word (kind_of s.known a) (kind_of s.known b)) (kind s.known) thin in
-          λ i. p.free s inner i ++ (operator_faults s (future i) o.next at ++ (q.free s inner i ++ (wrong (fits i) at ++ fault_if (spans i) (number_of WideInt) at)))
+          λ i. p.free s inner i ++ (operator_faults s (future i) o.next at ++ (q.free s inner i ++ (wrong (fits i) at.spot ++ fault_if (spans i) (number_of WideInt) at.spot)))
 
 both_some : (join : ℤ → ℤ → ℤ) (a b : Option ℤ) (z : ℤ) → both join a b ≡ Some z → ((x : ℤ) × (a ≡ Some x)) × ((y : ℤ) × (b ≡ Some y))
 both_some join (Some x) (Some y) z is = ((x, refl), (y, refl))
 both_some join (Some x) None z is = absurd (none_some is)
 both_some join None b z is = absurd (none_some is)
 
-operation : (word : BinaryWord) (m n : Option ℤ) (z : ℤ) (j k : Kind) (first at : Spot) (a b : ResolvedTree) → takes word j k ≡ true → is_wide (gives word j k) ≡ false → ((x : ℤ) → m ≡ Some x → IsPlain j a) → ((y : ℤ) → n ≡ Some y → IsPlain k b) →
+operation : (word : BinaryWord) (m n : Option ℤ) (z : ℤ) (j k : Kind) (first : Spot) (at : Mark) (a b : ResolvedTree) → takes word j k ≡ true → is_wide (gives word j k) ≡ false → ((x : ℤ) → m ≡ Some x → IsPlain j a) → ((y : ℤ) → n ≡ Some y → IsPlain k b) →
     joined_number word m n ≡ Some z → IsPlain (gives word j k) (tree first at (Form.Binary word a b))
 operation binary.Add m n z j k first at a b taken thin p q is =
     let found = both_some (λ x y. x +ℤ y) m n z is in
@@ -177,12 +177,12 @@ module _ (c : Constants) (bans : Bans) (put : Put) (uses : (k : ℕ) (z : ℤ) (
   abbrev written : Setting
   written = record { known = known_constants c.kinds; bans = bans }
 
-  leaf_plain : (next : Option Spot) (first there at : Spot) (l : Leaf) (z : ℤ) → leaf_faults written next at l ≡ [] → leaf_number c.numbers l ≡ Some z
+  leaf_plain : (next : Option Mark) (first : Spot) (there at : Mark) (l : Leaf) (z : ℤ) → leaf_faults written next at l ≡ [] → leaf_number c.numbers l ≡ Some z
       → IsPlain (leaf_kind written.known l) (leaf_put put arguments first there l)
   leaf_plain next first there at (leaf.Number n) z none is =
-      let thin = no_fault (is_wide (Whole n n)) (number_of WideInt) at none in
-      record { kind = λ known. inl refl; free = λ s o i. fault_if (thin i) (number_of WideInt) there }
-  leaf_plain next first there at (leaf.Define k) z none is = uses k z there is
+      let thin = no_fault (is_wide (Whole n n)) (number_of WideInt) at.spot none in
+      record { kind = λ known. inl refl; free = λ s o i. fault_if (thin i) (number_of WideInt) there.spot }
+  leaf_plain next first there at (leaf.Define k) z none is = uses k z there.spot is
   leaf_plain next first there at (leaf.Truth b) z none is = absurd (none_some is)
   leaf_plain next first there at (leaf.EnumName k) z none is = absurd (none_some is)
   leaf_plain next first there at (leaf.Variable k) z none is = absurd (none_some is)
@@ -193,36 +193,36 @@ module _ (c : Constants) (bans : Bans) (put : Put) (uses : (k : ℕ) (z : ℤ) (
   module _ (holes : Setting) where
     mutual
       plain : (around o : Around) (t : ResolvedTree) (z : ℤ) → faults written o t ≡ [] → number_in c.numbers t ≡ Some z → IsPlain (kind_of written.known t) (filled put brought arguments (part_holed holes around t))
-      plain around o (tree first at form) z none is = form_plain around o (placed brought first) (placed brought at) at form z none is
+      plain around o (tree first at form) z none is = form_plain around o (placed brought first) (marked brought at) at form z none is
 
-      form_plain : (around o : Around) (first there at : Spot) (form : Form) (z : ℤ) → form_faults written o at form ≡ [] → form_number c.numbers form ≡ Some z
+      form_plain : (around o : Around) (first : Spot) (there at : Mark) (form : Form) (z : ℤ) → form_faults written o at form ≡ [] → form_number c.numbers form ≡ Some z
           → IsPlain (form_kind written.known form) (form_filled put brought arguments first there (form_holed holes around at form))
       form_plain around o first there at (Form.LeafOf l) z none is = leaf_plain o.next first there at l z none is
       form_plain around o first there at (Form.Binary word a b) z none is =
           let known = written.known in
-          let inner = within known.brought (is_past word) at o in
-          let outer = within holes.known.brought (is_past word) at around in
+          let inner = within (is_past word) at o in
+          let outer = within (is_past word) at around in
           let one = empty_parts (faults written inner a) _ none in
           let more = empty_parts (operator_faults written (is_past word) o.next at) _ one.1 in
-          let two = empty_parts (faults written inner b) (binary_faults word (kind_of known a) (kind_of known b) at) more.1 in
-          let last = empty_parts (wrong (takes word (kind_of known a) (kind_of known b)) at) _ two.1 in
+          let two = empty_parts (faults written inner b) (binary_faults word (kind_of known a) (kind_of known b) at.spot) more.1 in
+          let last = empty_parts (wrong (takes word (kind_of known a) (kind_of known b)) at.spot) _ two.1 in
           operation word (number_in c.numbers a) (number_in c.numbers b) z (kind_of known a) (kind_of known b) first there (filled put brought arguments (part_holed holes outer a)) (filled put brought arguments (part_holed holes outer b))
-          (right (takes word (kind_of known a) (kind_of known b)) at last.0) (no_fault (is_wide (gives word (kind_of known a) (kind_of known b))) (number_of WideInt) at last.1)
+          (right (takes word (kind_of known a) (kind_of known b)) at.spot last.0) (no_fault (is_wide (gives word (kind_of known a) (kind_of known b))) (number_of WideInt) at.spot last.1)
           (λ x here. plain outer inner a x one.0 here) (λ y here. plain outer inner b y two.0 here) is
       form_plain around o first there at (Form.Mod t number_at n) z none is =
           let known = written.known in
           let one = empty_parts (faults written o t) _ none in
-          let more = empty_parts (wrong (is_whole (kind_of known t)) at) _ one.1 in
-          let last = empty_parts (fault_if (int_le n (pos 0)) (number_of WideInt) number_at) (wide (reduced n) at) more.1 in
+          let more = empty_parts (wrong (is_whole (kind_of known t)) at.spot) _ one.1 in
+          let last = empty_parts (fault_if (int_le n (pos 0)) (number_of WideInt) number_at) (wide (reduced n) at.spot) more.1 in
           let found = divided n (number_in c.numbers t) z is in
           let inside = plain around o t found.0 one.0 found.1 in
           let made = filled put brought arguments (part_holed holes around t) in
-          let whole = λ (k : Known). still_whole (kind_of known t) (kind_of k made) (inside.kind k) (right (is_whole (kind_of known t)) at more.0) in
+          let whole = λ (k : Known). still_whole (kind_of known t) (kind_of k made) (inside.kind k) (right (is_whole (kind_of known t)) at.spot more.0) in
           let some = no_fault (int_le n (pos 0)) (number_of WideInt) number_at last.0 in
-          let thin = no_fault (is_wide (reduced n)) (number_of WideInt) at last.1 in
+          let thin = no_fault (is_wide (reduced n)) (number_of WideInt) at.spot last.1 in
           record {
             kind = λ k. inl refl;
-            free = λ s o i. inside.free s o i ++ (wrong (whole s.known i) there ++ (fault_if (some i) (number_of WideInt) (placed brought number_at) ++ fault_if (thin i) (number_of WideInt) there));
+            free = λ s o i. inside.free s o i ++ (wrong (whole s.known i) there.spot ++ (fault_if (some i) (number_of WideInt) (placed brought number_at) ++ fault_if (thin i) (number_of WideInt) there.spot));
           }
       form_plain around o first there at (Form.PredicateOf k ts) z none is = absurd (none_some is)
       form_plain around o first there at (Form.MisuseOf m ts) z none is = absurd (none_some is)
@@ -345,7 +345,7 @@ have_sound_bounds text known t z is =
     let parts = empty_parts (faults (record { known = known_constants c.kinds; bans = bans_of stand.Bound }) nothing_open t) _ sound.0 in
     let whole = right (is_whole (kind_of (known_constants c.kinds) t)) (first_of t) parts.1 in
     let made = plain c (bans_of stand.Bound) (put_deep (length b) b) (use_plain text (length text.definitions) (length b)) None [] (record { known = known; bans = bans_of stand.Bound }) nothing_open nothing_open t z parts.0 sound.1 in
-    made_free (record known { brought = is_brought (names_in t) }) most_nodes most_levels (kind_of (known_constants c.kinds) t) (put_in b (holed known stand.Bound t)) whole made
+    made_free known most_nodes most_levels (kind_of (known_constants c.kinds) t) (put_in b (holed known stand.Bound t)) whole made
 
 -- so for whatever is the same as these
 pub same_sound_bounds : (text : ResolvedText) (c : Constants) (b : Bodies) → c ≡ constants text.definitions → b ≡ bodies text → HaveSoundBounds c b

@@ -5,11 +5,9 @@ use Rattle.spectra_resolved.specs.declared.stand.Stand.{Stand}
 use Rattle.spectra_resolved.specs.declared.findings.Finding.{Finding}
 use Rattle.spectra_resolved.specs.Resolved.{ResolvedTree}
 use Rattle.spectra_resolved.specs.Texts.{ResolvedDefinition, ResolvedText}
-use Rattle.spectra_judge.specs.Around.{is_brought}
 use Rattle.spectra_judge.specs.Known.{Known}
 use Rattle.spectra_judge.specs.Judged.{faults_of}
 use Rattle.spectra_holes.specs.Holed.{holed}
-use Rattle.spectra_brought.specs.Names.{names_in}
 use Rattle.spectra_elaboration.specs.Putting.{Bodies, put_in}
 use Rattle.spectra_elaboration.specs.Levels.{within_limits}
 use Rattle.spectra_notes.specs.Notes.{stand_of, known_inside, noted}
@@ -44,4 +42,4 @@ made_faults known st None = []
 
 -- the faults of an expression that stands there, with everything put in for its names, where that isn't too large
 unfoldable pub put_in_faults : Bodies → Known → Stand → ResolvedTree → List Finding
-put_in_faults b known st t = made_faults (record known { brought = is_brought (names_in t) }) st (within_limits most_nodes most_levels (put_in b (holed known st t)))
+put_in_faults b known st t = made_faults known st (within_limits most_nodes most_levels (put_in b (holed known st t)))

@@ -5,7 +5,6 @@ ghost use Rattle.spectra_resolved.specs.Findings.{with_faults};
 ghost use Rattle.spectra_resolved.specs.Reports.{found_in};
 ghost use Rattle.spectra_resolved.specs.Views.{resolved_data};
 ghost use Rattle.spectra_resolved.specs.TextViews.{type_data};
-ghost use Rattle.spectra_judge.specs.Rising.{AreRising};
 ghost use Rattle.spectra_judge.specs.KindViews.{known_data};
 ghost use Rattle.spectra_elaboration.specs.DefinitionViews.{definitions_data};
 ghost use Rattle.spectra_bodies.specs.PutIn.{put_in_faults};
@@ -15,7 +14,7 @@ ghost use Rattle.spectra_bodies.specs.BasisViews.{basis_data};
 use crate::basis::Basis;
 use crate::putting::report_put_in;
 use spectra_bounds::types::report_range;
-use spectra_brought::reporting::report_faults;
+use spectra_judge::reporting::report_faults;
 use spectra_resolved::findings::Findings;
 use spectra_resolved::stand::Stand;
 use spectra_resolved::text::TypeUse;
@@ -28,7 +27,6 @@ fn report_bound_put_in(
     basis: &Basis<'_, '_>,
     t: &Resolved,
 ) -> Result<(), AllocError>
-    requires rising { AreRising basis.now.known.brought.now }
     ensures { OnOk result (found_in findings.new ≡ with_faults (found_in findings.old) (put_in_faults (definitions_data basis.now.definitions.now) (known_data basis.now.known) Stand.Bound (resolved_data t.now))) }
 {
     match basis.constants.sound_number(Stand::Bound, t) {
@@ -51,7 +49,6 @@ fn report_bound(
     basis: &Basis<'_, '_>,
     t: &Resolved,
 ) -> Result<(), AllocError>
-    requires rising { AreRising basis.now.known.brought.now }
     ensures { OnOk result (found_in findings.new ≡ with_faults (found_in findings.old) (bound_faults (basis_data basis.now) (resolved_data t.now))) }
 {
     report_faults(findings, &basis.known, Stand::Bound, t);
@@ -67,7 +64,6 @@ fn report_both(
     low: &Resolved,
     high: &Resolved,
 ) -> Result<(), AllocError>
-    requires rising { AreRising basis.now.known.brought.now }
     ensures { OnOk result (found_in findings.new ≡ with_faults (found_in findings.old) (bound_faults (basis_data basis.now) (resolved_data low.now) ++ bound_faults (basis_data basis.now) (resolved_data high.now))) }
 {
     report_bound(findings, basis, low)?;
@@ -83,7 +79,6 @@ pub fn report_type(
     basis: &Basis<'_, '_>,
     t: &TypeUse,
 ) -> Result<(), AllocError>
-    requires rising { AreRising basis.now.known.brought.now }
     ensures { OnOk result (found_in findings.new ≡ with_faults (found_in findings.old) (type_faults (basis_data basis.now) (type_data t.now))) }
 {
     match t {
@@ -102,7 +97,6 @@ pub fn report_each(
     basis: &Basis<'_, '_>,
     ts: &[TypeUse],
 ) -> Result<(), AllocError>
-    requires rising { AreRising basis.now.known.brought.now }
     ensures { OnOk result (found_in findings.new ≡ with_faults (found_in findings.old) (each_type_faults (basis_data basis.now) (map type_data ts.now))) }
 {
     for t in ts {

@@ -10,7 +10,7 @@ ghost use Rattle.spectra_notes.specs.NoteViews.{notes_data};
 ghost use Rattle.spectra_bodies.specs.Faults.{faults_of_definitions};
 
 use spectra_bounds::cycles::report_cycles;
-use spectra_brought::reporting::report_faults;
+use spectra_judge::reporting::report_faults;
 use spectra_notes::notes::{Notes, known_in_body, stand_of};
 use spectra_resolved::findings::Findings;
 use spectra_resolved::spot::Spot;

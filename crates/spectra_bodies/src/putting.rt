@@ -5,7 +5,6 @@ ghost use Rattle.spectra_resolved.specs.Findings.{with_faults};
 ghost use Rattle.spectra_resolved.specs.Reports.{found_in};
 ghost use Rattle.spectra_resolved.specs.Views.{resolved_data};
 ghost use Rattle.spectra_resolved.specs.TextViews.{text_data};
-ghost use Rattle.spectra_judge.specs.Rising.{AreRising};
 ghost use Rattle.spectra_judge.specs.KindViews.{known_data};
 ghost use Rattle.spectra_elaboration.specs.PuttingViews.{bodies_data};
 ghost use Rattle.spectra_elaboration.specs.DefinitionViews.{definitions_data};
@@ -13,13 +12,11 @@ ghost use Rattle.spectra_notes.specs.Notes.{noted};
 ghost use Rattle.spectra_notes.specs.NoteViews.{notes_data};
 ghost use Rattle.spectra_bodies.specs.PutIn.{bodies as bodies_lem, made_faults, put_in_faults};
 
-use spectra_brought::known::known_with;
-use spectra_brought::order::names_of;
-use spectra_brought::reporting::report_faults;
 use spectra_elaboration::definitions::{Definitions, definitions_of};
 use spectra_elaboration::putting::put_in;
 use spectra_holes::holing::holed;
 use spectra_judge::known::Known;
+use spectra_judge::reporting::report_faults;
 use spectra_notes::notes::{Notes, known_in_body, stand_of};
 use spectra_resolved::findings::Findings;
 use spectra_resolved::stand::Stand;
@@ -105,7 +102,6 @@ fn report_made(
     stand: Stand,
     made: &Option<Resolved>,
 )
-    requires rising { AreRising known.now.brought.now }
     ensures { found_in findings.new ≡ with_faults (found_in findings.old) (made_faults (known_data known.now) stand (option_map resolved_data made.now)) }
 {
     match made {
@@ -124,13 +120,10 @@ pub fn report_put_in(
     stand: Stand,
     t: &Resolved,
 ) -> Result<(), AllocError>
-    requires rising { AreRising known.now.brought.now }
     ensures { OnOk result (found_in findings.new ≡ with_faults (found_in findings.old) (put_in_faults (definitions_data definitions.now) (known_data known.now) stand (resolved_data t.now))) }
 {
     let written = holed(alloc, known, stand, t)?;
     let made = put_in(alloc, definitions, MOST_NODES, MOST_LEVELS, &written)?;
-    let names = names_of(alloc, t)?;
-    let around = known_with(known, &names);
-    report_made(findings, &around, stand, &made);
+    report_made(findings, known, stand, &made);
     Ok(())
 }

@@ -5,7 +5,6 @@ ghost use Rattle.spectra_resolved.specs.Findings.{with_faults};
 ghost use Rattle.spectra_resolved.specs.Reports.{found_in};
 ghost use Rattle.spectra_resolved.specs.Texts.{ResolvedVariable, ResolvedAlias, ResolvedDefinition};
 ghost use Rattle.spectra_resolved.specs.TextViews.{variable_data, alias_data, definition_data, pattern_data, text_data};
-ghost use Rattle.spectra_judge.specs.Rising.{AreRising};
 ghost use Rattle.spectra_elaboration.specs.DefinitionViews.{definitions_data};
 ghost use Rattle.spectra_notes.specs.Notes.{noted};
 ghost use Rattle.spectra_notes.specs.NoteViews.{notes_data};
@@ -29,7 +28,6 @@ fn report_variables(
     basis: &Basis<'_, '_>,
     variables: &[Variable<'_>],
 ) -> Result<(), AllocError>
-    requires rising { AreRising basis.now.known.brought.now }
     ensures { OnOk result (found_in findings.new ≡ with_faults (found_in findings.old) (flat_map (λ (v : ResolvedVariable). type_faults (basis_data basis.now) v.domain) (map variable_data variables.now))) }
 {
     for variable in variables {
@@ -44,7 +42,6 @@ fn report_aliases(
     basis: &Basis<'_, '_>,
     types: &[Alias<'_>],
 ) -> Result<(), AllocError>
-    requires rising { AreRising basis.now.known.brought.now }
     ensures { OnOk result (found_in findings.new ≡ with_faults (found_in findings.old) (flat_map (λ (a : ResolvedAlias). type_faults (basis_data basis.now) a.body) (map alias_data types.now))) }
 {
     for alias in types {
@@ -59,7 +56,6 @@ fn report_parameters(
     basis: &Basis<'_, '_>,
     definitions: &[Definition<'_>],
 ) -> Result<(), AllocError>
-    requires rising { AreRising basis.now.known.brought.now }
     ensures { OnOk result (found_in findings.new ≡ with_faults (found_in findings.old) (flat_map (λ (d : ResolvedDefinition). each_type_faults (basis_data basis.now) d.params) (map definition_data definitions.now))) }
 {
     for definition in definitions {
@@ -74,7 +70,6 @@ fn report_typed(
     basis: &Basis<'_, '_>,
     text: &Text<'_>,
 ) -> Result<(), AllocError>
-    requires rising { AreRising basis.now.known.brought.now }
     ensures { OnOk result (found_in findings.new ≡ with_faults (found_in findings.old) (typed_faults (basis_data basis.now) (text_data text.now))) }
 {
     report_variables(findings, basis, &text.variables)?;

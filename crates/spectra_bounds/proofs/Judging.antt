@@ -1,6 +1,7 @@
 -- The kind and the faults of an expression rest on the kinds of the defines that it uses alone.
 use Rattle.std.proofs.Common.{◌≡◌, ℕ, zero, suc, List, [], ◌∷◌, ◌++◌, Some, drop, get_or, refl, ap}
 use Rattle.spectra_resolved.specs.declared.spot.Spot.{Spot}
+use Rattle.spectra_resolved.specs.declared.spot.Mark.{Mark}
 use Rattle.spectra_resolved.specs.declared.stand.Stand.{Stand}
 use Rattle.spectra_resolved.specs.declared.tree.Leaf.{Leaf}
 use Rattle.spectra_resolved.specs.declared.tree.Leaf.TheVariants as leaf
@@ -77,7 +78,7 @@ module _ (known : Known) (kinds : List Kind) where
     abbrev theirs : Setting
     theirs = record { known = other; bans = bans }
 
-    leaf_faults-same : (o : Around) (at : Spot) (l : Leaf) → leaf_faults mine o.next at l ≡ leaf_faults theirs o.next at l
+    leaf_faults-same : (o : Around) (at : Mark) (l : Leaf) → leaf_faults mine o.next at l ≡ leaf_faults theirs o.next at l
     leaf_faults-same o at (leaf.Truth b) = refl
     leaf_faults-same o at (leaf.Number z) = refl
     leaf_faults-same o at (leaf.EnumName n) = refl
@@ -87,7 +88,7 @@ module _ (known : Known) (kinds : List Kind) where
     leaf_faults-same o at (leaf.Define k) = refl
     leaf_faults-same o at (leaf.Hole hole) = refl
 
-    called_faults-same : (o : Around) (at : Spot) (m : Misuse) → called_faults mine o.next at m ≡ called_faults theirs o.next at m
+    called_faults-same : (o : Around) (at : Mark) (m : Misuse) → called_faults mine o.next at m ≡ called_faults theirs o.next at m
     called_faults-same o at misuse.Unknown = refl
     called_faults-same o at (misuse.Bare k) = refl
     called_faults-same o at (misuse.Called l) = leaf_faults-same o at l
@@ -97,28 +98,28 @@ module _ (known : Known) (kinds : List Kind) where
       faults-same : (o : Around) (t : ResolvedTree) → Agree (uses_in t) → faults mine o t ≡ faults theirs o t
       faults-same o (tree first at form) h = form_faults-same o at form h
 
-      form_faults-same : (o : Around) (at : Spot) (form : Form) → Agree (form_uses form) → form_faults mine o at form ≡ form_faults theirs o at form
+      form_faults-same : (o : Around) (at : Mark) (form : Form) → Agree (form_uses form) → form_faults mine o at form ≡ form_faults theirs o at form
       form_faults-same o at (Form.LeafOf l) h = leaf_faults-same o at l
       form_faults-same o at (Form.PredicateOf k ts) h = argument_faults-same o (wanted known (Some k)) ts (right (k ∷ []) (each_uses ts) h)
       form_faults-same o at (Form.MisuseOf m ts) h =
-          let own = called_faults-same o at m in let rest = argument_faults-same o [] ts (right (misuse_uses m) (each_uses ts) h) in λ i. (fault (fault_of m) at ∷ own i) ++ rest i
-      form_faults-same o at (Form.Next t) h = ap (λ fs. next_faults known.brought bans o at ++ fs) (faults-same (under_next at o) t h)
+          let own = called_faults-same o at m in let rest = argument_faults-same o [] ts (right (misuse_uses m) (each_uses ts) h) in λ i. (fault (fault_of m) at.spot ∷ own i) ++ rest i
+      form_faults-same o at (Form.Next t) h = ap (λ fs. next_faults bans o at ++ fs) (faults-same (under_next at o) t h)
       form_faults-same o at (Form.Prefix word t) h =
-          let inner = faults-same (within known.brought (is_past_prefix word) at o) t h in
+          let inner = faults-same (within (is_past_prefix word) at o) t h in
           let kind = kind-same t h in
-          λ i. operator_faults mine (is_past_prefix word) o.next at ++ (inner i ++ wrong (is_truth (kind i)) at)
+          λ i. operator_faults mine (is_past_prefix word) o.next at ++ (inner i ++ wrong (is_truth (kind i)) at.spot)
       form_faults-same o at (Form.Binary word a b) h =
           let in_a = left (uses_in a) (uses_in b) h in
           let in_b = right (uses_in a) (uses_in b) h in
-          let first = faults-same (within known.brought (is_past word) at o) a in_a in
-          let second = faults-same (within known.brought (is_past word) at o) b in_b in
+          let first = faults-same (within (is_past word) at o) a in_a in
+          let second = faults-same (within (is_past word) at o) b in_b in
           let kind_a = kind-same a in_a in
           let kind_b = kind-same b in_b in
-          λ i. first i ++ (operator_faults mine (is_past word) o.next at ++ (second i ++ binary_faults word (kind_a i) (kind_b i) at))
+          λ i. first i ++ (operator_faults mine (is_past word) o.next at ++ (second i ++ binary_faults word (kind_a i) (kind_b i) at.spot))
       form_faults-same o at (Form.Mod t number_at n) h =
-          let inner = faults-same o t h in let kind = kind-same t h in λ i. inner i ++ remainder_faults (kind i) at number_at n
-      form_faults-same o at (Form.And ts operators) h = operand_faults-same o at (at ∷ operators) ts h
-      form_faults-same o at (Form.Or ts operators) h = operand_faults-same o at (at ∷ operators) ts h
+          let inner = faults-same o t h in let kind = kind-same t h in λ i. inner i ++ remainder_faults (kind i) at.spot number_at n
+      form_faults-same o at (Form.And ts operators) h = operand_faults-same o at.spot (at.spot ∷ operators) ts h
+      form_faults-same o at (Form.Or ts operators) h = operand_faults-same o at.spot (at.spot ∷ operators) ts h
 
       operand_faults-same : (o : Around) (at : Spot) (operators : List Spot) (ts : ResolvedTrees) → Agree (each_uses ts)
           → operand_faults mine o at operators ts ≡ operand_faults theirs o at operators ts

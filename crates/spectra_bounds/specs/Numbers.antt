@@ -13,7 +13,6 @@ use Rattle.spectra_resolved.specs.Numbers.{beyond}
 use Rattle.spectra_resolved.specs.Resolved.{ResolvedTree, tree, Form}
 use Rattle.spectra_resolved.specs.Texts.{ResolvedDefinition}
 use Rattle.spectra_judge.specs.Kinds.{Kind, Anything}
-use Rattle.spectra_judge.specs.Around.{nothing_brought}
 use Rattle.spectra_judge.specs.Known.{Known}
 use Rattle.spectra_judge.specs.Judged.{kind_of, faults_of}
 use Rattle.spectra_uses.specs.Uses.{all_uses}
@@ -67,7 +66,7 @@ pub record Constants : Type 0 where
 -- in an expression that has a number all names are defines
 abbrev pub known_constants : (kinds : List Kind) → Known
 known_constants kinds =
-    record { variables = []; system = []; defines = kinds; predicates = []; parameters = []; own = []; brought = nothing_brought }
+    record { variables = []; system = []; defines = kinds; predicates = []; parameters = []; own = [] }
 
 -- whether there is a fault among several
 abbrev pub is_faulty : List Finding → Bool

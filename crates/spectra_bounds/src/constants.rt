@@ -5,7 +5,6 @@ ghost use Rattle.spectra_uses.specs.Cycles.{AreOnCycle};
 ghost use Rattle.spectra_uses.specs.Orders.{IsOrderOf};
 ghost use Rattle.spectra_resolved.specs.Views.{resolved_data};
 ghost use Rattle.spectra_resolved.specs.TextViews.{definition_data};
-ghost use Rattle.spectra_judge.specs.Rising.{AreRising};
 ghost use Rattle.spectra_judge.specs.KindViews.{kind_data, known_data};
 ghost use Rattle.spectra_uses.specs.Uses.{all_uses};
 ghost use Rattle.spectra_bounds.specs.Numbers.{number_in as number_in_lem, known_constants, no_constant, sound_number as sound_number_lem, constant_of as constant_of_lem, constants as constants_lem};
@@ -50,7 +49,6 @@ fn number_if_sound(numbers: &[Option<i64>], fault: Option<Finding>, t: &Resolved
 // What is known of the names in an expression that has a number: they are all defines.
 fn known<'s, 'a>(kinds: &'s [Kind<'a>]) -> Known<'s, 'a>
     ensures known { known_data result ≡ known_constants (map kind_data kinds.now) }
-    ensures rising { AreRising result.brought.now }
 {
     Known {
         variables: &[],
@@ -59,7 +57,6 @@ fn known<'s, 'a>(kinds: &'s [Kind<'a>]) -> Known<'s, 'a>
         predicates: &[],
         parameters: &[],
         own: &[],
-        brought: &[],
     }
 }
 

@@ -3,7 +3,7 @@ use Rattle.std.proofs.Common.{◌≡◌, ◌+◌, List, [], ◌∷◌, map, Opti
 use Rattle.spectra_resolved.specs.declared.spot.Spot.{Spot}
 use Rattle.spectra_resolved.specs.Resolved.{ResolvedTree}
 use Rattle.spectra_resolved.specs.Chained.{LinkData, joined, chained}
-use Rattle.spectra_elaboration.specs.Putting.{Put, placed, filled}
+use Rattle.spectra_elaboration.specs.Putting.{Put, placed, marked, filled}
 use Rattle.spectra_elaboration.specs.Nodes.{tree_nodes}
 use Rattle.spectra_elaboration.specs.Links.{link_nodes}
 
@@ -18,7 +18,7 @@ tree_nodes-chained t (l ∷ ls) = let rest = tree_nodes-chained (joined t l) ls 
 
 module _ (put : Put) (brought : Option Spot) (arguments : List ResolvedTree) where
   abbrev pub link_filled : LinkData → LinkData
-  link_filled l = record { first = placed brought l.first; at = placed brought l.at; word = l.word; second = filled put brought arguments l.second }
+  link_filled l = record { first = placed brought l.first; at = marked brought l.at; word = l.word; second = filled put brought arguments l.second }
 
   -- operators are filled in one by one
   pub chained_filled : (t : ResolvedTree) (ls : List LinkData) → filled put brought arguments (chained t ls) ≡ chained (filled put brought arguments t) (map link_filled ls)

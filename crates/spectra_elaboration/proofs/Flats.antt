@@ -2,6 +2,7 @@
 use Rattle.std.proofs.Common.{◌≡◌, ℕ, ◌+◌, ◌<◌, ◌≤◌, nat_le, Bool, true, false, ◌&&◌, if◌then◌else◌, List, length, map, get_or, Option, Some, None, Result, Ok, Err, IsErrAnd, IsErrOf, refl, sym, ap, ◌∙◌, arith}
 use Rattle.std.proofs.lemmas.List.{length-map}
 use Rattle.spectra_resolved.specs.declared.spot.Spot.{Spot}
+use Rattle.spectra_resolved.specs.declared.spot.Mark.{Mark}
 use Rattle.spectra_resolved.specs.declared.tree.Resolved.{Resolved}
 use Rattle.spectra_resolved.specs.declared.tree.Link.{Link}
 use Rattle.spectra_resolved.specs.Resolved.{ResolvedTree, ResolvedTrees, tree, Form}
@@ -157,7 +158,7 @@ module _ (put : Put) (brought : Option Spot) (arguments : List ResolvedTree) whe
 
 -- ---- operators above their operands
 
-module _ (put : Put) (brought : Option Spot) (arguments : List ResolvedTree) (levels : ℕ) (first at : Spot) (form : Form) (r : Result Counted Refusal) where
+module _ (put : Put) (brought : Option Spot) (arguments : List ResolvedTree) (levels : ℕ) (first : Spot) (at : Mark) (form : Form) (r : Result Counted Refusal) where
   abbrev Whole : ResolvedTree
   Whole = form_filled put brought arguments first at form
 

@@ -2,6 +2,7 @@
 use Rattle.std.proofs.Common.{◌≡◌, ℤ, map, sym, ap, ◌∙◌}
 use Rattle.spectra_trees.specs.declared.tree.PrefixWord.{PrefixWord}
 use Rattle.spectra_resolved.specs.declared.spot.Spot.{Spot}
+use Rattle.spectra_resolved.specs.declared.spot.Mark.{Mark}
 use Rattle.spectra_resolved.specs.declared.tree.Leaf.{Leaf}
 use Rattle.spectra_resolved.specs.declared.tree.Misuse.{Misuse}
 use Rattle.spectra_resolved.specs.declared.tree.Resolved.{Resolved-F, fold-roll-Resolved}
@@ -39,5 +40,5 @@ pub or_data : (ts operators : _) → form_data (variants.Or ts operators) ≡ Fo
 or_data ts operators = ap form_data (sym (rolls-Or ts operators)) ∙ fold-roll-Shape ResolvedTree Form LinkData resolved_step shape_step link_step (Shape-F.Or ts operators)
 
 -- a tree that is a node
-pub node_data : (first at : Spot) (shape : Shape) → resolved_data (trees_of.Node first at shape) ≡ tree first at (form_data shape)
+pub node_data : (first : Spot) (at : Mark) (shape : Shape) → resolved_data (trees_of.Node first at shape) ≡ tree first at (form_data shape)
 node_data first at shape = ap resolved_data (sym (rolls-Node first at shape)) ∙ fold-roll-Resolved ResolvedTree Form LinkData resolved_step shape_step link_step (Resolved-F.Node first at shape)

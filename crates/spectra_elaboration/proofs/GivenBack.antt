@@ -7,6 +7,7 @@ use Rattle.std.proofs.lemmas.Bool.Decides.{Decides-eqb}
 use Rattle.std.proofs.lemmas.Option.{same_Some}
 use Rattle.std.proofs.lemmas.List.{length-map, get_or-map, get_or_default}
 use Rattle.spectra_resolved.specs.declared.spot.Spot.{Spot}
+use Rattle.spectra_resolved.specs.declared.spot.Mark.{Mark}
 use Rattle.spectra_resolved.specs.declared.tree.Leaf.{Leaf}
 use Rattle.spectra_resolved.specs.declared.tree.Leaf.TheVariants as leaf
 use Rattle.spectra_resolved.specs.declared.tree.Hole.{Hole}
@@ -17,7 +18,7 @@ use Rattle.spectra_resolved.specs.Chained.{trees}
 use Rattle.spectra_resolved.specs.Views.{resolved_data}
 use Rattle.spectra_elaboration.specs.declared.given.Given.{Given}
 use Rattle.spectra_elaboration.specs.declared.frames.Frame.{Frame}
-use Rattle.spectra_elaboration.specs.Putting.{Bodies, placed, filled, form_filled, each_filled, put_deep, body_put, body_of}
+use Rattle.spectra_elaboration.specs.Putting.{Bodies, placed, marked, filled, form_filled, each_filled, put_deep, body_put, body_of}
 use Rattle.spectra_elaboration.specs.Frames.{around_at, filled_at, used_at}
 use Rattle.spectra_elaboration.specs.Giving.{is_within, place_of, leaf_gives, gives, form_gives, operand_gives, is_given, AreGiven}
 use Rattle.spectra_elaboration.proofs.Framed.{deep_is}
@@ -32,25 +33,25 @@ GivenAt b gs deep = (k : ℕ) (g : Given) (h : Hole) (at : Spot) (args : List Re
 
 module _ (b : Bodies) (gs : List (Option Given)) (deep : ℕ) (given : GivenAt b gs deep) (brought : Option Spot) (args : List ResolvedTree) (need place : ℕ) (low : need ≤ deep)
     (here : place < length args) (d : ResolvedTree) where
-  leaf_given : (first at : Spot) (l : Leaf) → leaf_gives place l ≡ true → form_filled (put_deep deep b) brought args first at (Form.LeafOf l) ≡ get_or args place d
+  leaf_given : (first : Spot) (at : Mark) (l : Leaf) → leaf_gives place l ≡ true → form_filled (put_deep deep b) brought args first at (Form.LeafOf l) ≡ get_or args place d
   leaf_given first at (leaf.Parameter k) is =
       let same : k ≡ place = (Decides-eqb k place).0 is in
       ap (λ n. get_or args n (tree first at (Form.LeafOf (leaf.Parameter k)))) same ∙ get_or_default args place (tree first at (Form.LeafOf (leaf.Parameter k))) d here
   leaf_given first at l is = absurd (false≢true is)
 
-  use_given : (first at : Spot) (k : ℕ) (ts : ResolvedTrees) (o : Option Given) → get_or gs k None ≡ o → is_within need o ≡ true
+  use_given : (first : Spot) (at : Mark) (k : ℕ) (ts : ResolvedTrees) (o : Option Given) → get_or gs k None ≡ o → is_within need o ≡ true
       → (place_of o < length (listed (each_filled (put_deep deep b) brought args ts))) × (get_or (listed (each_filled (put_deep deep b) brought args ts)) (place_of o) d ≡ get_or args place d)
       → form_filled (put_deep deep b) brought args first at (Form.PredicateOf k ts) ≡ get_or args place d
   use_given first at k ts None there within found = absurd (false≢true within)
   use_given first at k ts (Some g) there within found =
       let less = leb-true g.deep need within in
-      given k g hole.Truth at (listed (each_filled (put_deep deep b) brought args ts)) d there (omega (arith, less, low)) found.0 ∙ found.1
+      given k g hole.Truth at.spot (listed (each_filled (put_deep deep b) brought args ts)) d there (omega (arith, less, low)) found.0 ∙ found.1
 
   mutual
     tree_given : (t : ResolvedTree) → gives gs need place t ≡ true → filled (put_deep deep b) brought args t ≡ get_or args place d
-    tree_given (tree first at form) is = form_given (placed brought first) (placed brought at) form is
+    tree_given (tree first at form) is = form_given (placed brought first) (marked brought at) form is
 
-    form_given : (first at : Spot) (form : Form) → form_gives gs need place form ≡ true → form_filled (put_deep deep b) brought args first at form ≡ get_or args place d
+    form_given : (first : Spot) (at : Mark) (form : Form) → form_gives gs need place form ≡ true → form_filled (put_deep deep b) brought args first at form ≡ get_or args place d
     form_given first at (Form.LeafOf l) is = leaf_given first at l is
     form_given first at (Form.PredicateOf k ts) is =
         let o = get_or gs k None in

@@ -6,6 +6,7 @@ use Rattle.std.proofs.lemmas.Option.{same_Some}
 use Rattle.std.proofs.lemmas.List.{length-append}
 use Rattle.std.proofs.Math.Seq.{get_or-append_seam}
 use Rattle.spectra_resolved.specs.declared.spot.Spot.{Spot}
+use Rattle.spectra_resolved.specs.Spots.{brought_at}
 use Rattle.spectra_resolved.specs.declared.tree.Leaf.{Leaf}
 use Rattle.spectra_resolved.specs.declared.tree.Leaf.TheVariants as leaf
 use Rattle.spectra_resolved.specs.declared.tree.Hole.{Hole}
@@ -16,7 +17,7 @@ use Rattle.spectra_resolved.specs.Chained.{trees}
 use Rattle.spectra_resolved.specs.Views.{resolved_data}
 use Rattle.spectra_elaboration.specs.declared.last.Last.{Last}
 use Rattle.spectra_elaboration.specs.declared.following.Use.{Use}
-use Rattle.spectra_elaboration.specs.Putting.{Bodies, Put, placed, filled, form_filled, each_filled, put_deep, body_put, body_of}
+use Rattle.spectra_elaboration.specs.Putting.{Bodies, Put, placed, marked, filled, form_filled, each_filled, put_deep, body_put, body_of}
 use Rattle.spectra_elaboration.specs.Handing.{is_parameter, are_parameters, how_many, only, leaf_next, form_next, tree_next, next_of, same_hole, one_is, leads, IsLast, AreLast}
 use Rattle.spectra_elaboration.specs.Following.{put_use}
 use Rattle.spectra_elaboration.proofs.Tables.{entry, none_at}
@@ -28,7 +29,7 @@ module _ (put : Put) (brought : Option Spot) where
       → filled put brought (before ++ x ∷ after) t ≡ x
   parameter_filled before x after (tree first at (Form.LeafOf (leaf.Parameter k))) is =
       let same : k ≡ length before = (Decides-eqb k (length before)).0 is in
-      let d = tree (placed brought first) (placed brought at) (Form.LeafOf (leaf.Parameter k)) in
+      let d = tree (placed brought first) (marked brought at) (Form.LeafOf (leaf.Parameter k)) in
       ap (λ n. get_or (before ++ x ∷ after) n d) same ∙ get_or-append_seam before x after d
   parameter_filled before x after (tree first at form) is = absurd (false≢true is)
 
@@ -78,7 +79,7 @@ predicate_next number ts next are is fills count deep =
 -- a leaf or a predicate: what is put in for it, and that it is one step
 record Next (form : Form) (next : Last) : Type 0 where
   deep : next.deep ≡ 1
-  same : (put : Put) (at : Spot) (args : List ResolvedTree) → length args ≡ next.count → form_filled put (Some at) args at at form ≡ put next.hole next.number at args
+  same : (put : Put) (at : Spot) (args : List ResolvedTree) → length args ≡ next.count → form_filled put (Some at) args at (brought_at at) form ≡ put next.hole next.number at args
 
 none_there : (args : List ResolvedTree) → length args ≡ 0 → [] ≡ args
 none_there [] size = refl

@@ -2,6 +2,7 @@
 use Rattle.std.proofs.Common.{◌≡◌, ℕ, ◌+◌, ◌<◌, ◌≤◌, List, [], ◌∷◌, ◌++◌, length, map, drop, get_or, true, Option, Some, Result, Ok, Err, IsErrAnd, sym, ap, subst, ◌∙◌, append_assoc, append-nil, arith}
 use Rattle.std.proofs.lemmas.List.{drop_all}
 use Rattle.spectra_resolved.specs.declared.spot.Spot.{Spot}
+use Rattle.spectra_resolved.specs.declared.spot.Mark.{Mark}
 use Rattle.spectra_resolved.specs.declared.tree.Resolved.{Resolved}
 use Rattle.spectra_resolved.specs.declared.tree.Link.{Link}
 use Rattle.spectra_resolved.specs.Resolved.{ResolvedTree, tree, Form, ResolvedTrees, listed}
@@ -166,7 +167,7 @@ module _ (put : Put) (brought : Option Spot) (arguments : List ResolvedTree) whe
 
   -- ---- nodes above their operands
 
-  module _ (room : ℕ) (first at : Spot) (form : Form) (r : Result Counted Refusal) where
+  module _ (room : ℕ) (first : Spot) (at : Mark) (form : Form) (r : Result Counted Refusal) where
     abbrev Whole : ResolvedTree
     Whole = form_filled put brought arguments first at form
 

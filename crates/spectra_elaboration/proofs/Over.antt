@@ -2,6 +2,7 @@
 use Rattle.std.proofs.Common.{◌≡◌, ◌+◌, true, List, Option, Some, None, refl, sym, ap}
 use Rattle.std.proofs.lemmas.Bool.{false≢true}
 use Rattle.spectra_resolved.specs.declared.spot.Spot.{Spot}
+use Rattle.spectra_resolved.specs.declared.spot.Mark.{Mark}
 use Rattle.spectra_resolved.specs.Resolved.{ResolvedTree, tree, Form, ResolvedTrees}
 use Rattle.spectra_elaboration.specs.Putting.{Put, placed, filled, form_filled, each_filled}
 use Rattle.spectra_elaboration.specs.Nodes.{tree_nodes, each_nodes}
@@ -48,7 +49,7 @@ are_several (Form.Mod x number_at n) is e = none' x e
 are_several (Form.And ts operators) is e = refl
 are_several (Form.Or ts operators) is e = refl
 
-module _ (put : Put) (brought : Option Spot) (arguments : List ResolvedTree) (first at : Spot) where
+module _ (put : Put) (brought : Option Spot) (arguments : List ResolvedTree) (first : Spot) (at : Mark) where
   abbrev Fill : ResolvedTree → ResolvedTree
   Fill t = filled put brought arguments t
 

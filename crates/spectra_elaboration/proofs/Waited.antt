@@ -4,6 +4,7 @@ use Rattle.std.proofs.lemmas.List.{length-map, length-take-le, take-append-drop}
 use Rattle.std.proofs.lemmas.Bool.{false≢true}
 use Rattle.std.specs.Borrow.{Bor}
 use Rattle.spectra_resolved.specs.declared.spot.Spot.{Spot}
+use Rattle.spectra_resolved.specs.declared.spot.Mark.{Mark}
 use Rattle.spectra_resolved.specs.declared.tree.Leaf.{Leaf}
 use Rattle.spectra_resolved.specs.declared.tree.Resolved.{Resolved}
 use Rattle.spectra_resolved.specs.declared.tree.Shape.{Shape}
@@ -97,7 +98,7 @@ row_nodes b fs i head ls =
 -- ---- what an expression comes to
 
 -- an operator is a node above its operands
-operator_nodes : (b : Bodies) (fs : List Frame) (i : ℕ) (first at : Spot) (form : Form) → is_operator form ≡ true → tree_nodes (form_at b fs i first at form) ≡ 1 + operand_nodes b fs i form
+operator_nodes : (b : Bodies) (fs : List Frame) (i : ℕ) (first : Spot) (at : Mark) (form : Form) → is_operator form ≡ true → tree_nodes (form_at b fs i first at form) ≡ 1 + operand_nodes b fs i form
 operator_nodes b fs i first at (Form.LeafOf l) is = absurd (false≢true is)
 operator_nodes b fs i first at (Form.PredicateOf k ts) is = absurd (false≢true is)
 operator_nodes b fs i first at (Form.MisuseOf m ts) is = absurd (false≢true is)
@@ -108,7 +109,7 @@ operator_nodes b fs i first at (Form.Mod t number_at n) is = refl
 operator_nodes b fs i first at (Form.And ts operators) is = refl
 operator_nodes b fs i first at (Form.Or ts operators) is = refl
 
-pub front_leaf : (ws : List Waiting) (count : ℕ) (first at : Spot) (l : Leaf) → WaitsFront ws ws count (fronts.Leaf first at l) 1
+pub front_leaf : (ws : List Waiting) (count : ℕ) (first : Spot) (at : Mark) (l : Leaf) → WaitsFront ws ws count (fronts.Leaf first at l) 1
 front_leaf ws count first at l = record { some = λ fs is. omega arith; counted = λ b fs is. refl; within = λ low fs size is all. all }
 
 pub front_row : (old mid new : List Waiting) (count i : ℕ) (head : Bor Resolved) (links : Bor (List Link)) → Waits old mid i count (λ b fs. tree_nodes (filled_at b fs i (resolved_data head.now)))
@@ -125,7 +126,7 @@ front_row old mid new count i head links first next =
       within = λ low fs size is all. (let here : i < count = let below = is.0 in omega (arith, size, below) in next.within low here (first.within low here all));
     }
 
-pub front_node : (old new : List Waiting) (count i : ℕ) (first at : Spot) (shape : Bor Shape) → Waits old new i count (λ b fs. operand_nodes b fs i (form_data shape.now))
+pub front_node : (old new : List Waiting) (count i : ℕ) (first : Spot) (at : Mark) (shape : Bor Shape) → Waits old new i count (λ b fs. operand_nodes b fs i (form_data shape.now))
     → WaitsFront old new count (fronts.Node i first at shape) 1
 front_node old new count i first at shape waits =
     record {

@@ -6,13 +6,14 @@ use Rattle.std.proofs.lemmas.Bool.{false≢true, and_parts, and_from}
 use Rattle.std.proofs.lemmas.Bool.Decides.{nat_tests}
 use Rattle.std.proofs.lemmas.List.Elements.{Contains-append_left, Contains-append_right}
 use Rattle.spectra_resolved.specs.declared.spot.Spot.{Spot}
+use Rattle.spectra_resolved.specs.declared.spot.Mark.{Mark}
 use Rattle.spectra_resolved.specs.declared.tree.Leaf.{Leaf}
 use Rattle.spectra_resolved.specs.declared.tree.Leaf.TheVariants as leaf
 use Rattle.spectra_resolved.specs.declared.tree.Hole.{Hole}
 use Rattle.spectra_resolved.specs.declared.tree.Hole.TheVariants as hole
 use Rattle.spectra_resolved.specs.Resolved.{ResolvedTree, tree, Form, ResolvedTrees, listed}
 use Rattle.spectra_judge.specs.PutIn.{is_put_in, each_put_in}
-use Rattle.spectra_elaboration.specs.Putting.{Bodies, Put, placed, leaf_put, filled, form_filled, each_filled, body_of, body_put, put_deep, put_in}
+use Rattle.spectra_elaboration.specs.Putting.{Bodies, Put, placed, marked, leaf_put, filled, form_filled, each_filled, body_of, body_put, put_deep, put_in}
 use Rattle.spectra_uses.specs.Uses.{uses_in, form_uses, each_uses}
 use Rattle.spectra_uses.specs.Cycles.{reaches}
 use Rattle.spectra_uses.specs.Orders.{StandsBefore, IsUse, BothOnCycle, IsOrderOf}
@@ -58,8 +59,8 @@ module _ (arities : List ℕ) (good : Leaf → Bool) where
         let is : get_or arities k 0 ≡ n = (let e = parts.1 in grind (arith, nat_tests)) in
         puts below h at ts (omega (arith, is, size)) all
 
-    leaf_whole : (first at : Spot) (l : Leaf) → is_written_leaf arities good params l ≡ true → Puts (form_uses (Form.LeafOf l)) → Whole (leaf_put put arguments first at l)
-    leaf_whole first at (leaf.Define k) e puts = use_whole hole.Anything k at [] 0 e refl (λ i d below. absurd (omega arith)) (puts k (0, omega arith, refl))
+    leaf_whole : (first : Spot) (at : Mark) (l : Leaf) → is_written_leaf arities good params l ≡ true → Puts (form_uses (Form.LeafOf l)) → Whole (leaf_put put arguments first at l)
+    leaf_whole first at (leaf.Define k) e puts = use_whole hole.Anything k at.spot [] 0 e refl (λ i d below. absurd (omega arith)) (puts k (0, omega arith, refl))
     leaf_whole first at (leaf.Parameter k) e puts = whole k _ (let below : k < params = grind (arith, nat_tests) in omega (arith, below, enough))
     leaf_whole first at (leaf.Truth b) e puts = e
     leaf_whole first at (leaf.Number z) e puts = e
@@ -70,13 +71,13 @@ module _ (arities : List ℕ) (good : Leaf → Bool) where
 
     mutual
       filled_whole : (t : ResolvedTree) → is_written arities good params t ≡ true → Puts (uses_in t) → Whole (filled put brought arguments t)
-      filled_whole (tree first at form) e puts = form_whole (placed brought first) (placed brought at) form e puts
+      filled_whole (tree first at form) e puts = form_whole (placed brought first) (marked brought at) form e puts
 
-      form_whole : (first at : Spot) (form : Form) → form_written arities good params form ≡ true → Puts (form_uses form) → Whole (form_filled put brought arguments first at form)
+      form_whole : (first : Spot) (at : Mark) (form : Form) → form_written arities good params form ≡ true → Puts (form_uses form) → Whole (form_filled put brought arguments first at form)
       form_whole first at (Form.LeafOf l) e puts = leaf_whole first at l e puts
       form_whole first at (Form.PredicateOf k ts) e puts =
           let parts = and_parts (is_use arities k (length (listed ts))) (each_written arities good params ts) e in
-          use_whole hole.Truth k at (listed (each_filled put brought arguments ts)) (length (listed ts)) parts.0 (count_filled ts)
+          use_whole hole.Truth k at.spot (listed (each_filled put brought arguments ts)) (length (listed ts)) parts.0 (count_filled ts)
           (whole_each (each_filled put brought arguments ts) (each_whole ts parts.1 (used_right (k ∷ []) (each_uses ts) puts)))
           (puts k (0, omega arith, refl))
       form_whole first at (Form.MisuseOf m ts) e puts = absurd (false≢true e)

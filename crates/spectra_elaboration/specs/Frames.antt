@@ -1,6 +1,7 @@
 -- Bodies that are being put in, and what expressions in them stand for.
 use Rattle.std.specs.Prelude.{◌≡◌, ℕ, ◌<◌, List, [], ◌∷◌, ◌++◌, Option, Some, None, length, map, get_or, slice_get}
 use Rattle.spectra_resolved.specs.declared.spot.Spot.{Spot}
+use Rattle.spectra_resolved.specs.declared.spot.Mark.{Mark}
 use Rattle.spectra_resolved.specs.declared.tree.Leaf.{Leaf}
 use Rattle.spectra_resolved.specs.declared.tree.Hole.{Hole}
 use Rattle.spectra_resolved.specs.Resolved.{ResolvedTree, ResolvedTrees, Form}
@@ -42,10 +43,10 @@ around_at b fs i = get_or (arounds_behind b [] fs) i nothing_around
 abbrev pub filled_at : Bodies → List Frame → ℕ → ResolvedTree → ResolvedTree
 filled_at b fs i t = filled_in b (around_at b fs i) t
 
-abbrev pub form_at : Bodies → List Frame → ℕ → (first at : Spot) → Form → ResolvedTree
+abbrev pub form_at : Bodies → List Frame → ℕ → (first : Spot) → (at : Mark) → Form → ResolvedTree
 form_at b fs i = let w = around_at b fs i in form_filled (put_around b w) w.brought w.arguments
 
-abbrev pub leaf_in_frame : Bodies → List Frame → ℕ → (first at : Spot) → Leaf → ResolvedTree
+abbrev pub leaf_in_frame : Bodies → List Frame → ℕ → (first : Spot) → (at : Mark) → Leaf → ResolvedTree
 leaf_in_frame b fs i = let w = around_at b fs i in leaf_put (put_around b w) w.arguments
 
 abbrev pub each_at : Bodies → List Frame → ℕ → ResolvedTrees → ResolvedTrees

@@ -5,7 +5,7 @@ use Rattle.spectra_elaboration.specs.Nodes.{tree_nodes}
 use Rattle.spectra_elaboration.specs.Levels.{tree_levels}
 use Rattle.spectra_resolved.specs.declared.spot.Spot.{Spot}
 use Rattle.spectra_resolved.specs.Resolved.{ResolvedTree}
-use Rattle.spectra_elaboration.specs.Putting.{placed}
+use Rattle.spectra_elaboration.specs.Putting.{placed, marked}
 
 -- those of operators with their second operands
 abbrev pub link_nodes : List LinkData → ℕ
@@ -19,4 +19,4 @@ are_flat_above limit (l ∷ ls) = nat_le (tree_levels l.second) limit && are_fla
 
 -- an operator with another second operand
 abbrev pub placed_link : (brought : Option Spot) → LinkData → ResolvedTree → LinkData
-placed_link brought l second = record { first = placed brought l.first; at = placed brought l.at; word = l.word; second = second }
+placed_link brought l second = record { first = placed brought l.first; at = marked brought l.at; word = l.word; second = second }

@@ -1,6 +1,8 @@
 -- Expressions in which everything is put in: bodies for uses of definitions, and arguments for parameters.
 use Rattle.std.specs.Prelude.{ℕ, zero, suc, List, [], Option, Some, None, length, map, get_or}
 use Rattle.spectra_resolved.specs.declared.spot.Spot.{Spot}
+use Rattle.spectra_resolved.specs.declared.spot.Mark.{Mark}
+use Rattle.spectra_resolved.specs.Spots.{brought_at}
 use Rattle.spectra_resolved.specs.declared.tree.Leaf.{Leaf}
 use Rattle.spectra_resolved.specs.declared.tree.Leaf.TheVariants as leaf
 use Rattle.spectra_resolved.specs.declared.tree.Hole.{Hole}
@@ -21,10 +23,15 @@ abbrev pub placed : (brought : Option Spot) → Spot → Spot
 placed (Some name) at = name
 placed None at = at
 
+-- so does a part with its mark, which says then that a body brings it
+abbrev pub marked : (brought : Option Spot) → Mark → Mark
+marked (Some name) at = brought_at name
+marked None at = at
+
 -- ---- holes
 
 abbrev pub hole_at : Spot → Hole → ResolvedTree
-hole_at at h = tree at at (Form.LeafOf (leaf.Hole h))
+hole_at at h = tree at (brought_at at) (Form.LeafOf (leaf.Hole h))
 
 -- a misused name has no meaning
 abbrev pub misuse_hole : Misuse → Hole
@@ -37,19 +44,19 @@ misuse_hole _ = hole.Anything
 abbrev pub Put : Type 0
 Put = Hole → ℕ → Spot → List ResolvedTree → ResolvedTree
 
-abbrev pub leaf_put : Put → List ResolvedTree → (first at : Spot) → Leaf → ResolvedTree
-leaf_put put arguments first at (leaf.Define k) = put hole.Anything k at []
+abbrev pub leaf_put : Put → List ResolvedTree → (first : Spot) → (at : Mark) → Leaf → ResolvedTree
+leaf_put put arguments first at (leaf.Define k) = put hole.Anything k at.spot []
 leaf_put put arguments first at (leaf.Parameter k) = get_or arguments k (tree first at (Form.LeafOf (leaf.Parameter k)))
 leaf_put put arguments first at l = tree first at (Form.LeafOf l)
 
 -- an expression of a body, where parameters stand for arguments, or of the line itself
 abbrev mutual
   pub filled : Put → (brought : Option Spot) → (arguments : List ResolvedTree) → ResolvedTree → ResolvedTree
-  filled put brought arguments (tree first at form) = form_filled put brought arguments (placed brought first) (placed brought at) form
+  filled put brought arguments (tree first at form) = form_filled put brought arguments (placed brought first) (marked brought at) form
 
-  pub form_filled : Put → (brought : Option Spot) → (arguments : List ResolvedTree) → (first at : Spot) → Form → ResolvedTree
+  pub form_filled : Put → (brought : Option Spot) → (arguments : List ResolvedTree) → (first : Spot) → (at : Mark) → Form → ResolvedTree
   form_filled put brought arguments first at (Form.LeafOf l) = leaf_put put arguments first at l
-  form_filled put brought arguments first at (Form.PredicateOf k ts) = put hole.Truth k at (listed (each_filled put brought arguments ts))
+  form_filled put brought arguments first at (Form.PredicateOf k ts) = put hole.Truth k at.spot (listed (each_filled put brought arguments ts))
   form_filled put brought arguments first at (Form.MisuseOf m ts) = tree first at (Form.LeafOf (leaf.Hole (misuse_hole m)))
   form_filled put brought arguments first at (Form.Next t) = tree first at (Form.Next (filled put brought arguments t))
   form_filled put brought arguments first at (Form.Prefix word t) = tree first at (Form.Prefix word (filled put brought arguments t))

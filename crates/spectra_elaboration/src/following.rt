@@ -18,8 +18,8 @@ use crate::definitions::Definitions;
 use crate::frames::{By, Frame};
 use crate::giving::given_at;
 use crate::handing::last_at;
-use crate::parts::{body_of, misuse_hole, placed};
-use spectra_resolved::spot::Spot;
+use crate::parts::{body_of, marked, misuse_hole, placed};
+use spectra_resolved::spot::{Mark, Spot};
 use spectra_resolved::tree::{Hole, Leaf, Link, Resolved, Shape};
 use std::alloc::AllocError;
 
@@ -27,9 +27,9 @@ use std::alloc::AllocError;
 /// its number; the places are those in the line.
 #[derive(Clone, Copy)]
 pub enum Front<'s> {
-    Leaf(Spot, Spot, Leaf),
+    Leaf(Spot, Mark, Leaf),
     Row(usize, &'s Resolved, &'s [Link]),
-    Node(usize, Spot, Spot, &'s Shape),
+    Node(usize, Spot, Mark, &'s Shape),
 }
 
 /// A step on the way there: it goes on with an expression in a frame, or ends.
@@ -81,9 +81,14 @@ fn enter_last<'s>(
         (put_use (definitions_data by.now.definitions.now) last at (map (filled_at (definitions_data by.now.definitions.now) frames.old.items frame) (map resolved_data arguments.now))) (step_data (definitions_data by.now.definitions.now) frames.new.items step)) }
     ensures legal { IfOk result (λ step. IsStep frames.new.items step) }
 {
+    let mark = Mark {
+        spot: at,
+        brought: true,
+    };
+    let nothing = Step::Ends(Front::Leaf(at, mark, Leaf::Hole(last.hole)));
     let deep = last.deep;
     if deep == 0 {
-        return Ok(Step::Ends(Front::Leaf(at, at, Leaf::Hole(last.hole))));
+        return Ok(nothing);
     }
     match body_of(&by.definitions.bodies, last.number) {
         Some(body) => {
@@ -96,7 +101,7 @@ fn enter_last<'s>(
             })?;
             Ok(Step::On(inside, body))
         }
-        None => Ok(Step::Ends(Front::Leaf(at, at, Leaf::Hole(last.hole)))),
+        None => Ok(nothing),
     }
 }
 
@@ -171,7 +176,7 @@ fn parameter<'s>(
     frames: &[Frame<'s>],
     frame: usize,
     first: Spot,
-    at: Spot,
+    at: Mark,
     place: usize,
 ) -> Step<'s>
     requires framed { AreFrames frames.now }
@@ -192,7 +197,7 @@ fn leaf_step<'s>(
     frames: &mut Vec<Frame<'s>>,
     frame: usize,
     first: Spot,
-    at: Spot,
+    at: Mark,
     leaf: Leaf,
 ) -> Result<Step<'s>, AllocError>
     requires framed { AreFrames frames.old.items }
@@ -202,7 +207,7 @@ fn leaf_step<'s>(
     ensures legal { IfOk result (λ step. IsStep frames.new.items step) }
 {
     match leaf {
-        Leaf::Define(number) => enter(by, frames, frame, Hole::Anything, number, at, &[]),
+        Leaf::Define(number) => enter(by, frames, frame, Hole::Anything, number, at.spot, &[]),
         Leaf::Parameter(place) => Ok(parameter(frames, frame, first, at, place)),
         Leaf::Truth(_)
         | Leaf::Number(_)
@@ -219,7 +224,7 @@ fn node_step<'s>(
     frames: &mut Vec<Frame<'s>>,
     frame: usize,
     first: Spot,
-    at: Spot,
+    at: Mark,
     shape: &'s Shape,
 ) -> Result<Step<'s>, AllocError>
     requires framed { AreFrames frames.old.items }
@@ -230,7 +235,7 @@ fn node_step<'s>(
 {
     match shape {
         Shape::Leaf(leaf) => leaf_step(by, frames, frame, first, at, *leaf),
-        Shape::Predicate(number, ts) => use_step(by, frames, frame, *number, at, ts),
+        Shape::Predicate(number, ts) => use_step(by, frames, frame, *number, at.spot, ts),
         Shape::Misuse(misuse, _) => Ok(Step::Ends(Front::Leaf(
             first,
             at,
@@ -273,7 +278,7 @@ fn one_step<'s>(
         Resolved::Node(first, at, shape) => {
             let brought = frames[frame].brought;
             let begins = placed(brought, *first);
-            let stands = placed(brought, *at);
+            let stands = marked(brought, *at);
             node_step(by, frames, frame, begins, stands, shape)
         }
     }

@@ -14,7 +14,7 @@ ghost use Rattle.spectra_elaboration.specs.Making.{Makes};
 use crate::counted::Counted;
 use crate::parts::{chain, placed, placed_each, placed_link};
 use crate::refusal::Refusal;
-use spectra_resolved::spot::Spot;
+use spectra_resolved::spot::{Mark, Spot};
 use spectra_resolved::tree::{Leaf, Link, Resolved, Shape};
 use spectra_trees::tree::PrefixWord;
 use std::alloc::{AllocError, Global};
@@ -35,7 +35,7 @@ pub fn node(
     alloc: Global,
     room: usize,
     first: Spot,
-    at: Spot,
+    at: Mark,
     shape: Shape,
     below: usize,
 ) -> Result<Counted, Refusal>
@@ -58,7 +58,7 @@ pub fn leaf_at(
     alloc: Global,
     room: usize,
     first: Spot,
-    at: Spot,
+    at: Mark,
     leaf: Leaf,
 ) -> Result<Counted, Refusal>
     ensures made { Makes room (tree first at (Form.LeafOf leaf)) result }
@@ -72,7 +72,7 @@ fn next_above(
     alloc: Global,
     room: usize,
     first: Spot,
-    at: Spot,
+    at: Mark,
     operand: Counted,
 ) -> Result<Counted, Refusal>
     ensures made { Makes room (tree first at (Form.Next (resolved_data operand.tree.value))) result }
@@ -93,7 +93,7 @@ fn prefix_above(
     alloc: Global,
     room: usize,
     first: Spot,
-    at: Spot,
+    at: Mark,
     word: PrefixWord,
     operand: Counted,
 ) -> Result<Counted, Refusal>
@@ -115,7 +115,7 @@ fn mod_above(
     alloc: Global,
     room: usize,
     first: Spot,
-    at: Spot,
+    at: Mark,
     operand: Counted,
     number_at: Spot,
     number: i64,
@@ -133,7 +133,7 @@ pub fn one_above(
     alloc: Global,
     room: usize,
     first: Spot,
-    at: Spot,
+    at: Mark,
     brought: &Option<Spot>,
     shape: &Shape,
     operand: Counted,
@@ -162,7 +162,7 @@ fn and_above(
     alloc: Global,
     room: usize,
     first: Spot,
-    at: Spot,
+    at: Mark,
     operands: Vec<Resolved>,
     nodes: usize,
     between: Vec<Spot>,
@@ -179,7 +179,7 @@ fn or_above(
     alloc: Global,
     room: usize,
     first: Spot,
-    at: Spot,
+    at: Mark,
     operands: Vec<Resolved>,
     nodes: usize,
     between: Vec<Spot>,
@@ -197,7 +197,7 @@ pub fn each_above(
     alloc: Global,
     room: usize,
     first: Spot,
-    at: Spot,
+    at: Mark,
     brought: &Option<Spot>,
     shape: &Shape,
     operands: Vec<Resolved>,

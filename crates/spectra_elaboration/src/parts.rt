@@ -3,12 +3,12 @@
 ghost use Rattle.std.specs.Prelude.{◌≡◌, option_map, map, IfOk};
 ghost use Rattle.spectra_resolved.specs.Chained.{chained, trees};
 ghost use Rattle.spectra_resolved.specs.Views.{resolved_data, link_data, form_data};
-ghost use Rattle.spectra_elaboration.specs.Putting.{placed as placed_lem, misuse_hole as misuse_hole_lem, body_of as body_of_lem};
+ghost use Rattle.spectra_elaboration.specs.Putting.{placed as placed_lem, marked as marked_lem, misuse_hole as misuse_hole_lem, body_of as body_of_lem};
 ghost use Rattle.spectra_elaboration.specs.Operands.{one_of as one_of_lem, several_of as several_of_lem};
 ghost use Rattle.spectra_elaboration.specs.Links.{placed_link as placed_link_lem};
 ghost use Rattle.spectra_elaboration.specs.PuttingViews.{bodies_data};
 
-use spectra_resolved::spot::Spot;
+use spectra_resolved::spot::{Mark, Spot, brought_at};
 use spectra_resolved::tree::{Hole, Link, Misuse, Resolved, Shape};
 use std::alloc::{AllocError, Global};
 
@@ -18,6 +18,16 @@ pub fn placed(brought: Option<Spot>, at: Spot) -> Spot
 {
     match brought {
         Some(name) => name,
+        None => at,
+    }
+}
+
+/// The same of a part with its mark, which says then that a body brings it.
+pub fn marked(brought: Option<Spot>, at: Mark) -> Mark
+    ensures { result ≡ marked_lem brought at }
+{
+    match brought {
+        Some(name) => brought_at(name),
         None => at,
     }
 }
@@ -43,7 +53,7 @@ pub fn placed_link(brought: Option<Spot>, link: &Link, second: Resolved) -> Link
 {
     Link {
         first: placed(brought, link.first),
-        at: placed(brought, link.at),
+        at: marked(brought, link.at),
         word: link.word,
         second,
     }

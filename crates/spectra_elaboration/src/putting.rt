@@ -21,7 +21,7 @@ use crate::nodes::{
 };
 use crate::parts::{one_of, several_of};
 use crate::refusal::Refusal;
-use spectra_resolved::spot::Spot;
+use spectra_resolved::spot::{Mark, Spot};
 use spectra_resolved::tree::{Link, Resolved, Shape};
 use std::alloc::{AllocError, Global};
 
@@ -148,7 +148,7 @@ fn fill_shape<'s>(
     room: usize,
     levels: usize,
     first: Spot,
-    at: Spot,
+    at: Mark,
     shape: &'s Shape,
 ) -> Result<Counted, Refusal>
     requires framed { AreFrames frames.old.items }
@@ -177,7 +177,7 @@ fn fill_several<'s>(
     room: usize,
     levels: usize,
     first: Spot,
-    at: Spot,
+    at: Mark,
     shape: &'s Shape,
 ) -> Result<Counted, Refusal>
     requires framed { AreFrames frames.old.items }

@@ -24,7 +24,7 @@ some_found (f ∷ fs) = stays fs f
     stays (h ∷ gs) g = stays gs _
 
 -- operators are taken one by one
-pub chained_holed : (s : Setting) (o : Around) (t : ResolvedTree) (ls : List LinkData) → part_holed s o (chained t ls) ≡ chained (part_holed s (opened s.known.brought o ls) t) (links_holed s o ls)
+pub chained_holed : (s : Setting) (o : Around) (t : ResolvedTree) (ls : List LinkData) → part_holed s o (chained t ls) ≡ chained (part_holed s (opened o ls) t) (links_holed s o ls)
 chained_holed s o t [] = refl
 chained_holed s o t (l ∷ ls) = chained_holed s o (joined t l) ls
 

@@ -2,6 +2,7 @@
 use Rattle.std.proofs.Common.{◌≡◌, ℕ, Bool, true, false, not, ◌&&◌, ◌||◌, if◌then◌else◌, List, [], ◌∷◌, ◌++◌, drop, get_or, Option, Some, None, refl, ap, ◌∙◌}
 use Rattle.std.proofs.lemmas.Bool.{false≢true, and_parts}
 use Rattle.spectra_resolved.specs.declared.spot.Spot.{Spot}
+use Rattle.spectra_resolved.specs.declared.spot.Mark.{Mark}
 use Rattle.spectra_resolved.specs.declared.tree.Leaf.{Leaf}
 use Rattle.spectra_resolved.specs.declared.tree.Leaf.TheVariants as leaf
 use Rattle.spectra_resolved.specs.Resolved.{ResolvedTree, tree, Form, ResolvedTrees}
@@ -31,20 +32,20 @@ module _ (known : Known) (bans : Bans) where
   abbrev lifted : Setting
   lifted = record { known = known; bans = record bans { shifted_system = false; shifted_parameter = false } }
 
-  nothing_shifted : (number : ℕ) (next : Option Spot) (at : Spot) → shifted known.brought false number next at ≡ []
+  nothing_shifted : (number : ℕ) (next : Option Mark) (at : Mark) → shifted false number next at ≡ []
   nothing_shifted number (Some next) at = refl
   nothing_shifted number None at = refl
 
-  leaf_fewer : (l : Leaf) (next : Option Spot) (at : Spot) → leaf_faults s next at l ≡ [] → leaf_faults lifted next at l ≡ []
+  leaf_fewer : (l : Leaf) (next : Option Mark) (at : Mark) → leaf_faults s next at l ≡ [] → leaf_faults lifted next at l ≡ []
   leaf_fewer (leaf.Variable k) next at none =
       let own = is_system known k in
-      let parts = empty_parts (fault_if bans.variable 9 at) (fault_if (bans.system && own) 13 at ++ shifted known.brought (bans.shifted_system && own) 12 next at) none in
-      let more = empty_parts (fault_if (bans.system && own) 13 at) (shifted known.brought (bans.shifted_system && own) 12 next at) parts.1 in
-      both_empty (fault_if bans.variable 9 at) (fault_if (bans.system && own) 13 at ++ shifted known.brought false 12 next at) parts.0
-      (both_empty (fault_if (bans.system && own) 13 at) (shifted known.brought false 12 next at) more.0 (nothing_shifted 12 next at))
+      let parts = empty_parts (fault_if bans.variable 9 at.spot) (fault_if (bans.system && own) 13 at.spot ++ shifted (bans.shifted_system && own) 12 next at) none in
+      let more = empty_parts (fault_if (bans.system && own) 13 at.spot) (shifted (bans.shifted_system && own) 12 next at) parts.1 in
+      both_empty (fault_if bans.variable 9 at.spot) (fault_if (bans.system && own) 13 at.spot ++ shifted false 12 next at) parts.0
+      (both_empty (fault_if (bans.system && own) 13 at.spot) (shifted false 12 next at) more.0 (nothing_shifted 12 next at))
   leaf_fewer (leaf.Parameter k) next at none =
-      let parts = empty_parts (fault_if (bans.variable || bans.parameter) 9 at) (shifted known.brought bans.shifted_parameter 10 next at) none in
-      both_empty (fault_if (bans.variable || bans.parameter) 9 at) (shifted known.brought false 10 next at) parts.0 (nothing_shifted 10 next at)
+      let parts = empty_parts (fault_if (bans.variable || bans.parameter) 9 at.spot) (shifted bans.shifted_parameter 10 next at) none in
+      both_empty (fault_if (bans.variable || bans.parameter) 9 at.spot) (shifted false 10 next at) parts.0 (nothing_shifted 10 next at)
   leaf_fewer (leaf.Truth b) next at none = none
   leaf_fewer (leaf.Number z) next at none = none
   leaf_fewer (leaf.EnumName n) next at none = none
@@ -56,35 +57,35 @@ module _ (known : Known) (bans : Bans) where
     fewer : (t : ResolvedTree) (o : Around) → faults s o t ≡ [] → faults lifted o t ≡ []
     fewer (tree first at form) o none = form_fewer form o at none
 
-    form_fewer : (form : Form) (o : Around) (at : Spot) → form_faults s o at form ≡ [] → form_faults lifted o at form ≡ []
+    form_fewer : (form : Form) (o : Around) (at : Mark) → form_faults s o at form ≡ [] → form_faults lifted o at form ≡ []
     form_fewer (Form.LeafOf l) o at none = leaf_fewer l o.next at none
     form_fewer (Form.PredicateOf k ts) o at none = arguments_fewer ts o (wanted known (Some k)) none
     form_fewer (Form.MisuseOf m ts) o at none = absurd (not_empty _ _ none)
     form_fewer (Form.Next t) o at none =
-        let parts = empty_parts (next_faults known.brought bans o at) (faults s (under_next at o) t) none in
-        both_empty (next_faults known.brought bans o at) (faults lifted (under_next at o) t) parts.0 (fewer t (under_next at o) parts.1)
+        let parts = empty_parts (next_faults bans o at) (faults s (under_next at o) t) none in
+        both_empty (next_faults bans o at) (faults lifted (under_next at o) t) parts.0 (fewer t (under_next at o) parts.1)
     form_fewer (Form.Prefix word t) o at none =
-        let inner = within known.brought (is_past_prefix word) at o in
+        let inner = within (is_past_prefix word) at o in
         let own = operator_faults s (is_past_prefix word) o.next at in
-        let last = wrong (is_truth (kind_of known t)) at in
+        let last = wrong (is_truth (kind_of known t)) at.spot in
         let parts = empty_parts own (faults s inner t ++ last) none in
         let more = empty_parts (faults s inner t) last parts.1 in
         both_empty own (faults lifted inner t ++ last) parts.0 (both_empty (faults lifted inner t) last (fewer t inner more.0) more.1)
     form_fewer (Form.Binary word a b) o at none =
-        let inner = within known.brought (is_past word) at o in
+        let inner = within (is_past word) at o in
         let own = operator_faults s (is_past word) o.next at in
-        let last = binary_faults word (kind_of known a) (kind_of known b) at in
+        let last = binary_faults word (kind_of known a) (kind_of known b) at.spot in
         let parts = empty_parts (faults s inner a) (own ++ (faults s inner b ++ last)) none in
         let more = empty_parts own (faults s inner b ++ last) parts.1 in
         let rest = empty_parts (faults s inner b) last more.1 in
         both_empty (faults lifted inner a) (own ++ (faults lifted inner b ++ last)) (fewer a inner parts.0)
         (both_empty own (faults lifted inner b ++ last) more.0 (both_empty (faults lifted inner b) last (fewer b inner rest.0) rest.1))
     form_fewer (Form.Mod t number_at n) o at none =
-        let last = remainder_faults (kind_of known t) at number_at n in
+        let last = remainder_faults (kind_of known t) at.spot number_at n in
         let parts = empty_parts (faults s o t) last none in
         both_empty (faults lifted o t) last (fewer t o parts.0) parts.1
-    form_fewer (Form.And ts operators) o at none = operands_fewer ts o at (at ∷ operators) none
-    form_fewer (Form.Or ts operators) o at none = operands_fewer ts o at (at ∷ operators) none
+    form_fewer (Form.And ts operators) o at none = operands_fewer ts o at.spot (at.spot ∷ operators) none
+    form_fewer (Form.Or ts operators) o at none = operands_fewer ts o at.spot (at.spot ∷ operators) none
 
     operands_fewer : (ts : ResolvedTrees) (o : Around) (at : Spot) (operators : List Spot) → operand_faults s o at operators ts ≡ [] → operand_faults lifted o at operators ts ≡ []
     operands_fewer ResolvedTrees.none o at operators none = refl
@@ -109,7 +110,7 @@ module _ (known : Known) (bans : Bans) where
   not_faulty : (t : ResolvedTree) (o : Around) → faults s o t ≡ [] → is_faulty s o t ≡ false
   not_faulty t o none = by o.next
     where
-      by : (next : Option Spot) → is_some_fault (faults (record s { bans = own_bans next bans }) o t) ≡ false
+      by : (next : Option Mark) → is_some_fault (faults (record s { bans = own_bans next bans }) o t) ≡ false
       by (Some next) = ap is_some_fault (fewer t o none)
       by None = ap is_some_fault none
 
@@ -124,32 +125,32 @@ module _ (known : Known) (bans : Bans) where
     part_stays : (t : ResolvedTree) (o : Around) → is_meant known t ≡ true → faults s o t ≡ [] → part_holed s o t ≡ t
     part_stays (tree first at form) o meant none = ap (tree first at) (form_stays form o at meant none)
 
-    form_stays : (form : Form) (o : Around) (at : Spot) → form_meant known form ≡ true → form_faults s o at form ≡ [] → form_holed s o at form ≡ form
+    form_stays : (form : Form) (o : Around) (at : Mark) → form_meant known form ≡ true → form_faults s o at form ≡ [] → form_holed s o at form ≡ form
     form_stays (Form.LeafOf l) o at meant none = refl
     form_stays (Form.PredicateOf k ts) o at meant none = ap (Form.PredicateOf k) (arguments_stay ts o (wanted known (Some k)) meant none)
     form_stays (Form.MisuseOf m ts) o at meant none = absurd (not_empty _ _ none)
     form_stays (Form.Next t) o at meant none =
-        let parts = empty_parts (next_faults known.brought bans o at) (faults s (under_next at o) t) none in
+        let parts = empty_parts (next_faults bans o at) (faults s (under_next at o) t) none in
         ap Form.Next (part_stays t (under_next at o) meant parts.1)
     form_stays (Form.Prefix word t) o at meant none =
-        let inner = within known.brought (is_past_prefix word) at o in
-        let parts = empty_parts (operator_faults s (is_past_prefix word) o.next at) (faults s inner t ++ wrong (is_truth (kind_of known t)) at) none in
-        let more = empty_parts (faults s inner t) (wrong (is_truth (kind_of known t)) at) parts.1 in
+        let inner = within (is_past_prefix word) at o in
+        let parts = empty_parts (operator_faults s (is_past_prefix word) o.next at) (faults s inner t ++ wrong (is_truth (kind_of known t)) at.spot) none in
+        let more = empty_parts (faults s inner t) (wrong (is_truth (kind_of known t)) at.spot) parts.1 in
         ap (Form.Prefix word) (part_stays t inner meant more.0)
     form_stays (Form.Binary word a b) o at meant none =
-        let inner = within known.brought (is_past word) at o in
+        let inner = within (is_past word) at o in
         let own = operator_faults s (is_past word) o.next at in
-        let last = binary_faults word (kind_of known a) (kind_of known b) at in
+        let last = binary_faults word (kind_of known a) (kind_of known b) at.spot in
         let parts = empty_parts (faults s inner a) (own ++ (faults s inner b ++ last)) none in
         let more = empty_parts own (faults s inner b ++ last) parts.1 in
         let rest = empty_parts (faults s inner b) last more.1 in
         let means = and_parts _ _ meant in
         (λ i. Form.Binary word (part_stays a inner means.0 parts.0 i) (part_stays b inner means.1 rest.0 i))
     form_stays (Form.Mod t number_at n) o at meant none =
-        let parts = empty_parts (faults s o t) (remainder_faults (kind_of known t) at number_at n) none in
+        let parts = empty_parts (faults s o t) (remainder_faults (kind_of known t) at.spot number_at n) none in
         ap (λ u. Form.Mod u number_at n) (part_stays t o meant parts.0)
-    form_stays (Form.And ts operators) o at meant none = ap (λ us. Form.And us operators) (each_stays ts o at (at ∷ operators) meant none)
-    form_stays (Form.Or ts operators) o at meant none = ap (λ us. Form.Or us operators) (each_stays ts o at (at ∷ operators) meant none)
+    form_stays (Form.And ts operators) o at meant none = ap (λ us. Form.And us operators) (each_stays ts o at.spot (at.spot ∷ operators) meant none)
+    form_stays (Form.Or ts operators) o at meant none = ap (λ us. Form.Or us operators) (each_stays ts o at.spot (at.spot ∷ operators) meant none)
 
     each_stays : (ts : ResolvedTrees) (o : Around) (at : Spot) (operators : List Spot) → each_meant known ts ≡ true → operand_faults s o at operators ts ≡ [] → each_holed s o ts ≡ ts
     each_stays ResolvedTrees.none o at operators meant none = refl

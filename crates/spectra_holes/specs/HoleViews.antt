@@ -43,4 +43,4 @@ abbrev mutual
 -- operators with holes in their second operands, one behind another
 abbrev pub links_holed : Setting → Around → List LinkData → List LinkData
 links_holed s around [] = []
-links_holed s around (l ∷ ls) = record l { second = part_holed s (opened s.known.brought around (l ∷ ls)) l.second } ∷ links_holed s around ls
+links_holed s around (l ∷ ls) = record l { second = part_holed s (opened around (l ∷ ls)) l.second } ∷ links_holed s around ls

@@ -1,10 +1,11 @@
 -- What is left of an expression where it is put in: an argument that is faulty as it is written is a hole.
 use Rattle.std.specs.Prelude.{Bool, true, false, not, ◌||◌, if◌then◌else◌, List, [], ◌∷◌, Option, Some, None, get_or, drop}
-use Rattle.spectra_resolved.specs.declared.spot.Spot.{Spot}
+use Rattle.spectra_resolved.specs.declared.spot.Mark.{Mark}
 use Rattle.spectra_resolved.specs.declared.stand.Stand.{Stand}
 use Rattle.spectra_resolved.specs.declared.tree.Leaf.TheVariants as leaf
 use Rattle.spectra_resolved.specs.declared.tree.Hole.TheVariants as hole
 use Rattle.spectra_resolved.specs.declared.findings.Finding.{Finding}
+use Rattle.spectra_resolved.specs.Spots.{in_text}
 use Rattle.spectra_resolved.specs.Resolved.{ResolvedTree, tree, Form, ResolvedTrees}
 use Rattle.spectra_judge.specs.Kinds.{Kind, Anything, can_equal}
 use Rattle.spectra_judge.specs.Operators.{is_past, is_past_prefix}
@@ -22,7 +23,7 @@ is_some_fault [] = false
 is_some_fault (f ∷ fs) = true
 
 -- What is read under a `next` where it may not be is a fault of that `next`: of the one around an argument, if there is one.
-abbrev pub own_bans : (next : Option Spot) → Bans → Bans
+abbrev pub own_bans : (next : Option Mark) → Bans → Bans
 own_bans (Some next) bans = record bans { shifted_system = false; shifted_parameter = false }
 own_bans None bans = bans
 
@@ -41,7 +42,7 @@ is_lost s o k t = is_anything k || (not (can_equal k (kind_of s.known t)) || is_
 
 -- a hole at the first token of what stood there
 abbrev pub hole_for : ResolvedTree → ResolvedTree
-hole_for t = tree (first_of t) (first_of t) (Form.LeafOf (leaf.Hole hole.Anything))
+hole_for t = tree (first_of t) (in_text (first_of t)) (Form.LeafOf (leaf.Hole hole.Anything))
 
 -- ---- the expression with holes
 
@@ -49,14 +50,14 @@ abbrev mutual
   pub part_holed : Setting → Around → ResolvedTree → ResolvedTree
   part_holed s o (tree first at form) = tree first at (form_holed s o at form)
 
-  pub form_holed : Setting → Around → Spot → Form → Form
+  pub form_holed : Setting → Around → Mark → Form → Form
   form_holed s o at (Form.LeafOf l) = Form.LeafOf l
   form_holed s o at (Form.PredicateOf k ts) = Form.PredicateOf k (arguments_holed s o (wanted s.known (Some k)) ts)
   form_holed s o at (Form.MisuseOf m ts) = Form.MisuseOf m ResolvedTrees.none
   form_holed s o at (Form.Next t) = Form.Next (part_holed s (under_next at o) t)
-  form_holed s o at (Form.Prefix word t) = Form.Prefix word (part_holed s (within s.known.brought (is_past_prefix word) at o) t)
+  form_holed s o at (Form.Prefix word t) = Form.Prefix word (part_holed s (within (is_past_prefix word) at o) t)
   form_holed s o at (Form.Binary word a b) =
-      Form.Binary word (part_holed s (within s.known.brought (is_past word) at o) a) (part_holed s (within s.known.brought (is_past word) at o) b)
+      Form.Binary word (part_holed s (within (is_past word) at o) a) (part_holed s (within (is_past word) at o) b)
   form_holed s o at (Form.Mod t number_at n) = Form.Mod (part_holed s o t) number_at n
   form_holed s o at (Form.And ts operators) = Form.And (each_holed s o ts) operators
   form_holed s o at (Form.Or ts operators) = Form.Or (each_holed s o ts) operators

@@ -4,7 +4,6 @@ ghost use Rattle.std.specs.Prelude.{◌≡◌, ℕ, map, drop, Some, IfOk};
 ghost use Rattle.spectra_resolved.specs.Chained.{trees};
 ghost use Rattle.spectra_resolved.specs.Views.{resolved_data, link_data, form_data};
 ghost use Rattle.spectra_judge.specs.KindViews.{kind_data, known_data, setting_data};
-ghost use Rattle.spectra_judge.specs.Rising.{AreRising};
 ghost use Rattle.spectra_judge.specs.Known.{wanted};
 ghost use Rattle.spectra_holes.specs.Holed.{own_bans as own_bans_lem, is_anything as is_anything_lem, is_lost as is_lost_lem, hole_for as hole_for_lem, part_holed, form_holed, each_holed, arguments_holed, holed as holed_lem};
 ghost use Rattle.spectra_holes.specs.HoleViews.{argument_holed, links_holed};
@@ -19,7 +18,7 @@ use spectra_judge::operators::is_past_prefix;
 use spectra_judge::standing::{Bans, bans_of};
 use spectra_judge::walking::walk;
 use spectra_resolved::findings::Findings;
-use spectra_resolved::spot::Spot;
+use spectra_resolved::spot::{Mark, Spot, in_text};
 use spectra_resolved::stand::Stand;
 use spectra_resolved::tree::{Hole, Leaf, Link, Resolved, Shape};
 use std::alloc::{AllocError, Global};
@@ -32,7 +31,7 @@ struct Holing<'s, 'a> {
 }
 
 // What may not stand in an argument, but for what a `next` around it is blamed for.
-fn own_bans(next: Option<Spot>, bans: Bans) -> Bans
+fn own_bans(next: Option<Mark>, bans: Bans) -> Bans
     ensures { result ≡ own_bans_lem next bans }
 {
     match next {
@@ -59,7 +58,6 @@ fn is_anything(kind: Kind<'_>) -> bool
 // Whether nothing is left of an argument for a parameter of a kind.
 #[tactic(auto, using(crate::proofs::Holes::some_found))]
 fn is_lost(setting: &Setting<'_, '_>, around: Around, parameter: Kind<'_>, t: &Resolved) -> bool
-    requires rising { AreRising setting.now.known.brought.now }
     ensures { result ≡ is_lost_lem (setting_data setting.now) around (kind_data parameter.entry) (resolved_data t.now) }
 {
     let own = Setting {
@@ -77,7 +75,7 @@ fn hole_for(t: &Resolved) -> Resolved
     ensures { resolved_data result ≡ hole_for_lem (resolved_data t.now) }
 {
     let at = first_of(t);
-    Resolved::Node(at, at, Shape::Leaf(Leaf::Hole(Hole::Anything)))
+    Resolved::Node(at, in_text(at), Shape::Leaf(Leaf::Hole(Hole::Anything)))
 }
 
 /// Places that are the same.
@@ -93,12 +91,11 @@ pub fn copy_spots(alloc: Global, places: &[Spot]) -> Result<Vec<Spot>, AllocErro
 
 #[cycle(holing)]
 fn hole_part(holing: &Holing<'_, '_>, around: Around, t: &Resolved) -> Result<Resolved, AllocError>
-    requires rising { AreRising holing.now.setting.known.brought.now }
     ensures { IfOk result (λ made. resolved_data made ≡ part_holed (setting_data holing.now.setting) around (resolved_data t.now)) }
 {
     match t {
         Resolved::Chain(head, links) => {
-            let opened = opened_in(holing.setting.known.brought, links);
+            let opened = opened_in(links);
             let own = hole_boxed(holing, opened.at(around, 0), head)?;
             let made = hole_links(holing, around, opened, links)?;
             Ok(Resolved::Chain(own, made))
@@ -117,8 +114,7 @@ fn hole_links(
     opened: Opened,
     links: &[Link],
 ) -> Result<Vec<Link>, AllocError>
-    requires rising { AreRising holing.now.setting.known.brought.now }
-    requires opened { (place : ℕ) → opened_lem (setting_data holing.now.setting).known.brought around (map link_data (drop place links.now)) ≡ opened_at opened around place }
+    requires opened { (place : ℕ) → opened_lem around (map link_data (drop place links.now)) ≡ opened_at opened around place }
     ensures { IfOk result (λ made. map link_data made.items ≡ links_holed (setting_data holing.now.setting) around (map link_data links.now)) }
 {
     let mut made = Vec::new(holing.alloc);
@@ -139,10 +135,9 @@ fn hole_links(
 fn hole_shape(
     holing: &Holing<'_, '_>,
     around: Around,
-    at: Spot,
+    at: Mark,
     shape: &Shape,
 ) -> Result<Shape, AllocError>
-    requires rising { AreRising holing.now.setting.known.brought.now }
     ensures { IfOk result (λ made. form_data made ≡ form_holed (setting_data holing.now.setting) around at (form_data shape.now)) }
 {
     match shape {
@@ -154,7 +149,7 @@ fn hole_shape(
         Shape::Next(t) => Ok(Shape::Next(hole_boxed(holing, under_next(at, around), t)?)),
         Shape::Prefix(word, t) => {
             let past = is_past_prefix(*word);
-            let inner = within(holing.setting.known.brought, past, at, around);
+            let inner = within(past, at, around);
             Ok(Shape::Prefix(*word, hole_boxed(holing, inner, t)?))
         }
         Shape::Mod(t, number_at, n) => {
@@ -177,7 +172,6 @@ fn hole_boxed(
     around: Around,
     t: &Resolved,
 ) -> Result<Box<Resolved>, AllocError>
-    requires rising { AreRising holing.now.setting.known.brought.now }
     ensures { IfOk result (λ made. resolved_data made.value ≡ part_holed (setting_data holing.now.setting) around (resolved_data t.now)) }
 {
     Ok(Box::new(holing.alloc, hole_part(holing, around, t)?)?)
@@ -189,7 +183,6 @@ fn hole_each(
     around: Around,
     ts: &[Resolved],
 ) -> Result<Vec<Resolved>, AllocError>
-    requires rising { AreRising holing.now.setting.known.brought.now }
     ensures { IfOk result (λ made. trees (map resolved_data made.items) ≡ each_holed (setting_data holing.now.setting) around (trees (map resolved_data ts.now))) }
 {
     let mut made = Vec::new(holing.alloc);
@@ -207,7 +200,6 @@ fn hole_arguments(
     predicate: usize,
     ts: &[Resolved],
 ) -> Result<Vec<Resolved>, AllocError>
-    requires rising { AreRising holing.now.setting.known.brought.now }
     ensures { IfOk result (λ made. trees (map resolved_data made.items) ≡ arguments_holed (setting_data holing.now.setting) around (wanted (setting_data holing.now.setting).known (Some predicate)) (trees (map resolved_data ts.now))) }
 {
     let mut made = Vec::new(holing.alloc);
@@ -226,7 +218,6 @@ fn hole_argument(
     parameter: Kind<'_>,
     t: &Resolved,
 ) -> Result<Resolved, AllocError>
-    requires rising { AreRising holing.now.setting.known.brought.now }
     ensures { IfOk result (λ made. resolved_data made ≡ argument_holed (setting_data holing.now.setting) around (kind_data parameter.entry) (resolved_data t.now)) }
 {
     if is_lost(&holing.setting, around, parameter, t) {
@@ -245,7 +236,6 @@ pub fn holed(
     stand: Stand,
     t: &Resolved,
 ) -> Result<Resolved, AllocError>
-    requires rising { AreRising known.now.brought.now }
     ensures { IfOk result (λ made. resolved_data made ≡ holed_lem (known_data known.now) stand (resolved_data t.now)) }
 {
     let holing = Holing {

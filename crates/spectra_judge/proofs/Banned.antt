@@ -11,6 +11,7 @@ use Rattle.spectra_trees.specs.declared.tree.PrefixWord.TheVariants as prefixes
 use Rattle.spectra_trees.specs.declared.tree.BinaryWord.{BinaryWord}
 use Rattle.spectra_trees.specs.declared.tree.BinaryWord.TheVariants as binary
 use Rattle.spectra_resolved.specs.declared.spot.Spot.{Spot}
+use Rattle.spectra_resolved.specs.declared.spot.Mark.{Mark}
 use Rattle.spectra_resolved.specs.declared.tree.Leaf.{Leaf}
 use Rattle.spectra_resolved.specs.Resolved.{ResolvedTree, tree, Form, ResolvedTrees}
 use Rattle.spectra_judge.specs.Operators.{is_past, is_past_prefix}
@@ -71,11 +72,11 @@ module _ (test : Formula → Bool) (tests : Formulas → Bool) (is : IsSome test
   binary_none binary.Mul f g e h = is.product f g ∙ neither (test f) (test g) e h
 
   -- Let no part without parts pass it, where so a `next` is open; and no `next`, or such a one alone as its operand.
-  module _ (s : Setting) (params : ℕ) (good : Leaf → Bool) (Under : Option Spot → Type 0) (deeper : (next : Option Spot) (at : Spot) → Under next → Under (Some (outer_of next at)))
-      (leaf_none : (l : Leaf) (next : Option Spot) (at : Spot) → Under next → good l ≡ true → leaf_faults s next at l ≡ [] → test (leaf_formula params l) ≡ false)
+  module _ (s : Setting) (params : ℕ) (good : Leaf → Bool) (Under : Option Mark → Type 0) (deeper : (next : Option Mark) (at : Mark) → Under next → Under (Some (outer_of next at)))
+      (leaf_none : (l : Leaf) (next : Option Mark) (at : Mark) → Under next → good l ≡ true → leaf_faults s next at l ≡ [] → test (leaf_formula params l) ≡ false)
       (next_case : ((f : Formula) → test (NextOf f) ≡ test f)
-      ⊎ ((t : ResolvedTree) (o : Around) (at : Spot) → is_put_in good t ≡ true → next_faults s.known.brought s.bans o at ≡ [] → faults s (under_next at o) t ≡ [] → test (NextOf (erased params t)) ≡ false)) where
-    under_within : (past : Bool) (at : Spot) (o : Around) → Under o.next → Under (within s.known.brought past at o).next
+      ⊎ ((t : ResolvedTree) (o : Around) (at : Mark) → is_put_in good t ≡ true → next_faults s.bans o at ≡ [] → faults s (under_next at o) t ≡ [] → test (NextOf (erased params t)) ≡ false)) where
+    under_within : (past : Bool) (at : Mark) (o : Around) → Under o.next → Under (within past at o).next
     under_within true at o u = u
     under_within false at o u = u
 
@@ -83,35 +84,35 @@ module _ (test : Formula → Bool) (tests : Formulas → Bool) (is : IsSome test
       pub none_in : (t : ResolvedTree) (o : Around) → Under o.next → is_put_in good t ≡ true → faults s o t ≡ [] → test (erased params t) ≡ false
       none_in (tree first at form) o u put none = none_in_form form o at u put none
 
-      none_in_form : (form : Form) (o : Around) (at : Spot) → Under o.next → form_put_in good form ≡ true → form_faults s o at form ≡ [] → test (form_erased params form) ≡ false
+      none_in_form : (form : Form) (o : Around) (at : Mark) → Under o.next → form_put_in good form ≡ true → form_faults s o at form ≡ [] → test (form_erased params form) ≡ false
       none_in_form (Form.LeafOf l) o at u put none = leaf_none l o.next at u put none
       none_in_form (Form.PredicateOf k ts) o at u put none = absurd (false≢true put)
       none_in_form (Form.MisuseOf m ts) o at u put none = absurd (false≢true put)
       none_in_form (Form.Next t) o at u put none =
-          let parts = empty_parts (next_faults s.known.brought s.bans o at) (faults s (under_next at o) t) none in
+          let parts = empty_parts (next_faults s.bans o at) (faults s (under_next at o) t) none in
           elim next_case [
             | inl through ↦ through (erased params t) ∙ none_in t (under_next at o) (deeper o.next at u) put parts.1
             | inr stops ↦ stops t o at put parts.0 parts.1
           ]
       none_in_form (Form.Prefix word t) o at u put none =
           let past = is_past_prefix word in
-          let inner = within s.known.brought past at o in
-          let parts = empty_parts (operator_faults s past o.next at) (faults s inner t ++ wrong (is_truth (kind_of s.known t)) at) none in
-          let more = empty_parts (faults s inner t) (wrong (is_truth (kind_of s.known t)) at) parts.1 in
+          let inner = within past at o in
+          let parts = empty_parts (operator_faults s past o.next at) (faults s inner t ++ wrong (is_truth (kind_of s.known t)) at.spot) none in
+          let more = empty_parts (faults s inner t) (wrong (is_truth (kind_of s.known t)) at.spot) parts.1 in
           prefix_none word (erased params t) (none_in t inner (under_within past at o u) put more.0)
       none_in_form (Form.Binary word a b) o at u put none =
           let past = is_past word in
-          let inner = within s.known.brought past at o in
-          let own = binary_faults word (kind_of s.known a) (kind_of s.known b) at in
+          let inner = within past at o in
+          let own = binary_faults word (kind_of s.known a) (kind_of s.known b) at.spot in
           let parts = empty_parts (faults s inner a) (operator_faults s past o.next at ++ (faults s inner b ++ own)) none in
           let more = empty_parts (operator_faults s past o.next at) (faults s inner b ++ own) parts.1 in
           let last = empty_parts (faults s inner b) own more.1 in
           let puts = and_parts (is_put_in good a) (is_put_in good b) put in
           binary_none word (erased params a) (erased params b) (none_in a inner (under_within past at o u) puts.0 parts.0) (none_in b inner (under_within past at o u) puts.1 last.0)
       none_in_form (Form.Mod t number_at n) o at u put none =
-          let parts = empty_parts (faults s o t) (remainder_faults (kind_of s.known t) at number_at n) none in is.remainder (erased params t) n ∙ none_in t o u put parts.0
-      none_in_form (Form.And ts operators) o at u put none = is.conjunction (each_erased params ts) ∙ none_in_each ts o at (at ∷ operators) u put none
-      none_in_form (Form.Or ts operators) o at u put none = is.disjunction (each_erased params ts) ∙ none_in_each ts o at (at ∷ operators) u put none
+          let parts = empty_parts (faults s o t) (remainder_faults (kind_of s.known t) at.spot number_at n) none in is.remainder (erased params t) n ∙ none_in t o u put parts.0
+      none_in_form (Form.And ts operators) o at u put none = is.conjunction (each_erased params ts) ∙ none_in_each ts o at.spot (at.spot ∷ operators) u put none
+      none_in_form (Form.Or ts operators) o at u put none = is.disjunction (each_erased params ts) ∙ none_in_each ts o at.spot (at.spot ∷ operators) u put none
 
       none_in_each : (ts : ResolvedTrees) (o : Around) (at : Spot) (operators : List Spot) → Under o.next → each_put_in good ts ≡ true → operand_faults s o at operators ts ≡ [] → tests (each_erased params ts) ≡ false
       none_in_each ResolvedTrees.none o at operators u put none = is.none

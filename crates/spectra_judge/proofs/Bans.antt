@@ -4,7 +4,7 @@ use Rattle.std.proofs.lemmas.Bool.{false≢true}
 use Rattle.std.proofs.lemmas.Bool.Decides.{nat_tests}
 use Rattle.spec_model.specs.Moves.{has_next, some_has_next}
 use Rattle.spec_model.specs.WellTyped.{reads_some, some_reads, shifts_some, some_shifts}
-use Rattle.spectra_resolved.specs.declared.spot.Spot.{Spot}
+use Rattle.spectra_resolved.specs.declared.spot.Mark.{Mark}
 use Rattle.spectra_resolved.specs.declared.tree.Leaf.{Leaf}
 use Rattle.spectra_resolved.specs.declared.tree.Leaf.TheVariants as leaf
 use Rattle.spectra_resolved.specs.Resolved.{ResolvedTree}
@@ -89,7 +89,7 @@ module _ (s : Setting) (params : ℕ) (good : Leaf → Bool) where
   no_next banned t o put none =
       none_in has_next some_has_next nexts s params good (λ next. Unit {0}) (λ next at u. tt) leaf_none (inr stops) t o tt put none
     where
-      leaf_none : (l : Leaf) (next : Option Spot) (at : Spot) → Unit {0} → good l ≡ true → leaf_faults s next at l ≡ [] → has_next (leaf_formula params l) ≡ false
+      leaf_none : (l : Leaf) (next : Option Mark) (at : Mark) → Unit {0} → good l ≡ true → leaf_faults s next at l ≡ [] → has_next (leaf_formula params l) ≡ false
       leaf_none (leaf.Truth b) next at u put none = refl
       leaf_none (leaf.Number z) next at u put none = refl
       leaf_none (leaf.EnumName n) next at u put none = refl
@@ -99,21 +99,21 @@ module _ (s : Setting) (params : ℕ) (good : Leaf → Bool) where
       leaf_none (leaf.Define k) next at u put none = refl
       leaf_none (leaf.Hole h) next at u put none = refl
 
-      stops : (t : ResolvedTree) (o : Around) (at : Spot) → is_put_in good t ≡ true → next_faults s.known.brought s.bans o at ≡ [] → faults s (under_next at o) t ≡ [] → true ≡ false
-      stops t o at put none inner = absurd (both s.bans.next banned (no_fault s.bans.next 10 at (empty_parts (fault_if s.bans.next 10 at) (in_next s.known.brought o.next at ++ in_past o at) none).0))
+      stops : (t : ResolvedTree) (o : Around) (at : Mark) → is_put_in good t ≡ true → next_faults s.bans o at ≡ [] → faults s (under_next at o) t ≡ [] → true ≡ false
+      stops t o at put none inner = absurd (both s.bans.next banned (no_fault s.bans.next 10 at.spot (empty_parts (fault_if s.bans.next 10 at.spot) (in_next o.next at ++ in_past o at.spot) none).0))
 
   -- what is read nowhere, and what is read under no `next`
-  none_read : (test : ℕ → Bool) → ((l : Leaf) (next : Option Spot) (at : Spot) → good l ≡ true → leaf_faults s next at l ≡ [] → reads_some test (leaf_formula params l) ≡ false)
+  none_read : (test : ℕ → Bool) → ((l : Leaf) (next : Option Mark) (at : Mark) → good l ≡ true → leaf_faults s next at l ≡ [] → reads_some test (leaf_formula params l) ≡ false)
       → (t : ResolvedTree) (o : Around) → is_put_in good t ≡ true → faults s o t ≡ [] → reads_some test (erased params t) ≡ false
   none_read test leaf_none t o put none =
       none_in (reads_some test) (some_reads test) (reads test) s params good (λ next. Unit {0}) (λ next at u. tt) (λ l next at u. leaf_none l next at) (inl (λ f. refl)) t o tt put none
 
-  none_shifted : (test : ℕ → Bool) → ((l : Leaf) (next at : Spot) → good l ≡ true → leaf_faults s (Some next) at l ≡ [] → reads_some test (leaf_formula params l) ≡ false)
+  none_shifted : (test : ℕ → Bool) → ((l : Leaf) (next at : Mark) → good l ≡ true → leaf_faults s (Some next) at l ≡ [] → reads_some test (leaf_formula params l) ≡ false)
       → (t : ResolvedTree) (o : Around) → is_put_in good t ≡ true → faults s o t ≡ [] → shifts_some test (erased params t) ≡ false
   none_shifted test leaf_none t o put none =
       none_in (shifts_some test) (some_shifts test) (shifts test) s params good (λ next. Unit {0}) (λ next at u. tt) leaf_kept (inr under) t o tt put none
     where
-      leaf_kept : (l : Leaf) (next : Option Spot) (at : Spot) → Unit {0} → good l ≡ true → leaf_faults s next at l ≡ [] → shifts_some test (leaf_formula params l) ≡ false
+      leaf_kept : (l : Leaf) (next : Option Mark) (at : Mark) → Unit {0} → good l ≡ true → leaf_faults s next at l ≡ [] → shifts_some test (leaf_formula params l) ≡ false
       leaf_kept (leaf.Truth b) next at u put none = refl
       leaf_kept (leaf.Number z) next at u put none = refl
       leaf_kept (leaf.EnumName n) next at u put none = refl
@@ -123,11 +123,11 @@ module _ (s : Setting) (params : ℕ) (good : Leaf → Bool) where
       leaf_kept (leaf.Define k) next at u put none = refl
       leaf_kept (leaf.Hole h) next at u put none = refl
 
-      leaf_read : (l : Leaf) (next : Option Spot) (at : Spot) → is_some next ≡ true → good l ≡ true → leaf_faults s next at l ≡ [] → reads_some test (leaf_formula params l) ≡ false
+      leaf_read : (l : Leaf) (next : Option Mark) (at : Mark) → is_some next ≡ true → good l ≡ true → leaf_faults s next at l ≡ [] → reads_some test (leaf_formula params l) ≡ false
       leaf_read l (Some next) at u put none = leaf_none l next at put none
       leaf_read l None at u put none = absurd (false≢true u)
 
-      under : (t : ResolvedTree) (o : Around) (at : Spot) → is_put_in good t ≡ true → next_faults s.known.brought s.bans o at ≡ [] → faults s (under_next at o) t ≡ [] → reads_some test (erased params t) ≡ false
+      under : (t : ResolvedTree) (o : Around) (at : Mark) → is_put_in good t ≡ true → next_faults s.bans o at ≡ [] → faults s (under_next at o) t ≡ [] → reads_some test (erased params t) ≡ false
       under t o at put none inner =
           none_in (reads_some test) (some_reads test) (reads test) s params good (λ next. is_some next ≡ true) (λ next at u. refl) leaf_read (inl (λ f. refl)) t (under_next at o) refl put inner
 
@@ -137,29 +137,29 @@ module _ (known : Known) (names variables : ℕ) (bans : Bans) where
   abbrev s : Setting
   s = record { known = known; bans = bans }
 
-  system_read : bans.system ≡ true → (l : Leaf) (next : Option Spot) (at : Spot) → in_line names variables l ≡ true → leaf_faults s next at l ≡ [] → reads_some (is_system known) (leaf_formula 0 l) ≡ false
+  system_read : bans.system ≡ true → (l : Leaf) (next : Option Mark) (at : Mark) → in_line names variables l ≡ true → leaf_faults s next at l ≡ [] → reads_some (is_system known) (leaf_formula 0 l) ≡ false
   system_read banned (leaf.Truth b) next at put none = refl
   system_read banned (leaf.Number z) next at put none = refl
   system_read banned (leaf.EnumName n) next at put none = refl
   system_read banned (leaf.Variable k) next at put none =
       let own = is_system known k in
-      let parts = empty_parts (fault_if bans.variable 9 at) (fault_if (bans.system && own) 13 at ++ shifted known.brought (bans.shifted_system && own) 12 next at) none in
-      let more = empty_parts (fault_if (bans.system && own) 13 at) (shifted known.brought (bans.shifted_system && own) 12 next at) parts.1 in
-      absent bans.system own banned (no_fault (bans.system && own) 13 at more.0)
+      let parts = empty_parts (fault_if bans.variable 9 at.spot) (fault_if (bans.system && own) 13 at.spot ++ shifted (bans.shifted_system && own) 12 next at) none in
+      let more = empty_parts (fault_if (bans.system && own) 13 at.spot) (shifted (bans.shifted_system && own) 12 next at) parts.1 in
+      absent bans.system own banned (no_fault (bans.system && own) 13 at.spot more.0)
   system_read banned (leaf.Parameter k) next at put none = absurd (false≢true put)
   system_read banned (leaf.Own k) next at put none = absurd (false≢true put)
   system_read banned (leaf.Define k) next at put none = refl
   system_read banned (leaf.Hole h) next at put none = refl
 
-  system_shifted : bans.shifted_system ≡ true → (l : Leaf) (next at : Spot) → in_line names variables l ≡ true → leaf_faults s (Some next) at l ≡ [] → reads_some (is_system known) (leaf_formula 0 l) ≡ false
+  system_shifted : bans.shifted_system ≡ true → (l : Leaf) (next at : Mark) → in_line names variables l ≡ true → leaf_faults s (Some next) at l ≡ [] → reads_some (is_system known) (leaf_formula 0 l) ≡ false
   system_shifted banned (leaf.Truth b) next at put none = refl
   system_shifted banned (leaf.Number z) next at put none = refl
   system_shifted banned (leaf.EnumName n) next at put none = refl
   system_shifted banned (leaf.Variable k) next at put none =
       let own = is_system known k in
-      let parts = empty_parts (fault_if bans.variable 9 at) (fault_if (bans.system && own) 13 at ++ shifted known.brought (bans.shifted_system && own) 12 (Some next) at) none in
-      let more = empty_parts (fault_if (bans.system && own) 13 at) (shifted known.brought (bans.shifted_system && own) 12 (Some next) at) parts.1 in
-      absent bans.shifted_system own banned (no_fault (bans.shifted_system && own) 12 (meeting known.brought next at next) more.1)
+      let parts = empty_parts (fault_if bans.variable 9 at.spot) (fault_if (bans.system && own) 13 at.spot ++ shifted (bans.shifted_system && own) 12 (Some next) at) none in
+      let more = empty_parts (fault_if (bans.system && own) 13 at.spot) (shifted (bans.shifted_system && own) 12 (Some next) at) parts.1 in
+      absent bans.shifted_system own banned (no_fault (bans.shifted_system && own) 12 (meeting next at next) more.1)
   system_shifted banned (leaf.Parameter k) next at put none = absurd (false≢true put)
   system_shifted banned (leaf.Own k) next at put none = absurd (false≢true put)
   system_shifted banned (leaf.Define k) next at put none = refl
@@ -189,26 +189,26 @@ module _ (known : Known) (names params own : ℕ) (bans : Bans) where
   not_own : (k : ℕ) → nat_lt (params + k) params ≡ false
   not_own k = grind (arith, nat_tests)
 
-  parameter_read : bans.parameter ≡ true → (l : Leaf) (next : Option Spot) (at : Spot) → in_pattern names params own l ≡ true → leaf_faults in_line_of next at l ≡ [] → reads_some is_parameter (leaf_formula params l) ≡ false
+  parameter_read : bans.parameter ≡ true → (l : Leaf) (next : Option Mark) (at : Mark) → in_pattern names params own l ≡ true → leaf_faults in_line_of next at l ≡ [] → reads_some is_parameter (leaf_formula params l) ≡ false
   parameter_read banned (leaf.Truth b) next at put none = refl
   parameter_read banned (leaf.Number z) next at put none = refl
   parameter_read banned (leaf.EnumName n) next at put none = refl
   parameter_read banned (leaf.Variable k) next at put none = absurd (false≢true put)
   parameter_read banned (leaf.Parameter k) next at put none =
       let wrong = bans.variable || bans.parameter in
-      absurd (both wrong (or-right bans.variable bans.parameter banned) (no_fault wrong 9 at (empty_parts (fault_if wrong 9 at) (shifted known.brought bans.shifted_parameter 10 next at) none).0))
+      absurd (both wrong (or-right bans.variable bans.parameter banned) (no_fault wrong 9 at.spot (empty_parts (fault_if wrong 9 at.spot) (shifted bans.shifted_parameter 10 next at) none).0))
   parameter_read banned (leaf.Own k) next at put none = not_own k
   parameter_read banned (leaf.Define k) next at put none = refl
   parameter_read banned (leaf.Hole h) next at put none = refl
 
-  parameter_shifted : bans.shifted_parameter ≡ true → (l : Leaf) (next at : Spot) → in_pattern names params own l ≡ true → leaf_faults in_line_of (Some next) at l ≡ [] → reads_some is_parameter (leaf_formula params l) ≡ false
+  parameter_shifted : bans.shifted_parameter ≡ true → (l : Leaf) (next at : Mark) → in_pattern names params own l ≡ true → leaf_faults in_line_of (Some next) at l ≡ [] → reads_some is_parameter (leaf_formula params l) ≡ false
   parameter_shifted banned (leaf.Truth b) next at put none = refl
   parameter_shifted banned (leaf.Number z) next at put none = refl
   parameter_shifted banned (leaf.EnumName n) next at put none = refl
   parameter_shifted banned (leaf.Variable k) next at put none = absurd (false≢true put)
   parameter_shifted banned (leaf.Parameter k) next at put none =
-      let parts = empty_parts (fault_if (bans.variable || bans.parameter) 9 at) (shifted known.brought bans.shifted_parameter 10 (Some next) at) none in
-      absurd (both bans.shifted_parameter banned (no_fault bans.shifted_parameter 10 (meeting known.brought next at next) parts.1))
+      let parts = empty_parts (fault_if (bans.variable || bans.parameter) 9 at.spot) (shifted bans.shifted_parameter 10 (Some next) at) none in
+      absurd (both bans.shifted_parameter banned (no_fault bans.shifted_parameter 10 (meeting next at next) parts.1))
   parameter_shifted banned (leaf.Own k) next at put none = not_own k
   parameter_shifted banned (leaf.Define k) next at put none = refl
   parameter_shifted banned (leaf.Hole h) next at put none = refl

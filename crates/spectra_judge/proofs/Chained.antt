@@ -11,7 +11,7 @@ use Rattle.spectra_resolved.specs.declared.findings.Finding.{Finding}
 use Rattle.spectra_judge.specs.declared.chains.Opened.{Opened}
 use Rattle.spectra_resolved.specs.Findings.{with_faults}
 use Rattle.spectra_judge.specs.Operators.{is_past}
-use Rattle.spectra_judge.specs.Around.{Around, Brought, first_brought, within}
+use Rattle.spectra_judge.specs.Around.{Around, first_brought, within}
 use Rattle.spectra_judge.specs.Known.{Known, Setting}
 use Rattle.spectra_judge.specs.Judged.{kind_of, faults}
 use Rattle.spectra_judge.specs.Chains.{opened, has_past, brought_in, link_faults, chain_kind, chain_faults}
@@ -28,8 +28,8 @@ chain_kind_is known t (l ∷ ls) = chain_kind_is known (joined t l) ls
 -- ---- what is open
 
 -- each of what is open, by itself
-pub opened_is : (names : Brought) (o : Around) (ls : List LinkData) → opened names o ls ≡ record { next = o.next; past = o.past || has_past ls; brought = outer_or o.brought (brought_in names ls) }
-opened_is names o [] = λ i. record { next = o.next; past = sym (or-false o.past) i; brought = sym (outer_or-none o.brought) i }
+pub opened_is : (o : Around) (ls : List LinkData) → opened o ls ≡ record { next = o.next; past = o.past || has_past ls; brought = outer_or o.brought (brought_in ls) }
+opened_is o [] = λ i. record { next = o.next; past = sym (or-false o.past) i; brought = sym (outer_or-none o.brought) i }
   where
     or-false : (b : Bool) → (b || false) ≡ b
     or-false true = refl
@@ -38,41 +38,40 @@ opened_is names o [] = λ i. record { next = o.next; past = sym (or-false o.past
     outer_or-none : (p : Option Spot) → outer_or p None ≡ p
     outer_or-none (Some at) = refl
     outer_or-none None = refl
-opened_is names o (l ∷ ls) = ap (within names (is_past l.word) l.at) (opened_is names o ls) ∙ by (is_past l.word)
+opened_is o (l ∷ ls) = ap (within (is_past l.word) l.at) (opened_is o ls) ∙ by (is_past l.word)
   where
     or-true : (b : Bool) → true ≡ (b || true)
     or-true true = refl
     or-true false = refl
 
-    one-more : (outer inner : Option Spot) (here : Bool) → first_brought (outer_or outer inner) here l.at ≡ outer_or outer (first_brought inner here l.at)
+    one-more : (outer inner : Option Spot) (here : Bool) → first_brought (outer_or outer inner) here l.at.spot ≡ outer_or outer (first_brought inner here l.at.spot)
     one-more (Some at) inner here = refl
     one-more None inner here = refl
 
-    none-more : (inner : Option Spot) → inner ≡ first_brought inner false l.at
+    none-more : (inner : Option Spot) → inner ≡ first_brought inner false l.at.spot
     none-more (Some at) = refl
     none-more None = refl
 
-    by : (past : Bool) → within names past l.at (record { next = o.next; past = o.past || has_past ls; brought = outer_or o.brought (brought_in names ls) })
-        ≡ record { next = o.next; past = o.past || (past || has_past ls); brought = outer_or o.brought (first_brought (brought_in names ls) (past && names l.at) l.at) }
-    by true = λ i. record { next = o.next; past = or-true o.past i; brought = one-more o.brought (brought_in names ls) (names l.at) i }
-    by false = λ i. record { next = o.next; past = o.past || has_past ls; brought = outer_or o.brought (none-more (brought_in names ls) i) }
+    by : (past : Bool) → within past l.at (record { next = o.next; past = o.past || has_past ls; brought = outer_or o.brought (brought_in ls) })
+        ≡ record { next = o.next; past = o.past || (past || has_past ls); brought = outer_or o.brought (first_brought (brought_in ls) (past && l.at.brought) l.at.spot) }
+    by true = λ i. record { next = o.next; past = or-true o.past i; brought = one-more o.brought (brought_in ls) l.at.brought i }
+    by false = λ i. record { next = o.next; past = o.past || has_past ls; brought = outer_or o.brought (none-more (brought_in ls) i) }
 
-pub next_stays : (names : Brought) (o : Around) (ls : List LinkData) → (opened names o ls).next ≡ o.next
-next_stays names o ls = ap (λ (a : Around). a.next) (opened_is names o ls)
+pub next_stays : (o : Around) (ls : List LinkData) → (opened o ls).next ≡ o.next
+next_stays o ls = ap (λ (a : Around). a.next) (opened_is o ls)
 
 -- ---- faults
 
 pub chain_faults_is : (s : Setting) (o : Around) (found : Option Finding) (t : ResolvedTree) (ls : List LinkData)
-    → with_faults (with_faults found (faults s (opened s.known.brought o ls) t)) (chain_faults s o (kind_of s.known t) ls) ≡ with_faults found (faults s o (chained t ls))
+    → with_faults (with_faults found (faults s (opened o ls) t)) (chain_faults s o (kind_of s.known t) ls) ≡ with_faults found (faults s o (chained t ls))
 chain_faults_is s o found t [] = refl
 chain_faults_is s o found t (l ∷ ls) =
-    let names = s.known.brought in
-    let inner = opened names o (l ∷ ls) in
+    let inner = opened o (l ∷ ls) in
     let k = kind_of s.known t in
     with_faults_append (with_faults found (faults s inner t)) (link_faults s inner o.next k l) (chain_faults s o (kind_of s.known (joined t l)) ls)
     ∙ ap (λ f. with_faults f (chain_faults s o (kind_of s.known (joined t l)) ls))
-    ((λ i. with_faults (with_faults found (faults s inner t)) (link_faults s inner (sym (next_stays names o ls) i) k l))
-    ∙ sym (with_faults_append found (faults s inner t) (link_faults s inner (opened names o ls).next k l)))
+    ((λ i. with_faults (with_faults found (faults s inner t)) (link_faults s inner (sym (next_stays o ls) i) k l))
+    ∙ sym (with_faults_append found (faults s inner t) (link_faults s inner (opened o ls).next k l)))
     ∙ chain_faults_is s o found (joined t l) ls
 
 -- ---- past operators
@@ -91,16 +90,16 @@ has-stays (l ∷ ls) zero (suc m) below e = or-right (is_past (link_data l).word
 has-stays (l ∷ ls) (suc k) zero below e = absurd (omega arith)
 has-stays (l ∷ ls) (suc k) (suc m) below e = has-stays ls k m (omega arith) e
 
-brought-stays : (names : Brought) (at : Spot) (ls : List Link) (k m : ℕ) → k ≤ m → brought_in names (map link_data (drop m ls)) ≡ Some at → brought_in names (map link_data (drop k ls)) ≡ Some at
-brought-stays names at [] zero zero below e = e
-brought-stays names at [] zero (suc m) below e = e
-brought-stays names at [] (suc k) zero below e = e
-brought-stays names at [] (suc k) (suc m) below e = e
-brought-stays names at (l ∷ ls) zero zero below e = e
-brought-stays names at (l ∷ ls) zero (suc m) below e =
-    ap (λ f. first_brought f (is_past (link_data l).word && names (link_data l).at) (link_data l).at) (brought-stays names at ls zero m (omega arith) e)
-brought-stays names at (l ∷ ls) (suc k) zero below e = absurd (omega arith)
-brought-stays names at (l ∷ ls) (suc k) (suc m) below e = brought-stays names at ls k m (omega arith) e
+brought-stays : (at : Spot) (ls : List Link) (k m : ℕ) → k ≤ m → brought_in (map link_data (drop m ls)) ≡ Some at → brought_in (map link_data (drop k ls)) ≡ Some at
+brought-stays at [] zero zero below e = e
+brought-stays at [] zero (suc m) below e = e
+brought-stays at [] (suc k) zero below e = e
+brought-stays at [] (suc k) (suc m) below e = e
+brought-stays at (l ∷ ls) zero zero below e = e
+brought-stays at (l ∷ ls) zero (suc m) below e =
+    ap (λ f. first_brought f (is_past (link_data l).word && (link_data l).at.brought) (link_data l).at.spot) (brought-stays at ls zero m (omega arith) e)
+brought-stays at (l ∷ ls) (suc k) zero below e = absurd (omega arith)
+brought-stays at (l ∷ ls) (suc k) (suc m) below e = brought-stays at ls k m (omega arith) e
 
 -- operators, and the one before a place among them
 module _ (ls : List Link) (last : ℕ) (some : 0 < last) (within_list : last ≤ length ls) (l : Link) (is : l ≡ get_or ls (last - 1) l) where
@@ -131,24 +130,24 @@ module _ (ls : List Link) (last : ℕ) (some : 0 < last) (within_list : last ≤
     ]
 
   -- no body brings a past operator from the place on
-  module _ (names : Brought) (nothing : (place : ℕ) → last ≤ place → brought_in names (map link_data (drop place ls)) ≡ None) where
-    brought_here : (brought : Bool) → (is_past l.word && names l.at) ≡ brought → brought_in names (map link_data (drop (last - 1) ls)) ≡ first_brought None brought l.at
-    brought_here brought same = ap (brought_in names) here ∙ (λ i. first_brought (nothing last (omega arith) i) (same i) l.at)
+  module _ (nothing : (place : ℕ) → last ≤ place → brought_in (map link_data (drop place ls)) ≡ None) where
+    brought_here : (brought : Bool) → (is_past l.word && l.at.brought) ≡ brought → brought_in (map link_data (drop (last - 1) ls)) ≡ first_brought None brought l.at.spot
+    brought_here brought same = ap brought_in here ∙ (λ i. first_brought (nothing last (omega arith) i) (same i) l.at.spot)
 
-    pub bringing_found : (is_past l.word && names l.at) ≡ true → (place : ℕ) → brought_in names (map link_data (drop place ls)) ≡ (if nat_lt place last then Some l.at else None)
+    pub bringing_found : (is_past l.word && l.at.brought) ≡ true → (place : ℕ) → brought_in (map link_data (drop place ls)) ≡ (if nat_lt place last then Some l.at.spot else None)
     bringing_found same place = by (nat_lt place last) refl
       where
-        by : (b : Bool) → nat_lt place last ≡ b → brought_in names (map link_data (drop place ls)) ≡ (if b then Some l.at else None)
-        by true e = let less : place < last = grind (arith, nat_tests) in brought-stays names l.at ls place (last - 1) (omega arith) (brought_here true same)
+        by : (b : Bool) → nat_lt place last ≡ b → brought_in (map link_data (drop place ls)) ≡ (if b then Some l.at.spot else None)
+        by true e = let less : place < last = grind (arith, nat_tests) in brought-stays l.at.spot ls place (last - 1) (omega arith) (brought_here true same)
         by false e = let more : last ≤ place = grind (arith, nat_tests) in nothing place more
 
-    pub not_bringing : (is_past l.word && names l.at) ≡ false → (place : ℕ) → last - 1 ≤ place → brought_in names (map link_data (drop place ls)) ≡ None
+    pub not_bringing : (is_past l.word && l.at.brought) ≡ false → (place : ℕ) → last - 1 ≤ place → brought_in (map link_data (drop place ls)) ≡ None
     not_bringing same place later = elim (cases_lt place last) [
-      | inl before ↦ let e : last - 1 ≡ place = omega arith in subst (λ k. brought_in names (map link_data (drop k ls)) ≡ None) e (brought_here false same)
+      | inl before ↦ let e : last - 1 ≡ place = omega arith in subst (λ k. brought_in (map link_data (drop k ls)) ≡ None) e (brought_here false same)
       | inr more ↦ nothing place more
     ]
 
 -- all that is open
-pub opened_by : (names : Brought) (ls : List LinkData) (w : Opened) (place : ℕ) → has_past ls ≡ nat_lt place w.past → brought_in names ls ≡ (if nat_lt place w.bringing.until then w.bringing.first else None)
-    → (o : Around) → opened names o ls ≡ opened_at w o place
-opened_by names ls w place past brought o = opened_is names o ls ∙ (λ i. record { next = o.next; past = o.past || past i; brought = outer_or o.brought (brought i) })
+pub opened_by : (ls : List LinkData) (w : Opened) (place : ℕ) → has_past ls ≡ nat_lt place w.past → brought_in ls ≡ (if nat_lt place w.bringing.until then w.bringing.first else None)
+    → (o : Around) → opened o ls ≡ opened_at w o place
+opened_by ls w place past brought o = opened_is o ls ∙ (λ i. record { next = o.next; past = o.past || past i; brought = outer_or o.brought (brought i) })

@@ -52,12 +52,12 @@ module _ (s : Setting) (o : Around) (ls : List Link) (k : ℕ) (l : Link) (below
   pub kind_left : chain_kind s.known given (map link_data (drop (k + 1) ls)) ≡ chain_kind s.known kind (map link_data (drop k ls))
   kind_left = sym (ap (chain_kind s.known kind) (mapped_left link_data ls k l below is))
 
-  pub link_left : (found : Option Finding) (inner : Around) → inner ≡ opened s.known.brought o (map link_data (drop k ls))
+  pub link_left : (found : Option Finding) (inner : Around) → inner ≡ opened o (map link_data (drop k ls))
       → with_faults (with_faults found (link_faults s inner o.next kind (link_data l))) (chain_faults s o given (map link_data (drop (k + 1) ls)))
       ≡ with_faults found (chain_faults s o kind (map link_data (drop k ls)))
   link_left found inner same =
       let later = map link_data (drop (k + 1) ls) in
       let all = mapped_left link_data ls k l below is in
-      (λ i. with_faults (with_faults found (link_faults s ((same ∙ ap (opened s.known.brought o) all) i) o.next kind (link_data l))) (chain_faults s o given later))
-      ∙ sym (with_faults_append found (link_faults s (opened s.known.brought o (link_data l ∷ later)) o.next kind (link_data l)) (chain_faults s o given later))
+      (λ i. with_faults (with_faults found (link_faults s ((same ∙ ap (opened o) all) i) o.next kind (link_data l))) (chain_faults s o given later))
+      ∙ sym (with_faults_append found (link_faults s (opened o (link_data l ∷ later)) o.next kind (link_data l)) (chain_faults s o given later))
       ∙ sym (ap (λ ms. with_faults found (chain_faults s o kind ms)) all)

@@ -9,8 +9,8 @@ pub mod Spans
 pub mod KindsFit
 pub mod Nesting
 pub mod Typed
-pub mod Searching
 pub mod Least
+pub mod Found
 pub mod Lines
 pub mod Banned
 pub mod Bans

@@ -9,6 +9,7 @@ use Rattle.spec_model.specs.Typing as model
 use Rattle.spec_model.specs.Values.{DomainData, TruthValues}
 use Rattle.spec_model.specs.WellTyped.{is_typed}
 use Rattle.spectra_resolved.specs.declared.spot.Spot.{Spot}
+use Rattle.spectra_resolved.specs.declared.spot.Mark.{Mark}
 use Rattle.spectra_resolved.specs.declared.stand.Stand.{Stand}
 use Rattle.spectra_resolved.specs.declared.stand.Stand.TheVariants as stand
 use Rattle.spectra_resolved.specs.declared.tree.Leaf.{Leaf}
@@ -66,10 +67,10 @@ module _ (known : Known) (names : ℕ) (bans : Bans) where
   abbrev s : Setting
   s = record { known = known; bans = bans }
 
-  line_leaf : (domains : List DomainData) → known.variables ≡ map domain_kind domains → list_all has_room (map domain_kind domains) ≡ true → (l : Leaf) (o : Around) (at : Spot) → in_line names (length domains) l ≡ true → leaf_faults s o.next at l ≡ []
+  line_leaf : (domains : List DomainData) → known.variables ≡ map domain_kind domains → list_all has_room (map domain_kind domains) ≡ true → (l : Leaf) (o : Around) (at : Mark) → in_line names (length domains) l ≡ true → leaf_faults s o.next at l ≡ []
       → IsSound known (record { domains = domains; tables = [] }) names 0 o (Form.LeafOf l)
   line_leaf domains same room (leaf.Truth b) o at good none = record { fits = refl; stands = refl }
-  line_leaf domains same room (leaf.Number z) o at good none = record { fits = number_fits z at none; stands = refl }
+  line_leaf domains same room (leaf.Number z) o at good none = record { fits = number_fits z at.spot none; stands = refl }
   line_leaf domains same room (leaf.EnumName n) o at good none = record { fits = refl; stands = cut_below n names good }
   line_leaf domains same room (leaf.Variable k) o at good none =
       record {
@@ -81,11 +82,11 @@ module _ (known : Known) (names : ℕ) (bans : Bans) where
   line_leaf domains same room (leaf.Define k) o at good none = absurd (false≢true good)
   line_leaf domains same room (leaf.Hole h) o at good none = absurd (false≢true good)
 
-  pattern_leaf : (params : ℕ) (own : List DomainData) → known.parameters ≡ replicate params Truth → known.own ≡ map domain_kind own → list_all has_room (map domain_kind own) ≡ true → (l : Leaf) (o : Around) (at : Spot)
+  pattern_leaf : (params : ℕ) (own : List DomainData) → known.parameters ≡ replicate params Truth → known.own ≡ map domain_kind own → list_all has_room (map domain_kind own) ≡ true → (l : Leaf) (o : Around) (at : Mark)
       → in_pattern names params (length own) l ≡ true → leaf_faults s o.next at l ≡ []
       → IsSound known (record { domains = replicate params TruthValues ++ own; tables = [] }) names params o (Form.LeafOf l)
   pattern_leaf params own same same' room (leaf.Truth b) o at good none = record { fits = refl; stands = refl }
-  pattern_leaf params own same same' room (leaf.Number z) o at good none = record { fits = number_fits z at none; stands = refl }
+  pattern_leaf params own same same' room (leaf.Number z) o at good none = record { fits = number_fits z at.spot none; stands = refl }
   pattern_leaf params own same same' room (leaf.EnumName n) o at good none = record { fits = refl; stands = cut_below n names good }
   pattern_leaf params own same same' room (leaf.Parameter k) o at good none =
       record {
@@ -124,7 +125,7 @@ module _ (known : Known) (sc : model.Scope) (names params : ℕ) (good : Leaf �
   abbrev in_stand : Setting
   in_stand = record { known = known; bans = bans_of at }
 
-  typed : ((l : Leaf) (o : Around) (spot : Spot) → good l ≡ true → leaf_faults in_stand o.next spot l ≡ [] → IsSound known sc names params o (Form.LeafOf l))
+  typed : ((l : Leaf) (o : Around) (place : Mark) → good l ≡ true → leaf_faults in_stand o.next place l ≡ [] → IsSound known sc names params o (Form.LeafOf l))
       → wants_truth at ≡ true → is_put_in good t ≡ true → faults_of known at t ≡ [] → is_typed sc names (erased params t) ≡ true
   typed leaf_sound wants put none =
       let parts = empty_parts (faults in_stand nothing_open t) (wrong (is_wanted at (kind_of known t)) (first_of t)) none in

@@ -6,6 +6,7 @@ use Rattle.spec_model.specs.Typing as model
 use Rattle.spec_model.specs.Typing.{truth_if}
 use Rattle.spec_model.specs.WellTyped.{is_nested_well, are_nested_well}
 use Rattle.spectra_resolved.specs.declared.spot.Spot.{Spot}
+use Rattle.spectra_resolved.specs.declared.spot.Mark.{Mark}
 use Rattle.spectra_resolved.specs.declared.tree.Leaf.{Leaf}
 use Rattle.spectra_resolved.specs.Resolved.{ResolvedTree, tree, Form, ResolvedTrees}
 use Rattle.spectra_judge.specs.Findings.{fault_if}
@@ -27,7 +28,7 @@ pub record IsSound (known : Known) (sc : model.Scope) (names params : ℕ) (o : 
 
 -- Let each part without parts that passes the test be sound.
 module _ (s : Setting) (sc : model.Scope) (names params : ℕ) (good : Leaf → Bool)
-    (leaf_sound : (l : Leaf) (o : Around) (at : Spot) → good l ≡ true → leaf_faults s o.next at l ≡ [] → IsSound s.known sc names params o (Form.LeafOf l)) where
+    (leaf_sound : (l : Leaf) (o : Around) (at : Mark) → good l ≡ true → leaf_faults s o.next at l ≡ [] → IsSound s.known sc names params o (Form.LeafOf l)) where
   abbrev Sound : Around → Form → Type 0
   Sound = IsSound s.known sc names params
 
@@ -41,13 +42,13 @@ module _ (s : Setting) (sc : model.Scope) (names params : ℕ) (good : Leaf → 
     pub sound : (t : ResolvedTree) (o : Around) → is_put_in good t ≡ true → faults s o t ≡ [] → Stands o t
     sound (tree first at form) o put none = let is = form_sound form o at put none in (is.fits, is.stands)
 
-    form_sound : (form : Form) (o : Around) (at : Spot) → form_put_in good form ≡ true → form_faults s o at form ≡ [] → Sound o form
+    form_sound : (form : Form) (o : Around) (at : Mark) → form_put_in good form ≡ true → form_faults s o at form ≡ [] → Sound o form
     form_sound (Form.LeafOf l) o at put none = leaf_sound l o at put none
     form_sound (Form.PredicateOf k ts) o at put none = absurd (false≢true put)
     form_sound (Form.MisuseOf m ts) o at put none = absurd (false≢true put)
     form_sound (Form.Next t) o at put none =
-        let parts = empty_parts (next_faults s.known.brought s.bans o at) (faults s (under_next at o) t) none in
-        let open' = next_free s.known.brought s.bans o at parts.0 in
+        let parts = empty_parts (next_faults s.bans o at) (faults s (under_next at o) t) none in
+        let open' = next_free s.bans o at parts.0 in
         let is = sound t (under_next at o) put parts.1 in
         let inner : is_nested_well names true o.past (erased params t) ≡ true = is.1 in
         record {
@@ -56,37 +57,37 @@ module _ (s : Setting) (sc : model.Scope) (names params : ℕ) (good : Leaf → 
         }
     form_sound (Form.Prefix word t) o at put none =
         let past = is_past_prefix word in
-        let parts = empty_parts (operator_faults s past o.next at) (faults s (within s.known.brought past at o) t ++ wrong (is_truth (kind t)) at) none in
-        let more = empty_parts (faults s (within s.known.brought past at o) t) (wrong (is_truth (kind t)) at) parts.1 in
-        let is = sound t (within s.known.brought past at o) put more.0 in
+        let parts = empty_parts (operator_faults s past o.next at) (faults s (within past at o) t ++ wrong (is_truth (kind t)) at.spot) none in
+        let more = empty_parts (faults s (within past at o) t) (wrong (is_truth (kind t)) at.spot) parts.1 in
+        let is = sound t (within past at o) put more.0 in
         record {
-          fits = prefix_fits sc word (erased params t) (truth_fits (kind t) (model.kind_of sc (erased params t)) (right (is_truth (kind t)) at more.1) is.0);
+          fits = prefix_fits sc word (erased params t) (truth_fits (kind t) (model.kind_of sc (erased params t)) (right (is_truth (kind t)) at.spot more.1) is.0);
           stands = prefix_stands s names o at word (erased params t) parts.0 is.1;
         }
     form_sound (Form.Binary word a b) o at put none =
         let past = is_past word in
-        let own = binary_faults word (kind a) (kind b) at in
-        let parts = empty_parts (faults s (within s.known.brought past at o) a) (operator_faults s past o.next at ++ (faults s (within s.known.brought past at o) b ++ own)) none in
-        let more = empty_parts (operator_faults s past o.next at) (faults s (within s.known.brought past at o) b ++ own) parts.1 in
-        let last = empty_parts (faults s (within s.known.brought past at o) b) own more.1 in
+        let own = binary_faults word (kind a) (kind b) at.spot in
+        let parts = empty_parts (faults s (within past at o) a) (operator_faults s past o.next at ++ (faults s (within past at o) b ++ own)) none in
+        let more = empty_parts (operator_faults s past o.next at) (faults s (within past at o) b ++ own) parts.1 in
+        let last = empty_parts (faults s (within past at o) b) own more.1 in
         let puts = and_parts (is_put_in good a) (is_put_in good b) put in
-        let first = sound a (within s.known.brought past at o) puts.0 parts.0 in
-        let second = sound b (within s.known.brought past at o) puts.1 last.0 in
+        let first = sound a (within past at o) puts.0 parts.0 in
+        let second = sound b (within past at o) puts.1 last.0 in
         record {
-          fits = binary_fits sc word at (kind a) (kind b) (erased params a) (erased params b) last.1 first.0 second.0;
+          fits = binary_fits sc word at.spot (kind a) (kind b) (erased params a) (erased params b) last.1 first.0 second.0;
           stands = binary_stands s names o at word (erased params a) (erased params b) more.0 first.1 second.1;
         }
     form_sound (Form.Mod t number_at n) o at put none =
-        let parts = empty_parts (faults s o t) (remainder_faults (kind t) at number_at n) none in
-        let own = empty_parts (wrong (is_whole (kind t)) at) (fault_if (int_le n (pos 0)) 14 number_at ++ wide (reduced n) at) parts.1 in
+        let parts = empty_parts (faults s o t) (remainder_faults (kind t) at.spot number_at n) none in
+        let own = empty_parts (wrong (is_whole (kind t)) at.spot) (fault_if (int_le n (pos 0)) 14 number_at ++ wide (reduced n) at.spot) parts.1 in
         let is = sound t o put parts.0 in
-        let span = whole_fits (kind t) (model.kind_of sc (erased params t)) (right (is_whole (kind t)) at own.0) is.0 in
+        let span = whole_fits (kind t) (model.kind_of sc (erased params t)) (right (is_whole (kind t)) at.spot own.0) is.0 in
         record {
-          fits = remainder_fits sc n at number_at (kind t) (model.kind_of sc (erased params t)) span own.1;
+          fits = remainder_fits sc n at.spot number_at (kind t) (model.kind_of sc (erased params t)) span own.1;
           stands = is.1;
         }
-    form_sound (Form.And ts operators) o at put none = let are = each_sound ts o at (at ∷ operators) put none in record { fits = ap truth_if are.0; stands = are.1 }
-    form_sound (Form.Or ts operators) o at put none = let are = each_sound ts o at (at ∷ operators) put none in record { fits = ap truth_if are.0; stands = are.1 }
+    form_sound (Form.And ts operators) o at put none = let are = each_sound ts o at.spot (at.spot ∷ operators) put none in record { fits = ap truth_if are.0; stands = are.1 }
+    form_sound (Form.Or ts operators) o at put none = let are = each_sound ts o at.spot (at.spot ∷ operators) put none in record { fits = ap truth_if are.0; stands = are.1 }
 
     each_sound : (ts : ResolvedTrees) (o : Around) (at : Spot) (operators : List Spot) → each_put_in good ts ≡ true → operand_faults s o at operators ts ≡ []
         → (model.are_truths sc (each_erased params ts) ≡ true) × (are_nested_well names (is_some o.next) o.past (each_erased params ts) ≡ true)

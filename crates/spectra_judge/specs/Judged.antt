@@ -3,6 +3,7 @@ use Rattle.spectra_trees.specs.Faults.{WideInt, WrongType, number_of}
 use Rattle.std.specs.Prelude.{ℤ, pos, int_le, Bool, not, if◌then◌else◌, List, [], ◌∷◌, ◌++◌, Option, Some, None, get_or, drop}
 use Rattle.spectra_trees.specs.declared.tree.BinaryWord.{BinaryWord}
 use Rattle.spectra_resolved.specs.declared.spot.Spot.{Spot}
+use Rattle.spectra_resolved.specs.declared.spot.Mark.{Mark}
 use Rattle.spectra_resolved.specs.declared.stand.Stand.{Stand}
 use Rattle.spectra_resolved.specs.declared.tree.Leaf.{Leaf}
 use Rattle.spectra_resolved.specs.declared.tree.Leaf.TheVariants as leaf
@@ -75,23 +76,23 @@ abbrev pub remainder_faults : Kind → (operator number_at : Spot) → ℤ → L
 remainder_faults k operator number_at n = wrong (is_whole k) operator ++ (fault_if (int_le n (pos 0)) (number_of WideInt) number_at ++ wide (reduced n) operator)
 
 -- an operator where it stands, which speaks of the past or not
-abbrev pub operator_faults : Setting → (past : Bool) → (next : Option Spot) → Spot → List Finding
-operator_faults s past next at = if past then past_faults s.known.brought s.bans next at else []
+abbrev pub operator_faults : Setting → (past : Bool) → (next : Option Mark) → Mark → List Finding
+operator_faults s past next at = if past then past_faults s.bans next at else []
 
-abbrev pub leaf_faults : Setting → (next : Option Spot) → Spot → Leaf → List Finding
-leaf_faults s next at (leaf.Number z) = wide (Whole z z) at
-leaf_faults s next at (leaf.Variable k) = variable_faults s.known.brought s.bans next at (is_system s.known k)
-leaf_faults s next at (leaf.Parameter k) = parameter_faults s.known.brought s.bans next at
-leaf_faults s next at (leaf.Own k) = own_faults s.bans at
+abbrev pub leaf_faults : Setting → (next : Option Mark) → Mark → Leaf → List Finding
+leaf_faults s next at (leaf.Number z) = wide (Whole z z) at.spot
+leaf_faults s next at (leaf.Variable k) = variable_faults s.bans next at (is_system s.known k)
+leaf_faults s next at (leaf.Parameter k) = parameter_faults s.bans next at
+leaf_faults s next at (leaf.Own k) = own_faults s.bans at.spot
 leaf_faults s next at _ = []
 
 -- A misused name is a fault at the name. One behind which there may be no parentheses is read all the same.
-abbrev pub called_faults : Setting → (next : Option Spot) → Spot → Misuse → List Finding
+abbrev pub called_faults : Setting → (next : Option Mark) → Mark → Misuse → List Finding
 called_faults s next at (misuse.Called l) = leaf_faults s next at l
 called_faults s next at _ = []
 
-abbrev pub misuse_faults : Setting → (next : Option Spot) → Spot → Misuse → List Finding
-misuse_faults s next at m = fault (fault_of m) at ∷ called_faults s next at m
+abbrev pub misuse_faults : Setting → (next : Option Mark) → Mark → Misuse → List Finding
+misuse_faults s next at m = fault (fault_of m) at.spot ∷ called_faults s next at m
 
 -- ---- the faults of an expression
 
@@ -102,19 +103,19 @@ abbrev mutual
   pub faults : Setting → Around → ResolvedTree → List Finding
   faults s o (tree first at form) = form_faults s o at form
 
-  pub form_faults : Setting → Around → Spot → Form → List Finding
+  pub form_faults : Setting → Around → Mark → Form → List Finding
   form_faults s o at (Form.LeafOf l) = leaf_faults s o.next at l
   form_faults s o at (Form.PredicateOf k ts) = argument_faults s o (wanted s.known (Some k)) ts
   form_faults s o at (Form.MisuseOf m ts) = misuse_faults s o.next at m ++ argument_faults s o (wanted s.known None) ts
-  form_faults s o at (Form.Next t) = next_faults s.known.brought s.bans o at ++ faults s (under_next at o) t
+  form_faults s o at (Form.Next t) = next_faults s.bans o at ++ faults s (under_next at o) t
   form_faults s o at (Form.Prefix word t) =
-      operator_faults s (is_past_prefix word) o.next at ++ (faults s (within s.known.brought (is_past_prefix word) at o) t ++ wrong (is_truth (kind_of s.known t)) at)
+      operator_faults s (is_past_prefix word) o.next at ++ (faults s (within (is_past_prefix word) at o) t ++ wrong (is_truth (kind_of s.known t)) at.spot)
   form_faults s o at (Form.Binary word a b) =
-      faults s (within s.known.brought (is_past word) at o) a
-      ++ (operator_faults s (is_past word) o.next at ++ (faults s (within s.known.brought (is_past word) at o) b ++ binary_faults word (kind_of s.known a) (kind_of s.known b) at))
-  form_faults s o at (Form.Mod t number_at n) = faults s o t ++ remainder_faults (kind_of s.known t) at number_at n
-  form_faults s o at (Form.And ts operators) = operand_faults s o at (at ∷ operators) ts
-  form_faults s o at (Form.Or ts operators) = operand_faults s o at (at ∷ operators) ts
+      faults s (within (is_past word) at o) a
+      ++ (operator_faults s (is_past word) o.next at ++ (faults s (within (is_past word) at o) b ++ binary_faults word (kind_of s.known a) (kind_of s.known b) at.spot))
+  form_faults s o at (Form.Mod t number_at n) = faults s o t ++ remainder_faults (kind_of s.known t) at.spot number_at n
+  form_faults s o at (Form.And ts operators) = operand_faults s o at.spot (at.spot ∷ operators) ts
+  form_faults s o at (Form.Or ts operators) = operand_faults s o at.spot (at.spot ∷ operators) ts
 
   -- Operands of a conjunction or disjunction, each with the operator before it, and the first one with the operator behind it.
   pub operand_faults : Setting → Around → (at : Spot) → (operators : List Spot) → ResolvedTrees → List Finding

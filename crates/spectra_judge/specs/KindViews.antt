@@ -5,7 +5,6 @@ use Rattle.spectra_judge.specs.Kinds.{Kind, Truth, Whole, SomeWhole, NameOf, One
 use Rattle.std.specs.Prelude.{map}
 use Rattle.spectra_judge.specs.declared.known.Known as code_known
 use Rattle.spectra_judge.specs.declared.known.Setting as code_setting
-use Rattle.spectra_judge.specs.Around.{is_brought}
 use Rattle.spectra_judge.specs.Known.{Known, Setting}
 
 abbrev pub kind_data : code.Kind → Kind
@@ -25,7 +24,6 @@ known_data k =
       predicates = map (λ ks. map kind_data ks.items) k.predicates.now;
       parameters = map kind_data k.parameters.now;
       own = map kind_data k.own.now;
-      brought = is_brought k.brought.now;
     }
 
 abbrev pub setting_data : code_setting.Setting → Setting

@@ -1,11 +1,10 @@
 -- What is known of the names in an expression.
 use Rattle.std.specs.Prelude.{ℕ, Bool, false, List, [], Option, Some, None, get_or}
 use Rattle.spectra_judge.specs.Kinds.{Kind}
-use Rattle.spectra_judge.specs.Around.{Brought}
 use Rattle.spectra_judge.specs.Standings.{Bans}
 
 -- The kinds of variables, of definitions that are defines, of the parameters of those that are predicates, and of the
--- parameters and own variables around the expression; which variables are the system's; and which names bring bodies.
+-- parameters and own variables around the expression; and which variables are the system's.
 pub record Known : Type 0 where
   pub variables : List Kind
   pub system : List Bool
@@ -13,7 +12,6 @@ pub record Known : Type 0 where
   pub predicates : List (List Kind)
   pub parameters : List Kind
   pub own : List Kind
-  pub brought : Brought
 
 -- an expression is judged by what is known of its names, and by what may not stand in it
 pub record Setting : Type 0 where

@@ -5,7 +5,6 @@ pub mod Standings
 pub mod Wanting
 pub mod Findings
 pub mod Around
-pub mod Rising
 pub mod Known
 pub mod Judged
 pub mod Chains

@@ -1,19 +1,43 @@
-//! What is open around a part of an expression.
+//! What is open around a part of an expression, and where a fault of two parts stands.
 
 ghost use Rattle.std.specs.Prelude.{◌≡◌};
-ghost use Rattle.spectra_judge.specs.Around.{nothing_open as nothing_open_lem, outer_of as outer_of_lem, under_next as under_next_lem, is_brought as is_brought_lem, first_brought as first_brought_lem, within as within_lem};
-ghost use Rattle.spectra_judge.specs.Rising.{AreRising};
+ghost use Rattle.spectra_judge.specs.Around.{comes_before as comes_before_lem, meeting as meeting_lem, nothing_open as nothing_open_lem, outer_of as outer_of_lem, under_next as under_next_lem, first_brought as first_brought_lem, within as within_lem};
 
-use crate::brought::is_brought;
-use spectra_resolved::spot::Spot;
+use spectra_resolved::spot::{Mark, Spot};
 
-/// What is open around a part: the outermost `next` by its place, whether there is a past operator, and the outermost one of
+/// What is open around a part: the outermost `next`, whether there is a past operator, and the place of the outermost one of
 /// those that bodies bring.
 #[derive(Clone, Copy)]
 pub struct Around {
-    pub next: Option<Spot>,
+    pub next: Option<Mark>,
     pub past: bool,
     pub brought: Option<Spot>,
+}
+
+/// Whether a place comes before another.
+pub fn comes_before(a: Spot, b: Spot) -> bool
+    ensures { result ≡ comes_before_lem a b }
+{
+    if a.file != b.file {
+        a.file < b.file
+    } else if a.line != b.line {
+        a.line < b.line
+    } else {
+        a.column < b.column
+    }
+}
+
+/// Where a fault of two parts stands, and at `said` where no body brings either.
+pub fn meeting(outer: Mark, inner: Mark, said: Mark) -> Spot
+    ensures { result ≡ meeting_lem outer inner said }
+{
+    if outer.brought {
+        outer.spot
+    } else if inner.brought {
+        inner.spot
+    } else {
+        said.spot
+    }
 }
 
 /// Nothing is open.
@@ -28,7 +52,7 @@ pub fn nothing_open() -> Around
 }
 
 // The outer one of two that are open.
-fn outer_of(outer: Option<Spot>, at: Spot) -> Spot
+fn outer_of(outer: Option<Mark>, at: Mark) -> Mark
     ensures { result ≡ outer_of_lem outer at }
 {
     match outer {
@@ -38,7 +62,7 @@ fn outer_of(outer: Option<Spot>, at: Spot) -> Spot
 }
 
 /// What is open in the operand of a `next`.
-pub fn under_next(at: Spot, around: Around) -> Around
+pub fn under_next(at: Mark, around: Around) -> Around
     ensures { result ≡ under_next_lem at around }
 {
     Around {
@@ -48,33 +72,25 @@ pub fn under_next(at: Spot, around: Around) -> Around
     }
 }
 
-/// The outermost past operator that a body brings, with one more at a place inside.
-pub fn first_brought(names: &[Spot], outer: Option<Spot>, at: Spot) -> Option<Spot>
-    requires rising { AreRising names.now }
-    ensures { result ≡ first_brought_lem outer (is_brought_lem names.now at) at }
+// The outermost past operator that a body brings, with one more inside.
+fn first_brought(outer: Option<Spot>, at: Mark) -> Option<Spot>
+    ensures { result ≡ first_brought_lem outer at.brought at.spot }
 {
     match outer {
         Some(outer) => Some(outer),
-        None => {
-            if is_brought(names, at) {
-                Some(at)
-            } else {
-                None
-            }
-        }
+        None => { if at.brought { Some(at.spot) } else { None } }
     }
 }
 
 /// What is open in the operands of an operator, which speaks of the past or not.
-pub fn within(names: &[Spot], past: bool, at: Spot, around: Around) -> Around
-    requires rising { AreRising names.now }
-    ensures { result ≡ within_lem (is_brought_lem names.now) past at around }
+pub fn within(past: bool, at: Mark, around: Around) -> Around
+    ensures { result ≡ within_lem past at around }
 {
     if past {
         Around {
             next: around.next,
             past: true,
-            brought: first_brought(names, around.brought, at),
+            brought: first_brought(around.brought, at),
         }
     } else {
         around

@@ -3,14 +3,12 @@
 ghost use Rattle.std.specs.Prelude.{◌≡◌, ℕ, ◌∷◌, ◌&&◌, get_or, map, drop, nat_lt, if◌then◌else◌, None};
 ghost use Rattle.spectra_resolved.specs.Views.{resolved_data, link_data};
 ghost use Rattle.spectra_judge.specs.Operators.{is_past as is_past_lem};
-ghost use Rattle.spectra_judge.specs.Around.{Around, is_brought as is_brought_lem};
-ghost use Rattle.spectra_judge.specs.Rising.{AreRising};
+ghost use Rattle.spectra_judge.specs.Around.{Around};
 ghost use Rattle.spectra_judge.specs.Judged.{first_of as first_of_lem};
 ghost use Rattle.spectra_judge.specs.Chains.{opened, has_past, brought_in};
 ghost use Rattle.spectra_judge.specs.OpenedViews.{outer_or, opened_at};
 
 use crate::around::Around;
-use crate::brought::is_brought;
 use crate::operators::is_past;
 use spectra_resolved::spot::Spot;
 use spectra_resolved::tree::{Link, Resolved};
@@ -76,25 +74,23 @@ fn past_until(links: &[Link]) -> usize
 }
 
 // Whether an operator is a past operator that a body brings.
-fn brings_past(names: &[Spot], link: &Link) -> bool
-    requires rising { AreRising names.now }
-    ensures { result ≡ (is_past_lem link.now.word && is_brought_lem names.now link.now.at) }
+fn brings_past(link: &Link) -> bool
+    ensures { result ≡ (is_past_lem link.now.word && link.now.at.brought) }
 {
-    is_past(link.word) && is_brought(names, link.at)
+    is_past(link.word) && link.at.brought
 }
 
 // How many operators have a past operator behind them that a body brings or are one, and the last of these.
-fn bringing_in(names: &[Spot], links: &[Link]) -> Bringing
-    requires rising { AreRising names.now }
-    ensures { (place : ℕ) → brought_in (is_brought_lem names.now) (map link_data (drop place links.now)) ≡ (if nat_lt place result.until then result.first else None) }
+fn bringing_in(links: &[Link]) -> Bringing
+    ensures { (place : ℕ) → brought_in (map link_data (drop place links.now)) ≡ (if nat_lt place result.until then result.first else None) }
 {
     let mut last = links.len();
     while last > 0 {
         let link = &links[last - 1];
-        if brings_past(names, link) {
+        if brings_past(link) {
             return Bringing {
                 until: last,
-                first: Some(link.at),
+                first: Some(link.at.spot),
             };
         }
         last -= 1;
@@ -107,13 +103,12 @@ fn bringing_in(names: &[Spot], links: &[Link]) -> Bringing
 
 /// What is open in the operands of operators.
 #[inline(never)]
-pub fn opened_in(names: &[Spot], links: &[Link]) -> Opened
-    requires rising { AreRising names.now }
-    ensures { (around : Around) (place : ℕ) → opened (is_brought_lem names.now) around (map link_data (drop place links.now)) ≡ opened_at result around place }
+pub fn opened_in(links: &[Link]) -> Opened
+    ensures { (around : Around) (place : ℕ) → opened around (map link_data (drop place links.now)) ≡ opened_at result around place }
 {
     Opened {
         past: past_until(links),
-        bringing: bringing_in(names, links),
+        bringing: bringing_in(links),
     }
 }
 

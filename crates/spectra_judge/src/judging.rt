@@ -4,7 +4,6 @@ ghost use Rattle.std.specs.Prelude.{◌≡◌};
 ghost use Rattle.spectra_resolved.specs.Views.{resolved_data};
 ghost use Rattle.spectra_resolved.specs.Findings.{first_of_faults};
 ghost use Rattle.spectra_judge.specs.KindViews.{kind_data, known_data};
-ghost use Rattle.spectra_judge.specs.Rising.{AreRising};
 ghost use Rattle.spectra_judge.specs.Judged.{kind_of, faults_of};
 
 use crate::around::nothing_open;
@@ -29,7 +28,6 @@ pub struct Judged<'a> {
 /// The kind of an expression that stands somewhere, and the first of its faults, also of misused names: the one at the least place, and
 /// of several there the one with the smallest number. It takes no memory.
 pub fn judge<'a>(known: &Known<'_, 'a>, stand: Stand, tree: &Resolved) -> Judged<'a>
-    requires rising { AreRising known.now.brought.now }
     ensures kind { kind_data result.kind ≡ kind_of (known_data known.now) (resolved_data tree.now) }
     ensures fault { result.fault ≡ first_of_faults (faults_of (known_data known.now) stand (resolved_data tree.now)) }
 {

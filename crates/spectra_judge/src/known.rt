@@ -7,12 +7,10 @@ ghost use Rattle.spectra_judge.specs.Known.{is_system as is_system_lem, wanted a
 
 use crate::kind::Kind;
 use crate::standing::Bans;
-use spectra_resolved::spot::Spot;
 
 /// The kinds of variables, of the definitions that are defines, of the parameters of those that are predicates, and of the
 /// parameters and own variables around the expression; and which variables are the system's. All are listed by number, and
-/// past the end nothing is known. `brought` has the places of the names whose bodies are put in: none, where the expression
-/// is as it is written.
+/// past the end nothing is known.
 #[derive(Clone, Copy)]
 pub struct Known<'s, 'a> {
     pub variables: &'s [Kind<'a>],
@@ -21,7 +19,6 @@ pub struct Known<'s, 'a> {
     pub predicates: &'s [Vec<Kind<'a>>],
     pub parameters: &'s [Kind<'a>],
     pub own: &'s [Kind<'a>],
-    pub brought: &'s [Spot],
 }
 
 /// What is known of the names, and what may not stand in the expression.

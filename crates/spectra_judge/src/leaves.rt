@@ -4,7 +4,6 @@ ghost use Rattle.std.specs.Prelude.{◌≡◌};
 ghost use Rattle.spectra_resolved.specs.Findings.{with_faults};
 ghost use Rattle.spectra_resolved.specs.Reports.{found_in};
 ghost use Rattle.spectra_judge.specs.KindViews.{kind_data, known_data, setting_data};
-ghost use Rattle.spectra_judge.specs.Rising.{AreRising};
 ghost use Rattle.spectra_judge.specs.Judged.{hole_kind as hole_kind_lem, leaf_kind as leaf_kind_lem, misuse_kind as misuse_kind_lem, wrong, wide, binary_faults, remainder_faults, leaf_faults, misuse_faults};
 
 use crate::findings::report_if;
@@ -14,7 +13,7 @@ use crate::misplaced::{report_own, report_parameter, report_variable};
 use crate::operators::{gives, takes};
 use spectra_resolved::findings::Findings;
 use spectra_resolved::resolving::fault_of;
-use spectra_resolved::spot::Spot;
+use spectra_resolved::spot::{Mark, Spot};
 use spectra_resolved::tree::{Hole, Leaf, Misuse};
 use spectra_trees::faults::{WIDE_INT, WRONG_TYPE};
 use spectra_trees::tree::BinaryWord;
@@ -105,21 +104,20 @@ pub fn report_remainder(
 pub fn report_leaf(
     findings: &mut Findings,
     setting: &Setting<'_, '_>,
-    next: Option<Spot>,
-    at: Spot,
+    next: Option<Mark>,
+    at: Mark,
     leaf: Leaf,
 )
-    requires rising { AreRising setting.now.known.brought.now }
     ensures { found_in findings.new ≡ with_faults (found_in findings.old) (leaf_faults (setting_data setting.now) next at leaf) }
 {
     match leaf {
-        Leaf::Number(z) => report_wide(findings, Kind::Whole(z, z), at),
+        Leaf::Number(z) => report_wide(findings, Kind::Whole(z, z), at.spot),
         Leaf::Variable(k) => {
             let system = setting.known.is_system(k);
             report_variable(findings, setting, next, at, system);
         }
         Leaf::Parameter(_) => report_parameter(findings, setting, next, at),
-        Leaf::Own(_) => report_own(findings, setting, at),
+        Leaf::Own(_) => report_own(findings, setting, at.spot),
         Leaf::Truth(_) => {}
         Leaf::EnumName(_) => {}
         Leaf::Define(_) => {}
@@ -132,14 +130,13 @@ pub fn report_leaf(
 pub fn report_misuse(
     findings: &mut Findings,
     setting: &Setting<'_, '_>,
-    next: Option<Spot>,
-    at: Spot,
+    next: Option<Mark>,
+    at: Mark,
     misuse: Misuse,
 )
-    requires rising { AreRising setting.now.known.brought.now }
     ensures { found_in findings.new ≡ with_faults (found_in findings.old) (misuse_faults (setting_data setting.now) next at misuse) }
 {
-    findings.report(fault_of(misuse), at);
+    findings.report(fault_of(misuse), at.spot);
     match misuse {
         Misuse::Called(leaf) => report_leaf(findings, setting, next, at, leaf),
         Misuse::Unknown => {}

@@ -4,12 +4,12 @@
 //! An expression is judged by itself: what its names stand for is handed in, and no body is looked at. So one and the same
 //! call judges a text as it is written, and the text with all bodies put in.
 //!
-//! Contract: `judge` gives the kind that the table of operators makes, and the first fault, or none exactly where there is none.
+//! Contract: `judge` gives the kind that the table of operators makes, and the first fault, or none exactly where there is none;
+//! `report_faults` puts it among other faults.
 //! Path: text → tokens → trees → resolved trees → **judge** → specification → game → regions → layers → strategy → verdict → lines.
 #![tactic(auto)]
 
 pub mod around;
-pub mod brought;
 pub mod chains;
 pub mod findings;
 pub mod judging;
@@ -19,5 +19,6 @@ pub mod laws;
 mod leaves;
 mod misplaced;
 pub mod operators;
+pub mod reporting;
 pub mod standing;
 pub mod walking;

@@ -9,7 +9,6 @@ ghost use Rattle.spectra_resolved.specs.Reports.{found_in};
 ghost use Rattle.spectra_judge.specs.Kinds.{Truth, is_truth as is_truth_lem, can_equal as can_equal_lem, reduced as reduced_lem};
 ghost use Rattle.spectra_judge.specs.KindViews.{kind_data, setting_data};
 ghost use Rattle.spectra_judge.specs.Operators.{gives as gives_lem};
-ghost use Rattle.spectra_judge.specs.Rising.{AreRising};
 ghost use Rattle.spectra_judge.specs.Known.{wanted};
 ghost use Rattle.spectra_judge.specs.Judged.{kind_of, form_kind, wrong, first_of as first_of_lem, faults, form_faults, operand_faults, argument_faults};
 ghost use Rattle.spectra_judge.specs.OpenedViews.{opened_at};
@@ -26,7 +25,7 @@ use crate::leaves::{
 use crate::misplaced::{report_next, report_operator};
 use crate::operators::{gives, is_past, is_past_prefix};
 use spectra_resolved::findings::Findings;
-use spectra_resolved::spot::Spot;
+use spectra_resolved::spot::{Mark, Spot};
 use spectra_resolved::tree::{Link, Resolved, Shape};
 use spectra_trees::tree::PrefixWord;
 
@@ -38,7 +37,6 @@ pub fn walk<'a>(
     around: Around,
     tree: &Resolved,
 ) -> Kind<'a>
-    requires rising { AreRising setting.now.known.brought.now }
     ensures kind { kind_data result ≡ kind_of (setting_data setting.now).known (resolved_data tree.now) }
     ensures found { found_in findings.new ≡ with_faults (found_in findings.old) (faults (setting_data setting.now) around (resolved_data tree.now)) }
 {
@@ -55,10 +53,9 @@ fn walk_shape<'a>(
     findings: &mut Findings,
     setting: &Setting<'_, 'a>,
     around: Around,
-    at: Spot,
+    at: Mark,
     shape: &Shape,
 ) -> Kind<'a>
-    requires rising { AreRising setting.now.known.brought.now }
     ensures kind { kind_data result ≡ form_kind (setting_data setting.now).known (form_data shape.now) }
     ensures found { found_in findings.new ≡ with_faults (found_in findings.old) (form_faults (setting_data setting.now) around at (form_data shape.now)) }
 {
@@ -84,8 +81,12 @@ fn walk_shape<'a>(
         Shape::Mod(t, number_at, n) => {
             walk_remainder(findings, setting, around, at, t, *number_at, *n)
         }
-        Shape::And(ts, operators) => walk_operands(findings, setting, around, at, ts, operators),
-        Shape::Or(ts, operators) => walk_operands(findings, setting, around, at, ts, operators),
+        Shape::And(ts, operators) => walk_operands(
+            findings, setting, around, at.spot, ts, operators,
+        ),
+        Shape::Or(ts, operators) => walk_operands(
+            findings, setting, around, at.spot, ts, operators,
+        ),
     }
 }
 
@@ -97,19 +98,18 @@ fn walk_prefix<'a>(
     findings: &mut Findings,
     setting: &Setting<'_, 'a>,
     around: Around,
-    at: Spot,
+    at: Mark,
     word: PrefixWord,
     t: &Resolved,
 ) -> Kind<'a>
-    requires rising { AreRising setting.now.known.brought.now }
     ensures kind { kind_data result ≡ Truth }
     ensures found { found_in findings.new ≡ with_faults (found_in findings.old) (form_faults (setting_data setting.now) around at (Form.Prefix word (resolved_data t.now))) }
 {
     let past = is_past_prefix(word);
     report_operator(findings, setting, past, around.next, at);
-    let inner = within(setting.known.brought, past, at, around);
+    let inner = within(past, at, around);
     let kind = walk(findings, setting, inner, t);
-    report_wrong(findings, is_truth(kind), at);
+    report_wrong(findings, is_truth(kind), at.spot);
     Kind::Truth
 }
 
@@ -121,17 +121,16 @@ fn walk_remainder<'a>(
     findings: &mut Findings,
     setting: &Setting<'_, 'a>,
     around: Around,
-    at: Spot,
+    at: Mark,
     t: &Resolved,
     number_at: Spot,
     n: i64,
 ) -> Kind<'a>
-    requires rising { AreRising setting.now.known.brought.now }
     ensures kind { kind_data result ≡ reduced_lem n }
     ensures found { found_in findings.new ≡ with_faults (found_in findings.old) (form_faults (setting_data setting.now) around at (Form.Mod (resolved_data t.now) number_at n)) }
 {
     let kind = walk(findings, setting, around, t);
-    report_remainder(findings, kind, at, number_at, n);
+    report_remainder(findings, kind, at.spot, number_at, n);
     reduced(n)
 }
 
@@ -145,11 +144,10 @@ fn walk_chain<'a>(
     head: &Resolved,
     links: &[Link],
 ) -> Kind<'a>
-    requires rising { AreRising setting.now.known.brought.now }
     ensures kind { kind_data result ≡ kind_of (setting_data setting.now).known (chained (resolved_data head.now) (map link_data links.now)) }
     ensures found { found_in findings.new ≡ with_faults (found_in findings.old) (faults (setting_data setting.now) around (chained (resolved_data head.now) (map link_data links.now))) }
 {
-    let opened = opened_in(setting.known.brought, links);
+    let opened = opened_in(links);
     let mut kind = walk(findings, setting, opened.at(around, 0), head);
     let mut place = 0;
     for link in links {
@@ -167,17 +165,16 @@ fn walk_link<'a>(
     findings: &mut Findings,
     setting: &Setting<'_, 'a>,
     inner: Around,
-    next: Option<Spot>,
+    next: Option<Mark>,
     kind: Kind<'a>,
     link: &Link,
 ) -> Kind<'a>
-    requires rising { AreRising setting.now.known.brought.now }
     ensures kind { kind_data result ≡ gives_lem (link_data link.now).word (kind_data kind.entry) (kind_of (setting_data setting.now).known (link_data link.now).second) }
     ensures found { found_in findings.new ≡ with_faults (found_in findings.old) (link_faults (setting_data setting.now) inner next (kind_data kind.entry) (link_data link.now)) }
 {
     report_operator(findings, setting, is_past(link.word), next, link.at);
     let second = walk(findings, setting, inner, &link.second);
-    report_binary(findings, link.word, kind, second, link.at);
+    report_binary(findings, link.word, kind, second, link.at.spot);
     gives(link.word, kind, second)
 }
 
@@ -192,7 +189,6 @@ fn walk_operands<'a>(
     ts: &[Resolved],
     operators: &[Spot],
 ) -> Kind<'a>
-    requires rising { AreRising setting.now.known.brought.now }
     ensures kind { kind_data result ≡ Truth }
     ensures found { found_in findings.new ≡ with_faults (found_in findings.old) (operand_faults (setting_data setting.now) around at (at ∷ operators.now) (trees (map resolved_data ts.now))) }
 {
@@ -215,7 +211,6 @@ fn walk_operand(
     operator: Spot,
     t: &Resolved,
 )
-    requires rising { AreRising setting.now.known.brought.now }
     ensures { found_in findings.new ≡ with_faults (found_in findings.old) (faults (setting_data setting.now) around (resolved_data t.now)
         ++ wrong (is_truth_lem (kind_of (setting_data setting.now).known (resolved_data t.now))) operator) }
 {
@@ -233,7 +228,6 @@ fn walk_arguments(
     predicate: Option<usize>,
     ts: &[Resolved],
 )
-    requires rising { AreRising setting.now.known.brought.now }
     ensures { found_in findings.new ≡ with_faults (found_in findings.old) (argument_faults (setting_data setting.now) around (wanted (setting_data setting.now).known predicate) (trees (map resolved_data ts.now))) }
 {
     let mut place = 0;
@@ -254,7 +248,6 @@ fn walk_argument(
     parameter: Kind<'_>,
     t: &Resolved,
 )
-    requires rising { AreRising setting.now.known.brought.now }
     ensures { found_in findings.new ≡ with_faults (found_in findings.old) (faults (setting_data setting.now) around (resolved_data t.now)
         ++ wrong (can_equal_lem (kind_data parameter.entry) (kind_of (setting_data setting.now).known (resolved_data t.now))) (first_of_lem (resolved_data t.now))) }
 {

@@ -10,7 +10,7 @@ use Rattle.spectra_resolved.specs.Resolved.{ResolvedRegex}
 use Rattle.spectra_patterns.specs.Patterns.{is_empty}
 use Rattle.spectra_patterns.specs.Triggers.{trigger_of, is_right}
 use Rattle.spectra_patterns.specs.TriggerParts.{meant_by}
-use Rattle.spectra_brought.proofs.Found.{no_faults}
+use Rattle.spectra_judge.proofs.Found.{no_faults}
 
 pub none_empty : (fs : List Finding) (first : Option Finding) → first ≡ first_of_faults fs → is_none first ≡ is_empty fs
 none_empty fs None is = sym (ap is_empty (no_faults fs (sym is)))

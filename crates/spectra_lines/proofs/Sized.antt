@@ -10,7 +10,7 @@ use Rattle.spectra_judge.specs.Findings.{fault_if}
 use Rattle.spectra_patterns.specs.Patterns.{is_empty}
 use Rattle.spectra_lines.specs.Contents.{Facts, trees_in}
 use Rattle.spectra_lines.specs.Limits.{is_small, is_too_large}
-use Rattle.spectra_lines.specs.Lines.{trees_faults, line_stand, as_written, own_faults, known_with, put_trees, whole_faults, put_faults, line_faults}
+use Rattle.spectra_lines.specs.Lines.{trees_faults, line_stand, as_written, own_faults, put_trees, whole_faults, put_faults, line_faults}
 
 module _ (at : Spot) (faults : ResolvedLine → List Finding) where
   -- where a line was made, it is small, and its faults are found
@@ -30,8 +30,8 @@ module _ (at : Spot) (faults : ResolvedLine → List Finding) where
 -- the faults of a line that was made of another one with everything put in
 abbrev pub faults_as : Facts → ResolvedLine → (made : ResolvedLine) → List Finding
 faults_as f l m =
-    trees_faults (known_with f.known (trees_in l.body)) (line_stand l) (trees_in m.body)
-    ++ (if is_empty (as_written f l) && is_empty (trees_faults (known_with f.known (trees_in l.body)) (line_stand l) (trees_in m.body)) then whole_faults m.body else [])
+    trees_faults f.known (line_stand l) (trees_in m.body)
+    ++ (if is_empty (as_written f l) && is_empty (trees_faults f.known (line_stand l) (trees_in m.body)) then whole_faults m.body else [])
 
 -- what is found as it is written, of its own, and then by its size are its faults
 pub all_found : (f : Facts) (room : Option ℕ) (l : ResolvedLine) (old written own found : Option Finding) → written ≡ with_faults old (as_written f l) → own ≡ with_faults written (own_faults l.body)

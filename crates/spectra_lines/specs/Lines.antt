@@ -6,10 +6,8 @@ use Rattle.spectra_resolved.specs.declared.findings.Finding.{Finding}
 use Rattle.spectra_resolved.specs.Resolved.{ResolvedTree}
 use Rattle.spectra_resolved.specs.Texts.{ResolvedBody, Trigger, ResolvedLine}
 use Rattle.spectra_judge.specs.Findings.{fault_if}
-use Rattle.spectra_judge.specs.Around.{is_brought}
 use Rattle.spectra_judge.specs.Known.{Known}
 use Rattle.spectra_judge.specs.Judged.{faults_of}
-use Rattle.spectra_brought.specs.Names.{names_in}
 use Rattle.spectra_patterns.specs.Patterns.{is_empty}
 use Rattle.spectra_patterns.specs.Triggers.{repeat_faults, trigger_faults}
 use Rattle.spectra_lines.specs.Contents.{trees_in, stand_in, is_asm, Facts, line_put}
@@ -34,15 +32,11 @@ own_faults _ = []
 
 -- ---- with everything put in
 
--- what is known where the bodies of the definitions are put in that these expressions use
-abbrev pub known_with : Known → List ResolvedTree → Known
-known_with known ts = record known { brought = is_brought (flat_map names_in ts) }
-
 abbrev pub put_trees : Facts → ResolvedLine → List ResolvedTree
 put_trees f l = trees_in (line_put f l).body
 
 abbrev pub as_put : Facts → ResolvedLine → List Finding
-as_put f l = trees_faults (known_with f.known (trees_in l.body)) (line_stand l) (put_trees f l)
+as_put f l = trees_faults f.known (line_stand l) (put_trees f l)
 
 -- a trigger as a whole
 abbrev pub whole_faults : ResolvedBody → List Finding

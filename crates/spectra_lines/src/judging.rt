@@ -1,26 +1,20 @@
 //! The faults of expressions, and of triggers as wholes.
 
-ghost use Rattle.std.specs.Prelude.{◌≡◌, map, flat_map, IfOk, OnOk};
+ghost use Rattle.std.specs.Prelude.{◌≡◌, IfOk, OnOk};
 ghost use Rattle.spectra_resolved.specs.Findings.{with_faults, first_of_faults};
 ghost use Rattle.spectra_resolved.specs.Reports.{found_in};
 ghost use Rattle.spectra_resolved.specs.Views.{regex_data};
 ghost use Rattle.spectra_resolved.specs.TextViews.{body_data};
-ghost use Rattle.spectra_judge.specs.Rising.{AreRising};
 ghost use Rattle.spectra_judge.specs.KindViews.{known_data};
-ghost use Rattle.spectra_brought.specs.Names.{names_in};
-ghost use Rattle.spectra_brought.specs.Orders.{AreInOrder};
 ghost use Rattle.spectra_patterns.specs.Triggers.{is_right as is_right_lem};
 ghost use Rattle.spectra_lines.specs.Lines.{trees_faults, own_faults, whole_faults};
 ghost use Rattle.spectra_lines.specs.Views.{trees_data};
 
-use spectra_brought::names::add_names;
-use spectra_brought::order::in_text_order;
-use spectra_brought::reporting::report_faults;
 use spectra_judge::findings::report_if;
 use spectra_judge::known::Known;
+use spectra_judge::reporting::report_faults;
 use spectra_patterns::triggers::{report_repeats, trigger};
 use spectra_resolved::findings::{Finding, Findings};
-use spectra_resolved::spot::Spot;
 use spectra_resolved::stand::Stand;
 use spectra_resolved::text::Body;
 use spectra_resolved::tree::{Regex, Resolved};
@@ -29,7 +23,6 @@ use std::alloc::{AllocError, Global};
 
 /// The first fault of several expressions that stand somewhere.
 pub fn first_fault(known: &Known<'_, '_>, stand: Stand, trees: &[&Resolved]) -> Option<Finding>
-    requires rising { AreRising known.now.brought.now }
     ensures { result ≡ first_of_faults (trees_faults (known_data known.now) stand (trees_data trees.now)) }
 {
     let mut findings = Findings::new();
@@ -37,25 +30,6 @@ pub fn first_fault(known: &Known<'_, '_>, stand: Stand, trees: &[&Resolved]) -> 
         report_faults(&mut findings, known, stand, t);
     }
     findings.first()
-}
-
-// The names in expressions that use definitions.
-fn names_of(alloc: Global, trees: &[&Resolved]) -> Result<Vec<Spot>, AllocError>
-    ensures { IfOk result (λ names. names.items ≡ flat_map names_in (trees_data trees.now)) }
-{
-    let mut names = Vec::new(alloc);
-    for t in trees {
-        add_names(&mut names, t)?;
-    }
-    Ok(names)
-}
-
-/// The names in expressions that use definitions, in text order and each once.
-pub fn names_in_order(alloc: Global, trees: &[&Resolved]) -> Result<Vec<Spot>, AllocError>
-    ensures { IfOk result (λ names. AreInOrder (flat_map names_in (trees_data trees.now)) names.items) }
-{
-    let names = names_of(alloc, trees)?;
-    in_text_order(alloc, &names)
 }
 
 /// Reports a trigger's repeats with wrong numbers, as they are written.

@@ -4,25 +4,23 @@ ghost use Rattle.std.specs.Prelude.{◌≡◌, ◌&&◌, ◌++◌, [], is_none, 
 ghost use Rattle.spectra_resolved.specs.Findings.{with_faults, first_of_faults};
 ghost use Rattle.spectra_resolved.specs.Reports.{found_in};
 ghost use Rattle.spectra_resolved.specs.TextViews.{body_data, line_data};
-ghost use Rattle.spectra_judge.specs.Rising.{AreRising};
 ghost use Rattle.spectra_judge.specs.KindViews.{known_data};
 ghost use Rattle.spectra_patterns.specs.Patterns.{is_empty};
 ghost use Rattle.spectra_lines.specs.Contents.{trees_in, line_put};
 ghost use Rattle.spectra_lines.specs.Limits.{nodes_of, room_behind, is_small};
-ghost use Rattle.spectra_lines.specs.Lines.{trees_faults, known_with, put_trees, whole_faults, line_faults};
-ghost use Rattle.spectra_lines.specs.Views.{facts_data, trees_data};
+ghost use Rattle.spectra_lines.specs.Lines.{trees_faults, put_trees, whole_faults, line_faults};
+ghost use Rattle.spectra_lines.specs.Views.{facts_data};
 
 use crate::facts::Facts;
-use crate::judging::{first_fault, names_in_order, report_own, report_whole};
+use crate::judging::{first_fault, report_own, report_whole};
 use crate::putting::put_line;
 use crate::trees::{is_assumption, stand_in, trees_of};
-use spectra_brought::reporting::report_first;
 use spectra_judge::findings::report_if;
 use spectra_judge::known::Known;
+use spectra_judge::reporting::report_first;
 use spectra_resolved::findings::{Finding, Findings};
 use spectra_resolved::stand::Stand;
 use spectra_resolved::text::{Body, Line};
-use spectra_resolved::tree::Resolved;
 use spectra_trees::faults::TOO_LARGE;
 use std::alloc::{AllocError, Global};
 
@@ -41,23 +39,17 @@ fn report_if_whole(
     report_whole(alloc, findings, body)
 }
 
-// The first fault of expressions with everything put in, where these are the expressions that are written.
+// The first fault of expressions with everything put in.
 fn first_put(
     alloc: Global,
     known: &Known<'_, '_>,
     stand: Stand,
-    written: &[&Resolved],
     body: &Body,
 ) -> Result<Option<Finding>, AllocError>
-    ensures { IfOk result (λ first. first ≡ first_of_faults (trees_faults (known_with (known_data known.now) (trees_data written.now)) stand (trees_in (body_data body.now)))) }
+    ensures { IfOk result (λ first. first ≡ first_of_faults (trees_faults (known_data known.now) stand (trees_in (body_data body.now)))) }
 {
-    let names = names_in_order(alloc, written)?;
     let trees = trees_of(alloc, body)?;
-    let within = Known {
-        brought: &names,
-        ..*known
-    };
-    Ok(first_fault(&within, stand, &trees))
+    Ok(first_fault(known, stand, &trees))
 }
 
 /// Whether there is no fault, where `sound` says that there is none elsewhere.
@@ -75,14 +67,13 @@ fn report_put(
     known: &Known<'_, '_>,
     sound: bool,
     stand: Stand,
-    written: &[&Resolved],
     body: &Body,
 ) -> Result<(), AllocError>
     ensures { OnOk result (found_in findings.new ≡ with_faults (found_in findings.old)
-        (trees_faults (known_with (known_data known.now) (trees_data written.now)) stand (trees_in (body_data body.now))
-        ++ (if sound && is_empty (trees_faults (known_with (known_data known.now) (trees_data written.now)) stand (trees_in (body_data body.now))) then whole_faults (body_data body.now) else []))) }
+        (trees_faults (known_data known.now) stand (trees_in (body_data body.now))
+        ++ (if sound && is_empty (trees_faults (known_data known.now) stand (trees_in (body_data body.now))) then whole_faults (body_data body.now) else []))) }
 {
-    let first = first_put(alloc, known, stand, written, body)?;
+    let first = first_put(alloc, known, stand, body)?;
     report_first(findings, first);
     let whole = is_sound(sound, first);
     report_if_whole(alloc, findings, whole, body)
@@ -97,7 +88,6 @@ pub fn read_line<'t>(
     room: &mut Option<usize>,
     line: &Line<'t>,
 ) -> Result<Option<Line<'t>>, AllocError>
-    requires rising { AreRising facts.now.known.brought.now }
     ensures found { OnOk result (found_in findings.new ≡ with_faults (found_in findings.old) (line_faults (facts_data facts.now) room.old (line_data line.now))) }
     ensures room { OnOk result (room.new ≡ room_behind room.old (nodes_of (put_trees (facts_data facts.now) (line_data line.now)))) }
     ensures made { IfOk result (λ made. option_map line_data made
@@ -113,15 +103,7 @@ pub fn read_line<'t>(
     match put {
         Some(made) => {
             let sound = first.is_none();
-            report_put(
-                alloc,
-                findings,
-                &facts.known,
-                sound,
-                stand,
-                &trees,
-                &made.body,
-            )?;
+            report_put(alloc, findings, &facts.known, sound, stand, &made.body)?;
             Ok(Some(made))
         }
         None => {

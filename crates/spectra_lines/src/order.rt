@@ -5,7 +5,7 @@ ghost use Rattle.spectra_resolved.specs.TextViews.{line_data};
 ghost use Rattle.spectra_lines.specs.Parts.{leading as leading_lem, in_text_order as in_text_order_lem, PatternPart};
 ghost use Rattle.spectra_lines.specs.Views.{typed_data, part_data};
 
-use spectra_judge::brought::comes_before;
+use spectra_judge::around::comes_before;
 use spectra_judge::kind::Kind;
 use spectra_resolved::spot::Spot;
 use spectra_resolved::text::{Line, Pattern};

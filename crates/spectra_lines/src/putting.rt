@@ -4,7 +4,6 @@ ghost use Rattle.std.specs.Prelude.{◌≡◌, map, option_map, Some, None, if�
 ghost use Rattle.spectra_resolved.specs.Chained.{regexes, repeated as repeated_lem};
 ghost use Rattle.spectra_resolved.specs.Views.{resolved_data, regex_data};
 ghost use Rattle.spectra_resolved.specs.TextViews.{body_data, line_data};
-ghost use Rattle.spectra_judge.specs.Rising.{AreRising};
 ghost use Rattle.spectra_lines.specs.Contents.{tree_put, regex_put, each_regex_put, body_put, line_put};
 ghost use Rattle.spectra_lines.specs.Limits.{nodes_of, room_behind, is_small};
 ghost use Rattle.spectra_lines.specs.Lines.{put_trees};
@@ -28,7 +27,6 @@ fn put_tree(
     stand: Stand,
     t: &Resolved,
 ) -> Result<Resolved, AllocError>
-    requires rising { AreRising facts.now.known.brought.now }
     ensures { IfOk result (λ made. resolved_data made ≡ tree_put (facts_data facts.now) stand (resolved_data t.now)) }
 {
     let written = holed(alloc, &facts.known, stand, t)?;
@@ -69,7 +67,6 @@ fn put_regex(
     room: usize,
     r: &Regex,
 ) -> Result<Regex, AllocError>
-    requires rising { AreRising facts.now.known.brought.now }
     ensures { IfOk result (λ made. regex_data made ≡ regex_put (facts_data facts.now) (regex_data r.now)) }
 {
     match r {
@@ -94,7 +91,6 @@ fn put_regexes(
     room: usize,
     rs: &[Regex],
 ) -> Result<Vec<Regex>, AllocError>
-    requires rising { AreRising facts.now.known.brought.now }
     ensures { IfOk result (λ made. regexes (map regex_data made.items) ≡ each_regex_put (facts_data facts.now) (regexes (map regex_data rs.now))) }
 {
     let mut made = Vec::new(alloc);
@@ -113,7 +109,6 @@ fn put_arguments(
     room: usize,
     ts: &[Resolved],
 ) -> Result<Vec<Resolved>, AllocError>
-    requires rising { AreRising facts.now.known.brought.now }
     ensures { IfOk result (λ made. map resolved_data made.items ≡ map (tree_put (facts_data facts.now) Stand.Argument) (map resolved_data ts.now)) }
 {
     let mut made = Vec::new(alloc);
@@ -131,7 +126,6 @@ fn put_body(
     asm: bool,
     body: &Body,
 ) -> Result<Body, AllocError>
-    requires rising { AreRising facts.now.known.brought.now }
     ensures { IfOk result (λ made. body_data made ≡ body_put (facts_data facts.now) asm (body_data body.now)) }
 {
     match body {
@@ -167,7 +161,6 @@ pub fn put_line<'t>(
     room: &mut Option<usize>,
     line: &Line<'t>,
 ) -> Result<Option<Line<'t>>, AllocError>
-    requires rising { AreRising facts.now.known.brought.now }
     ensures room { OnOk result (room.new ≡ room_behind room.old (nodes_of (put_trees (facts_data facts.now) (line_data line.now)))) }
     ensures made { IfOk result (λ made. option_map line_data made
         ≡ (if is_small room.old (put_trees (facts_data facts.now) (line_data line.now)) then Some (line_put (facts_data facts.now) (line_data line.now)) else None)) }

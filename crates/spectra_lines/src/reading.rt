@@ -6,7 +6,6 @@ ghost use Rattle.spectra_resolved.specs.Findings.{with_faults, first_of_faults};
 ghost use Rattle.spectra_resolved.specs.Reports.{found_in};
 ghost use Rattle.spectra_resolved.specs.Views.{resolved_data};
 ghost use Rattle.spectra_resolved.specs.TextViews.{pattern_line_data, line_data};
-ghost use Rattle.spectra_judge.specs.Rising.{AreRising};
 ghost use Rattle.spectra_patterns.specs.Patterns.{line_at, line_tree, pattern_faults};
 ghost use Rattle.spectra_lines.specs.Contents.{Facts as FactsData};
 ghost use Rattle.spectra_lines.specs.Lines.{line_faults};
@@ -22,9 +21,9 @@ use crate::nodes::behind;
 use crate::order::{Part, Typed};
 use crate::trees::MOST_LEVELS;
 use spec_model::spec;
-use spectra_brought::reporting::report_first;
 use spectra_elaboration::levels::is_flat;
 use spectra_judge::findings::report_if;
+use spectra_judge::reporting::report_first;
 use spectra_patterns::patterns::pattern;
 use spectra_resolved::findings::{Finding, Findings};
 use spectra_resolved::spot::Spot;
@@ -150,7 +149,6 @@ fn read_one<'t>(
     read: &mut Read<'t>,
     line: &Line<'t>,
 ) -> Result<(), AllocError>
-    requires rising { AreRising facts.now.known.brought.now }
     ensures found { OnOk result (found_in findings.new ≡ with_faults (found_in findings.old) (line_faults (facts_data facts.now) read.old.room (line_data line.now))) }
     ensures read { OnOk result (ReadsPart (facts_data facts.now) (LinePart (line_data line.now)) read.old read.new) }
 {
@@ -168,7 +166,6 @@ fn read_part<'t>(
     read: &mut Read<'t>,
     part: Part<'_, '_, 't>,
 ) -> Result<(), AllocError>
-    requires rising { AreRising facts.now.known.brought.now }
     requires sound { IsSoundPart (part_data part) }
     ensures found { OnOk result (found_in findings.new ≡ with_faults (found_in findings.old) (part_faults (facts_data facts.now) read.old.room (part_data part.entry))) }
     ensures read { OnOk result (ReadsPart (facts_data facts.now) (part_data part.entry) read.old read.new) }
@@ -190,7 +187,6 @@ pub fn read_parts<'t>(
     facts: &Facts<'_, '_>,
     parts: &[Part<'_, '_, 't>],
 ) -> Result<Read<'t>, AllocError>
-    requires rising { AreRising facts.now.known.brought.now }
     requires sound { ArePartsSound (map part_data parts.now) }
     ensures found { OnOk result (found_in findings.new ≡ with_faults (found_in findings.old) (parts_faults (facts_data facts.now) all_room (map part_data parts.now))) }
     ensures lines { IfOk result (λ read. map line_data read.lines.items ≡ parts_lines (facts_data facts.now) all_room (map part_data parts.now)) }

@@ -5,7 +5,6 @@ ghost use Rattle.spec_model.specs.Views.{line_data as model_line, trigger_data, 
 ghost use Rattle.spectra_resolved.specs.Findings.{with_faults};
 ghost use Rattle.spectra_resolved.specs.Reports.{found_in};
 ghost use Rattle.spectra_resolved.specs.TextViews.{line_data};
-ghost use Rattle.spectra_judge.specs.Rising.{AreRising};
 ghost use Rattle.spectra_lines.specs.Said.{lines_faults, lines_meant, triggers_meant, patterns_meant};
 ghost use Rattle.spectra_lines.specs.SoundParts.{AreSound};
 ghost use Rattle.spectra_lines.specs.Views.{facts_data, typed_data};
@@ -52,7 +51,6 @@ pub fn read_lines(
     patterns: &[Typed<'_, '_, '_>],
     lines: &[Line<'_>],
 ) -> Result<Said, AllocError>
-    requires rising { AreRising facts.now.known.brought.now }
     requires sound { AreSound (map typed_data patterns.now) }
     ensures found { OnOk result (found_in findings.new ≡ with_faults (found_in findings.old) (lines_faults (facts_data facts.now) (map typed_data patterns.now) (map line_data lines.now))) }
     ensures lines { IfOk result (λ said. map model_line said.lines.items ≡ lines_meant (facts_data facts.now) (map typed_data patterns.now) (map line_data lines.now)) }

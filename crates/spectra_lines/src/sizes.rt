@@ -2,7 +2,6 @@
 
 ghost use Rattle.std.specs.Prelude.{◌≡◌, ◌∷◌, [], Some, map, IfOk};
 ghost use Rattle.spectra_resolved.specs.Views.{resolved_data};
-ghost use Rattle.spectra_judge.specs.Rising.{AreRising};
 ghost use Rattle.spectra_elaboration.specs.Nodes.{tree_nodes};
 ghost use Rattle.spectra_lines.specs.Contents.{tree_put};
 ghost use Rattle.spectra_lines.specs.Limits.{nodes_of, room_behind, is_small};
@@ -34,7 +33,6 @@ fn size_of_tree(
     stand: Stand,
     t: &Resolved,
 ) -> Result<Size, AllocError>
-    requires rising { AreRising facts.now.known.brought.now }
     ensures left { IfOk result (λ size. size.left ≡ room_behind (Some room) (tree_nodes (tree_put (facts_data facts.now) stand (resolved_data t.now)))) }
     ensures small { IfOk result (λ size. size.small ≡ is_small (Some room) (tree_put (facts_data facts.now) stand (resolved_data t.now) ∷ [])) }
 {
@@ -59,7 +57,6 @@ pub fn size_of_trees(
     stand: Stand,
     trees: &[&Resolved],
 ) -> Result<Size, AllocError>
-    requires rising { AreRising facts.now.known.brought.now }
     ensures left { IfOk result (λ size. size.left ≡ room_behind (Some room) (nodes_of (map (tree_put (facts_data facts.now) stand) (trees_data trees.now)))) }
     ensures small { IfOk result (λ size. size.small ≡ is_small (Some room) (map (tree_put (facts_data facts.now) stand) (trees_data trees.now))) }
 {

@@ -9,6 +9,7 @@ use Rattle.spec_model.proofs.AllStates.{Every}
 use Rattle.spectra_trees.specs.declared.tree.BinaryWord.{BinaryWord}
 use Rattle.spectra_trees.specs.declared.tree.BinaryWord.TheVariants as binary
 use Rattle.spectra_resolved.specs.declared.spot.Spot.{Spot}
+use Rattle.spectra_resolved.specs.declared.spot.Mark.{Mark}
 use Rattle.spectra_resolved.specs.declared.stand.Stand.{Stand}
 use Rattle.spectra_resolved.specs.declared.stand.Stand.TheVariants as stand
 use Rattle.spectra_resolved.specs.declared.tree.Leaf.{Leaf}
@@ -88,9 +89,9 @@ abbrev pub AreSpanned : Constants → Type 0
 AreSpanned c = (k : ℕ) (z : ℤ) → get_or c.numbers k None ≡ Some z → HasSpan z (get_or c.kinds k Anything)
 
 module _ (c : Constants) (spanned : AreSpanned c) (s : Setting) (known : s.known ≡ known_constants c.kinds) where
-  leaf_has : (next : Option Spot) (at : Spot) (l : Leaf) (z : ℤ) → leaf_faults s next at l ≡ [] → leaf_number c.numbers l ≡ Some z → HasSpan z (leaf_kind (known_constants c.kinds) l)
+  leaf_has : (next : Option Mark) (at : Mark) (l : Leaf) (z : ℤ) → leaf_faults s next at l ≡ [] → leaf_number c.numbers l ≡ Some z → HasSpan z (leaf_kind (known_constants c.kinds) l)
   leaf_has next at (leaf.Number n) z none is =
-      capped_has n z (Whole n n) (record { low = n; high = n; is = refl; from_low = omega (arith, ints); to_high = omega (arith, ints) }) (no_fault (is_wide (Whole n n)) 14 at none) is
+      capped_has n z (Whole n n) (record { low = n; high = n; is = refl; from_low = omega (arith, ints); to_high = omega (arith, ints) }) (no_fault (is_wide (Whole n n)) 14 at.spot none) is
   leaf_has next at (leaf.Define k) z none is = spanned k z is
   leaf_has next at (leaf.Truth b) z none is = absurd (none_some is)
   leaf_has next at (leaf.EnumName k) z none is = absurd (none_some is)
@@ -106,22 +107,22 @@ module _ (c : Constants) (spanned : AreSpanned c) (s : Setting) (known : s.known
     pub has : (o : Around) (t : ResolvedTree) (z : ℤ) → faults s o t ≡ [] → number_in c.numbers t ≡ Some z → HasSpan z (kind_of (known_constants c.kinds) t)
     has o (tree first at form) z none is = form_has o at form z none is
 
-    form_has : (o : Around) (at : Spot) (form : Form) (z : ℤ) → form_faults s o at form ≡ [] → form_number c.numbers form ≡ Some z → HasSpan z (form_kind (known_constants c.kinds) form)
+    form_has : (o : Around) (at : Mark) (form : Form) (z : ℤ) → form_faults s o at form ≡ [] → form_number c.numbers form ≡ Some z → HasSpan z (form_kind (known_constants c.kinds) form)
     form_has o at (Form.LeafOf l) z none is = leaf_has o.next at l z none is
     form_has o at (Form.Binary word a b) z none is =
-        let inner = within s.known.brought (is_past word) at o in
+        let inner = within (is_past word) at o in
         let first = empty_parts (faults s inner a) _ none in
         let more = empty_parts (operator_faults s (is_past word) o.next at) _ first.1 in
-        let second = empty_parts (faults s inner b) (binary_faults word (kind_of s.known a) (kind_of s.known b) at) more.1 in
-        let last = empty_parts (wrong (takes word (kind_of s.known a) (kind_of s.known b)) at) _ second.1 in
+        let second = empty_parts (faults s inner b) (binary_faults word (kind_of s.known a) (kind_of s.known b) at.spot) more.1 in
+        let last = empty_parts (wrong (takes word (kind_of s.known a) (kind_of s.known b)) at.spot) _ second.1 in
         operation word (number_in c.numbers a) (number_in c.numbers b) (kind_of (known_constants c.kinds) a) (kind_of (known_constants c.kinds) b) z
-        (not_wide (gives word (kind_of s.known a) (kind_of s.known b)) _ at (λ i. gives word (kind_of (known i) a) (kind_of (known i) b)) last.1)
+        (not_wide (gives word (kind_of s.known a) (kind_of s.known b)) _ at.spot (λ i. gives word (kind_of (known i) a) (kind_of (known i) b)) last.1)
         (λ x here. has inner a x first.0 here) (λ y here. has inner b y second.0 here) is
     form_has o at (Form.Mod t number_at n) z none is =
         let first = empty_parts (faults s o t) _ none in
-        let more = empty_parts (wrong (is_whole (kind_of s.known t)) at) _ first.1 in
-        let last = empty_parts (fault_if (int_le n (pos 0)) 14 number_at) (wide (reduced n) at) more.1 in
-        remainder_has n (number_in c.numbers t) z (no_fault (is_wide (reduced n)) 14 at last.1) is
+        let more = empty_parts (wrong (is_whole (kind_of s.known t)) at.spot) _ first.1 in
+        let last = empty_parts (fault_if (int_le n (pos 0)) 14 number_at) (wide (reduced n) at.spot) more.1 in
+        remainder_has n (number_in c.numbers t) z (no_fault (is_wide (reduced n)) 14 at.spot last.1) is
     form_has o at (Form.PredicateOf k ts) z none is = absurd (none_some is)
     form_has o at (Form.MisuseOf m ts) z none is = absurd (none_some is)
     form_has o at (Form.Next t) z none is = absurd (none_some is)

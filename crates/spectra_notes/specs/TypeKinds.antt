@@ -4,7 +4,6 @@ use Rattle.spec_model.specs.declared.value.Owner.{Owner}
 use Rattle.spec_model.specs.declared.value.Owner.TheVariants as owners
 use Rattle.spectra_resolved.specs.Texts.{ResolvedType, ResolvedVariable, ResolvedDefinition, ResolvedText}
 use Rattle.spectra_judge.specs.Kinds.{Kind}
-use Rattle.spectra_judge.specs.Around.{nothing_brought}
 use Rattle.spectra_judge.specs.Known.{Known}
 use Rattle.spectra_bounds.specs.Numbers.{Constants, constants}
 use Rattle.spectra_bounds.specs.Types.{type_kind}
@@ -38,4 +37,4 @@ type_kinds text =
 -- variables around it have these
 abbrev pub known_by : TypeKinds → (defines parameters own : List Kind) → Known
 known_by k defines parameters own =
-    record { variables = k.variables; system = k.system; defines = defines; predicates = k.predicates; parameters = parameters; own = own; brought = nothing_brought }
+    record { variables = k.variables; system = k.system; defines = defines; predicates = k.predicates; parameters = parameters; own = own }

@@ -6,8 +6,6 @@ ghost use Rattle.spectra_resolved.specs.Texts.{ResolvedDefinition};
 ghost use Rattle.spectra_uses.specs.Cycles.{AreOnCycle};
 ghost use Rattle.spectra_uses.specs.Orders.{IsOrderOf};
 ghost use Rattle.spectra_resolved.specs.TextViews.{definition_data, text_data};
-ghost use Rattle.spectra_judge.specs.Around.{nothing_brought};
-ghost use Rattle.spectra_judge.specs.Rising.{AreRising};
 ghost use Rattle.spectra_judge.specs.KindViews.{kind_data, known_data};
 ghost use Rattle.spectra_uses.specs.Uses.{all_uses};
 ghost use Rattle.spectra_notes.specs.TypeKinds.{type_kinds as type_kinds_lem, known_by as known_by_lem};
@@ -59,8 +57,7 @@ fn known_with<'s, 'a>(
     predicates: &'s [Vec<Kind<'a>>],
     defines: &'s [Kind<'a>],
 ) -> Known<'s, 'a>
-    ensures known { known_data result ≡ record { variables = map kind_data variables.now; system = system.now; defines = map kind_data defines.now; predicates = map (λ ks. map kind_data ks.items) predicates.now; parameters = []; own = []; brought = nothing_brought } }
-    ensures rising { AreRising result.brought.now }
+    ensures known { known_data result ≡ record { variables = map kind_data variables.now; system = system.now; defines = map kind_data defines.now; predicates = map (λ ks. map kind_data ks.items) predicates.now; parameters = []; own = [] } }
 {
     Known {
         variables,
@@ -69,23 +66,19 @@ fn known_with<'s, 'a>(
         predicates,
         parameters: &[],
         own: &[],
-        brought: &[],
     }
 }
 
 // The same, where defines have these kinds.
 fn known_by<'s, 'a>(kinds: &'s TypeKinds<'a>, defines: &'s [Kind<'a>]) -> Known<'s, 'a>
     ensures known { known_data result ≡ known_by_lem (type_kinds_data kinds.now) (map kind_data defines.now) [] [] }
-    ensures rising { AreRising result.brought.now }
 {
     known_with(&kinds.variables, &kinds.system, &kinds.predicates, defines)
 }
 
 /// The same that is known of names, with the parameters around an expression.
 pub fn with_parameters<'s, 'a>(known: &Known<'s, 'a>, parameters: &'s [Kind<'a>]) -> Known<'s, 'a>
-    requires rising { AreRising known.now.brought.now }
     ensures known { known_data result ≡ record (known_data known.now) { parameters = map kind_data parameters.now } }
-    ensures rising { AreRising result.brought.now }
 {
     Known {
         variables: known.variables,
@@ -94,7 +87,6 @@ pub fn with_parameters<'s, 'a>(known: &Known<'s, 'a>, parameters: &'s [Kind<'a>]
         predicates: known.predicates,
         parameters,
         own: known.own,
-        brought: known.brought,
     }
 }
 
@@ -120,7 +112,6 @@ fn no_meaning<'a>() -> Note<'a>
 
 // What is known of a definition, from what is known of the names in its body.
 fn note_of<'a>(known: &Known<'_, 'a>, on_cycle: bool, definition: &Definition<'_>) -> Note<'a>
-    requires rising { AreRising known.now.brought.now }
     ensures { note_data result ≡ (if on_cycle then no_meaning_lem else note_of_lem (known_data known.now) (definition_data definition.now)) }
 {
     if on_cycle || definition.doubled {
@@ -161,7 +152,6 @@ fn note_at<'a>(
 /// What is known of the names in a line as it is written.
 pub fn known_in_line<'s, 'a>(notes: &'s Notes<'a>) -> Known<'s, 'a>
     ensures known { known_data result ≡ known_in_line_lem (notes_data notes.now) }
-    ensures rising { AreRising result.brought.now }
 {
     known_by(&notes.kinds, &notes.defines)
 }
@@ -169,7 +159,6 @@ pub fn known_in_line<'s, 'a>(notes: &'s Notes<'a>) -> Known<'s, 'a>
 /// What is known of the names in the body of a definition as it is written, by its number.
 pub fn known_in_body<'s, 'a>(notes: &'s Notes<'a>, number: usize) -> Known<'s, 'a>
     ensures known { known_data result ≡ known_in_body_lem (notes_data notes.now) number }
-    ensures rising { AreRising result.brought.now }
 {
     let outside = known_in_line(notes);
     let parameters = parameters_of(&notes.kinds.predicates, number);

@@ -2,7 +2,6 @@
 
 ghost use Rattle.std.specs.Prelude.{◌≡◌, map, replicate, IfOk};
 ghost use Rattle.spectra_resolved.specs.TextViews.{pattern_data, text_data};
-ghost use Rattle.spectra_judge.specs.Rising.{AreRising};
 ghost use Rattle.spectra_judge.specs.Kinds.{Truth};
 ghost use Rattle.spectra_judge.specs.KindViews.{kind_data, known_data};
 ghost use Rattle.spectra_notes.specs.TypeKinds.{kind_in, known_by as known_by_lem};
@@ -53,9 +52,7 @@ pub fn pattern_kinds<'a>(
 
 // The same that is known of names, with the own variables around an expression.
 fn with_own<'s, 'a>(known: &Known<'s, 'a>, own: &'s [Kind<'a>]) -> Known<'s, 'a>
-    requires rising { AreRising known.now.brought.now }
     ensures known { known_data result ≡ record (known_data known.now) { own = map kind_data own.now } }
-    ensures rising { AreRising result.brought.now }
 {
     Known {
         variables: known.variables,
@@ -64,14 +61,12 @@ fn with_own<'s, 'a>(known: &Known<'s, 'a>, own: &'s [Kind<'a>]) -> Known<'s, 'a>
         predicates: known.predicates,
         parameters: known.parameters,
         own,
-        brought: known.brought,
     }
 }
 
 /// What is known of the names in a pattern, by the kinds of its parameters and own variables.
 pub fn known_in_pattern<'s, 'a>(notes: &'s Notes<'a>, kinds: &'s PatternKinds<'a>) -> Known<'s, 'a>
     ensures known { known_data result ≡ known_by_lem (notes_data notes.now).kinds (notes_data notes.now).defines (map kind_data kinds.now.parameters.items) (map kind_data kinds.now.own.items) }
-    ensures rising { AreRising result.brought.now }
 {
     let outside = known_in_line(notes);
     let known = with_parameters(&outside, &kinds.parameters);

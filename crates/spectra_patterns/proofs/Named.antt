@@ -4,10 +4,11 @@ use Rattle.std.proofs.lemmas.Bool.{and_from}
 use Rattle.spectra_trees.specs.Data as written
 use Rattle.spectra_trees.specs.Data.{Expression, expression, Expressions}
 use Rattle.spectra_resolved.specs.declared.spot.Spot.{Spot}
+use Rattle.spectra_resolved.specs.declared.spot.Mark.{Mark}
 use Rattle.spectra_resolved.specs.declared.tree.Leaf.{Leaf}
 use Rattle.spectra_resolved.specs.declared.table.Named.{Named}
 use Rattle.spectra_resolved.specs.declared.table.Named.TheVariants as names
-use Rattle.spectra_resolved.specs.Spots.{spot_at, spot_of}
+use Rattle.spectra_resolved.specs.Spots.{spot_at, spot_of, in_text}
 use Rattle.spectra_resolved.specs.Looks.{Looking}
 use Rattle.spectra_resolved.specs.Resolved.{ResolvedTrees}
 use Rattle.spectra_resolved.specs.Resolving.{read_form, call_form, resolved, resolved_form, resolved_each, misuses, form_misuses, misuses_of_each}
@@ -34,9 +35,9 @@ module _ (look : Looking) (good : Leaf → Bool) (stand : StandForLeaves look go
 
   mutual
     put : (e : Expression) → misuses (resolved look file e) ≡ [] → is_put_in good (resolved look file e) ≡ true
-    put (expression first at form) none = form_put (spot_at file first) (spot_at file at) form none
+    put (expression first at form) none = form_put (spot_at file first) (in_text (spot_at file at)) form none
 
-    form_put : (first at : Spot) (form : written.Form) → misuses (resolved_form look file first at form) ≡ [] → is_put_in good (resolved_form look file first at form) ≡ true
+    form_put : (first : Spot) (at : Mark) (form : written.Form) → misuses (resolved_form look file first at form) ≡ [] → is_put_in good (resolved_form look file first at form) ≡ true
     form_put first at written.Form.True none = stand.truth true
     form_put first at written.Form.False none = stand.truth false
     form_put first at (written.Form.Number negative digits) none = stand.number _

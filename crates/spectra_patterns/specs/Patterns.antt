@@ -12,7 +12,6 @@ use Rattle.spectra_resolved.specs.declared.findings.Finding.{Finding}
 use Rattle.spectra_resolved.specs.Findings.{fault}
 use Rattle.spectra_resolved.specs.Resolved.{ResolvedTree}
 use Rattle.spectra_resolved.specs.Texts.{ResolvedPatternLine, Initial, Safety, Recurring, ResolvedPattern}
-use Rattle.spectra_judge.specs.Around.{nothing_brought}
 use Rattle.spectra_judge.specs.Kinds.{Kind, Truth, Whole, NameOf}
 use Rattle.spectra_judge.specs.Known.{Known}
 use Rattle.spectra_judge.specs.Judged.{faults_of}
@@ -23,7 +22,7 @@ use Rattle.spectra_judge.specs.Erased.{erased}
 -- in a pattern nothing is known but its parameters, which are truth values, and its own variables, by their kinds
 abbrev pub pattern_known : (params : ℕ) → (own : List Kind) → Known
 pattern_known params own =
-    record { variables = []; system = []; defines = []; predicates = []; parameters = replicate params Truth; own = own; brought = nothing_brought }
+    record { variables = []; system = []; defines = []; predicates = []; parameters = replicate params Truth; own = own }
 
 abbrev pub line_stand : ResolvedPatternLine → Stand
 line_stand (Initial at t) = stand.PatternInitial

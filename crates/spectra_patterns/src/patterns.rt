@@ -6,7 +6,6 @@ ghost use Rattle.pattern_rows.specs.Patterns.{IsPattern};
 ghost use Rattle.spectra_resolved.specs.Findings.{with_faults, first_of_faults};
 ghost use Rattle.spectra_resolved.specs.Reports.{found_in};
 ghost use Rattle.spectra_resolved.specs.TextViews.{pattern_line_data, pattern_data};
-ghost use Rattle.spectra_judge.specs.Rising.{AreRising};
 ghost use Rattle.spectra_judge.specs.Kinds.{Truth};
 ghost use Rattle.spectra_judge.specs.KindViews.{kind_data, known_data};
 ghost use Rattle.spectra_patterns.specs.Patterns.{line_faults, lines_faults, domain_of as domain_of_lem, first_in, step_in, goals_in, pattern_of, table_fault as table_fault_lem, table_faults, pattern_faults, meant};
@@ -16,10 +15,10 @@ use crate::domains::domain_of;
 use pattern_rows::{RowFault, rows};
 use spec_model::spec;
 use spec_model::value::Domain;
-use spectra_brought::reporting::report_faults;
 use spectra_elaboration::erasing::erase;
 use spectra_judge::kind::Kind;
 use spectra_judge::known::Known;
+use spectra_judge::reporting::report_faults;
 use spectra_resolved::findings::{Finding, Findings};
 use spectra_resolved::stand::Stand;
 use spectra_resolved::text::{Pattern, PatternLine};
@@ -33,7 +32,6 @@ const MAX_PARAMS: usize = 8;
 
 // Reports the faults of a line.
 fn report_line(findings: &mut Findings, known: &Known<'_, '_>, line: &PatternLine)
-    requires rising { AreRising known.now.brought.now }
     ensures { found_in findings.new ≡ with_faults (found_in findings.old) (line_faults (known_data known.now) (pattern_line_data line.now)) }
 {
     match line {
@@ -45,7 +43,6 @@ fn report_line(findings: &mut Findings, known: &Known<'_, '_>, line: &PatternLin
 
 // The first of the faults of several lines.
 fn first_fault(known: &Known<'_, '_>, lines: &[PatternLine]) -> Option<Finding>
-    requires rising { AreRising known.now.brought.now }
     ensures { result ≡ first_of_faults (flat_map (line_faults (known_data known.now)) (map pattern_line_data lines.now)) }
 {
     let mut findings = Findings::new();
@@ -82,7 +79,6 @@ fn lines_fault(
         predicates: &[],
         parameters: parameters.as_slice(),
         own,
-        brought: &[],
     };
     Ok(first_fault(&known, &pattern.lines))
 }

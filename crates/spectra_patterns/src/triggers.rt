@@ -9,7 +9,6 @@ ghost use Rattle.spectra_resolved.specs.declared.tree.Regex.{Regex};
 ghost use Rattle.spectra_resolved.specs.declared.tree.Times.{Times};
 ghost use Rattle.spectra_resolved.specs.Chained.{regexes};
 ghost use Rattle.spectra_resolved.specs.Views.{regex_data};
-ghost use Rattle.spectra_judge.specs.Rising.{AreRising};
 ghost use Rattle.spectra_judge.specs.KindViews.{known_data};
 ghost use Rattle.spectra_patterns.specs.Triggers.{count_of, regular_of, regulars_of, repeat_faults, is_narrow as is_narrow_lem, trigger_of as trigger_of_lem};
 ghost use Rattle.spectra_patterns.specs.TriggerParts.{atom_faults, each_atom_faults, with_repeats, meant_by};
@@ -17,10 +16,10 @@ ghost use Rattle.spectra_patterns.specs.TriggerParts.{atom_faults, each_atom_fau
 use crate::counting::{MAX_COUNT, counts_well};
 use spec_model::expr;
 use spec_model::spec::Trigger;
-use spectra_brought::reporting::report_faults;
 use spectra_elaboration::erasing::erase;
 use spectra_judge::findings::report_if;
 use spectra_judge::known::Known;
+use spectra_judge::reporting::report_faults;
 use spectra_resolved::findings::Findings;
 use spectra_resolved::spot::Spot;
 use spectra_resolved::stand::Stand;
@@ -34,7 +33,6 @@ use trigger_dfa::{DfaFault, build};
 /// Reports the faults of an expression's brackets.
 #[cycle(judging)]
 pub fn report_atoms(findings: &mut Findings, known: &Known<'_, '_>, r: &Regex)
-    requires rising { AreRising known.now.brought.now }
     ensures { found_in findings.new ≡ with_faults (found_in findings.old) (atom_faults (known_data known.now) (regex_data r.now)) }
 {
     match r {
@@ -47,7 +45,6 @@ pub fn report_atoms(findings: &mut Findings, known: &Known<'_, '_>, r: &Regex)
 
 #[cycle(judging)]
 fn report_each(findings: &mut Findings, known: &Known<'_, '_>, rs: &[Regex])
-    requires rising { AreRising known.now.brought.now }
     ensures { found_in findings.new ≡ with_faults (found_in findings.old) (each_atom_faults (known_data known.now) (regexes (map regex_data rs.now))) }
 {
     for r in rs {

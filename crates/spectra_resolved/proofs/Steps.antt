@@ -12,7 +12,7 @@ use Rattle.spectra_resolved.specs.declared.tree.Link.{Link}
 use Rattle.spectra_resolved.specs.declared.tree.Resolved.{Resolved}
 use Rattle.spectra_resolved.specs.declared.resolving.Resolver.{Resolver}
 use Rattle.spectra_resolved.specs.declared.findings.Finding.{Finding}
-use Rattle.spectra_resolved.specs.Spots.{spot_at}
+use Rattle.spectra_resolved.specs.Spots.{spot_at, in_text}
 use Rattle.spectra_resolved.specs.Findings.{with_faults}
 use Rattle.spectra_resolved.specs.Resolved.{ResolvedTree, tree, Form, listed}
 use Rattle.spectra_resolved.specs.Chained.{LinkData, chained}
@@ -25,12 +25,12 @@ use Rattle.spectra_resolved.proofs.First.{found_later, with_faults_append}
 -- ---- an operator and its operands
 
 module _ (r : Resolver) (head : ExprTree) (word : BinaryWord) (a b : Box ExprTree Global) (is : head.form ≡ code_form.Binary word a b) where
-  binary-resolved : resolved_by r (expr_data head) ≡ tree (spot_at r.file head.first) (spot_at r.file head.at) (Form.Binary word (resolved_by r (expr_data a.value)) (resolved_by r (expr_data b.value)))
+  binary-resolved : resolved_by r (expr_data head) ≡ tree (spot_at r.file head.first) (in_text (spot_at r.file head.at)) (Form.Binary word (resolved_by r (expr_data a.value)) (resolved_by r (expr_data b.value)))
   binary-resolved = ap (λ f. resolved_by r (expression head.first head.at f)) (ap form_data is ∙ binary_folded word a b)
 
   -- one more operator behind what is left
   pub chain_step : (links made : List Link) (l : Link) (all : ResolvedTree) → made ≡ links ++ l ∷ []
-      → link_data l ≡ record { first = spot_at r.file head.first; at = spot_at r.file head.at; word = word; second = resolved_by r (expr_data b.value) }
+      → link_data l ≡ record { first = spot_at r.file head.first; at = in_text (spot_at r.file head.at); word = word; second = resolved_by r (expr_data b.value) }
       → chained (resolved_by r (expr_data head)) (map link_data (reverse links)) ≡ all
       → chained (resolved_by r (expr_data a.value)) (map link_data (reverse made)) ≡ all
   chain_step links made l all more there before =

@@ -2,6 +2,7 @@
 use Rattle.std.specs.Prelude.{List, [], ◌∷◌}
 use Rattle.spectra_trees.specs.declared.tree.BinaryWord.{BinaryWord}
 use Rattle.spectra_resolved.specs.declared.spot.Spot.{Spot}
+use Rattle.spectra_resolved.specs.declared.spot.Mark.{Mark}
 use Rattle.spectra_resolved.specs.declared.tree.Times.{Times}
 use Rattle.spectra_resolved.specs.Resolved.{ResolvedTree, Form, ResolvedTrees, tree, Binary, none, one_more, ResolvedRegex, ResolvedRegexes, Repetition, none, one_more}
 
@@ -13,7 +14,7 @@ trees (t ∷ ts) = ResolvedTrees.one_more t (trees ts)
 -- an operator with its second operand, and the place of the first token of both operands
 pub record LinkData : Type 0 where
   pub first : Spot
-  pub at : Spot
+  pub at : Mark
   pub word : BinaryWord
   pub second : ResolvedTree
 

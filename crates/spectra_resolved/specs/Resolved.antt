@@ -3,14 +3,15 @@ use Rattle.std.specs.Prelude.{ℕ, ℤ, List, [], ◌∷◌}
 use Rattle.spectra_trees.specs.declared.tree.PrefixWord.{PrefixWord}
 use Rattle.spectra_trees.specs.declared.tree.BinaryWord.{BinaryWord}
 use Rattle.spectra_resolved.specs.declared.spot.Spot.{Spot}
+use Rattle.spectra_resolved.specs.declared.spot.Mark.{Mark}
 use Rattle.spectra_resolved.specs.declared.tree.Leaf.{Leaf}
 use Rattle.spectra_resolved.specs.declared.tree.Misuse.{Misuse}
 use Rattle.spectra_resolved.specs.declared.tree.Times.{Times}
 
 mutual
-  -- a tree: the place of its first token, that of its operator, name, word or number, and what it is made of
+  -- a tree: the place of its first token, that of its operator, name, word or number with whether a body brings it, and what it is made of
   pub data ResolvedTree : Type 0 where
-    tree : (first at : Spot) → Form → ResolvedTree
+    tree : (first : Spot) → (at : Mark) → Form → ResolvedTree
 
   pub data Form : Type 0 where
     LeafOf : Leaf → Form

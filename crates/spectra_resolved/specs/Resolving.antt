@@ -4,6 +4,7 @@ use Rattle.std.specs.Prelude.{ℕ, ◌==◌, true, false, List, [], ◌∷◌, �
 use Rattle.spectra_trees.specs.Data as written
 use Rattle.spectra_trees.specs.Data.{Expression, expression, Expressions}
 use Rattle.spectra_resolved.specs.declared.spot.Spot.{Spot}
+use Rattle.spectra_resolved.specs.declared.spot.Mark.{Mark}
 use Rattle.spectra_resolved.specs.declared.tree.Leaf.TheVariants as leaves
 use Rattle.spectra_resolved.specs.declared.tree.Misuse.{Misuse}
 use Rattle.spectra_resolved.specs.declared.tree.Misuse.TheVariants as misuse
@@ -12,7 +13,7 @@ use Rattle.spectra_resolved.specs.declared.table.Named.TheVariants as names
 use Rattle.spectra_resolved.specs.declared.findings.Finding.{Finding}
 use Rattle.spectra_resolved.specs.Findings.{fault}
 use Rattle.spectra_resolved.specs.Numbers.{number_of, signed}
-use Rattle.spectra_resolved.specs.Spots.{spot_at, spot_of}
+use Rattle.spectra_resolved.specs.Spots.{spot_at, spot_of, in_text}
 use Rattle.spectra_resolved.specs.Looks.{Looking}
 use Rattle.spectra_resolved.specs.Resolved.{ResolvedTree, tree, Form, ResolvedTrees, listed}
 
@@ -34,14 +35,14 @@ call_form _ ts = Form.MisuseOf misuse.Unknown ts
 
 abbrev mutual
   pub resolved : Looking → (file : ℕ) → Expression → ResolvedTree
-  resolved look file (expression first at form) = resolved_form look file (spot_at file first) (spot_at file at) form
+  resolved look file (expression first at form) = resolved_form look file (spot_at file first) (in_text (spot_at file at)) form
 
-  pub resolved_form : Looking → (file : ℕ) → (first at : Spot) → written.Form → ResolvedTree
+  pub resolved_form : Looking → (file : ℕ) → (first : Spot) → (at : Mark) → written.Form → ResolvedTree
   resolved_form look file first at written.Form.True = tree first at (Form.LeafOf (leaves.Truth true))
   resolved_form look file first at written.Form.False = tree first at (Form.LeafOf (leaves.Truth false))
   resolved_form look file first at (written.Form.Number negative digits) = tree first at (Form.LeafOf (leaves.Number (signed negative digits)))
-  resolved_form look file first at (written.Form.Read name) = tree first (spot_of file name) (read_form (look name.text))
-  resolved_form look file first at (written.Form.Call name es) = tree first (spot_of file name) (call_form (look name.text) (resolved_each look file es))
+  resolved_form look file first at (written.Form.Read name) = tree first (in_text (spot_of file name)) (read_form (look name.text))
+  resolved_form look file first at (written.Form.Call name es) = tree first (in_text (spot_of file name)) (call_form (look name.text) (resolved_each look file es))
   resolved_form look file first at (written.Form.Next e) = tree first at (Form.Next (resolved look file e))
   resolved_form look file first at (written.Form.Prefix word e) = tree first at (Form.Prefix word (resolved look file e))
   resolved_form look file first at (written.Form.Binary word a b) = tree first at (Form.Binary word (resolved look file a) (resolved look file b))
@@ -65,7 +66,7 @@ fault_of (misuse.Called leaf) = fault_number WrongType
 -- each misused name in a tree
 abbrev mutual
   pub misuses : ResolvedTree → List Finding
-  misuses (tree first at form) = form_misuses at form
+  misuses (tree first at form) = form_misuses at.spot form
 
   pub form_misuses : Spot → Form → List Finding
   form_misuses at (Form.LeafOf leaf) = []

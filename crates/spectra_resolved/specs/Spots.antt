@@ -1,8 +1,9 @@
 -- Places in several files, and names with their places.
-use Rattle.std.specs.Prelude.{ℕ, List}
+use Rattle.std.specs.Prelude.{ℕ, true, false, List}
 use Rattle.spectra_trees.specs.declared.tree.Place.{Place}
 use Rattle.spectra_trees.specs.Data.{NameData}
 use Rattle.spectra_resolved.specs.declared.spot.Spot.{Spot}
+use Rattle.spectra_resolved.specs.declared.spot.Mark.{Mark}
 
 -- a place of a file
 abbrev pub spot_at : (file : ℕ) → Place → Spot
@@ -11,6 +12,14 @@ spot_at file at = record { file = file; line = at.line; column = at.column }
 -- where a name of a file stands
 abbrev pub spot_of : (file : ℕ) → NameData → Spot
 spot_of file name = record { file = file; line = name.line; column = name.column }
+
+-- where a part stands of the text itself
+abbrev pub in_text : Spot → Mark
+in_text at = record { spot = at; brought = false }
+
+-- where a part stands that a body brings, by the place of its name
+abbrev pub brought_at : Spot → Mark
+brought_at name = record { spot = name; brought = true }
 
 -- a name as it is written, and where
 pub record MentionData : Type 0 where

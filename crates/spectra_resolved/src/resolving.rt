@@ -4,7 +4,7 @@ ghost use Rattle.std.specs.Prelude.{◌≡◌, false, map, IfOk, OnOk};
 ghost use Rattle.spectra_trees.specs.Data.{expressions};
 ghost use Rattle.spectra_trees.specs.Chains.{is_joined};
 ghost use Rattle.spectra_trees.specs.Views.{name_data, expr_data};
-ghost use Rattle.spectra_resolved.specs.Spots.{spot_at as spot_at_lem, spot_of as spot_of_lem};
+ghost use Rattle.spectra_resolved.specs.Spots.{spot_at as spot_at_lem, spot_of as spot_of_lem, in_text as in_text_lem};
 ghost use Rattle.spectra_resolved.specs.Findings.{with_faults};
 ghost use Rattle.spectra_resolved.specs.Reports.{found_in};
 ghost use Rattle.spectra_resolved.specs.Resolved.{tree as tree_lem, Form};
@@ -18,7 +18,7 @@ ghost use Rattle.spectra_resolved.specs.ResolverViews.{resolved_by, resolved_eac
 use crate::findings::Findings;
 use crate::look::Look;
 use crate::numbers::{number_of, signed};
-use crate::spot::{Spot, spot_at, spot_of};
+use crate::spot::{Spot, in_text, spot_at, spot_of};
 use crate::table::Named;
 use crate::tree::{Leaf, Link, Misuse, Resolved, Shape};
 use spectra_trees::faults::{ARITY, UNKNOWN, WRONG_TYPE};
@@ -53,32 +53,32 @@ fn misused(
     misuse: Misuse,
     arguments: Vec<Resolved>,
 ) -> Resolved
-    ensures tree { resolved_data result ≡ tree_lem first at (Form.MisuseOf misuse (trees_lem (map resolved_data arguments.items))) }
+    ensures tree { resolved_data result ≡ tree_lem first (in_text_lem at) (Form.MisuseOf misuse (trees_lem (map resolved_data arguments.items))) }
     ensures found { found_in findings.new ≡ with_faults (found_in findings.old) (own_misuse at (Form.MisuseOf misuse (trees_lem (map resolved_data arguments.items)))) }
 {
     findings.report(fault_of(misuse), at);
-    Resolved::Node(first, at, Shape::Misuse(misuse, arguments))
+    Resolved::Node(first, in_text(at), Shape::Misuse(misuse, arguments))
 }
 
 // The use of a predicate.
 fn predicate(first: Spot, at: Spot, number: usize, arguments: Vec<Resolved>) -> Resolved
-    ensures { resolved_data result ≡ tree_lem first at (Form.PredicateOf number (trees_lem (map resolved_data arguments.items))) }
+    ensures { resolved_data result ≡ tree_lem first (in_text_lem at) (Form.PredicateOf number (trees_lem (map resolved_data arguments.items))) }
 {
-    Resolved::Node(first, at, Shape::Predicate(number, arguments))
+    Resolved::Node(first, in_text(at), Shape::Predicate(number, arguments))
 }
 
 // A conjunction.
 fn conjunction(first: Spot, at: Spot, parts: Vec<Resolved>, operators: Vec<Spot>) -> Resolved
-    ensures { resolved_data result ≡ tree_lem first at (Form.And (trees_lem (map resolved_data parts.items)) operators.items) }
+    ensures { resolved_data result ≡ tree_lem first (in_text_lem at) (Form.And (trees_lem (map resolved_data parts.items)) operators.items) }
 {
-    Resolved::Node(first, at, Shape::And(parts, operators))
+    Resolved::Node(first, in_text(at), Shape::And(parts, operators))
 }
 
 // A disjunction.
 fn disjunction(first: Spot, at: Spot, parts: Vec<Resolved>, operators: Vec<Spot>) -> Resolved
-    ensures { resolved_data result ≡ tree_lem first at (Form.Or (trees_lem (map resolved_data parts.items)) operators.items) }
+    ensures { resolved_data result ≡ tree_lem first (in_text_lem at) (Form.Or (trees_lem (map resolved_data parts.items)) operators.items) }
 {
-    Resolved::Node(first, at, Shape::Or(parts, operators))
+    Resolved::Node(first, in_text(at), Shape::Or(parts, operators))
 }
 
 #[tactic(auto, using(crate::proofs::Trees::chain_data))]
@@ -95,14 +95,14 @@ fn chain(alloc: Global, head: Resolved, links: Vec<Link>) -> Result<Resolved, Al
 
 // A name without parentheses.
 fn read(resolver: &Resolver<'_, '_>, findings: &mut Findings, first: Spot, name: &Name) -> Resolved
-    ensures tree { resolved_data result ≡ tree_lem first (spot_of_lem resolver.now.file (name_data name.now)) (read_form (look_data resolver.now.look (name_data name.now).text)) }
+    ensures tree { resolved_data result ≡ tree_lem first (in_text_lem (spot_of_lem resolver.now.file (name_data name.now))) (read_form (look_data resolver.now.look (name_data name.now).text)) }
     ensures found { found_in findings.new ≡ with_faults (found_in findings.old)
         (own_misuse (spot_of_lem resolver.now.file (name_data name.now)) (read_form (look_data resolver.now.look (name_data name.now).text))) }
 {
     let at = spot_of(resolver.file, name);
     let none = Vec::new(resolver.alloc);
     match resolver.look.named(name.text.as_str()) {
-        Some(Named::Leaf(leaf)) => Resolved::Node(first, at, Shape::Leaf(leaf)),
+        Some(Named::Leaf(leaf)) => Resolved::Node(first, in_text(at), Shape::Leaf(leaf)),
         Some(Named::Predicate(number, _)) => {
             misused(findings, first, at, Misuse::Bare(number), none)
         }
@@ -119,7 +119,7 @@ fn called(
     name: &Name,
     arguments: Vec<Resolved>,
 ) -> Resolved
-    ensures tree { resolved_data result ≡ tree_lem first (spot_of_lem resolver.now.file (name_data name.now))
+    ensures tree { resolved_data result ≡ tree_lem first (in_text_lem (spot_of_lem resolver.now.file (name_data name.now)))
         (call_form (look_data resolver.now.look (name_data name.now).text) (trees_lem (map resolved_data arguments.items))) }
     ensures found { found_in findings.new ≡ with_faults (found_in findings.old) (own_misuse (spot_of_lem resolver.now.file (name_data name.now))
         (call_form (look_data resolver.now.look (name_data name.now).text) (trees_lem (map resolved_data arguments.items)))) }
@@ -181,7 +181,7 @@ fn link(
 ) -> Result<Link, AllocError>
     ensures link { IfOk result (λ l. link_data l ≡ record {
       first = spot_at_lem resolver.now.file whole.now.first;
-      at = spot_at_lem resolver.now.file whole.now.at;
+      at = in_text_lem (spot_at_lem resolver.now.file whole.now.at);
       word = word;
       second = resolved_by resolver.now (expr_data second.now);
     }) }
@@ -189,7 +189,7 @@ fn link(
 {
     Ok(Link {
         first: spot_at(resolver.file, whole.first),
-        at: spot_at(resolver.file, whole.at),
+        at: in_text(spot_at(resolver.file, whole.at)),
         word,
         second: tree(resolver, findings, second)?,
     })
@@ -209,11 +209,11 @@ fn node(
     let first = spot_at(resolver.file, e.first);
     let at = spot_at(resolver.file, e.at);
     match &e.form {
-        ExprForm::True => Ok(Resolved::Node(first, at, Shape::Leaf(Leaf::Truth(true)))),
-        ExprForm::False => Ok(Resolved::Node(first, at, Shape::Leaf(Leaf::Truth(false)))),
+        ExprForm::True => Ok(Resolved::Node(first, in_text(at), Shape::Leaf(Leaf::Truth(true)))),
+        ExprForm::False => Ok(Resolved::Node(first, in_text(at), Shape::Leaf(Leaf::Truth(false)))),
         ExprForm::Number(negative, digits) => {
             let number = signed(*negative, digits.as_str());
-            Ok(Resolved::Node(first, at, Shape::Leaf(Leaf::Number(number))))
+            Ok(Resolved::Node(first, in_text(at), Shape::Leaf(Leaf::Number(number))))
         }
         ExprForm::Read(name) => Ok(read(resolver, findings, first, name)),
         ExprForm::Call(name, es) => {
@@ -222,18 +222,18 @@ fn node(
         }
         ExprForm::Next(a) => {
             let part = Box::new(resolver.alloc, tree(resolver, findings, a)?)?;
-            Ok(Resolved::Node(first, at, Shape::Next(part)))
+            Ok(Resolved::Node(first, in_text(at), Shape::Next(part)))
         }
         ExprForm::Prefix(word, a) => {
             let part = Box::new(resolver.alloc, tree(resolver, findings, a)?)?;
-            Ok(Resolved::Node(first, at, Shape::Prefix(*word, part)))
+            Ok(Resolved::Node(first, in_text(at), Shape::Prefix(*word, part)))
         }
         ExprForm::Binary(_, _, _) => unreachable!(),
         ExprForm::Mod(a, number, digits) => {
             let part = Box::new(resolver.alloc, tree(resolver, findings, a)?)?;
             let number_at = spot_at(resolver.file, *number);
             let number = number_of(digits.as_str());
-            Ok(Resolved::Node(first, at, Shape::Mod(part, number_at, number)))
+            Ok(Resolved::Node(first, in_text(at), Shape::Mod(part, number_at, number)))
         }
         ExprForm::And(es, ops) => {
             let parts = trees(resolver, findings, es)?;

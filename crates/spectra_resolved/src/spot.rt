@@ -2,7 +2,7 @@
 
 ghost use Rattle.std.specs.Prelude.{◌≡◌};
 ghost use Rattle.spectra_trees.specs.Views.{name_data};
-ghost use Rattle.spectra_resolved.specs.Spots.{spot_at as spot_at_lem, spot_of as spot_of_lem, mentioned as mentioned_lem};
+ghost use Rattle.spectra_resolved.specs.Spots.{spot_at as spot_at_lem, spot_of as spot_of_lem, in_text as in_text_lem, brought_at as brought_at_lem, mentioned as mentioned_lem};
 ghost use Rattle.spectra_resolved.specs.MentionViews.{mention_data};
 
 use spectra_trees::tree::{Name, Place};
@@ -13,6 +13,14 @@ pub struct Spot {
     pub file: usize,
     pub line: u32,
     pub column: u32,
+}
+
+/// A place of a part of an expression, and whether a body brings the part that is put in: the place is then that of the name
+/// that brings it.
+#[derive(Clone, Copy, PartialEq, Eq)]
+pub struct Mark {
+    pub spot: Spot,
+    pub brought: bool,
 }
 
 /// A name as it is written, and where.
@@ -41,6 +49,26 @@ pub fn spot_of(file: usize, name: &Name) -> Spot
         file,
         line: name.line,
         column: name.column,
+    }
+}
+
+/// Where a part stands of the text itself.
+pub fn in_text(spot: Spot) -> Mark
+    ensures { result ≡ in_text_lem spot }
+{
+    Mark {
+        spot,
+        brought: false,
+    }
+}
+
+/// Where a part stands that a body brings, by the place of its name.
+pub fn brought_at(spot: Spot) -> Mark
+    ensures { result ≡ brought_at_lem spot }
+{
+    Mark {
+        spot,
+        brought: true,
     }
 }
 

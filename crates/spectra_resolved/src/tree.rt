@@ -4,10 +4,10 @@
 //! monitors, an enum name by its number among all enum names, a parameter and an own variable by its place among those of
 //! the definition or pattern around it. Every tree keeps its two places: that of its first token, opening parentheses
 //! included, and its own, which is that of its operator (of `And` and `Or` the first one), or of the name, word or number
-//! that it is. The form of a tree is shared by what is written and by what is put in: a tree as it is written has no `Hole`,
+//! that it is; of the latter the tree says whether a body brings it. The form of a tree is shared by what is written and by what is put in: a tree as it is written has no `Hole`,
 //! and a tree in which everything is put in has no define, predicate, parameter or misuse.
 
-use crate::spot::Spot;
+use crate::spot::{Mark, Spot};
 use spectra_trees::tree::{BinaryWord, PrefixWord};
 
 /// What takes the place of something that has no meaning: it fits every type, or every Boolean.
@@ -69,7 +69,7 @@ pub enum Shape {
 #[derive(Drop)]
 pub struct Link {
     pub first: Spot,
-    pub at: Spot,
+    pub at: Mark,
     pub word: BinaryWord,
     pub second: Resolved,
 }
@@ -79,7 +79,7 @@ pub struct Link {
 #[cycle(resolved)]
 pub enum Resolved {
     Chain(Box<Resolved>, Vec<Link>),
-    Node(Spot, Spot, Shape),
+    Node(Spot, Mark, Shape),
 }
 
 impl Drop for Resolved {

@@ -8,7 +8,7 @@ use Rattle.spec_model.specs.declared.value.Value.TheVariants as value
 use Rattle.spec_model.specs.Values.{number_of}
 use Rattle.spectra_trees.specs.declared.tree.BinaryWord.{BinaryWord}
 use Rattle.spectra_trees.specs.declared.tree.BinaryWord.TheVariants as binary
-use Rattle.spectra_resolved.specs.declared.spot.Spot.{Spot}
+use Rattle.spectra_resolved.specs.declared.spot.Mark.{Mark}
 use Rattle.spectra_resolved.specs.declared.stand.Stand.{Stand}
 use Rattle.spectra_resolved.specs.declared.stand.Stand.TheVariants as stand
 use Rattle.spectra_resolved.specs.declared.tree.Leaf.{Leaf}
@@ -79,10 +79,10 @@ remainder_is n (Some x) u p z is at = (λ i. value.Int (int_rem_euclid (number_o
 -- ---- expressions
 
 module _ (c : Constants) (spanned : AreSpanned c) (s : Senses) (numbered : AreNumbers c s) (set : Setting) (known : set.known ≡ known_constants c.kinds) where
-  leaf_is : (next : Option Spot) (at : Spot) (l : Leaf) (z : ℤ) → leaf_faults set next at l ≡ [] → leaf_number c.numbers l ≡ Some z → (p : ℕ) → leaf_sense s l p ≡ value.Int z
+  leaf_is : (next : Option Mark) (at : Mark) (l : Leaf) (z : ℤ) → leaf_faults set next at l ≡ [] → leaf_number c.numbers l ≡ Some z → (p : ℕ) → leaf_sense s l p ≡ value.Int z
   leaf_is next at (leaf.Number n) z none is p =
       ap (λ n. value.Int n)
-      (uncapped n z (Whole n n) (record { low = n; high = n; is = refl; from_low = omega (arith, ints); to_high = omega (arith, ints) }) (no_fault (is_wide (Whole n n)) 14 at none) is)
+      (uncapped n z (Whole n n) (record { low = n; high = n; is = refl; from_low = omega (arith, ints); to_high = omega (arith, ints) }) (no_fault (is_wide (Whole n n)) 14 at.spot none) is)
   leaf_is next at (leaf.Define k) z none is p = numbered k z is p
   leaf_is next at (leaf.Truth b) z none is p = absurd (none_some is)
   leaf_is next at (leaf.EnumName k) z none is p = absurd (none_some is)
@@ -95,18 +95,18 @@ module _ (c : Constants) (spanned : AreSpanned c) (s : Senses) (numbered : AreNu
     number_is : (o : Around) (t : ResolvedTree) (z : ℤ) → faults set o t ≡ [] → number_in c.numbers t ≡ Some z → (p : ℕ) → sense s t p ≡ value.Int z
     number_is o (tree first at form) z none is p = form_is o at form z none is p
 
-    form_is : (o : Around) (at : Spot) (form : Form) (z : ℤ) → form_faults set o at form ≡ [] → form_number c.numbers form ≡ Some z → (p : ℕ) → form_sense s form p ≡ value.Int z
+    form_is : (o : Around) (at : Mark) (form : Form) (z : ℤ) → form_faults set o at form ≡ [] → form_number c.numbers form ≡ Some z → (p : ℕ) → form_sense s form p ≡ value.Int z
     form_is o at (Form.LeafOf l) z none is p = leaf_is o.next at l z none is p
     form_is o at (Form.Binary word a b) z none is p =
-        let inner = within set.known.brought (is_past word) at o in
+        let inner = within (is_past word) at o in
         let first = empty_parts (faults set inner a) _ none in
         let more = empty_parts (operator_faults set (is_past word) o.next at) _ first.1 in
-        let second = empty_parts (faults set inner b) (binary_faults word (kind_of set.known a) (kind_of set.known b) at) more.1 in
-        let last = empty_parts (wrong (takes word (kind_of set.known a) (kind_of set.known b)) at) _ second.1 in
+        let second = empty_parts (faults set inner b) (binary_faults word (kind_of set.known a) (kind_of set.known b) at.spot) more.1 in
+        let last = empty_parts (wrong (takes word (kind_of set.known a) (kind_of set.known b)) at.spot) _ second.1 in
         let j = kind_of (known_constants c.kinds) a in
         let k = kind_of (known_constants c.kinds) b in
         let narrow : is_wide (gives word j k) ≡ false =
-        (λ i. is_wide (gives word (kind_of (sym known i) a) (kind_of (sym known i) b))) ∙ no_fault (is_wide (gives word (kind_of set.known a) (kind_of set.known b))) 14 at last.1 in
+        (λ i. is_wide (gives word (kind_of (sym known i) a) (kind_of (sym known i) b))) ∙ no_fault (is_wide (gives word (kind_of set.known a) (kind_of set.known b))) 14 at.spot last.1 in
         let left : Stands (number_in c.numbers a) j (λ q. sense s a q) p = record { span = λ x here. has c spanned set known inner a x first.0 here; value_is = λ x here. number_is inner a x first.0 here p } in
         let right : Stands (number_in c.numbers b) k (λ q. sense s b q) p = record { span = λ y here. has c spanned set known inner b y second.0 here; value_is = λ y here. number_is inner b y second.0 here p } in
         operation_is word (number_in c.numbers a) (number_in c.numbers b) j k (λ q. sense s a q) (λ q. sense s b q) p z narrow left right is

@@ -10,6 +10,7 @@ use Rattle.std.proofs.lemmas.List.Elements.{Contains-append_left, Contains-appen
 use Rattle.spec_model.specs.declared.value.Value.TheVariants as value
 use Rattle.spec_model.specs.Values.{truth_of, number_of}
 use Rattle.spectra_resolved.specs.declared.spot.Spot.{Spot}
+use Rattle.spectra_resolved.specs.declared.spot.Mark.{Mark}
 use Rattle.spectra_resolved.specs.declared.tree.Leaf.{Leaf}
 use Rattle.spectra_resolved.specs.declared.tree.Leaf.TheVariants as leaf
 use Rattle.spectra_resolved.specs.declared.tree.Hole.{Hole}
@@ -17,7 +18,7 @@ use Rattle.spectra_resolved.specs.declared.tree.Hole.TheVariants as hole
 use Rattle.spectra_resolved.specs.Resolved.{ResolvedTree, tree, Form, ResolvedTrees, listed}
 use Rattle.spectra_uses.specs.Uses.{uses_in, form_uses, each_uses}
 use Rattle.spectra_uses.specs.Orders.{StandsBefore}
-use Rattle.spectra_elaboration.specs.Putting.{Bodies, Put, placed, leaf_put, filled, form_filled, each_filled, body_put, put_deep, put_in}
+use Rattle.spectra_elaboration.specs.Putting.{Bodies, Put, placed, marked, leaf_put, filled, form_filled, each_filled, body_put, put_deep, put_in}
 use Rattle.spectra_elaboration.specs.Written.{is_use, is_written_leaf, is_written, form_written, each_written}
 use Rattle.spectra_senses.specs.Senses.{Sense, Senses, nothing, leaf_sense, prefix_sense, binary_sense, sense, form_sense, senses}
 use Rattle.spectra_senses.proofs.Orders.{AreOrdered, AreBodies, body_there, stands_earlier, stands_somewhere}
@@ -65,8 +66,8 @@ module _ (arities : List ℕ) (good : Leaf → Bool) (s : Senses) where
         let is : get_or arities k 0 ≡ n = (let e = parts.1 in grind (arith, nat_tests)) in
         puts below h at ts (size ∙ sym is) p
 
-    leaf_filled : (first at : Spot) (l : Leaf) → is_written_leaf arities good params l ≡ true → Puts (form_uses (Form.LeafOf l)) → (p : ℕ) → sense s (leaf_put put arguments first at l) p ≡ leaf_sense outer l p
-    leaf_filled first at (leaf.Define k) e puts p = use_sense hole.Anything k at [] 0 e refl (puts k (0, omega arith, refl)) p
+    leaf_filled : (first : Spot) (at : Mark) (l : Leaf) → is_written_leaf arities good params l ≡ true → Puts (form_uses (Form.LeafOf l)) → (p : ℕ) → sense s (leaf_put put arguments first at l) p ≡ leaf_sense outer l p
+    leaf_filled first at (leaf.Define k) e puts p = use_sense hole.Anything k at.spot [] 0 e refl (puts k (0, omega arith, refl)) p
     leaf_filled first at (leaf.Parameter k) e puts p = (let below : k < params = grind (arith, nat_tests) in λ i. fits k below (tree first at (Form.LeafOf (leaf.Parameter k))) i p)
     leaf_filled first at (leaf.Truth b) e puts p = refl
     leaf_filled first at (leaf.Number z) e puts p = refl
@@ -77,15 +78,15 @@ module _ (arities : List ℕ) (good : Leaf → Bool) (s : Senses) where
 
     mutual
       filled_sense : (t : ResolvedTree) → is_written arities good params t ≡ true → Puts (uses_in t) → (p : ℕ) → sense s (filled put brought arguments t) p ≡ sense outer t p
-      filled_sense (tree first at form) e puts p = form_is (placed brought first) (placed brought at) form e puts p
+      filled_sense (tree first at form) e puts p = form_is (placed brought first) (marked brought at) form e puts p
 
-      form_is : (first at : Spot) (form : Form) → form_written arities good params form ≡ true → Puts (form_uses form) → (p : ℕ) → sense s (form_filled put brought arguments first at form) p ≡ form_sense outer form p
+      form_is : (first : Spot) (at : Mark) (form : Form) → form_written arities good params form ≡ true → Puts (form_uses form) → (p : ℕ) → sense s (form_filled put brought arguments first at form) p ≡ form_sense outer form p
       form_is first at (Form.LeafOf l) e puts p = leaf_filled first at l e puts p
       form_is first at (Form.PredicateOf k ts) e puts p =
           let parts = and_parts (is_use arities k (length (listed ts))) (each_written arities good params ts) e in
           let made = each_filled put brought arguments ts in
           let is = each_sense ts parts.1 (used_right (k ∷ []) (each_uses ts) puts) in
-          use_sense hole.Truth k at (listed made) (length (listed ts)) parts.0 (count_filled put brought arguments ts) (puts k (0, omega arith, refl)) p
+          use_sense hole.Truth k at.spot (listed made) (length (listed ts)) parts.0 (count_filled put brought arguments ts) (puts k (0, omega arith, refl)) p
           ∙ ap (λ as'. s.definition k as' p) (each_is s made ∙ is)
       form_is first at (Form.MisuseOf m ts) e puts p = absurd (false≢true e)
       form_is first at (Form.Next t) e puts p = filled_sense t e puts (suc p)

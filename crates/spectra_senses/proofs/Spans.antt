@@ -6,6 +6,7 @@ use Rattle.std.proofs.lemmas.Bool.{or_parts}
 use Rattle.spectra_trees.specs.declared.tree.BinaryWord.{BinaryWord}
 use Rattle.spectra_trees.specs.declared.tree.BinaryWord.TheVariants as binary
 use Rattle.spectra_resolved.specs.declared.spot.Spot.{Spot}
+use Rattle.spectra_resolved.specs.declared.spot.Mark.{Mark}
 use Rattle.spectra_resolved.specs.declared.tree.Leaf.{Leaf}
 use Rattle.spectra_resolved.specs.declared.tree.Leaf.TheVariants as leaf
 use Rattle.spectra_resolved.specs.Resolved.{ResolvedTree, tree, Form, ResolvedTrees}
@@ -157,8 +158,8 @@ module _ (s : Setting) where
   abbrev judged : ResolvedTree → Kind
   judged t = kind_of s.known t
 
-  leaf_narrow : (o : Around) (at : Spot) (l : Leaf) → leaf_faults s o.next at l ≡ [] → is_wide_leaf (leaf_kind s.known l) l ≡ false
-  leaf_narrow o at (leaf.Number z) none = no_fault (is_wide (Whole z z)) 14 at none
+  leaf_narrow : (o : Around) (at : Mark) (l : Leaf) → leaf_faults s o.next at l ≡ [] → is_wide_leaf (leaf_kind s.known l) l ≡ false
+  leaf_narrow o at (leaf.Number z) none = no_fault (is_wide (Whole z z)) 14 at.spot none
   leaf_narrow o at _ none = refl
 
   mutual
@@ -166,27 +167,27 @@ module _ (s : Setting) where
     none_wide o (tree first at (Form.LeafOf l)) none = leaf_narrow o at l none
     none_wide o (tree first at (Form.PredicateOf k ts)) none = arguments_narrow o (wanted s.known (Some k)) ts none
     none_wide o (tree first at (Form.MisuseOf m ts)) none = absurd (not_empty _ _ none)
-    none_wide o (tree first at (Form.Next t)) none = none_wide (under_next at o) t (empty_parts (next_faults s.known.brought s.bans o at) _ none).1
+    none_wide o (tree first at (Form.Next t)) none = none_wide (under_next at o) t (empty_parts (next_faults s.bans o at) _ none).1
     none_wide o (tree first at (Form.Prefix word t)) none =
-        let inner = within s.known.brought (is_past_prefix word) at o in
+        let inner = within (is_past_prefix word) at o in
         let behind = empty_parts (operator_faults s (is_past_prefix word) o.next at) _ none in none_wide inner t (empty_parts (faults s inner t) _ behind.1).0
     none_wide o (tree first at (Form.Binary word a b)) none =
-        let inner = within s.known.brought (is_past word) at o in
+        let inner = within (is_past word) at o in
         let left = empty_parts (faults s inner a) _ none in
         let behind = empty_parts (operator_faults s (is_past word) o.next at) _ left.1 in
-        let right = empty_parts (faults s inner b) (binary_faults word (kind_of s.known a) (kind_of s.known b) at) behind.1 in
-        let last = empty_parts (wrong (takes word (kind_of s.known a) (kind_of s.known b)) at) _ right.1 in
-        let here = no_fault (is_wide (gives word (kind_of s.known a) (kind_of s.known b))) 14 at last.1 in
+        let right = empty_parts (faults s inner b) (binary_faults word (kind_of s.known a) (kind_of s.known b) at.spot) behind.1 in
+        let last = empty_parts (wrong (takes word (kind_of s.known a) (kind_of s.known b)) at.spot) _ right.1 in
+        let here = no_fault (is_wide (gives word (kind_of s.known a) (kind_of s.known b))) 14 at.spot last.1 in
         let first_none = none_wide inner a left.0 in
         let second_none = none_wide inner b right.0 in λ i. here i || (first_none i || second_none i)
     none_wide o (tree first at (Form.Mod t number_at n)) none =
         let left = empty_parts (faults s o t) _ none in
-        let more = empty_parts (wrong (is_whole (kind_of s.known t)) at) _ left.1 in
-        let last = empty_parts (fault_if (int_le n (pos 0)) 14 number_at) (wide (reduced n) at) more.1 in
-        let here = no_fault (is_wide (reduced n)) 14 at last.1 in
+        let more = empty_parts (wrong (is_whole (kind_of s.known t)) at.spot) _ left.1 in
+        let last = empty_parts (fault_if (int_le n (pos 0)) 14 number_at) (wide (reduced n) at.spot) more.1 in
+        let here = no_fault (is_wide (reduced n)) 14 at.spot last.1 in
         let inner_none = none_wide o t left.0 in λ i. here i || inner_none i
-    none_wide o (tree first at (Form.And ts operators)) none = operands_narrow o at (at ∷ operators) ts none
-    none_wide o (tree first at (Form.Or ts operators)) none = operands_narrow o at (at ∷ operators) ts none
+    none_wide o (tree first at (Form.And ts operators)) none = operands_narrow o at.spot (at.spot ∷ operators) ts none
+    none_wide o (tree first at (Form.Or ts operators)) none = operands_narrow o at.spot (at.spot ∷ operators) ts none
 
     operands_narrow : (o : Around) (at : Spot) (operators : List Spot) (ts : ResolvedTrees) → operand_faults s o at operators ts ≡ [] → have_wide judged ts ≡ false
     operands_narrow o at operators ResolvedTrees.none none = refl

@@ -6,10 +6,11 @@ use Rattle.std.proofs.lemmas.Bool.Decides.{nat_tests}
 use Rattle.spectra_trees.specs.Data as written
 use Rattle.spectra_trees.specs.Data.{Expression, expression, Expressions, RegexData, Regexes}
 use Rattle.spectra_resolved.specs.declared.spot.Spot.{Spot}
+use Rattle.spectra_resolved.specs.declared.spot.Mark.{Mark}
 use Rattle.spectra_resolved.specs.declared.tree.Misuse.TheVariants as misuse
 use Rattle.spectra_resolved.specs.declared.table.Named.{Named}
 use Rattle.spectra_resolved.specs.declared.table.Named.TheVariants as names
-use Rattle.spectra_resolved.specs.Spots.{spot_at, spot_of}
+use Rattle.spectra_resolved.specs.Spots.{spot_at, spot_of, in_text}
 use Rattle.spectra_resolved.specs.Looks.{Looking}
 use Rattle.spectra_resolved.specs.Resolved.{Form, ResolvedTrees, listed}
 use Rattle.spectra_resolved.specs.Resolving.{read_form, call_form, resolved, resolved_form, resolved_each, misuses, form_misuses, misuses_of_each}
@@ -63,9 +64,9 @@ module _ (z : Sizes) (params : ℕ) (look : Looking) (well : StandWell z params 
 
   mutual
     pub tree_sound : (e : Expression) → misuses (resolved look file e) ≡ [] → is_sound_tree z params (resolved look file e) ≡ true
-    tree_sound (expression first at form) none = any_sound (spot_at file first) (spot_at file at) form none
+    tree_sound (expression first at form) none = any_sound (spot_at file first) (in_text (spot_at file at)) form none
 
-    any_sound : (first at : Spot) (form : written.Form) → misuses (resolved_form look file first at form) ≡ [] → is_sound_tree z params (resolved_form look file first at form) ≡ true
+    any_sound : (first : Spot) (at : Mark) (form : written.Form) → misuses (resolved_form look file first at form) ≡ [] → is_sound_tree z params (resolved_form look file first at form) ≡ true
     any_sound first at written.Form.True none = refl
     any_sound first at written.Form.False none = refl
     any_sound first at (written.Form.Number negative digits) none = refl

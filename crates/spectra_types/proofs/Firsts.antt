@@ -16,7 +16,7 @@ use Rattle.spectra_judge.specs.declared.kind.Kind as code
 use Rattle.spectra_judge.specs.KindViews.{kind_data}
 use Rattle.spectra_judge.proofs.Empty.{empty_parts}
 use Rattle.spectra_notes.specs.TypeKinds.{kind_in, type_kinds}
-use Rattle.spectra_brought.proofs.Found.{no_faults}
+use Rattle.spectra_judge.proofs.Found.{no_faults}
 use Rattle.spectra_bodies.specs.Faults.{declared_faults}
 use Rattle.spectra_patterns.specs.SoundPatterns.{is_type_kind}
 use Rattle.spectra_sound.proofs.Whole.{faultless_sound}

@@ -35,7 +35,7 @@ use Rattle.spectra_bodies.specs.Faults.{declared_faults}
 use Rattle.spectra_patterns.specs.SoundPatterns.{is_type_kind}
 use Rattle.spectra_patterns.proofs.Shaped.{all_room}
 use Rattle.spectra_lines.specs.Contents.{initial_stand, safety_stand, is_asm, Facts, tree_put, line_put}
-use Rattle.spectra_lines.specs.Lines.{as_written, known_with, as_put}
+use Rattle.spectra_lines.specs.Lines.{as_written, as_put}
 use Rattle.spectra_lines.specs.Laws.{HasNoFault, HaveNoFault}
 use Rattle.spectra_lines.specs.Meanings.{pattern_number, triggers_in, content_of, statement_of, statements_from}
 use Rattle.spectra_sound.specs.Sound.{Sizes, sizes_of, is_sound_tree, is_pattern_use, is_sound_body, is_sound_line, fits_role, IsSound}
@@ -96,10 +96,10 @@ module _ (text : ResolvedText) (sound : IsSound text) (none : declared_faults te
   tests_are : (λ (k : ℕ). is_system f.known k) ≡ is_output_variable s.variables
   tests_are = (λ i k. outputs_are text text.variables k i) ∙ ap is_output_variable (sym variables_are)
 
-  pub tree_right : (at : Stand) (ts : List ResolvedTree) (t : ResolvedTree) → wants_truth at ≡ true → is_sound_tree z 0 t ≡ true → faults_of f.known at t ≡ [] → faults_of (known_with f.known ts) at (tree_put f at t) ≡ [] →
+  pub tree_right : (at : Stand) (t : ResolvedTree) → wants_truth at ≡ true → is_sound_tree z 0 t ≡ true → faults_of f.known at t ≡ [] → faults_of f.known at (tree_put f at t) ≡ [] →
       is_put_in (in_line (length s.names) (length s.variables)) (tree_put f at t) ≡ true × IsRight at (erased 0 (tree_put f at t))
-  tree_right at ts t wants written first second =
-      let known = known_with f.known ts in
+  tree_right at t wants written first second =
+      let known = f.known in
       let count : length s.variables ≡ z.variables = ap (λ vs. length vs) variables_are ∙ length-map text.variables (variable_of text) in
       let parts : is_put_in (in_line (length s.names) (length s.variables)) (tree_put f at t) ≡ true =
       (λ i. is_put_in (in_line (length (names_are i)) (count i)) (tree_put f at t)) ∙ everything_put text sound none at t written first in
@@ -122,14 +122,14 @@ module _ (text : ResolvedText) (sound : IsSound text) (none : declared_faults te
   state_right at e banned is = and_from _ _ is.is_truth (not_from_false (has_next e) (is.next banned))
 
   -- several, as a pattern's arguments
-  pub each_right : (at : Stand) (all ts : List ResolvedTree) → wants_truth at ≡ true → (bans_of at).next ≡ true → list_all (is_sound_tree z 0) ts ≡ true → flat_map (faults_of f.known at) ts ≡ [] →
-      flat_map (faults_of (known_with f.known all) at) (map (tree_put f at) ts) ≡ [] → list_all (is_typed_state (scope_of_specification s) (length s.names)) (map (erased 0) (map (tree_put f at) ts)) ≡ true
-  each_right at all [] wants banned written first second = refl
-  each_right at all (t ∷ ts) wants banned written first second =
+  pub each_right : (at : Stand) (ts : List ResolvedTree) → wants_truth at ≡ true → (bans_of at).next ≡ true → list_all (is_sound_tree z 0) ts ≡ true → flat_map (faults_of f.known at) ts ≡ [] →
+      flat_map (faults_of f.known at) (map (tree_put f at) ts) ≡ [] → list_all (is_typed_state (scope_of_specification s) (length s.names)) (map (erased 0) (map (tree_put f at) ts)) ≡ true
+  each_right at [] wants banned written first second = refl
+  each_right at (t ∷ ts) wants banned written first second =
       let tests = and_parts (is_sound_tree z 0 t) _ written in
       let a = empty_parts (faults_of f.known at t) _ first in
-      let b = empty_parts (faults_of (known_with f.known all) at (tree_put f at t)) _ second in
-      and_from _ _ (state_right at _ banned (tree_right at all t wants tests.0 a.0 b.0).1) (each_right at all ts wants banned tests.1 a.1 b.1)
+      let b = empty_parts (faults_of f.known at (tree_put f at t)) _ second in
+      and_from _ _ (state_right at _ banned (tree_right at t wants tests.0 a.0 b.0).1) (each_right at ts wants banned tests.1 a.1 b.1)
 
   -- ---- lines
 
@@ -177,21 +177,21 @@ module _ (text : ResolvedText) (sound : IsSound text) (none : declared_faults te
             is_typed_content s (is_asm l) (content_of n (line_put f (record l { body = b })).body) ≡ true
         by (Initial t) body first second all =
             let a = empty_parts (faults_of f.known (initial_stand (is_asm l)) t) [] first in
-            let b = empty_parts (faults_of (known_with f.known (t ∷ [])) (initial_stand (is_asm l)) (tree_put f (initial_stand (is_asm l)) t)) [] second in
-            initial_right (is_asm l) _ (tree_right (initial_stand (is_asm l)) (t ∷ []) t (initial_truth (is_asm l)) body a.0 b.0).1
+            let b = empty_parts (faults_of f.known (initial_stand (is_asm l)) (tree_put f (initial_stand (is_asm l)) t)) [] second in
+            initial_right (is_asm l) _ (tree_right (initial_stand (is_asm l)) t (initial_truth (is_asm l)) body a.0 b.0).1
         by (Safety t) body first second all =
             let a = empty_parts (faults_of f.known (safety_stand (is_asm l)) t) [] first in
-            let b = empty_parts (faults_of (known_with f.known (t ∷ [])) (safety_stand (is_asm l)) (tree_put f (safety_stand (is_asm l)) t)) [] second in
-            safety_right (is_asm l) _ (tree_right (safety_stand (is_asm l)) (t ∷ []) t (safety_truth (is_asm l)) body a.0 b.0).1
+            let b = empty_parts (faults_of f.known (safety_stand (is_asm l)) (tree_put f (safety_stand (is_asm l)) t)) [] second in
+            safety_right (is_asm l) _ (tree_right (safety_stand (is_asm l)) t (safety_truth (is_asm l)) body a.0 b.0).1
         by (Recurring t) body first second all =
             let a = empty_parts (faults_of f.known stand.Recurring t) [] first in
-            let b = empty_parts (faults_of (known_with f.known (t ∷ [])) stand.Recurring (tree_put f stand.Recurring t)) [] second in
-            state_right stand.Recurring _ refl (tree_right stand.Recurring (t ∷ []) t refl body a.0 b.0).1
+            let b = empty_parts (faults_of f.known stand.Recurring (tree_put f stand.Recurring t)) [] second in
+            state_right stand.Recurring _ refl (tree_right stand.Recurring t refl body a.0 b.0).1
         by (Pattern at used arguments) body first second all =
             let tests = and_parts (is_pattern_use z used (length arguments)) (list_all (is_sound_tree z 0) arguments) body in
             let long : length arguments ≡ length (map (erased 0) (map (tree_put f stand.Argument) arguments)) =
             sym (length-map (map (tree_put f stand.Argument) arguments) (erased 0) ∙ length-map arguments (tree_put f stand.Argument)) in
-            and_from _ _ (use_fits patterns_are used (length arguments) _ long tests.0) (each_right stand.Argument arguments arguments refl refl tests.1 first second)
+            and_from _ _ (use_fits patterns_are used (length arguments) _ long tests.0) (each_right stand.Argument arguments refl refl tests.1 first second)
         by (Trigger at cause effect) body first second all = trigger_there _ before n rest all is
           where
             trigger_there : (t : TriggerData) (before : List TriggerData) (n : ℕ) (rest : List TriggerData) → s.triggers ≡ before ++ t ∷ rest → n ≡ length before → nat_lt n (length s.triggers) ≡ true

@@ -1,6 +1,7 @@
 -- An expression without faults where it stands has no misused name.
 use Rattle.std.proofs.Common.{◌≡◌, List, [], ◌∷◌, ◌++◌, Some, drop, refl}
 use Rattle.spectra_resolved.specs.declared.spot.Spot.{Spot}
+use Rattle.spectra_resolved.specs.declared.spot.Mark.{Mark}
 use Rattle.spectra_resolved.specs.declared.stand.Stand.{Stand}
 use Rattle.spectra_resolved.specs.Resolved.{ResolvedTree, tree, Form, ResolvedTrees}
 use Rattle.spectra_resolved.specs.Resolving.{misuses, form_misuses, misuses_of_each}
@@ -18,22 +19,22 @@ module _ (s : Setting) where
     none_in : (o : Around) (t : ResolvedTree) → faults s o t ≡ [] → misuses t ≡ []
     none_in o (tree first at form) none = form_none o at form none
 
-    form_none : (o : Around) (at : Spot) (form : Form) → form_faults s o at form ≡ [] → form_misuses at form ≡ []
+    form_none : (o : Around) (at : Mark) (form : Form) → form_faults s o at form ≡ [] → form_misuses at.spot form ≡ []
     form_none o at (Form.LeafOf l) none = refl
     form_none o at (Form.PredicateOf k ts) none = arguments_none o (wanted s.known (Some k)) ts none
     form_none o at (Form.MisuseOf m ts) none = absurd (not_empty _ _ none)
-    form_none o at (Form.Next t) none = none_in (under_next at o) t (empty_parts (next_faults s.known.brought s.bans o at) _ none).1
+    form_none o at (Form.Next t) none = none_in (under_next at o) t (empty_parts (next_faults s.bans o at) _ none).1
     form_none o at (Form.Prefix word t) none =
-        let inner = within s.known.brought (is_past_prefix word) at o in
+        let inner = within (is_past_prefix word) at o in
         let behind = empty_parts (operator_faults s (is_past_prefix word) o.next at) _ none in none_in inner t (empty_parts (faults s inner t) _ behind.1).0
     form_none o at (Form.Binary word a b) none =
-        let inner = within s.known.brought (is_past word) at o in
+        let inner = within (is_past word) at o in
         let left = empty_parts (faults s inner a) _ none in
         let behind = empty_parts (operator_faults s (is_past word) o.next at) _ left.1 in
         let right = empty_parts (faults s inner b) _ behind.1 in (λ i. none_in inner a left.0 i ++ none_in inner b right.0 i)
     form_none o at (Form.Mod t number_at n) none = none_in o t (empty_parts (faults s o t) _ none).0
-    form_none o at (Form.And ts operators) none = operands_none o at (at ∷ operators) ts none
-    form_none o at (Form.Or ts operators) none = operands_none o at (at ∷ operators) ts none
+    form_none o at (Form.And ts operators) none = operands_none o at.spot (at.spot ∷ operators) ts none
+    form_none o at (Form.Or ts operators) none = operands_none o at.spot (at.spot ∷ operators) ts none
 
     operands_none : (o : Around) (at : Spot) (operators : List Spot) (ts : ResolvedTrees) → operand_faults s o at operators ts ≡ [] → misuses_of_each ts ≡ []
     operands_none o at operators ResolvedTrees.none none = refl

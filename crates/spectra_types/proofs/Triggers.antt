@@ -9,7 +9,7 @@ use Rattle.spec_model.specs.WellTyped.{is_typed_trigger}
 use Rattle.spectra_resolved.specs.declared.spot.Spot.{Spot}
 use Rattle.spectra_resolved.specs.declared.findings.Finding.{Finding}
 use Rattle.spectra_resolved.specs.declared.stand.Stand.TheVariants as stand
-use Rattle.spectra_resolved.specs.Resolved.{ResolvedTree, ResolvedRegex, ResolvedRegexes}
+use Rattle.spectra_resolved.specs.Resolved.{ResolvedRegex, ResolvedRegexes}
 use Rattle.spectra_resolved.specs.Texts.{ResolvedBody, Initial, Safety, Recurring, Trigger, Pattern, ResolvedLine, ResolvedText}
 use Rattle.spectra_judge.specs.Known.{Known}
 use Rattle.spectra_judge.specs.Judged.{faults_of}
@@ -21,7 +21,7 @@ use Rattle.spectra_patterns.specs.TriggerParts.{atom_faults, each_atom_faults, r
 use Rattle.spectra_patterns.specs.Laws.{has_choices, each_has_choices, has_some, IsFaultless}
 use Rattle.spectra_patterns.proofs.Regexes.{trigger_typed}
 use Rattle.spectra_lines.specs.Contents.{brackets_in, brackets_of_each, Facts, regex_put, each_regex_put, line_put}
-use Rattle.spectra_lines.specs.Lines.{as_written, known_with, as_put, whole_faults}
+use Rattle.spectra_lines.specs.Lines.{as_written, as_put, whole_faults}
 use Rattle.spectra_lines.specs.Laws.{HasNoFault, HaveNoFault}
 use Rattle.spectra_lines.specs.Meanings.{triggers_in}
 use Rattle.spectra_sound.specs.Sound as sounds
@@ -69,44 +69,39 @@ module _ (text : ResolvedText) (sound : IsSound text) (none : declared_faults te
   abbrev f : Facts
   f = facts_of text
 
-  module _ (all : List ResolvedTree) where
-    abbrev known : Known
-    known = known_with f.known all
+  mutual
+    brackets_put : (r : ResolvedRegex) → is_sound_regex z r ≡ true → atom_faults f.known r ≡ [] → atom_faults f.known (regex_put f r) ≡ [] → regex_put_in (in_line (length s.names) (length s.variables)) (regex_put f r) ≡ true
+    brackets_put (ResolvedRegex.Atom t) is first second = (tree_right text sound none s names_are variables_are stand.Atom t refl is first second).0
+    brackets_put (ResolvedRegex.Sequence rs) is first second = each_put rs is first second
+    brackets_put (ResolvedRegex.Choice rs) is first second = each_put rs (and_parts (sounds.has_some rs) (are_sound_regexes z rs) is).1 first second
+    brackets_put (ResolvedRegex.Repetition r times) is first second = brackets_put r is first second
 
-    mutual
-      brackets_put : (r : ResolvedRegex) → is_sound_regex z r ≡ true → atom_faults f.known r ≡ [] → atom_faults known (regex_put f r) ≡ [] → regex_put_in (in_line (length s.names) (length s.variables)) (regex_put f r) ≡ true
-      brackets_put (ResolvedRegex.Atom t) is first second = (tree_right text sound none s names_are variables_are stand.Atom all t refl is first second).0
-      brackets_put (ResolvedRegex.Sequence rs) is first second = each_put rs is first second
-      brackets_put (ResolvedRegex.Choice rs) is first second = each_put rs (and_parts (sounds.has_some rs) (are_sound_regexes z rs) is).1 first second
-      brackets_put (ResolvedRegex.Repetition r times) is first second = brackets_put r is first second
+    each_put : (rs : ResolvedRegexes) → are_sound_regexes z rs ≡ true → each_atom_faults f.known rs ≡ [] → each_atom_faults f.known (each_regex_put f rs) ≡ [] → each_regex_put_in (in_line (length s.names) (length s.variables)) (each_regex_put f rs) ≡ true
+    each_put ResolvedRegexes.none is first second = refl
+    each_put (ResolvedRegexes.one_more r rs) is first second =
+        let parts = and_parts (is_sound_regex z r) (are_sound_regexes z rs) is in
+        let a = empty_parts (atom_faults f.known r) (each_atom_faults f.known rs) first in
+        let b = empty_parts (atom_faults f.known (regex_put f r)) (each_atom_faults f.known (each_regex_put f rs)) second in
+        and_from _ _ (brackets_put r parts.0 a.0 b.0) (each_put rs parts.1 a.1 b.1)
 
-      each_put : (rs : ResolvedRegexes) → are_sound_regexes z rs ≡ true → each_atom_faults f.known rs ≡ [] → each_atom_faults known (each_regex_put f rs) ≡ [] → each_regex_put_in (in_line (length s.names) (length s.variables)) (each_regex_put f rs) ≡ true
-      each_put ResolvedRegexes.none is first second = refl
-      each_put (ResolvedRegexes.one_more r rs) is first second =
-          let parts = and_parts (is_sound_regex z r) (are_sound_regexes z rs) is in
-          let a = empty_parts (atom_faults f.known r) (each_atom_faults f.known rs) first in
-          let b = empty_parts (atom_faults known (regex_put f r)) (each_atom_faults known (each_regex_put f rs)) second in
-          and_from _ _ (brackets_put r parts.0 a.0 b.0) (each_put rs parts.1 a.1 b.1)
-
-    side : (r : ResolvedRegex) → is_sound_regex z r ≡ true → flat_map (faults_of f.known stand.Atom) (brackets_in r) ≡ [] → flat_map (faults_of known stand.Atom) (brackets_in (regex_put f r)) ≡ [] → IsFaultless s known (regex_put f r)
-    side r is first second =
-        let a = atoms_are f.known r ∙ first in
-        let b = atoms_are known (regex_put f r) ∙ second in
-        record { choices = choices_put f z r is; put_in = brackets_put r is a b; faultless = b }
+  side : (r : ResolvedRegex) → is_sound_regex z r ≡ true → flat_map (faults_of f.known stand.Atom) (brackets_in r) ≡ [] → flat_map (faults_of f.known stand.Atom) (brackets_in (regex_put f r)) ≡ [] → IsFaultless s f.known (regex_put f r)
+  side r is first second =
+      let a = atoms_are f.known r ∙ first in
+      let b = atoms_are f.known (regex_put f r) ∙ second in
+      record { choices = choices_put f z r is; put_in = brackets_put r is a b; faultless = b }
 
   one_right : (at : Spot) (cause effect : ResolvedRegex) → is_sound_body z (Trigger at cause effect) ≡ true →
       flat_map (faults_of f.known stand.Atom) (brackets_in cause ++ brackets_in effect) ≡ [] →
-      flat_map (faults_of (known_with f.known (brackets_in cause ++ brackets_in effect)) stand.Atom) (brackets_in (regex_put f cause) ++ brackets_in (regex_put f effect)) ≡ [] →
+      flat_map (faults_of f.known stand.Atom) (brackets_in (regex_put f cause) ++ brackets_in (regex_put f effect)) ≡ [] →
       trigger_faults at (regex_put f cause) (regex_put f effect) ≡ [] → is_typed_trigger s (trigger_of (regex_put f cause) (regex_put f effect)) ≡ true
   one_right at cause effect is first second whole =
-      let all = brackets_in cause ++ brackets_in effect in
       let tests = and_parts (is_sound_regex z cause) (is_sound_regex z effect) is in
       let a = empty_parts _ _ (sym (flat_map-append (faults_of f.known stand.Atom) (brackets_in cause) (brackets_in effect)) ∙ first) in
-      let b = empty_parts _ _ (sym (flat_map-append (faults_of (known_with f.known all) stand.Atom) (brackets_in (regex_put f cause)) (brackets_in (regex_put f effect))) ∙ second) in
-      let kinds : (known_with f.known all).variables ≡ map (λ (v : VariableData). domain_kind v.domain) s.variables =
+      let b = empty_parts _ _ (sym (flat_map-append (faults_of f.known stand.Atom) (brackets_in (regex_put f cause)) (brackets_in (regex_put f effect))) ∙ second) in
+      let kinds : f.known.variables ≡ map (λ (v : VariableData). domain_kind v.domain) s.variables =
       kinds_are text (length text.names) text.variables (variables_meant text sound none) ∙ twice (map (variable_of text) text.variables)
       ∙ ap (map (λ (v : VariableData). domain_kind v.domain)) (sym variables_are) in
-      trigger_typed s (known_with f.known all) (regex_put f cause) (regex_put f effect) kinds (variables_room text sound none) (side all cause tests.0 a.0 b.0) (side all effect tests.1 a.1 b.1) (not-false _ (no_fault _ _ _ whole))
+      trigger_typed s f.known (regex_put f cause) (regex_put f effect) kinds (variables_room text sound none) (side cause tests.0 a.0 b.0) (side effect tests.1 a.1 b.1) (not-false _ (no_fault _ _ _ whole))
     where
       twice : (vs : List VariableData) → map domain_kind (map (λ (v : VariableData). v.domain) vs) ≡ map (λ (v : VariableData). domain_kind v.domain) vs
       twice [] = refl

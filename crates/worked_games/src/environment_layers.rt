@@ -135,7 +135,7 @@ fn layers_are_those_of_a_plain_program_over_both_kinds_of_regions(
         let mut rows = RegionRows::make(alloc, game)?;
         assert!(rt; same_solution(alloc, &mut rows, name)?, "rows: {text}");
         let game = game_of(alloc, text.as_bytes()).expect(&rt, "a sound text");
-        let mut diagrams = RegionBdd::make(alloc, game, NODES)?;
+        let mut diagrams = RegionBdd::make(alloc, game, NODES, false)?;
         assert!(rt;
             same_solution(alloc, &mut diagrams, name)?,
             "diagrams: {text}"

@@ -45,7 +45,7 @@ pub fn judge_both(alloc: Global, row: &Row) -> Result<(), Wrong> {
         return Err(Wrong::Plain("rows don't list its states"));
     };
     agree(alloc, row, "over rows", told_over(alloc, row, &spec, rows)?)?;
-    let diagrams = RegionBdd::make(alloc, expand(alloc, &spec)?, NODES)?;
+    let diagrams = RegionBdd::make(alloc, expand(alloc, &spec)?, NODES, false)?;
     let told = told_over(alloc, row, &spec, diagrams)?;
     agree(alloc, row, "over diagrams", told)
 }

@@ -1,7 +1,7 @@
 use Rattle.std.proofs.Common.{true, subst}
 use Rattle.spec_model.specs.Diagrams.{Function, and_exists_over}
 use Rattle.bdd_ops.specs.Functions.{joined, join_of}
-use Rattle.bdd_ops.specs.Contents.{function_at}
+use Rattle.bdd_bits.specs.Contents.{function_at}
 use Rattle.bdd_ops.specs.Calls.{negated}
 use Rattle.bit_compile.specs.Making.{Makes}
 use Rattle.bit_compile.proofs.MakingLemmas.{is_root}

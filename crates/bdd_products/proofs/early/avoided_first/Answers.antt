@@ -1,5 +1,5 @@
 use Rattle.std.proofs.Common.{Ok, Err, subst}
-use Rattle.bdd_ops.specs.Contents.{function_at}
+use Rattle.bdd_bits.specs.Contents.{function_at}
 use Rattle.regions.specs.declared.types.Halt.{Halt}
 use Rattle.regions.specs.declared.types.Halt.TheVariants as halt
 use Rattle.bit_compile.specs.Making.{Makes}
@@ -27,7 +27,7 @@ release-requires c =
 pub returns-in-Ok-clause-made : goal.returns-in-Ok-clause-made
 returns-in-Ok-clause-made c = λ base f first are.
     let old = c.args.diagrams.now in
-    early_made base old c.avoided_early.new.diagrams c.release.new.self c.args.target f c.args.members.now c.args.levels.now (Ok c.in-Ok.made) first are (c.in-Ok.ensures (move_functions old c.args.members.now) c.args.levels.now c.requires.fits) c.release.ensures.released c.release.ensures.table
+    early_made base old c.avoided_early.new.diagrams c.release.new.self c.args.target f c.args.members.now c.args.levels.now (Ok c.in-Ok.made) first are (c.in-Ok.ensures (move_functions old c.args.members.now) c.args.levels.now c.requires.fits) c.release.ensures.released c.release.ensures.nodes
 
 pub release-requires-in-Err-Memory : goal.release-requires-in-Err-Memory
 release-requires-in-Err-Memory c =
@@ -38,7 +38,7 @@ release-requires-in-Err-Memory c =
 pub returns-in-Err-Memory-clause-made : goal.returns-in-Err-Memory-clause-made
 returns-in-Err-Memory-clause-made c = λ base f first are.
     let old = c.args.diagrams.now in
-    early_made base old c.avoided_early.new.diagrams c.release-in-Err-Memory.new.self c.args.target f c.args.members.now c.args.levels.now (Err halt.Memory) first are (subst (λ (h : Halt). Makes old c.avoided_early.new.diagrams (Err h) (avoiding (move_functions old c.args.members.now) c.args.levels.now.reply.items c.args.levels.now.all.items (function_at old c.args.target))) c.in-Err-Memory.field-0-is (c.in-Err-Memory.ensures (move_functions old c.args.members.now) c.args.levels.now c.requires.fits)) c.release-in-Err-Memory.ensures.released c.release-in-Err-Memory.ensures.table
+    early_made base old c.avoided_early.new.diagrams c.release-in-Err-Memory.new.self c.args.target f c.args.members.now c.args.levels.now (Err halt.Memory) first are (subst (λ (h : Halt). Makes old c.avoided_early.new.diagrams (Err h) (avoiding (move_functions old c.args.members.now) c.args.levels.now.reply.items c.args.levels.now.all.items (function_at old c.args.target))) c.in-Err-Memory.field-0-is (c.in-Err-Memory.ensures (move_functions old c.args.members.now) c.args.levels.now c.requires.fits)) c.release-in-Err-Memory.ensures.released c.release-in-Err-Memory.ensures.nodes
 
 pub avoided-requires : goal.avoided-requires
 avoided-requires c =

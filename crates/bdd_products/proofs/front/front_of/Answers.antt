@@ -1,7 +1,7 @@
 use Rattle.std.proofs.Common.{◌≡◌, true, false, Bool, Ok, sym, ◌∙◌, refl, subst, ap, take, ℕ, if◌then◌else◌, ◌+◌}
 use Rattle.spec_model.specs.Diagrams.{Bits, Function}
 use Rattle.bdd_store.specs.State.{IsRoot}
-use Rattle.bdd_ops.specs.Contents.{function_at}
+use Rattle.bdd_bits.specs.Contents.{function_at}
 use Rattle.bdd_ops.specs.Functions.{joined, join_of}
 use Rattle.bit_compile.specs.Making.{Makes}
 use Rattle.bdd_sets.specs.Members.{all_true, functions_at}

@@ -1,6 +1,6 @@
 use Rattle.std.proofs.Common.{Ok, take}
 use Rattle.spec_model.specs.Diagrams.{Function}
-use Rattle.bdd_ops.specs.Contents.{Contents, function_at}
+use Rattle.bdd_bits.specs.Contents.{Contents, function_at}
 use Rattle.bit_compile.specs.Making.{Makes}
 use Rattle.bdd_sets.specs.Members.{AreRoots}
 use Rattle.bdd_products.proofs.ProductLemmas.{joined_out}

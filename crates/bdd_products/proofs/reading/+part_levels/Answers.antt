@@ -1,5 +1,5 @@
 use Rattle.std.proofs.Common.{ap, ◌∙◌, sym, ◌||◌}
-use Rattle.bdd_ops.specs.Contents.{function_at}
+use Rattle.bdd_bits.specs.Contents.{function_at}
 use Rattle.bdd_ops.specs.Functions.{is_among}
 use Rattle.bit_compile.proofs.MakingLemmas.{root_stays}
 use Rattle.bdd_sets.proofs.SpentLemmas.{function_kept}

@@ -1,5 +1,5 @@
 use Rattle.std.proofs.Common.{◌∙◌}
-use Rattle.bdd_ops.specs.Contents.{function_at}
+use Rattle.bdd_bits.specs.Contents.{function_at}
 use Rattle.bdd_sets.proofs.SpentLemmas.{function_kept}
 use Rattle.bdd_products.proofs.QuantLemmas.{unread}
 use Rattle.bdd_products.proofs.reading.ignores.Goals as goal

@@ -1,6 +1,6 @@
 use Rattle.std.proofs.Common.{◌≡◌, ◌≤◌, ◌+◌, [], drop, length, reverse, vec_len, vec_capacity}
 use Rattle.bdd_store.specs.State.{SameRoots}
-use Rattle.bdd_ops.specs.Calls.{KeepsRoots}
+use Rattle.bdd_bits.specs.Calls.{KeepsRoots}
 use Rattle.bdd_sets.specs.Members.{functions_at}
 use Rattle.bdd_products.specs.Products.{IsSpread, levels_of}
 use Rattle.bdd_products.proofs.spreading.spread.Given as goal

@@ -6,6 +6,6 @@ use Rattle.bdd_sets.proofs.laws.moves_to_next.Goals as goal
 pub returns : goal.returns
 returns c = λ g to f t.
     record {
-      rises = λ leads tells. rises_to_next g f tells.states (level_count (state_domains g)) to refl leads;
+      rises = λ o leads keeps tells. rises_to_next g f tells.states (level_count (state_domains g)) o to refl leads keeps;
       told = λ leads tells. tells_next g to leads f t tells;
     }

@@ -1,6 +1,6 @@
 use Rattle.std.proofs.Common.{◌∙◌, sym, ap, arith, Bool, subst, inl}
 use Rattle.spec_model.specs.Views.{formula}
-use Rattle.bdd_ops.specs.Contents.{function_at}
+use Rattle.bdd_bits.specs.Contents.{function_at}
 use Rattle.bit_compile.specs.Domains.{level_count}
 use Rattle.bit_compile.specs.Making.{Makes}
 use Rattle.bit_compile.specs.Compiled.{compiled}
@@ -8,6 +8,7 @@ use Rattle.bit_compile.proofs.MakingLemmas.{is_root}
 use Rattle.bdd_sets.specs.Lines.{line_function}
 use Rattle.bdd_sets.specs.LineScenes.{game_seen}
 use Rattle.bdd_sets.proofs.SpentLemmas.{refused_by}
+use Rattle.bdd_sets.proofs.ShiftLemmas.{fits_kept}
 use Rattle.bdd_sets.proofs.LineLemmas.{line_rises}
 use Rattle.bit_compile.specs.Named.{IsNamedOf}
 use Rattle.bit_compile.proofs.Causes.{cause_ok, cause_wider}
@@ -16,7 +17,7 @@ use Rattle.bdd_sets.proofs.CauseLemmas.{cause_by}
 use Rattle.bdd_sets.proofs.lines.line_root.Goals as goal
 
 pub compile-requires-clause-levels : goal.compile-requires-clause-levels
-compile-requires-clause-levels c = let same = ap level_count c.requires.scene.codes in let levels = c.requires.levels in omega (arith, same, levels)
+compile-requires-clause-levels c = let same = ap level_count c.requires.scene.codes in let levels = c.requires.fits.levels in omega (arith, same, levels)
 
 pub returns-in_err-whole-clause-made : goal.returns-in_err-whole-clause-made
 returns-in_err-whole-clause-made c = refused_by c.args.diagrams.now c.compile.new.diagrams c.from_residual.result c.in_err-whole.field-0.0 (compiled (game_seen c.args.scene.now) (formula c.args.e.now)) _ c.from_residual.ensures.1 c.in_err-whole.ensures.compiled.made
@@ -26,8 +27,9 @@ shift_spent-requires-clause-kept c = is_root c.args.diagrams.now c.compile.new.d
 
 pub shift_spent-requires-clause-rising : goal.shift_spent-requires-clause-rising
 shift_spent-requires-clause-rising c =
+    let fits = fits_kept (game_seen c.args.scene.now) c.args.scene.now.to.now c.args.diagrams.now c.compile.new.diagrams c.in_ok-whole.ensures.compiled.made.keeps c.requires.fits in
     line_rises (game_seen c.args.scene.now) (formula c.args.e.now) (function_at c.compile.new.diagrams c.in_ok-whole.whole) c.in_ok-whole.ensures.meaning (c.requires.late c.if-late.false)
-    c.compile.new.diagrams.state.table.levels c.args.scene.now.to.now (c.in_ok-whole.ensures.compiled.made.keeps.levels ∙ c.requires.levels) c.requires.scene.to
+    c.compile.new.diagrams.state.table.levels c.compile.new.diagrams.order c.args.scene.now.to.now fits.levels c.requires.scene.to fits.rising
 
 pub returns-else-late-clause-made : goal.returns-else-late-clause-made
 returns-else-late-clause-made c =

@@ -5,11 +5,15 @@ use Rattle.bdd_sets.specs.Lines.{safety_lines, first_functions, functions_judged
 use Rattle.bdd_sets.specs.LineScenes.{game_seen}
 use Rattle.bdd_sets.proofs.CauseLemmas.{cause_by}
 use Rattle.bdd_sets.proofs.NamedLemmas.{of_safety}
+use Rattle.bdd_sets.proofs.ShiftLemmas.{fits_kept}
 use Rattle.bdd_sets.proofs.LineLemmas.{safety_formulas}
 use Rattle.bdd_sets.proofs.lines.line_roots.Goals as goal
 
 pub with_lines-requires-clause-formulas : goal.with_lines-requires-clause-formulas
 with_lines-requires-clause-formulas c = rw c.safety_of-lines.ensures (safety_formulas (game_seen c.args.scene.now) c.args.side c.requires.scene.made)
+
+pub with_lines-requires-clause-fits : goal.with_lines-requires-clause-fits
+with_lines-requires-clause-fits c = fits_kept (game_seen c.args.scene.now) c.args.scene.now.to.now c.args.diagrams.now c.first_roots.new.diagrams c.in_ok-first.ensures.made.keeps c.requires.fits
 
 pub returns-clause-made : goal.returns-clause-made
 returns-clause-made c =

@@ -11,6 +11,7 @@ use Rattle.bdd_sets.specs.Lists.{MakesList}
 use Rattle.bdd_sets.specs.Lines.{is_late, line_functions, functions_of}
 use Rattle.bdd_sets.specs.LineScenes.{line_data, game_seen}
 use Rattle.bdd_sets.proofs.ListLemmas.{list_refused_by}
+use Rattle.bdd_sets.proofs.ShiftLemmas.{fits_still}
 use Rattle.bdd_sets.proofs.LineLemmas.{late_or_now, formula_at, mark_at, functions_next}
 use Rattle.bit_compile.proofs.Filled.{contains_map}
 use Rattle.bit_compile.proofs.Causes.{cause_ok, cause_wider}
@@ -24,10 +25,11 @@ use Rattle.bdd_sets.proofs.lines.with_lines.Goals as goal
 pub loop-k-init : goal.loop-k-init
 loop-k-init c = λ base fs made. subst (λ (hs : List Function). MakesList base c.args.diagrams.now (Ok c.args.so_far) hs) (sym (append-nil fs)) made
 
-pub with_line-requires-clause-levels : goal.with_line-requires-clause-levels
-with_line-requires-clause-levels c =
+pub with_line-requires-clause-fits : goal.with_line-requires-clause-fits
+with_line-requires-clause-fits c =
     let r = c.requires.so_far in
-    (c.loop-k.invariant r.0 r.1 r.2).keeps.levels ∙ (sym r.2.keeps.levels ∙ c.requires.levels)
+    let keeps = (c.loop-k.invariant r.0 r.1 r.2).keeps in
+    fits_still (game_seen c.args.scene.now) c.args.scene.now.to.now c.args.diagrams.now c.loop-k.diagrams (keeps.levels ∙ sym r.2.keeps.levels) (keeps.order ∙ sym r.2.keeps.order) c.requires.fits
 
 pub with_line-requires-clause-so_far : goal.with_line-requires-clause-so_far
 with_line-requires-clause-so_far c =

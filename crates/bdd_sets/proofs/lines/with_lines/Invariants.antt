@@ -1,6 +1,6 @@
 use Rattle.std.proofs.Common.{◌++◌, Ok, List, take}
 use Rattle.spec_model.specs.Diagrams.{Function}
-use Rattle.bdd_ops.specs.Contents.{Contents}
+use Rattle.bdd_bits.specs.Contents.{Contents}
 use Rattle.bdd_sets.specs.Lists.{MakesList}
 use Rattle.bdd_sets.specs.Lines.{is_late, functions_of}
 use Rattle.bdd_sets.specs.LineScenes.{line_data, game_seen}

@@ -46,6 +46,6 @@ returns-in-Err c = λ base mid first second told.
     let new = c.release_list-in-Err.new.diagrams in
     let h = c.in-Err.halt in
     let named = side_named g to when c.requires.scene.to Guarantees in
-    let list = back_list g to when mid old c.args.outputs (side_functions g to Guarantees when) second named whole half h c.release_list.ensures.released c.release_list.ensures.table _ [] c.in-Err.ensures.made in
-    let cause = back_cause g to when mid old c.args.outputs (side_functions g to Guarantees when) second named whole half h c.release_list.ensures.released c.release_list.ensures.table c.in-Err.ensures.cause in
-    members_back g to when base mid c.args.update (update_functions g when) first (λ f there. update when (inl there)) half new h c.release_list-in-Err.ensures.released c.release_list-in-Err.ensures.table [] list cause
+    let list = back_list g to when mid old c.args.outputs (side_functions g to Guarantees when) second named whole half h c.release_list.ensures.released c.release_list.ensures.nodes _ [] c.in-Err.ensures.made in
+    let cause = back_cause g to when mid old c.args.outputs (side_functions g to Guarantees when) second named whole half h c.release_list.ensures.released c.release_list.ensures.nodes c.in-Err.ensures.cause in
+    members_back g to when base mid c.args.update (update_functions g when) first (λ f there. update when (inl there)) half new h c.release_list-in-Err.ensures.released c.release_list-in-Err.ensures.nodes [] list cause

@@ -2,7 +2,7 @@ use Rattle.std.proofs.Common.{ℕ, ◌++◌, [], ◌∷◌, Ok, List, take, sym,
 use Rattle.std.proofs.lemmas.List.{append-nil}
 use Rattle.spec_model.specs.Diagrams.{Function}
 use Rattle.bdd_store.specs.State.{IsRoot}
-use Rattle.bdd_ops.specs.Contents.{function_at}
+use Rattle.bdd_bits.specs.Contents.{function_at}
 use Rattle.bit_compile.specs.Making.{Makes}
 use Rattle.bit_compile.proofs.CyclesLemmas.{take_all}
 use Rattle.bdd_sets.specs.Members.{functions_at}

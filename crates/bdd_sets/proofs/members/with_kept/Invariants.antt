@@ -1,6 +1,6 @@
 use Rattle.std.proofs.Common.{◌++◌, Ok, List, take}
 use Rattle.spec_model.specs.Diagrams.{Function}
-use Rattle.bdd_ops.specs.Contents.{Contents}
+use Rattle.bdd_bits.specs.Contents.{Contents}
 use Rattle.bdd_sets.specs.Members.{AreRoots, functions_at}
 use Rattle.bdd_sets.specs.Lists.{MakesList}
 use Rattle.bdd_sets.proofs.members.with_kept.Given as goal

@@ -1,7 +1,7 @@
 use Rattle.std.proofs.Common.{true, Ok, sym, ◌∙◌, ap, subst, take, ℕ}
 use Rattle.spec_model.specs.Diagrams.{Bits, Diagram, Function}
 use Rattle.bdd_store.specs.State.{IsRoot}
-use Rattle.bdd_ops.specs.Contents.{function_at}
+use Rattle.bdd_bits.specs.Contents.{function_at}
 use Rattle.bdd_ops.specs.Functions.{joined, join_of}
 use Rattle.bit_compile.specs.Making.{Makes}
 use Rattle.bit_compile.proofs.MakingLemmas.{told_makes, never_told}

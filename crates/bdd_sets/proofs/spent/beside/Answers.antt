@@ -10,7 +10,7 @@ pub release-requires : goal.release-requires
 release-requires c = still_root c.args.diagrams.now c.all_of.new.diagrams c.all_of.result _ c.all_of.ensures.made c.args.held c.requires.kept
 
 pub returns-in-Err-clause-refused : goal.returns-in-Err-clause-refused
-returns-in-Err-clause-refused c = λ base f first. given_back base c.args.diagrams.now c.all_of.new.diagrams _ c.args.held f f first c.release.ensures.released c.release.ensures.table (Err c.in-Err.halt) (fails _ _ c.in-Err.halt _ f c.in-Err.ensures.made)
+returns-in-Err-clause-refused c = λ base f first. given_back base c.args.diagrams.now c.all_of.new.diagrams _ c.args.held f f first c.release.ensures.released c.release.ensures.nodes (Err c.in-Err.halt) (fails _ _ c.in-Err.halt _ f c.in-Err.ensures.made)
 
 pub returns-in-Ok-clause-cause : goal.returns-in-Ok-clause-cause
 returns-in-Ok-clause-cause c = λ base f first. cause_ok base c.all_of.new.diagrams _ (IsBesideAll f (functions_at c.args.diagrams.now c.args.members.now))
@@ -21,4 +21,4 @@ returns-in-Err-clause-cause c = λ base f first.
     let fs = functions_at old c.args.members.now in
     let named = IsBesideAll f fs in
     cause_handed base c.release.new.self _ _ c.in-Err.halt named refl refl
-    (cause_back (IsFirstOfAll fs) named (λ g is. inr is) base old c.args.held f first (inl refl) c.all_of.new.diagrams c.release.new.self _ c.release.ensures.table c.in-Err.ensures.cause)
+    (cause_back (IsFirstOfAll fs) named (λ g is. inr is) base old c.args.held f first (inl refl) c.all_of.new.diagrams c.release.new.self _ c.release.ensures.nodes c.in-Err.ensures.cause)

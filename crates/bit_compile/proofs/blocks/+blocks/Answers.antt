@@ -2,7 +2,7 @@ use Rattle.std.proofs.Common.{◌+◌, ◌*◌, ◌<◌, ◌||◌, ◌∙◌, Li
 use Rattle.std.proofs.lemmas.Bool.Decides.{nat_tests}
 use Rattle.spec_model.specs.Diagrams.{Bits, Function}
 use Rattle.bdd_ops.specs.Functions.{join_of}
-use Rattle.bdd_ops.specs.Contents.{function_at}
+use Rattle.bdd_bits.specs.Contents.{function_at}
 use Rattle.bit_compile.specs.Making.{Makes}
 use Rattle.bit_compile.specs.Compiled.{Case, some_pair}
 use Rattle.bit_compile.specs.CaseRoots.{AreKept, cases_at, passes}
@@ -20,7 +20,7 @@ or_block-returns t c =
     let n = c.args.first.now in
     let pairs = some_pair (passes c.args.test.now) (cases_at old c.args.xs.now) (cases_at old c.args.ys.now) in
     let is = joined_as (join_of false) (function_at old n) (function_at mid n) pairs (function_at mid c.in_ok-second.second) (function_stays old mid n made.keeps c.requires.first_kept) made.meaning in
-    given_back old mid c.or-whole.new.diagrams c.release.new.self c.in_ok-second.second _ _ made c.release.ensures.released c.release.ensures.table c.or-whole.result
+    given_back old mid c.or-whole.new.diagrams c.release.new.self c.in_ok-second.second _ _ made c.release.ensures.released c.release.ensures.nodes c.or-whole.result
     (subst (λ (g : Function). Makes mid c.or-whole.new.diagrams c.or-whole.result g) is c.or-whole.ensures.makes)
 
 pub either_block-or_block-whole-requires : goal.either_block-or_block-whole-requires
@@ -59,7 +59,7 @@ either_block-returns t c =
     let is = ap (λ (f : Function). (λ (s : Bits). f s || some_pair test (cases_at mid other.0.now) (cases_at mid other.1.now) s)) made.meaning
     ∙ (ap (λ (cs : List Case). (λ (s : Bits). first s || some_pair test cs (cases_at mid other.1.now) s)) (cases_stay old mid other.0.now made.keeps kept.0)
     ∙ ap (λ (cs : List Case). (λ (s : Bits). first s || some_pair test (cases_at old other.0.now) cs s)) (cases_stay old mid other.1.now made.keeps kept.1)) in
-    given_back old mid c.or_block-whole.new.diagrams c.release.new.self c.in_ok-first.first _ _ made c.release.ensures.released c.release.ensures.table c.or_block-whole.result
+    given_back old mid c.or_block-whole.new.diagrams c.release.new.self c.in_ok-first.first _ _ made c.release.ensures.released c.release.ensures.nodes c.or_block-whole.result
     (subst (λ (g : Function). Makes mid c.or_block-whole.new.diagrams c.or_block-whole.result g) is c.or_block-whole.ensures)
 
 pub block-returns-then-none : goal.block-returns-then-none

@@ -1,6 +1,6 @@
 use Rattle.std.proofs.Common.{◌≡◌, ℕ, map, nat_abs, rules, sym, subst}
 use Rattle.spec_model.specs.Values.{number_of}
-use Rattle.bdd_ops.specs.Contents.{function_at}
+use Rattle.bdd_bits.specs.Contents.{function_at}
 use Rattle.bit_compile.specs.declared.cases.CaseRoot.{CaseRoot}
 use Rattle.bit_compile.specs.declared.cases.Source.{Source}
 use Rattle.bit_compile.specs.Making.{Makes}

@@ -24,7 +24,7 @@ loop-value-init c =
     let first = c.args.diagrams.now in
     record {
       made = subst (λ (xs : List CaseRoot). AddsCases first first xs []) (sym c.in-Ok.ensures.items) (no_cases first);
-      keeps = record { levels = refl; budget = refl; meaning = λ n root. refl };
+      keeps = record { levels = refl; budget = refl; order = refl; meaning = λ n root. refl };
       ready = c.requires;
       counted = c.in-Ok.ensures.len;
       room = omega (arith, c.in-Ok.ensures.capacity);
@@ -89,9 +89,9 @@ returns-in-Err c =
     let new = c.release_all.new.diagrams in
     record {
       made = tt;
-      leaves = leaves_refusal first new c.in-Err.halt _ (makes_between first l mid new _ (between_cases first l xs _ inv.made inv.keeps) c.release_all.ensures.released c.release_all.ensures.table _ _ c.in-Err.ensures.made);
+      leaves = leaves_refusal first new c.in-Err.halt _ (makes_between first l mid new _ (between_cases first l xs _ inv.made inv.keeps) c.release_all.ensures.released c.release_all.ensures.nodes _ _ c.in-Err.ensures.made);
       cause = cause_handed first new _ _ c.in-Err.halt named refl refl
-          (cause_among step named wider first l xs (cases_by first src (take i vs)) inv.made inv.keeps (first_named vs (had_by first src) (IsOfSource first src) i) mid new _ c.release_all.ensures.table c.in-Err.ensures.cause);
+          (cause_among step named wider first l xs (cases_by first src (take i vs)) inv.made inv.keeps (first_named vs (had_by first src) (IsOfSource first src) i) mid new _ c.release_all.ensures.nodes c.in-Err.ensures.cause);
     }
 
 pub returns : goal.returns

@@ -1,6 +1,6 @@
 use Rattle.std.proofs.Common.{◌≡◌, ◌≤◌, drop, take, length, vec_len, vec_capacity}
 use Rattle.std.specs.List.{AllByRecursion}
-use Rattle.bdd_ops.specs.Calls.{KeepsRoots}
+use Rattle.bdd_bits.specs.Calls.{KeepsRoots}
 use Rattle.bit_compile.specs.CaseRoots.{AddsCases, IsReady, cases_by}
 use Rattle.bit_compile.proofs.cases.cases_from.Given as goal
 

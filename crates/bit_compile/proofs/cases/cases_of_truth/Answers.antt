@@ -1,7 +1,7 @@
 use Rattle.std.proofs.Common.{false, true, [], ◌∷◌, inl, inr}
 use Rattle.spec_model.specs.declared.value.Value.TheVariants as value
 use Rattle.spec_model.specs.Diagrams.{Function}
-use Rattle.bdd_ops.specs.Contents.{function_at}
+use Rattle.bdd_bits.specs.Contents.{function_at}
 use Rattle.bit_compile.specs.declared.cases.Source.TheVariants as source
 use Rattle.bit_compile.specs.CaseRoots.{had_by}
 use Rattle.bit_compile.specs.Named.{IsOfEach, IsTruth}

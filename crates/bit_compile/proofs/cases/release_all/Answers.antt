@@ -1,4 +1,4 @@
-use Rattle.std.proofs.Common.{◌∙◌}
+use Rattle.bdd_bits.proofs.CallLemmas.{same_then}
 use Rattle.bit_compile.proofs.Between.{popped_root, popped_left, all_popped, none_left}
 use Rattle.bit_compile.proofs.cases.release_all.Goals as goal
 
@@ -9,7 +9,7 @@ pub loop-case-preserved : goal.loop-case-preserved
 loop-case-preserved c =
     record {
       left = popped_left c.args.diagrams.now.state c.loop-case.diagrams.state c.release.new.self.state c.args.cases.items c.loop-case.cases.items c.pop.new.self.items c.in-Some.case c.loop-case.invariant.left c.in-Some.ensures.items c.release.ensures.released;
-      table = c.release.ensures.table ∙ c.loop-case.invariant.table;
+      nodes = same_then _ _ _ c.loop-case.invariant.nodes c.release.ensures.nodes;
     }
 
 pub returns-clause-released : goal.returns-clause-released

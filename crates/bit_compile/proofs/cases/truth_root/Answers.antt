@@ -1,4 +1,4 @@
-use Rattle.bdd_ops.specs.Contents.{function_at}
+use Rattle.bdd_bits.specs.Contents.{function_at}
 use Rattle.bdd_ops.specs.Calls.{negated}
 use Rattle.bit_compile.specs.NamedCodes.{NoFunction}
 use Rattle.bit_compile.proofs.Causes.{cause_not}

@@ -1,7 +1,7 @@
 use Rattle.std.proofs.Common.{map, subst, true, rules}
 use Rattle.spec_model.specs.Diagrams.{Function}
 use Rattle.bdd_ops.specs.Functions.{join_of, joined}
-use Rattle.bdd_ops.specs.Contents.{function_at}
+use Rattle.bdd_bits.specs.Contents.{function_at}
 use Rattle.bit_compile.specs.declared.cases.CaseRoot.{CaseRoot}
 use Rattle.bit_compile.specs.Making.{Makes}
 use Rattle.bit_compile.specs.Compiled.{some_of}
@@ -23,7 +23,7 @@ returns-clause-made c =
     let n = c.args.first.now in
     let some = some_of (map (λ (x : CaseRoot). function_at old x.root) c.args.cases.now) in
     let is = joined_as (join_of true) (function_at old n) (function_at mid n) some (function_at mid c.in_ok-second.second) (function_stays old mid n made.keeps c.requires.first_kept) made.meaning in
-    given_back old mid c.and-whole.new.diagrams c.release.new.self c.in_ok-second.second _ _ made c.release.ensures.released c.release.ensures.table c.and-whole.result
+    given_back old mid c.and-whole.new.diagrams c.release.new.self c.in_ok-second.second _ _ made c.release.ensures.released c.release.ensures.nodes c.and-whole.result
     (subst (λ (g : Function). Makes mid c.and-whole.new.diagrams c.and-whole.result g) is c.and-whole.ensures.makes)
 
 pub returns-in_err-second-clause-cause : goal.returns-in_err-second-clause-cause
@@ -41,6 +41,6 @@ returns-clause-cause c =
     let named = IsFirstOf Some fs in
     let n = c.args.first.now in
     let second = c.in_ok-second.second in
-    cause_back NoFunction named (no_name named) old mid second (some_of fs) first (first_all Some fs) c.and-whole.new.diagrams c.release.new.self c.and-whole.result c.release.ensures.table
+    cause_back NoFunction named (no_name named) old mid second (some_of fs) first (first_all Some fs) c.and-whole.new.diagrams c.release.new.self c.and-whole.result c.release.ensures.nodes
     (cause_join true mid c.and-whole.new.diagrams n second (joined (join_of true) (function_at mid n) (function_at mid second)) NoFunction c.and-whole.result
     (root_added old mid second (some_of fs) first n c.requires.first_kept) (is_root old mid second (some_of fs) first) c.and-whole.ensures)

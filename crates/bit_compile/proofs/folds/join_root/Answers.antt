@@ -1,6 +1,6 @@
 use Rattle.std.proofs.Common.{true, false}
 use Rattle.bdd_ops.specs.Functions.{joined, join_of}
-use Rattle.bdd_ops.specs.Contents.{function_at}
+use Rattle.bdd_bits.specs.Contents.{function_at}
 use Rattle.bit_compile.specs.NamedCodes.{NoFunction}
 use Rattle.bit_compile.proofs.Causes.{cause_join}
 use Rattle.bit_compile.proofs.folds.join_root.Goals as goal

@@ -2,7 +2,7 @@ use Rattle.std.proofs.Common.{◌∙◌, List, ap, sym, subst, drop, map, arith}
 use Rattle.spec_model.specs.Diagrams.{Bits, Function}
 use Rattle.bdd_store.specs.State.{IsRoot}
 use Rattle.bdd_ops.specs.Functions.{joined, join_of}
-use Rattle.bdd_ops.specs.Contents.{function_at}
+use Rattle.bdd_bits.specs.Contents.{function_at}
 use Rattle.bit_compile.specs.declared.cases.CaseRoot.{CaseRoot}
 use Rattle.bit_compile.specs.Making.{Makes}
 use Rattle.bit_compile.specs.CaseRoots.{folded, is_all}
@@ -24,7 +24,7 @@ loop-last-preserved c =
     let root = kept_before (λ z. IsRoot first.state z.root) xs last x (omega arith) inv.within c.index-cases-last.is c.requires in
     let whole = function_at l c.loop-last.whole in
     let is = ap (λ (g : Function). joined join g whole) (function_stays first l x.root inv.made.keeps root) in
-    let made = turn first l c.join_root-more.new.diagrams c.release.new.self c.loop-last.whole c.join_root-more.result _ (joined join (f x) whole) inv.made c.join_root-more.ensures.made is c.release.ensures.released c.release.ensures.table in
+    let made = turn first l c.join_root-more.new.diagrams c.release.new.self c.loop-last.whole c.join_root-more.result _ (joined join (f x) whole) inv.made c.join_root-more.ensures.made is c.release.ensures.released c.release.ensures.nodes in
     let next = subst (λ r. Makes first c.release.new.self r (joined join (f x) whole)) c.in_ok-next.was made in
     record {
       made = own first c.release.new.self c.in_ok-next.next (joined join (f x) whole) next;

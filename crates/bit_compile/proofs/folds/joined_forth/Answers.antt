@@ -2,7 +2,7 @@ use Rattle.std.proofs.Common.{◌+◌, ◌∙◌, List, ap, refl, sym, subst, dr
 use Rattle.spec_model.specs.Diagrams.{Bits, Function}
 use Rattle.bdd_store.specs.State.{IsRoot}
 use Rattle.bdd_ops.specs.Functions.{joined, join_of}
-use Rattle.bdd_ops.specs.Contents.{function_at}
+use Rattle.bdd_bits.specs.Contents.{function_at}
 use Rattle.bit_compile.specs.declared.cases.CaseRoot.{CaseRoot}
 use Rattle.bit_compile.specs.Making.{Makes}
 use Rattle.bit_compile.specs.CaseRoots.{folded, is_all}
@@ -27,7 +27,7 @@ loop-case-preserved c =
     let parts = all_next (λ z. IsRoot first.state z.root) xs c.loop-case.case-index x c.loop-case-test.true c.case-item.is inv.kept in
     let whole = function_at l c.loop-case.whole in
     let is = ap (λ (g : Function). joined join whole g) (function_stays first l x.root inv.made.keeps parts.0) in
-    let made = turn first l c.join_root-more.new.diagrams c.release.new.self c.loop-case.whole c.join_root-more.result _ (joined join whole (f x)) inv.made c.join_root-more.ensures.made is c.release.ensures.released c.release.ensures.table in
+    let made = turn first l c.join_root-more.new.diagrams c.release.new.self c.loop-case.whole c.join_root-more.result _ (joined join whole (f x)) inv.made c.join_root-more.ensures.made is c.release.ensures.released c.release.ensures.nodes in
     let next = subst (λ r. Makes first c.release.new.self r (joined join whole (f x))) c.in_ok-next.was made in
     let left = ap (λ (fs : List Function). joined join whole (folded c.args.fold fs)) (sym (map_drop f xs c.loop-case.case-index x c.loop-case-test.true c.case-item.is)) ∙ inv.same in
     record {
@@ -71,7 +71,7 @@ release-requires c = root_after c.loop-case.diagrams c.join_root-more.new.diagra
 pub returns-in_err-next-clause-made : goal.returns-in_err-next-clause-made
 returns-in_err-next-clause-made c =
     let first = c.args.diagrams.now in
-    let made = turn first c.loop-case.diagrams c.join_root-more.new.diagrams c.release.new.self c.loop-case.whole c.join_root-more.result _ _ c.loop-case.invariant.made c.join_root-more.ensures.made refl c.release.ensures.released c.release.ensures.table in
+    let made = turn first c.loop-case.diagrams c.join_root-more.new.diagrams c.release.new.self c.loop-case.whole c.join_root-more.result _ _ c.loop-case.invariant.made c.join_root-more.ensures.made refl c.release.ensures.released c.release.ensures.nodes in
     refused_makes first c.release.new.self c.join_root-more.result c.from_residual-in_err-next.result c.in_err-next.field-0.0 _ _ made c.in_err-next.was (search rules)
 
 pub returns-in_err-whole-clause-cause : goal.returns-in_err-whole-clause-cause
@@ -88,7 +88,7 @@ returns-in_err-next-clause-cause c =
     let inv = c.loop-case.invariant in
     let named = IsFirstOf c.args.fold (map (λ (z : CaseRoot). function_at old z.root) c.args.cases.now) in
     cause_handed old c.release.new.self c.join_root-more.result c.from_residual-in_err-next.result c.in_err-next.field-0.0 named c.in_err-next.was (search rules)
-    (cause_back NoFunction named (no_name named) old l c.loop-case.whole (function_at l c.loop-case.whole) inv.made (c.loop-case.case-index, inv.so_far) c.join_root-more.new.diagrams c.release.new.self c.join_root-more.result c.release.ensures.table c.join_root-more.ensures.cause)
+    (cause_back NoFunction named (no_name named) old l c.loop-case.whole (function_at l c.loop-case.whole) inv.made (c.loop-case.case-index, inv.so_far) c.join_root-more.new.diagrams c.release.new.self c.join_root-more.result c.release.ensures.nodes c.join_root-more.ensures.cause)
 
 pub returns-clause-cause : goal.returns-clause-cause
 returns-clause-cause c =

@@ -1,7 +1,7 @@
 use Rattle.std.proofs.Common.{subst, ◌∙◌, true, rules, refl, ◌≡◌}
 use Rattle.spec_model.specs.Diagrams.{Function}
 use Rattle.bdd_ops.specs.Functions.{join_of, joined}
-use Rattle.bdd_ops.specs.Contents.{function_at}
+use Rattle.bdd_bits.specs.Contents.{function_at}
 use Rattle.bdd_ops.specs.Calls.{negated}
 use Rattle.bit_compile.specs.Making.{Makes}
 use Rattle.bit_compile.proofs.MakingLemmas.{given_back, is_root, root_added}
@@ -27,7 +27,7 @@ returns-clause-made c =
     let same = function_stays old mid c.args.product.now first.keeps c.requires.product_kept in
     let is = joined_as (join_of true) f (function_at mid c.args.product.now) (negated g) (function_at mid c.in_ok-other.other) same first.meaning ∙ as_false f g in
     let made = subst (λ (h : Function). Makes mid c.and-whole.new.diagrams c.and-whole.result h) is c.and-whole.ensures.makes in
-    rw c.if-wanted.false (given_back old mid c.and-whole.new.diagrams c.release.new.self c.in_ok-other.other (negated g) _ first c.release.ensures.released c.release.ensures.table c.and-whole.result made)
+    rw c.if-wanted.false (given_back old mid c.and-whole.new.diagrams c.release.new.self c.in_ok-other.other (negated g) _ first c.release.ensures.released c.release.ensures.nodes c.and-whole.result made)
 
 pub returns-then-wanted-clause-cause : goal.returns-then-wanted-clause-cause
 returns-then-wanted-clause-cause c =
@@ -53,6 +53,6 @@ returns-clause-cause c =
     let g = function_at old c.args.atom.now in
     let named : Function → Type 0 = λ f. f ≡ is_not g in
     let other = c.in_ok-other.other in
-    cause_back NoFunction named (no_name named) old mid other (negated g) first refl c.and-whole.new.diagrams c.release.new.self c.and-whole.result c.release.ensures.table
+    cause_back NoFunction named (no_name named) old mid other (negated g) first refl c.and-whole.new.diagrams c.release.new.self c.and-whole.result c.release.ensures.nodes
     (cause_join true mid c.and-whole.new.diagrams p other (joined (join_of true) (function_at mid p) (function_at mid other)) NoFunction c.and-whole.result
     (root_added old mid other (negated g) first p c.requires.product_kept) (is_root old mid other (negated g) first) c.and-whole.ensures)

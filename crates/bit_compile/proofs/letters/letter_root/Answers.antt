@@ -3,7 +3,7 @@ use Rattle.std.specs.Bool.{beq}
 use Rattle.spec_model.specs.Diagrams.{Bits, Function}
 use Rattle.bdd_store.specs.State.{IsRoot}
 use Rattle.bdd_ops.specs.Functions.{joined, join_of}
-use Rattle.bdd_ops.specs.Contents.{function_at}
+use Rattle.bdd_bits.specs.Contents.{function_at}
 use Rattle.bit_compile.specs.declared.cases.CaseRoot.{CaseRoot}
 use Rattle.bit_compile.specs.Making.{Makes}
 use Rattle.bit_compile.specs.Compiled.{is_letter, is_not}
@@ -27,7 +27,7 @@ loop-atom-preserved c =
     let product = function_at l c.loop-atom.product in
     let more : Function = λ s. product s && beq (f x s) (c.loop-atom.left % 2 == 1) in
     let is = ap (λ (g : Function). (λ (s : Bits). product s && beq (g s) (c.loop-atom.left % 2 == 1))) (function_stays first l x.root inv.made.keeps parts.0) in
-    let made = turn first l c.and_as-more.new.diagrams c.release.new.self c.loop-atom.product c.and_as-more.result _ more inv.made c.and_as-more.ensures.made is c.release.ensures.released c.release.ensures.table in
+    let made = turn first l c.and_as-more.new.diagrams c.release.new.self c.loop-atom.product c.and_as-more.result _ more inv.made c.and_as-more.ensures.made is c.release.ensures.released c.release.ensures.nodes in
     let next = subst (λ r. Makes first c.release.new.self r more) c.in_ok-next.was made in
     let left = ap (λ (fs : List Function). joined (join_of true) product (is_letter fs c.loop-atom.left)) (sym (map_drop f xs c.loop-atom.atom-index x c.loop-atom-test.true c.atom-item.is)) ∙ inv.same in
     record {
@@ -57,7 +57,7 @@ returns-then-left-ne0-clause-made c =
     let f : CaseRoot → Function = λ z. function_at first z.root in
     let none = ap (map f) (past_end c.args.atoms.now c.loop-atom.atom-index c.loop-atom-test.false) in
     let is = letter_none (function_at l c.loop-atom.product) (map f (drop c.loop-atom.atom-index c.args.atoms.now)) c.loop-atom.left _ none c.if-left-ne0.true c.loop-atom.invariant.same in
-    turn first l c.constant-none.new.diagrams c.release-then-left-ne0.new.self c.loop-atom.product c.constant-none.result _ _ c.loop-atom.invariant.made c.constant-none.ensures.made is c.release-then-left-ne0.ensures.released c.release-then-left-ne0.ensures.table
+    turn first l c.constant-none.new.diagrams c.release-then-left-ne0.new.self c.loop-atom.product c.constant-none.result _ _ c.loop-atom.invariant.made c.constant-none.ensures.made is c.release-then-left-ne0.ensures.released c.release-then-left-ne0.ensures.nodes
 
 pub returns-clause-made : goal.returns-clause-made
 returns-clause-made c =
@@ -81,7 +81,7 @@ release-requires c = root_after c.loop-atom.diagrams c.and_as-more.new.diagrams 
 pub returns-in_err-next-clause-made : goal.returns-in_err-next-clause-made
 returns-in_err-next-clause-made c =
     let first = c.args.diagrams.now in
-    let made = turn first c.loop-atom.diagrams c.and_as-more.new.diagrams c.release.new.self c.loop-atom.product c.and_as-more.result _ _ c.loop-atom.invariant.made c.and_as-more.ensures.made refl c.release.ensures.released c.release.ensures.table in
+    let made = turn first c.loop-atom.diagrams c.and_as-more.new.diagrams c.release.new.self c.loop-atom.product c.and_as-more.result _ _ c.loop-atom.invariant.made c.and_as-more.ensures.made refl c.release.ensures.released c.release.ensures.nodes in
     refused_makes first c.release.new.self c.and_as-more.result c.from_residual-in_err-next.result c.in_err-next.field-0.0 _ _ made c.in_err-next.was (search rules)
 
 pub returns-in_err-product-clause-cause : goal.returns-in_err-product-clause-cause
@@ -106,7 +106,7 @@ returns-in_err-next-clause-cause c =
     let other : Function → Type 0 = λ h. h ≡ is_not (function_at l x.root) in
     let wider : (h : Function) → other h → named h = λ h is. letter_other (map f xs) i c.args.letter (function_at l x.root) (f x) h (mapped_there f xs i c.loop-atom-test.true) (mapped_is f xs i x c.atom-item.is) (function_stays first l x.root inv.made.keeps parts.0) is in
     cause_handed first c.release.new.self c.and_as-more.result c.from_residual-in_err-next.result c.in_err-next.field-0.0 named c.in_err-next.was (search rules)
-    (cause_back other named wider first l c.loop-atom.product product inv.made (inl (i, inv.so_far)) c.and_as-more.new.diagrams c.release.new.self c.and_as-more.result c.release.ensures.table c.and_as-more.ensures.cause)
+    (cause_back other named wider first l c.loop-atom.product product inv.made (inl (i, inv.so_far)) c.and_as-more.new.diagrams c.release.new.self c.and_as-more.result c.release.ensures.nodes c.and_as-more.ensures.cause)
 
 pub returns-then-left-ne0-clause-cause : goal.returns-then-left-ne0-clause-cause
 returns-then-left-ne0-clause-cause c =

@@ -27,7 +27,7 @@ returns-clause-made t c =
     ] in
     let is = ap (with_digit c.args.level high) first.meaning ∙ number_step c.args.level c.args.width c.args.n c.if-high.left high some half left in
     let made = subst (λ (g : Function). Makes mid c.digit_and-whole.new.diagrams c.digit_and-whole.result g) is c.digit_and-whole.ensures.made in
-    given_back c.args.diagrams.now mid c.digit_and-whole.new.diagrams c.release.new.self c.in_ok-rest.rest (has_number (c.args.level + 1) (c.args.width - 1) c.if-high.left) (has_number c.args.level c.args.width c.args.n) first c.release.ensures.released c.release.ensures.table c.digit_and-whole.result made
+    given_back c.args.diagrams.now mid c.digit_and-whole.new.diagrams c.release.new.self c.in_ok-rest.rest (has_number (c.args.level + 1) (c.args.width - 1) c.if-high.left) (has_number c.args.level c.args.width c.args.n) first c.release.ensures.released c.release.ensures.nodes c.digit_and-whole.result made
 
 pub returns-then-width-eq0-clause-cause : goal.returns-then-width-eq0-clause-cause
 returns-then-width-eq0-clause-cause t c =
@@ -63,4 +63,4 @@ returns-clause-cause t c =
     let deeper : (f : Function) → rest f → named f = λ f is. number_rest c.args.level c.args.width c.args.n c.if-high.left high f some half left is in
     let whole : Function = has_number (c.args.level + 1) (c.args.width - 1) c.if-high.left in
     cause_back (IsDigit c.args.level) named (λ f is. number_digit c.args.level c.args.width c.args.n f some is) c.args.diagrams.now c.number.new.diagrams c.in_ok-rest.rest whole c.in_ok-rest.ensures.made
-    (deeper whole (number_whole (c.args.level + 1) (c.args.width - 1) c.if-high.left)) c.digit_and-whole.new.diagrams c.release.new.self c.digit_and-whole.result c.release.ensures.table c.digit_and-whole.ensures.cause
+    (deeper whole (number_whole (c.args.level + 1) (c.args.width - 1) c.if-high.left)) c.digit_and-whole.new.diagrams c.release.new.self c.digit_and-whole.result c.release.ensures.nodes c.digit_and-whole.ensures.cause

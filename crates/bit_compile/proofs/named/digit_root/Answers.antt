@@ -1,4 +1,4 @@
-use Rattle.bdd_ops.specs.Contents.{function_at}
+use Rattle.bdd_bits.specs.Contents.{function_at}
 use Rattle.std.proofs.Common.{subst, false, rules, inl, refl}
 use Rattle.spec_model.specs.Diagrams.{Bits, Function}
 use Rattle.bdd_ops.specs.Calls.{negated}
@@ -15,7 +15,7 @@ pub returns-clause-made : goal.returns-clause-made
 returns-clause-made c =
     let first = c.in_ok-bit.ensures.makes in
     let made = subst (λ (g : Function). Makes c.var.new.diagrams c.not-low.new.diagrams c.not-low.result (negated g)) first.meaning c.not-low.ensures.makes in
-    rw c.if-high.false (given_back c.args.diagrams.now c.var.new.diagrams c.not-low.new.diagrams c.release.new.self c.in_ok-bit.bit (λ (s : Bits). s c.args.level) (digit c.args.level false) first c.release.ensures.released c.release.ensures.table c.not-low.result made)
+    rw c.if-high.false (given_back c.args.diagrams.now c.var.new.diagrams c.not-low.new.diagrams c.release.new.self c.in_ok-bit.bit (λ (s : Bits). s c.args.level) (digit c.args.level false) first c.release.ensures.released c.release.ensures.nodes c.not-low.result made)
 
 pub returns-in_err-bit-clause-cause : goal.returns-in_err-bit-clause-cause
 returns-in_err-bit-clause-cause c =
@@ -35,5 +35,5 @@ returns-clause-cause c =
     let named = IsDigit c.args.level in
     let bit : Function = λ s. s c.args.level in
     let first = c.in_ok-bit.ensures.makes in
-    cause_back NoFunction named (no_name named) old mid c.in_ok-bit.bit bit first (inl refl) c.not-low.new.diagrams c.release.new.self c.not-low.result c.release.ensures.table
+    cause_back NoFunction named (no_name named) old mid c.in_ok-bit.bit bit first (inl refl) c.not-low.new.diagrams c.release.new.self c.not-low.result c.release.ensures.nodes
     (cause_not mid c.not-low.new.diagrams c.in_ok-bit.bit (negated (function_at mid c.in_ok-bit.bit)) NoFunction c.not-low.result (is_root old mid c.in_ok-bit.bit bit first) c.not-low.ensures)

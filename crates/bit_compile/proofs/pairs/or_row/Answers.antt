@@ -1,7 +1,7 @@
 use Rattle.std.proofs.Common.{◌+◌, ◌||◌, ◌&&◌, ◌∙◌, List, ap, sym, subst, drop, refl, rules, inr}
 use Rattle.spec_model.specs.Diagrams.{Bits, Function}
 use Rattle.bdd_store.specs.State.{IsRoot}
-use Rattle.bdd_ops.specs.Contents.{function_at}
+use Rattle.bdd_bits.specs.Contents.{function_at}
 use Rattle.bit_compile.specs.declared.cases.CaseRoot.{CaseRoot}
 use Rattle.bit_compile.specs.Making.{Makes}
 use Rattle.bit_compile.specs.CaseRoots.{case_at, cases_at, passes}
@@ -37,7 +37,7 @@ loop-y-preserved c =
     let sum = function_at l c.loop-y.row in
     let is = row_is c.passes-wanted.result (test x.value y.value) sum (function_at l x.root) (function_at first x.root) (function_at l y.root) (function_at first y.root) c.passes-wanted.ensures (function_stays first l x.root inv.made.keeps c.requires.x_kept) (function_stays first l y.root inv.made.keeps parts.0) in
     let more : Function = λ s. sum s || test x.value y.value && (function_at first x.root s && function_at first y.root s) in
-    let made = turn first l c.or_wanted-more.new.diagrams c.release.new.self c.loop-y.row c.or_wanted-more.result _ more inv.made c.or_wanted-more.ensures.made is c.release.ensures.released c.release.ensures.table in
+    let made = turn first l c.or_wanted-more.new.diagrams c.release.new.self c.loop-y.row c.or_wanted-more.result _ more inv.made c.or_wanted-more.ensures.made is c.release.ensures.released c.release.ensures.nodes in
     let next = subst (λ r. Makes first c.release.new.self r more) c.in_ok-next.was made in
     let left = ap (λ cs. (λ (s : Bits). sum s || row_of test x.value (function_at first x.root) cs s)) (sym (map_drop (case_at first) ys c.loop-y.y-index y c.loop-y-test.true c.y-item.is)) ∙ inv.same in
     record {
@@ -74,7 +74,7 @@ release-requires c = root_after c.loop-y.diagrams c.or_wanted-more.new.diagrams 
 pub returns-in_err-next-clause-made : goal.returns-in_err-next-clause-made
 returns-in_err-next-clause-made c =
     let first = c.args.diagrams.now in
-    let made = turn first c.loop-y.diagrams c.or_wanted-more.new.diagrams c.release.new.self c.loop-y.row c.or_wanted-more.result _ _ c.loop-y.invariant.made c.or_wanted-more.ensures.made refl c.release.ensures.released c.release.ensures.table in
+    let made = turn first c.loop-y.diagrams c.or_wanted-more.new.diagrams c.release.new.self c.loop-y.row c.or_wanted-more.result _ _ c.loop-y.invariant.made c.or_wanted-more.ensures.made refl c.release.ensures.released c.release.ensures.nodes in
     refused_makes first c.release.new.self c.or_wanted-more.result c.from_residual-in_err-next.result c.in_err-next.field-0.0 _ _ made c.in_err-next.was (search rules)
 
 pub returns-in_err-row-clause-cause : goal.returns-in_err-row-clause-cause
@@ -101,7 +101,7 @@ returns-in_err-next-clause-cause c =
     let wider : (f : Function) → pair f → named f = λ f is. row_pair test sum (function_at l x.root) (function_at l y.root) (case_at first x) (case_at first y) (cases_at first ys) i f
     (function_stays first l x.root inv.made.keeps c.requires.x_kept) (function_stays first l y.root inv.made.keeps parts.0) (case_there first ys i y c.loop-y-test.true c.y-item.is) is in
     cause_handed first c.release.new.self c.or_wanted-more.result c.from_residual-in_err-next.result c.in_err-next.field-0.0 named c.in_err-next.was (search rules)
-    (cause_back pair named wider first l c.loop-y.row (function_at l c.loop-y.row) inv.made (inr (i, inv.so_far)) c.or_wanted-more.new.diagrams c.release.new.self c.or_wanted-more.result c.release.ensures.table c.or_wanted-more.ensures.cause)
+    (cause_back pair named wider first l c.loop-y.row (function_at l c.loop-y.row) inv.made (inr (i, inv.so_far)) c.or_wanted-more.new.diagrams c.release.new.self c.or_wanted-more.result c.release.ensures.nodes c.or_wanted-more.ensures.cause)
 
 pub returns-clause-cause : goal.returns-clause-cause
 returns-clause-cause c =

@@ -1,6 +1,6 @@
 use Rattle.std.proofs.Common.{subst, sym}
 use Rattle.spec_model.specs.Diagrams.{Function}
-use Rattle.bdd_ops.specs.Contents.{function_at}
+use Rattle.bdd_bits.specs.Contents.{function_at}
 use Rattle.bit_compile.specs.Making.{Makes}
 use Rattle.bit_compile.proofs.Folding.{or_false}
 use Rattle.bit_compile.proofs.Causes.{cause_never}

@@ -1,7 +1,7 @@
 use Rattle.std.proofs.Common.{◌+◌, ◌||◌, ◌∙◌, false, List, ap, refl, sym, subst, drop, rules}
 use Rattle.spec_model.specs.Diagrams.{Bits, Function}
 use Rattle.bdd_store.specs.State.{IsRoot}
-use Rattle.bdd_ops.specs.Contents.{function_at}
+use Rattle.bdd_bits.specs.Contents.{function_at}
 use Rattle.bit_compile.specs.declared.cases.CaseRoot.{CaseRoot}
 use Rattle.bit_compile.specs.Making.{Makes}
 use Rattle.bit_compile.specs.Compiled.{Case, some_pair}
@@ -40,7 +40,7 @@ loop-x-preserved c =
     ap (λ (f : Function). (λ (s : Bits). sum s || row_of test x.value f (cases_at l ys) s)) (function_stays first l x.root inv.made.keeps parts.0)
     ∙ ap (λ (cs : List Case). (λ (s : Bits). sum s || row_of test x.value (function_at first x.root) cs s)) (cases_stay first l ys inv.made.keeps c.requires.ys_kept) in
     let more : Function = λ s. sum s || row_of test x.value (function_at first x.root) (cases_at first ys) s in
-    let made = turn first l c.or_row-more.new.diagrams c.release.new.self c.loop-x.sum c.or_row-more.result _ more inv.made c.or_row-more.ensures.made is c.release.ensures.released c.release.ensures.table in
+    let made = turn first l c.or_row-more.new.diagrams c.release.new.self c.loop-x.sum c.or_row-more.result _ more inv.made c.or_row-more.ensures.made is c.release.ensures.released c.release.ensures.nodes in
     let next = subst (λ r. Makes first c.release.new.self r more) c.in_ok-next.was made in
     let left = ap (λ (cs : List Case). (λ (s : Bits). sum s || some_pair test cs (cases_at first ys) s)) (sym (map_drop (case_at first) xs c.loop-x.x-index x c.loop-x-test.true c.x-item.is)) ∙ inv.same in
     record {
@@ -72,7 +72,7 @@ release-requires c = root_after c.loop-x.diagrams c.or_row-more.new.diagrams c.o
 pub returns-in_err-next-clause-made : goal.returns-in_err-next-clause-made
 returns-in_err-next-clause-made c =
     let first = c.args.diagrams.now in
-    let made = turn first c.loop-x.diagrams c.or_row-more.new.diagrams c.release.new.self c.loop-x.sum c.or_row-more.result _ _ c.loop-x.invariant.made c.or_row-more.ensures.made refl c.release.ensures.released c.release.ensures.table in
+    let made = turn first c.loop-x.diagrams c.or_row-more.new.diagrams c.release.new.self c.loop-x.sum c.or_row-more.result _ _ c.loop-x.invariant.made c.or_row-more.ensures.made refl c.release.ensures.released c.release.ensures.nodes in
     refused_makes first c.release.new.self c.or_row-more.result c.from_residual-in_err-next.result c.in_err-next.field-0.0 _ _ made c.in_err-next.was (search rules)
 
 pub or_row-more-requires-clause-ys_kept : goal.or_row-more-requires-clause-ys_kept
@@ -102,7 +102,7 @@ returns-in_err-next-clause-cause c =
     let same = ap (λ (f : Function). record { value = x.value; holds = f }) (function_stays first l x.root inv.made.keeps parts.0) ∙ sym (case_there first xs i x c.loop-x-test.true c.x-item.is) in
     let wider : (f : Function) → row f → named f = λ f is. pairs_row test sum (case_at l x) (cases_at first xs) (cases_at first ys) (cases_at l ys) i f inv.so_far same (cases_stay first l ys inv.made.keeps c.requires.ys_kept) is in
     cause_handed first c.release.new.self c.or_row-more.result c.from_residual-in_err-next.result c.in_err-next.field-0.0 named c.in_err-next.was (search rules)
-    (cause_back row named wider first l c.loop-x.sum sum inv.made (pairs_begun test sum (cases_at first xs) (cases_at first ys) i inv.so_far) c.or_row-more.new.diagrams c.release.new.self c.or_row-more.result c.release.ensures.table c.or_row-more.ensures.cause)
+    (cause_back row named wider first l c.loop-x.sum sum inv.made (pairs_begun test sum (cases_at first xs) (cases_at first ys) i inv.so_far) c.or_row-more.new.diagrams c.release.new.self c.or_row-more.result c.release.ensures.nodes c.or_row-more.ensures.cause)
 
 pub returns-clause-cause : goal.returns-clause-cause
 returns-clause-cause c =

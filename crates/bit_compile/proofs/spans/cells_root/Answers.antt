@@ -1,5 +1,5 @@
 use Rattle.std.proofs.Common.{◌^◌, ℕ, length, map, sym, subst, ap, ◌∙◌, rules, inl, inr, nat_abs, List}
-use Rattle.bdd_ops.specs.Contents.{function_at}
+use Rattle.bdd_bits.specs.Contents.{function_at}
 use Rattle.bit_compile.specs.declared.cases.CaseRoot.{CaseRoot}
 use Rattle.bit_compile.specs.Compiled.{in_table, lettered, some_pair, numbers_below, is_letter, Case}
 use Rattle.bit_compile.specs.CaseRoots.{cases_at}
@@ -62,6 +62,6 @@ returns c =
     let had : Value → Function = λ v. is_letter fs (nat_abs (number_of v)) in
     let each = all_named (values_of (numbers_below many)) had (λ v. IsOfLetter fs (nat_abs (number_of v))) in
     let made = named_among old mid items seen letters first.made first.leaves.keeps c.deref.ensures.value (IsOfPairs (in_table table many) (cases_at old xs) letters) named (λ f is. inr is) (named_wider (IsOfLettered fs) named (λ f is. inl is) letters each)
-    whole c.release_all.new.diagrams c.release_all.ensures.released c.release_all.ensures.table r (some_pair (in_table table many) (cases_at old xs) letters)
+    whole c.release_all.new.diagrams c.release_all.ensures.released c.release_all.ensures.nodes r (some_pair (in_table table many) (cases_at old xs) letters)
     (pairs_made old mid items seen letters first.made first.leaves.keeps c.deref.ensures.value whole xs c.requires.values_kept (in_table table many) r then) in
     subst (λ (n : ℕ). MakesNamed old c.release_all.new.diagrams r (some_pair (in_table table (2 ^ n)) (cases_at old xs) letters) named) long made

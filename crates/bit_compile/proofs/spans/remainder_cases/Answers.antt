@@ -74,5 +74,5 @@ returns c =
     let step = IsOfResults Mod (cases_at old kept) one vs in
     let named = IsOfRemainders (cases_at old kept) n vs in
     cases_among old mid xs seen one adds first.leaves.keeps c.deref.ensures.value step named (λ f is. inr is) (inl refl, tt)
-    whole c.release_all.new.diagrams c.release_all.ensures.released c.release_all.ensures.table r (results Mod (cases_at old kept) one vs)
+    whole c.release_all.new.diagrams c.release_all.ensures.released c.release_all.ensures.nodes r (results Mod (cases_at old kept) one vs)
     (results_made old mid xs seen one adds first.leaves.keeps c.deref.ensures.value whole kept c.requires.xs_kept Mod (value.Int n ∷ []) r refl c.operation_cases-cases.ensures)

@@ -1,7 +1,7 @@
 use Rattle.std.proofs.Common.{List, rules, inl, inr, subst}
 use Rattle.spec_model.specs.Values.{same_value}
 use Rattle.spec_model.specs.Diagrams.{Function}
-use Rattle.bdd_ops.specs.Contents.{function_at}
+use Rattle.bdd_bits.specs.Contents.{function_at}
 use Rattle.bit_compile.specs.Compiled.{Case, both_truths, same_truth, some_pair}
 use Rattle.bit_compile.proofs.Between.{function_stays}
 use Rattle.bit_compile.proofs.Pairing.{made_together, other_kept, seen_are, seen_kept, both_same}
@@ -54,4 +54,4 @@ returns c =
     let both = subst (made cs) (function_stays old mid c.args.b.now first.leaves.keeps c.requires.b_kept) one in
     let same = subst (λ (h : Function). MakesNamed mid whole r h (IsOfSameWith cs g)) (both_same f g) both in
     named_among old mid xs seen cs first.made first.leaves.keeps c.deref.ensures.value (IsOfSameWith cs g) named (λ h is. inr is) (truths_named f named (λ h is. inl is))
-    whole c.release_all.new.diagrams c.release_all.ensures.released c.release_all.ensures.table r (same_truth f g) same
+    whole c.release_all.new.diagrams c.release_all.ensures.released c.release_all.ensures.nodes r (same_truth f g) same

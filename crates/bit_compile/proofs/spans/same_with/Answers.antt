@@ -1,5 +1,5 @@
 use Rattle.spec_model.specs.Values.{same_value}
-use Rattle.bdd_ops.specs.Contents.{function_at}
+use Rattle.bdd_bits.specs.Contents.{function_at}
 use Rattle.bit_compile.specs.Compiled.{Case, both_truths, some_pair}
 use Rattle.bit_compile.proofs.Pairing.{made_together, others_kept, seen_kept}
 use Rattle.bit_compile.proofs.Causes.{cause_wider}
@@ -47,5 +47,5 @@ returns c =
     let r = c.pair_root-root.result in
     let named = IsOfSameWith (cases_at old xs) (function_at old c.args.b.now) in
     named_among old mid ys seen both first.made first.leaves.keeps c.deref.ensures.value (IsOfPairs same_value (cases_at old xs) both) named (λ f is. inr is) (truths_named (function_at old c.args.b.now) named (λ f is. inl is))
-    whole c.release_all.new.diagrams c.release_all.ensures.released c.release_all.ensures.table r (some_pair same_value (cases_at old xs) both)
+    whole c.release_all.new.diagrams c.release_all.ensures.released c.release_all.ensures.nodes r (some_pair same_value (cases_at old xs) both)
     (pairs_made old mid ys seen both first.made first.leaves.keeps c.deref.ensures.value whole xs c.requires.xs_kept same_value r c.pair_root-root.ensures)

@@ -4,7 +4,7 @@ use Rattle.spec_model.specs.GameViews.{hidden_data}
 use Rattle.spec_model.specs.Values.{DomainData, values_of, rank_of}
 use Rattle.spec_model.specs.Diagrams.{Function}
 use Rattle.game_values.specs.declared.seen.At.TheVariants.{Now}
-use Rattle.bdd_ops.specs.Contents.{function_at}
+use Rattle.bdd_bits.specs.Contents.{function_at}
 use Rattle.bit_compile.specs.declared.cases.CaseRoot.{CaseRoot}
 use Rattle.bit_compile.specs.Domains.{table_domain}
 use Rattle.bit_compile.specs.Compiled.{Case, coded, in_table, lettered, some_pair, table_truth, is_code}
@@ -64,7 +64,7 @@ returns c =
     let had : Value → Function = λ v. is_code ds Now k (rank_of d v) in
     let each = all_named (values_of d) had (λ v. IsOfNumber (level_at ds Now k) (width_at ds k) (rank_of d v)) in
     named_among old mid xs seen cs adds first.leaves.keeps c.deref.ensures.value (IsOfCells table cs fs) named (λ f is. inr is) (named_wider (IsOfCoded ds Now k d) named (λ f is. inl is) cs each)
-    whole c.release_all.new.diagrams c.release_all.ensures.released c.release_all.ensures.table r (table_truth ds k h fs table) then
+    whole c.release_all.new.diagrams c.release_all.ensures.released c.release_all.ensures.nodes r (table_truth ds k h fs table) then
 
 pub returns-in_err-values : goal.returns-in_err-values
 returns-in_err-values c =

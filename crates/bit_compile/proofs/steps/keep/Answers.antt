@@ -1,5 +1,5 @@
 use Rattle.spec_model.specs.Diagrams.{Diagram}
-use Rattle.bdd_ops.specs.Contents.{function_at}
+use Rattle.bdd_bits.specs.Contents.{function_at}
 use Rattle.bit_compile.proofs.MakingLemmas.{told_makes, never_told}
 use Rattle.bit_compile.proofs.steps.keep.Goals as goal
 

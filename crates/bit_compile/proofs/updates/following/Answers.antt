@@ -4,7 +4,7 @@ use Rattle.spec_model.specs.GameViews.{hidden_data}
 use Rattle.spec_model.specs.Values.{DomainData, values_of, rank_of}
 use Rattle.spec_model.specs.Diagrams.{Function}
 use Rattle.game_values.specs.declared.seen.At.TheVariants.{Now}
-use Rattle.bdd_ops.specs.Contents.{function_at}
+use Rattle.bdd_bits.specs.Contents.{function_at}
 use Rattle.bit_compile.specs.declared.cases.CaseRoot.{CaseRoot}
 use Rattle.bit_compile.specs.Domains.{table_domain}
 use Rattle.bit_compile.specs.Compiled.{Case, coded, led_to, lettered, is_code}
@@ -60,7 +60,7 @@ returns c =
     let named = IsOfFollowing ds k h fs in
     let each = all_named vs (λ v. is_code ds Now k (rank_of d v)) (λ v. IsOfNumber (level_at ds Now k) (width_at ds k) (rank_of d v)) in
     cases_among old mid from seen cs adds first.leaves.keeps c.deref.ensures.value (step (2 ^ length fs) cs fs) named (λ f is. inr is) (named_wider (IsOfCoded ds Now k d) named (λ f is. inl is) cs each)
-    whole c.release_all.new.diagrams c.release_all.ensures.released c.release_all.ensures.table r (led_to h.next (2 ^ length fs) cs (lettered fs) vs) then
+    whole c.release_all.new.diagrams c.release_all.ensures.released c.release_all.ensures.nodes r (led_to h.next (2 ^ length fs) cs (lettered fs) vs) then
 
 pub returns-in_err-from : goal.returns-in_err-from
 returns-in_err-from c =

@@ -13,7 +13,7 @@ use Rattle.bit_compile.proofs.NamedFormulas.{either}
 use Rattle.bit_compile.proofs.NamedSteps.{all_named}
 use Rattle.bit_compile.specs.Named.{IsOfLettered, IsOfLetter, IsOfLed}
 use Rattle.bit_compile.specs.declared.cases.CaseRoot.{CaseRoot}
-use Rattle.bdd_ops.specs.Contents.{function_at}
+use Rattle.bdd_bits.specs.Contents.{function_at}
 use Rattle.bit_compile.proofs.updates.led_by_atoms.Goals as goal
 
 pub led_cases-cases-requires-clause-from_kept : goal.led_cases-cases-requires-clause-from_kept
@@ -48,7 +48,7 @@ returns c =
     let named = either (IsOfLettered fs) step in
     let each = all_named (values_of (numbers_below (2 ^ length fs))) (λ v. is_letter fs (nat_abs (number_of v))) (λ v. IsOfLetter fs (nat_abs (number_of v))) in
     cases_among old mid by seen letters first.made first.leaves.keeps c.deref.ensures.value step named (λ f is. inr is) (named_wider (IsOfLettered fs) named (λ f is. inl is) letters each)
-    whole c.release_all.new.diagrams c.release_all.ensures.released c.release_all.ensures.table r (led_to h.next.items n (cases_at old kept) letters vs) both
+    whole c.release_all.new.diagrams c.release_all.ensures.released c.release_all.ensures.nodes r (led_to h.next.items n (cases_at old kept) letters vs) both
 
 pub returns-in_err-by : goal.returns-in_err-by
 returns-in_err-by c =

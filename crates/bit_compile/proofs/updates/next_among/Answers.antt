@@ -62,4 +62,4 @@ returns c =
     let named = either (IsOfCoded ds Next k d) step in
     let each = all_named (values_of d) (λ v. is_code ds Next k (rank_of d v)) (λ v. IsOfNumber (level_at ds Next k) (width_at ds k) (rank_of d v)) in
     named_among old mid next seen cs adds first.leaves.keeps c.deref.ensures.value step named (λ f is. inr is) (named_wider (IsOfCoded ds Next k d) named (λ f is. inl is) cs each)
-    whole c.release_all.new.diagrams c.release_all.ensures.released c.release_all.ensures.table r (some_pair same_value cs (cases_at old kept)) both
+    whole c.release_all.new.diagrams c.release_all.ensures.released c.release_all.ensures.nodes r (some_pair same_value cs (cases_at old kept)) both

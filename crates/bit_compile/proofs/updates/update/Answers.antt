@@ -25,7 +25,7 @@ use Rattle.bit_compile.specs.Named.{AreOfFormulas, IsNamedUpdate, IsOfTables, Is
 use Rattle.bit_compile.specs.NamedScenes.{AreNamedIn, IsOfTablesIn}
 use Rattle.spec_model.specs.Diagrams.{Function}
 use Rattle.bit_compile.specs.declared.cases.CaseRoot.{CaseRoot}
-use Rattle.bdd_ops.specs.Contents.{function_at}
+use Rattle.bdd_bits.specs.Contents.{function_at}
 use Rattle.bit_compile.proofs.updates.update.Goals as goal
 
 pub truth_cases-requires-clause-scene : goal.truth_cases-requires-clause-scene
@@ -107,7 +107,7 @@ returns-clause-compiled c =
     let is = update_made s b k x scene less here c.before-2.ensures.game c.before-2.ensures.hidden mid seen are c.deref.ensures.value in
     let then = subst (λ (f : Function). MakesNamed mid whole r f step) is c.update_root-root.ensures in
     named_among old mid items seen (true_cases fs) adds first.leaves.keeps c.deref-3.ensures.value step named (λ f is. inr (update_named s b k x scene less here c.before-2.ensures.game c.before-2.ensures.hidden c.deref.ensures.value mid seen are f is)) atoms
-    whole c.release_all.new.diagrams c.release_all.ensures.released c.release_all.ensures.table r _ then
+    whole c.release_all.new.diagrams c.release_all.ensures.released c.release_all.ensures.nodes r _ then
 
 pub returns-clause-meaning : goal.returns-clause-meaning
 returns-clause-meaning c =

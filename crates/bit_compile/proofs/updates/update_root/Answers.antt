@@ -14,7 +14,7 @@ use Rattle.bit_compile.specs.Named.{IsOfCoded, IsOfPairs, IsOfLed, IsOfFollowing
 use Rattle.bit_compile.specs.Crowding.{MakesNamed}
 use Rattle.spec_model.specs.Diagrams.{Function}
 use Rattle.bit_compile.specs.declared.cases.CaseRoot.{CaseRoot}
-use Rattle.bdd_ops.specs.Contents.{function_at}
+use Rattle.bdd_bits.specs.Contents.{function_at}
 use Rattle.bit_compile.proofs.updates.update_root.Goals as goal
 
 pub next_among-root-requires-clause-kept : goal.next_among-root-requires-clause-kept
@@ -47,7 +47,7 @@ returns c =
     let led = IsOfLed h.next many from letters (values_of d) in
     let each = all_named (values_of d) (λ to. some_pair (leads h.next many to) from letters) (λ to. IsOfPairs (leads h.next many to) from letters) in
     named_among old mid cases seen cs first.made first.leaves.keeps c.deref.ensures.value (step cs) named (λ f is. inr is) (named_wider led named (λ f is. inl (inr (inr is))) cs each)
-    whole c.release_all.new.diagrams c.release_all.ensures.released c.release_all.ensures.table r (table_update ds k h fs) then
+    whole c.release_all.new.diagrams c.release_all.ensures.released c.release_all.ensures.nodes r (table_update ds k h fs) then
 
 pub returns-in_err-cases : goal.returns-in_err-cases
 returns-in_err-cases c =

@@ -72,7 +72,7 @@ loop-one-preserved c =
     ∙ (ap (λ (ds : List DomainData). (λ (s : Bits). product_of g e (take i named) s && has_some_value ds one.at one.slot s)) c.requires.scene.codes
     ∙ product-more g e named i one c.loop-one-test.true is_one) in
     let made = turn first l c.and_some_value-more.new.diagrams c.release.new.self c.loop-one.product c.and_some_value-more.result _ (product_of g e (take (i + 1) named))
-    (own first l c.loop-one.product _ inv) c.and_some_value-more.ensures.made is c.release.ensures.released c.release.ensures.table in
+    (own first l c.loop-one.product _ inv) c.and_some_value-more.ensures.made is c.release.ensures.released c.release.ensures.nodes in
     subst (λ r. Makes first c.release.new.self r (product_of g e (take (i + 1) named))) c.in_ok-next.was made
 
 pub returns-in_err-next-clause-made : goal.returns-in_err-next-clause-made
@@ -80,7 +80,7 @@ returns-in_err-next-clause-made c =
     let first = c.args.diagrams.now in
     let l = c.loop-one.diagrams in
     let made = turn first l c.and_some_value-more.new.diagrams c.release.new.self c.loop-one.product c.and_some_value-more.result _ _ (own first l c.loop-one.product _ c.loop-one.invariant)
-    c.and_some_value-more.ensures.made refl c.release.ensures.released c.release.ensures.table in
+    c.and_some_value-more.ensures.made refl c.release.ensures.released c.release.ensures.nodes in
     refused_makes first c.release.new.self c.and_some_value-more.result c.from_residual-in_err-next.result c.in_err-next.field-0.0 _ _ made c.in_err-next.was (search rules)
 
 pub returns-clause-made : goal.returns-clause-made
@@ -116,7 +116,7 @@ returns-in_err-next-clause-cause c =
     IsOfLine g e f = λ f is. inr (inl (one, there, subst (λ (ds : List DomainData). IsOfSlot ds one.at one.slot f) c.requires.scene.codes is)) in
     let so_far = product_of g e (take i named) in
     cause_handed old c.release.new.self c.and_some_value-more.result c.from_residual-in_err-next.result c.in_err-next.field-0.0 (IsOfLine g e) c.in_err-next.was (search rules)
-    (cause_back (IsOfSlot codes one.at one.slot) (IsOfLine g e) slot old l c.loop-one.product so_far inv (inr (inr (product_first g e named i so_far c.requires.named refl))) c.and_some_value-more.new.diagrams c.release.new.self c.and_some_value-more.result c.release.ensures.table c.and_some_value-more.ensures.cause)
+    (cause_back (IsOfSlot codes one.at one.slot) (IsOfLine g e) slot old l c.loop-one.product so_far inv (inr (inr (product_first g e named i so_far c.requires.named refl))) c.and_some_value-more.new.diagrams c.release.new.self c.and_some_value-more.result c.release.ensures.nodes c.and_some_value-more.ensures.cause)
 
 pub returns-clause-cause : goal.returns-clause-cause
 returns-clause-cause c = cause_ok c.args.diagrams.now c.loop-one.diagrams c.loop-one.product (IsOfLine (game_seen c.args.scene.now) (formula c.args.e.now))

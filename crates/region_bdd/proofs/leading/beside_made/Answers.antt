@@ -12,7 +12,7 @@ pub release-requires : goal.release-requires
 release-requires c = still_root c.args.diagrams.now c.keep.new.diagrams c.keep.result _ c.keep.ensures.made c.args.made c.requires.made
 
 pub returns-in-Err-clause-made : goal.returns-in-Err-clause-made
-returns-in-Err-clause-made c = λ base h first kept. refused_two base c.release.new.self (Err c.in-Err.halt) c.in-Err.halt _ _ h refl (given_back base c.args.diagrams.now c.keep.new.diagrams c.release.new.self c.args.made h _ first c.release.ensures.released c.release.ensures.table (Err c.in-Err.halt) c.in-Err.ensures.made)
+returns-in-Err-clause-made c = λ base h first kept. refused_two base c.release.new.self (Err c.in-Err.halt) c.in-Err.halt _ _ h refl (given_back base c.args.diagrams.now c.keep.new.diagrams c.release.new.self c.args.made h _ first c.release.ensures.released c.release.ensures.nodes (Err c.in-Err.halt) c.in-Err.ensures.made)
 
 pub returns-in-Err-clause-never : goal.returns-in-Err-clause-never
 returns-in-Err-clause-never c = λ e. c.in-Err.ensures.never (same_halt e)

@@ -1,7 +1,8 @@
 use Rattle.std.proofs.Common.{ℕ, Err, inl, inr, List, sym, subst}
 use Rattle.spec_model.specs.Diagrams.{Function, shifted}
-use Rattle.bdd_ops.specs.Contents.{function_at}
-use Rattle.bdd_ops.specs.Calls.{RisesOver, negated}
+use Rattle.bdd_bits.specs.Contents.{function_at}
+use Rattle.bdd_ops.specs.Calls.{negated}
+use Rattle.bdd_bits.specs.Calls.{RisesOver}
 use Rattle.bit_compile.specs.Making.{Makes}
 use Rattle.bit_compile.specs.Crowding.{HasCause}
 use Rattle.bit_compile.specs.NamedCodes.{NoFunction}
@@ -15,7 +16,7 @@ use Rattle.bdd_sets.proofs.SpentLemmas.{refused_by}
 use Rattle.region_bdd.proofs.leading.leading.Goals as goal
 
 pub shift-requires-clause-rising : goal.shift-requires-clause-rising
-shift-requires-clause-rising c = subst (λ (to : List ℕ). RisesOver c.args.diagrams.now.state.table.levels to (function_at c.args.diagrams.now c.args.t.now)) (sym c.deref.ensures.value) c.requires.rising
+shift-requires-clause-rising c = subst (λ (to : List ℕ). RisesOver c.args.diagrams.now.state.table.levels c.args.diagrams.now.order to (function_at c.args.diagrams.now c.args.t.now)) (sym c.deref.ensures.value) c.requires.rising
 
 pub returns-in_err-next-clause-made : goal.returns-in_err-next-clause-made
 returns-in_err-next-clause-made c = refused_by c.args.diagrams.now c.shift.new.diagrams c.from_residual.result c.in_err-next.field-0.0 (shifted c.deref.result.now (function_at c.args.diagrams.now c.args.t.now)) _ c.from_residual.ensures.1 c.in_err-next.ensures.makes

@@ -1,6 +1,5 @@
-use Rattle.std.proofs.Common.{Err}
 use Rattle.spec_model.specs.Diagrams.{Function, shifted}
-use Rattle.bdd_ops.specs.Contents.{function_at}
+use Rattle.bdd_bits.specs.Contents.{function_at}
 use Rattle.bit_compile.proofs.MakingLemmas.{is_root, root_added}
 use Rattle.bit_compile.proofs.Causes.{cause_never}
 use Rattle.bdd_sets.specs.Members.{move_functions, lists_at}

@@ -1,8 +1,10 @@
-use Rattle.std.proofs.Common.{Err, ◌∙◌, arith}
+use Rattle.std.proofs.Common.{arith}
 use Rattle.spec_model.specs.GameViews.{game_data}
 use Rattle.bdd_sets.specs.NamedGame.{IsOfGame}
 use Rattle.region_bdd.specs.Making.{listed_times, FitGoals, times_in_goals, FitAllGoals, times_in_lines, FitAllLines, times_in_formulas, FitFormulas}
+use Rattle.bdd_bits.proofs.CallLemmas.{same_then}
 use Rattle.region_bdd.proofs.MakingLaws.{both_made, both_stay, goals_stay, part_refused, handed_part, all_goals_named}
+use Rattle.bdd_sets.proofs.ShiftLemmas.{fits_kept}
 use Rattle.region_bdd.proofs.making.formulas.Goals as goal
 
 pub returns-in_err-assume : goal.returns-in_err-assume
@@ -26,4 +28,7 @@ returns-in-Err c =
     times_in_lines (FitAllLines g to) times_in_formulas (FitFormulas g to) c.lines.new.diagrams c.release_list-in-Err.new.diagrams c.in-Err.halt c.in-Err.ensures
     (all_goals_named g c.goals.new.diagrams (c.in_ok-assume.assume, c.in_ok-assume.guaranteed) c.in_ok-assume.ensures.fit)
     (λ n. (let one = c.release_list.ensures.released n in let two = c.release_list-in-Err.ensures.released n in omega (arith, one, two)))
-    (c.release_list-in-Err.ensures.table ∙ c.release_list.ensures.table)
+    (same_then _ _ _ c.release_list.ensures.nodes c.release_list-in-Err.ensures.nodes)
+
+pub lines-requires-clause-fits : goal.lines-requires-clause-fits
+lines-requires-clause-fits c = fits_kept (game_data c.args.game.now) c.args.levels.now.to.items c.args.diagrams.now c.goals.new.diagrams c.in_ok-assume.ensures.keeps c.requires.fits

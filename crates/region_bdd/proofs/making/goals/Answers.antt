@@ -54,4 +54,4 @@ returns-in-Err c =
     part_refused listed_times (FitGoals g g.assume) (IsOfGame g) old mid first (list_part old mid (Ok first) g g.assume (IsOfGame g) made told (cause_ok old mid first (IsOfGame g)))
     listed_times (FitGoals g g.goals) times_in_goals (FitAllGoals g) whole c.release_list.new.diagrams h
     (list_part mid whole (Err h) g g.goals (IsOfGame g) made' tt (cause_wider (IsOfGoals g g.goals) (IsOfGame g) (of_goals g g.goals (goals_among g) mid) mid whole (Err h) cause))
-    (goals_named g g.assume mid first (assume_among g) (told, made.meaning)) c.release_list.ensures.released c.release_list.ensures.table
+    (goals_named g g.assume mid first (assume_among g) (told, made.meaning)) c.release_list.ensures.released c.release_list.ensures.nodes

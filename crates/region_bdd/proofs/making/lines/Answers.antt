@@ -6,6 +6,7 @@ use Rattle.bdd_sets.specs.NamedGame.{IsOfGame}
 use Rattle.region_bdd.specs.Making.{FitLines, times_in_lines, FitAllLines}
 use Rattle.region_bdd.proofs.JamLaws.{member_named}
 use Rattle.region_bdd.proofs.MakingLaws.{members_part, lines_stay, both_made, part_refused, handed_part}
+use Rattle.bdd_sets.proofs.ShiftLemmas.{fits_kept}
 use Rattle.region_bdd.proofs.making.lines.Goals as goal
 
 pub returns-in_err-first : goal.returns-in_err-first
@@ -36,4 +37,7 @@ returns-in-Err c =
     part_refused roots_of_members (FitLines g to First) (IsOfGame g) old mid c.in_ok-first.first (members_part old mid (Ok c.in_ok-first.first) g to First c.in_ok-first.ensures)
     roots_of_members (FitLines g to Later) times_in_lines (FitAllLines g to) whole c.release_members.new.diagrams c.in-Err.halt
     (members_part mid whole (Err c.in-Err.halt) g to Later c.in-Err.ensures)
-    (member_named g mid to c.requires.lists.to First c.in_ok-first.first c.in_ok-first.ensures.lines) c.release_members.ensures.released c.release_members.ensures.table
+    (member_named g mid to c.requires.lists.to First c.in_ok-first.first c.in_ok-first.ensures.lines) c.release_members.ensures.released c.release_members.ensures.nodes
+
+pub later_members-requires-clause-fits : goal.later_members-requires-clause-fits
+later_members-requires-clause-fits c = fits_kept (game_data c.args.game.now) c.args.levels.now.to.items c.args.diagrams.now c.first_members.new.diagrams c.in_ok-first.ensures.keeps c.requires.fits

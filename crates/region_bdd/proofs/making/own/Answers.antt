@@ -1,13 +1,13 @@
-use Rattle.std.proofs.Common.{ℕ, Ok, Err, inl, inr, ◌∙◌, arith, subst}
-use Rattle.spec_model.specs.Diagrams.{Function}
-use Rattle.spec_model.specs.Values.{DomainData}
+use Rattle.std.proofs.Common.{ℕ, Ok, Err, arith}
 use Rattle.spec_model.specs.GameViews.{game_data}
 use Rattle.game_values.specs.declared.seen.At.TheVariants.{Now}
 use Rattle.bit_compile.specs.Named.{IsOfProper}
-use Rattle.bdd_sets.specs.NamedGame.{IsOfGame, values}
+use Rattle.bdd_sets.specs.NamedGame.{IsOfGame}
 use Rattle.region_bdd.specs.Object.{roots_of_own}
 use Rattle.region_bdd.specs.Making.{times_in_sets, FitSets, times_in_formulas, FitFormulas, FitOwn}
+use Rattle.bdd_bits.proofs.CallLemmas.{same_then}
 use Rattle.region_bdd.proofs.MakingLaws.{own_made, later_members, early_after, part_refused, handed_part, part_wider, sets_named, proper_named}
+use Rattle.bdd_sets.proofs.ShiftLemmas.{fits_kept}
 use Rattle.region_bdd.proofs.making.own.Goals as goal
 
 pub returns-in_err-all-clause-part : goal.returns-in_err-all-clause-part
@@ -51,4 +51,7 @@ returns-in-Err-clause-part c =
     times_in_formulas (FitFormulas g to) roots_of_own (FitOwn g to) c.formulas.new.diagrams c.release-in-Err.new.self c.in-Err.halt c.in-Err.ensures
     (sets_named g ds mid p c.requires.codes first.fit)
     (λ n. (let one = c.release.ensures.released n in let two = c.release-in-Err.ensures.released n in omega (arith, one, two)))
-    (c.release-in-Err.ensures.table ∙ c.release.ensures.table)
+    (same_then _ _ _ c.release.ensures.nodes c.release-in-Err.ensures.nodes)
+
+pub formulas-requires-clause-fits : goal.formulas-requires-clause-fits
+formulas-requires-clause-fits c = fits_kept (game_data c.args.game.now) c.args.levels.now.to.items c.args.diagrams.now c.sets.new.diagrams c.in_ok-all.ensures.keeps c.requires.fits

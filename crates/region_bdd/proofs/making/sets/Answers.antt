@@ -1,7 +1,6 @@
-use Rattle.std.proofs.Common.{ℕ, ◌<◌, Ok, Err, false, length, inr, refl, sym, ◌∙◌, subst}
-use Rattle.spec_model.specs.Diagrams.{Bits, Function}
+use Rattle.std.proofs.Common.{Ok, Err, false, length, inr, refl}
+use Rattle.spec_model.specs.Diagrams.{Bits}
 use Rattle.game_values.specs.declared.seen.At.TheVariants.{Now}
-use Rattle.bdd_ops.specs.Contents.{function_at}
 use Rattle.bit_compile.specs.Proper.{proper}
 use Rattle.bit_compile.specs.Named.{IsOfProper}
 use Rattle.bit_compile.proofs.Causes.{cause_ok, cause_never}
@@ -35,4 +34,4 @@ returns-in-Err c =
     part_refused one_at (FitProper ds) (IsOfProper ds Now) old mid c.in_ok-all.all (root_part old mid (Ok c.in_ok-all.all) (proper ds Now) (IsOfProper ds Now) c.in_ok-all.ensures.made c.in_ok-all.ensures.cause)
     one_at FitNothing times_in_sets (FitSets ds) whole c.release.new.self c.in-Err.halt
     (root_part mid whole (Err c.in-Err.halt) (λ (b : Bits). false) (IsOfProper ds Now) c.in-Err.ensures.made (cause_never mid whole (Err c.in-Err.halt) (IsOfProper ds Now) c.in-Err.ensures.never))
-    (root_named mid c.in_ok-all.all (proper ds Now) (IsOfProper ds Now) c.in_ok-all.ensures.made.meaning (inr (length ds, refl))) c.release.ensures.released c.release.ensures.table
+    (root_named mid c.in_ok-all.all (proper ds Now) (IsOfProper ds Now) c.in_ok-all.ensures.made.meaning (inr (length ds, refl))) c.release.ensures.released c.release.ensures.nodes

@@ -18,11 +18,11 @@ report_on-requires-clause-scene c =
       small = omega (arith, c.levels-levels.ensures);
     }
 
-pub report_on-requires-clause-from : goal.report_on-requires-clause-from
-report_on-requires-clause-from c =
-    let from = c.in_ok-from.from in
+pub report_on-requires-clause-bits : goal.report_on-requires-clause-bits
+report_on-requires-clause-bits c =
+    let bits = c.in_ok-bits.bits in
     let budget = c.in_ok-to.ensures.has_budget in
-    subst (λ (n : ℕ). IsNewStore from.state n c.in_ok-to.to.state.table.budget) c.levels-levels.ensures (subst (λ (b : ℕ). IsNewStore from.state c.levels-levels.result b) (sym budget) c.in_ok-from.ensures)
+    subst (λ (n : ℕ). IsNewStore bits.state n c.in_ok-to.to.state.table.budget) c.levels-levels.ensures (subst (λ (b : ℕ). IsNewStore bits.state c.levels-levels.result b) (sym budget) c.in_ok-bits.ensures.store)
 
 pub report_on-requires-clause-to : goal.report_on-requires-clause-to
 report_on-requires-clause-to c =
@@ -44,8 +44,8 @@ returns-in_err-game-clause-refused c = handed_memory (game_of (spec_data c.args.
 pub returns-in_err-codes-clause-refused : goal.returns-in_err-codes-clause-refused
 returns-in_err-codes-clause-refused c = handed_memory (game_of (spec_data c.args.spec.now)) c.args.budget c.from_residual-in_err-codes.result c.from_residual-in_err-codes.ensures.1
 
-pub returns-in_err-from-clause-refused : goal.returns-in_err-from-clause-refused
-returns-in_err-from-clause-refused c = handed_memory (game_of (spec_data c.args.spec.now)) c.args.budget c.from_residual-in_err-from.result c.from_residual-in_err-from.ensures.1
+pub returns-in_err-bits-clause-refused : goal.returns-in_err-bits-clause-refused
+returns-in_err-bits-clause-refused c = handed_memory (game_of (spec_data c.args.spec.now)) c.args.budget c.from_residual-in_err-bits.result c.from_residual-in_err-bits.ensures.1
 
 pub returns-in_err-to-clause-refused : goal.returns-in_err-to-clause-refused
 returns-in_err-to-clause-refused c = handed_memory (game_of (spec_data c.args.spec.now)) c.args.budget c.from_residual-in_err-to.result c.from_residual-in_err-to.ensures.1

@@ -1,12 +1,10 @@
-use Rattle.std.proofs.Common.{◌≡◌, ap, ◌∙◌}
+use Rattle.std.proofs.Common.{◌≡◌, ◌∙◌}
 use Rattle.std.specs.Prelude.{option_map}
 use Rattle.spectra_resolved.specs.Findings.{with_faults}
 use Rattle.spectra_resolved.specs.Reports.{found_in}
 use Rattle.spectra_resolved.specs.Views.{resolved_data}
-use Rattle.spectra_judge.specs.Around.{is_brought}
 use Rattle.spectra_judge.specs.KindViews.{known_data}
 use Rattle.spectra_holes.specs.Holed.{holed}
-use Rattle.spectra_brought.specs.Names.{names_in}
 use Rattle.spectra_elaboration.specs.Putting.{put_in}
 use Rattle.spectra_elaboration.specs.Levels.{within_limits}
 use Rattle.spectra_elaboration.specs.DefinitionViews.{definitions_data}
@@ -19,8 +17,6 @@ returns c =
     let k = known_data c.args.known.now in
     let t = resolved_data c.args.t.now in
     let old = found_in c.args.findings.now in
-    let brought = ap is_brought c.deref.ensures.value ∙ c.in_ok-names.ensures.same in
-    let known : known_data c.known_with-around.result ≡ record k { brought = is_brought (names_in t) } = c.known_with-around.ensures.known ∙ (λ i. record k { brought = brought i }) in
     let made : option_map resolved_data c.in_ok-made.made ≡ within_limits most_nodes most_levels (put_in (definitions_data c.args.definitions.now) (holed k c.args.stand t)) =
     c.in_ok-made.ensures ∙ (λ i. within_limits most_nodes most_levels (put_in (definitions_data c.args.definitions.now) (c.in_ok-written.ensures i))) in
-    c.report_made.ensures ∙ (λ i. with_faults old (made_faults (known i) c.args.stand (made i)))
+    c.report_made.ensures ∙ (λ i. with_faults old (made_faults k c.args.stand (made i)))

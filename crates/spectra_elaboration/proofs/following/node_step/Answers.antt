@@ -16,8 +16,8 @@ returns-in-Predicate-clause-goes c =
     let i = c.args.frame in
     let w = around_at b fs i in
     let arm = c.in-Predicate in
-    let is : used_at b fs i Hole.Truth arm.number c.args.at (map resolved_data c.deref.result.now) ≡ form_at b fs i c.args.first c.args.at (form_data c.args.shape.now) =
-    ap (λ ts. used_at b fs i Hole.Truth arm.number c.args.at (map resolved_data ts)) c.deref.ensures.value
-    ∙ ap (put_around b w Hole.Truth arm.number c.args.at) (sym (listed_each (put_around b w) w.brought w.arguments (map resolved_data arm.ts.items)))
+    let is : used_at b fs i Hole.Truth arm.number c.args.at.spot (map resolved_data c.deref.result.now) ≡ form_at b fs i c.args.first c.args.at (form_data c.args.shape.now) =
+    ap (λ ts. used_at b fs i Hole.Truth arm.number c.args.at.spot (map resolved_data ts)) c.deref.ensures.value
+    ∙ ap (put_around b w Hole.Truth arm.number c.args.at.spot) (sym (listed_each (put_around b w) w.brought w.arguments (map resolved_data arm.ts.items)))
     ∙ ap (form_at b fs i c.args.first c.args.at) (sym (ap form_data arm.is ∙ predicate_data arm.number arm.ts)) in
     subst (λ x. IfOk c.use_step.result (λ step. Goes fs new x (step_data b new step))) is c.use_step.ensures.goes

@@ -3,7 +3,7 @@ use Rattle.std.proofs.lemmas.Option.{slice_get_read}
 use Rattle.spectra_resolved.specs.Chained.{chained}
 use Rattle.spectra_resolved.specs.Views.{resolved_data, link_data, form_data}
 use Rattle.spectra_resolved.proofs.Trees.{chain_data}
-use Rattle.spectra_elaboration.specs.Putting.{placed}
+use Rattle.spectra_elaboration.specs.Putting.{placed, marked}
 use Rattle.spectra_elaboration.specs.DefinitionViews.{definitions_data}
 use Rattle.spectra_elaboration.specs.Frames.{filled_at, form_at}
 use Rattle.spectra_elaboration.specs.Following.{step_data, Goes}
@@ -34,7 +34,7 @@ returns-in-Node-clause-goes c =
     let n = c.in-Node in
     let brought = brought_is b fs i f (slice_get_read fs (length fs) i f refl c.requires.within c.index.ensures) in
     let begins = c.placed-begins.ensures ∙ ap (λ o. placed o n.first) (sym brought) in
-    let stands = c.placed-stands.ensures ∙ ap (λ o. placed o n.at) (sym brought) in
-    let is : form_at b fs i c.placed-begins.result c.placed-stands.result (form_data n.shape) ≡ filled_at b fs i (resolved_data c.args.t.now) =
+    let stands = c.marked-stands.ensures ∙ ap (λ o. marked o n.at) (sym brought) in
+    let is : form_at b fs i c.placed-begins.result c.marked-stands.result (form_data n.shape) ≡ filled_at b fs i (resolved_data c.args.t.now) =
     (λ j. form_at b fs i (begins j) (stands j) (form_data n.shape)) ∙ sym (ap (filled_at b fs i) (ap resolved_data n.is ∙ node_data n.first n.at n.shape)) in
     subst (λ x. IfOk c.node_step.result (λ step. Goes fs new x (step_data b new step))) is c.node_step.ensures.goes

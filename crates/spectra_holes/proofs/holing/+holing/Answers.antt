@@ -57,7 +57,7 @@ hole_part-returns-in_ok-made-in-Chain t c =
     let o = c.args.around in
     let head = c.in-Chain.head in
     let links = c.in-Chain.links in
-    let inner = c.at.ensures ∙ sym (c.opened_in-opened.ensures o 0) ∙ ap (λ xs. opened s.known.brought o (map link_data xs)) c.deref.ensures.value in
+    let inner = c.at.ensures ∙ sym (c.opened_in-opened.ensures o 0) ∙ ap (λ xs. opened o (map link_data xs)) c.deref.ensures.value in
     let own = c.in_ok-own-in-Chain.ensures ∙ (λ i. part_holed s (inner i) (resolved_data (c.deref-in-Chain.ensures i))) in
     let made = c.in_ok-made-in-Chain.ensures ∙ ap (λ xs. links_holed s o (map link_data xs)) c.deref-in-Chain-2.ensures.value in
     chain_data c.in_ok-own-in-Chain.own c.in_ok-made-in-Chain.made

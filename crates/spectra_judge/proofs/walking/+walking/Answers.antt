@@ -79,7 +79,7 @@ walk_chain-loop-link-preserved t c =
     let k = c.loop-link.link-index in
     let l = c.link-item.result in
     let kind = kind_data c.loop-link.kind in
-    let inner = c.at-inner.ensures ∙ sym (c.opened_in-opened.ensures o c.loop-link.place) ∙ ap (λ p. opened s.known.brought o (map link_data (drop p ls))) c.loop-link.invariant.place in
+    let inner = c.at-inner.ensures ∙ sym (c.opened_in-opened.ensures o c.loop-link.place) ∙ ap (λ p. opened o (map link_data (drop p ls))) c.loop-link.invariant.place in
     record {
       place = omega arith;
       kind =
@@ -102,9 +102,9 @@ walk_link-returns-clause-found t c =
     let kind = kind_data c.args.kind in
     let second = resolved_data l.second in
     let operator = operator_faults s (is_past l.word) next l.at in
-    let own = binary_faults l.word kind (kind_of s.known second) l.at in
+    let own = binary_faults l.word kind (kind_of s.known second) l.at.spot in
     c.report_binary.ensures
-    ∙ (λ i. with_faults (found_in c.walk-second.new.findings) (binary_faults l.word kind (c.walk-second.ensures.kind i) l.at))
+    ∙ (λ i. with_faults (found_in c.walk-second.new.findings) (binary_faults l.word kind (c.walk-second.ensures.kind i) l.at.spot))
     ∙ ap (λ f. with_faults f own)
     (c.walk-second.ensures.found ∙ ap (λ f. with_faults f (faults s inner second)) (c.report_operator.ensures ∙ (λ i. with_faults old (operator_faults s (c.is_past.ensures i) next l.at))))
     ∙ sym (with_faults_append (with_faults old operator) (faults s inner second) own)
@@ -115,9 +115,9 @@ walk_remainder-returns-clause-found t c =
     let s = setting_data c.args.setting.now in
     let e = resolved_data c.args.t.now in
     let old = found_in c.args.findings.now in
-    let own = remainder_faults (kind_of s.known e) c.args.at c.args.number_at c.args.n in
+    let own = remainder_faults (kind_of s.known e) c.args.at.spot c.args.number_at c.args.n in
     c.report_remainder.ensures
-    ∙ (λ i. with_faults (found_in c.walk-kind.new.findings) (remainder_faults (c.walk-kind.ensures.kind i) c.args.at c.args.number_at (to_z-of_z w64 c.args.n c.ranges.n i)))
+    ∙ (λ i. with_faults (found_in c.walk-kind.new.findings) (remainder_faults (c.walk-kind.ensures.kind i) c.args.at.spot c.args.number_at (to_z-of_z w64 c.args.n c.ranges.n i)))
     ∙ ap (λ f. with_faults f own) c.walk-kind.ensures.found
     ∙ sym (with_faults_append old (faults s c.args.around e) own)
 

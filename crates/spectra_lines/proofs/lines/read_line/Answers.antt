@@ -7,7 +7,7 @@ use Rattle.spectra_judge.specs.Findings.{fault_if}
 use Rattle.spectra_patterns.specs.Patterns.{is_empty}
 use Rattle.spectra_lines.specs.Contents.{trees_in, stand_in, line_put}
 use Rattle.spectra_lines.specs.Limits.{is_small}
-use Rattle.spectra_lines.specs.Lines.{trees_faults, line_stand, as_written, known_with, put_trees, whole_faults}
+use Rattle.spectra_lines.specs.Lines.{trees_faults, line_stand, as_written, put_trees, whole_faults}
 use Rattle.spectra_lines.specs.Views.{facts_data, trees_data}
 use Rattle.spectra_lines.proofs.Firsts.{none_empty, none_seen}
 use Rattle.spectra_lines.proofs.Sized.{faults_as, some_sized, none_sized, all_found}
@@ -23,11 +23,10 @@ returns-in-Some-clause-found c =
     let old = found_in c.report_own.new.findings in
     let stand : c.stand_in-stand.result ≡ line_stand l = c.stand_in-stand.ensures ∙ ap (λ b. stand_in b l.body) c.is_assumption.ensures in
     let trees : trees_data c.deref.result.now ≡ trees_in l.body = ap trees_data c.deref.ensures.value ∙ c.in_ok-trees.ensures in
-    let again : trees_data c.deref-in-Some.result.now ≡ trees_in l.body = ap trees_data c.deref-in-Some.ensures.value ∙ c.in_ok-trees.ensures in
     let first : c.first_fault-first.result ≡ first_of_faults written = c.first_fault-first.ensures ∙ (λ i. first_of_faults (trees_faults f.known (stand i) (trees i))) in
     let sound : c.is_none-sound.result ≡ is_empty written = none_seen c.first_fault-first.result c.is_none-sound.result c.is_none-sound.ensures ∙ none_empty written c.first_fault-first.result first in
     let put = c.in_ok-report_put-in-Some.ensures
-    ∙ (λ i. with_faults old (trees_faults (known_with f.known (again i)) (stand i) (trees_in body) ++ (if sound i && is_empty (trees_faults (known_with f.known (again i)) (stand i) (trees_in body)) then whole_faults body else []))) in
+    ∙ (λ i. with_faults old (trees_faults f.known (stand i) (trees_in body) ++ (if sound i && is_empty (trees_faults f.known (stand i) (trees_in body)) then whole_faults body else []))) in
     let made = sym (ap (option_map line_data) c.in-Some.is) ∙ c.in_ok-put.ensures.made in
     all_found f room l (found_in c.args.findings.now) _ old _ (c.report_first.ensures written first) c.report_own.ensures
     (some_sized l.at (faults_as f l) (is_some room) (is_small room (put_trees f l)) (line_data c.in-Some.made) (line_put f l) _ old made put)

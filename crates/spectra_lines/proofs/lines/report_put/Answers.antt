@@ -6,14 +6,13 @@ use Rattle.spectra_resolved.proofs.First.{with_faults_append}
 use Rattle.spectra_judge.specs.KindViews.{known_data}
 use Rattle.spectra_patterns.specs.Patterns.{is_empty}
 use Rattle.spectra_lines.specs.Contents.{trees_in}
-use Rattle.spectra_lines.specs.Lines.{trees_faults, known_with, whole_faults}
-use Rattle.spectra_lines.specs.Views.{trees_data}
+use Rattle.spectra_lines.specs.Lines.{trees_faults, whole_faults}
 use Rattle.spectra_lines.proofs.Firsts.{none_empty}
 use Rattle.spectra_lines.proofs.lines.report_put.Goals as goal
 
 pub returns : goal.returns
 returns c =
-    let put = trees_faults (known_with (known_data c.args.known.now) (trees_data c.args.written.now)) c.args.stand (trees_in (body_data c.args.body.now)) in
+    let put = trees_faults (known_data c.args.known.now) c.args.stand (trees_in (body_data c.args.body.now)) in
     let whole = whole_faults (body_data c.args.body.now) in
     let old = found_in c.args.findings.now in
     let first = c.in_ok-first.ensures in

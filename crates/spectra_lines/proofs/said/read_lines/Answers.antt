@@ -16,10 +16,12 @@ use Rattle.spectra_lines.proofs.Orders.{parts_sound}
 use Rattle.spectra_lines.proofs.Stated.{length_statements}
 use Rattle.spectra_lines.proofs.said.read_lines.Goals as goal
 
-pub read_parts-requires-clause-sound : goal.read_parts-requires-clause-sound
-read_parts-requires-clause-sound c =
-    subst (λ xs. ArePartsSound (map part_data xs)) (sym c.deref.ensures.value)
-    (subst ArePartsSound (sym c.in_ok-parts.ensures) (parts_sound (map typed_data c.args.patterns.now) (map line_data c.args.lines.now) c.requires.sound))
+pub read_parts-requires : goal.read_parts-requires
+read_parts-requires c = record {
+  sound =
+      subst (λ xs. ArePartsSound (map part_data xs)) (sym c.deref.ensures.value)
+      (subst ArePartsSound (sym c.in_ok-parts.ensures) (parts_sound (map typed_data c.args.patterns.now) (map line_data c.args.lines.now) c.requires.sound));
+}
 
 -- there is a place for each statement
 pub report_hidden-requires : goal.report_hidden-requires

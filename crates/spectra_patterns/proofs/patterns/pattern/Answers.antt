@@ -5,7 +5,7 @@ use Rattle.spectra_resolved.specs.Reports.{found_in}
 use Rattle.spectra_resolved.specs.TextViews.{pattern_data}
 use Rattle.spectra_judge.specs.KindViews.{kind_data}
 use Rattle.spectra_patterns.specs.Patterns.{lines_faults, pattern_faults, meant}
-use Rattle.spectra_brought.proofs.Found.{some_first, no_faults}
+use Rattle.spectra_judge.proofs.Found.{some_first, no_faults}
 use Rattle.spectra_patterns.proofs.Shaped.{whole_faults}
 use Rattle.spectra_patterns.proofs.Whole.{lines_found, unsound_faults, meant_whole}
 use Rattle.spectra_patterns.proofs.patterns.pattern.Goals as goal

@@ -5,7 +5,7 @@ use Rattle.spectra_trees.specs.Data as written
 use Rattle.spectra_trees.specs.Data.{expressions}
 use Rattle.spectra_trees.specs.Views.{name_data, form_data, expr_data}
 use Rattle.spectra_trees.proofs.Folded.{call_folded, and_folded, or_folded, binary_folded, read_folded}
-use Rattle.spectra_resolved.specs.Spots.{spot_at, spot_of}
+use Rattle.spectra_resolved.specs.Spots.{spot_at, spot_of, in_text}
 use Rattle.spectra_resolved.specs.Findings.{with_faults}
 use Rattle.spectra_resolved.specs.Reports.{found_in}
 use Rattle.spectra_resolved.specs.Resolved.{tree, Form, listed}
@@ -27,9 +27,9 @@ node-returns-in_ok-arguments-in-Call-clause-tree t c =
     let e = c.args.e.now in
     let name = name_data c.in-Call.name in
     c.called.ensures.tree
-    ∙ (λ i. tree (c.spot_at-first.ensures i) (spot_of r.file name) (call_form (look name.text) (c.in_ok-arguments-in-Call.ensures.trees i)))
-    ∙ ap (λ (es : List ExprTree). resolved_form look r.file (spot_at r.file e.first) (spot_at r.file e.at) (written.Form.Call name (expressions (map expr_data es)))) c.deref.ensures.value
-    ∙ sym (ap (resolved_form look r.file (spot_at r.file e.first) (spot_at r.file e.at)) (ap form_data c.in-Call.is ∙ call_folded c.in-Call.name c.in-Call.es))
+    ∙ (λ i. tree (c.spot_at-first.ensures i) (in_text (spot_of r.file name)) (call_form (look name.text) (c.in_ok-arguments-in-Call.ensures.trees i)))
+    ∙ ap (λ (es : List ExprTree). resolved_form look r.file (spot_at r.file e.first) (in_text (spot_at r.file e.at)) (written.Form.Call name (expressions (map expr_data es)))) c.deref.ensures.value
+    ∙ sym (ap (resolved_form look r.file (spot_at r.file e.first) (in_text (spot_at r.file e.at))) (ap form_data c.in-Call.is ∙ call_folded c.in-Call.name c.in-Call.es))
 
 pub node-returns-in_ok-arguments-in-Call-clause-found : goal.node-returns-in_ok-arguments-in-Call-clause-found
 node-returns-in_ok-arguments-in-Call-clause-found t c =
@@ -44,8 +44,8 @@ node-returns-in_ok-arguments-in-Call-clause-found t c =
     ∙ (λ i. with_faults (c.in_ok-arguments-in-Call.ensures.found i) (own_misuse at (call_form (look name.text) (c.in_ok-arguments-in-Call.ensures.trees i))))
     ∙ sym (found_later old (own_misuse at (call_form (look name.text) all)) (misuses_of_each all))
     ∙ ap (with_faults old) (sym (call-misuses at (look name.text) all))
-    ∙ ap (λ (es : List ExprTree). with_faults old (misuses (resolved_form look r.file (spot_at r.file e.first) (spot_at r.file e.at) (written.Form.Call name (expressions (map expr_data es)))))) c.deref.ensures.value
-    ∙ sym (ap (λ f. with_faults old (misuses (resolved_form look r.file (spot_at r.file e.first) (spot_at r.file e.at) f))) (ap form_data c.in-Call.is ∙ call_folded c.in-Call.name c.in-Call.es))
+    ∙ ap (λ (es : List ExprTree). with_faults old (misuses (resolved_form look r.file (spot_at r.file e.first) (in_text (spot_at r.file e.at)) (written.Form.Call name (expressions (map expr_data es)))))) c.deref.ensures.value
+    ∙ sym (ap (λ f. with_faults old (misuses (resolved_form look r.file (spot_at r.file e.first) (in_text (spot_at r.file e.at)) f))) (ap form_data c.in-Call.is ∙ call_folded c.in-Call.name c.in-Call.es))
 
 pub trees-returns-clause-trees : goal.trees-returns-clause-trees
 trees-returns-clause-trees t c =
@@ -59,9 +59,9 @@ node-returns-in_ok-operators-in-And-clause-tree t c =
     let r = c.args.resolver.now in
     let e = c.args.e.now in
     c.conjunction.ensures
-    ∙ (λ i. tree (c.spot_at-first.ensures i) (c.spot_at-at.ensures i) (Form.And (c.in_ok-parts-in-And.ensures.trees i) (c.in_ok-operators-in-And.ensures i)))
-    ∙ (λ i. resolved_form (look_data r.look) r.file (spot_at r.file e.first) (spot_at r.file e.at) (written.Form.And (expressions (map expr_data (c.deref-in-And.ensures.value i))) (c.deref-in-And-2.ensures.value i)))
-    ∙ sym (ap (resolved_form (look_data r.look) r.file (spot_at r.file e.first) (spot_at r.file e.at)) (ap form_data c.in-And.is ∙ and_folded c.in-And.es c.in-And.ops))
+    ∙ (λ i. tree (c.spot_at-first.ensures i) (in_text (c.spot_at-at.ensures i)) (Form.And (c.in_ok-parts-in-And.ensures.trees i) (c.in_ok-operators-in-And.ensures i)))
+    ∙ (λ i. resolved_form (look_data r.look) r.file (spot_at r.file e.first) (in_text (spot_at r.file e.at)) (written.Form.And (expressions (map expr_data (c.deref-in-And.ensures.value i))) (c.deref-in-And-2.ensures.value i)))
+    ∙ sym (ap (resolved_form (look_data r.look) r.file (spot_at r.file e.first) (in_text (spot_at r.file e.at))) (ap form_data c.in-And.is ∙ and_folded c.in-And.es c.in-And.ops))
 
 pub node-returns-in_ok-operators-in-And-clause-found : goal.node-returns-in_ok-operators-in-And-clause-found
 node-returns-in_ok-operators-in-And-clause-found t c =
@@ -70,16 +70,16 @@ node-returns-in_ok-operators-in-And-clause-found t c =
     let old = found_in c.args.findings.now in
     c.in_ok-parts-in-And.ensures.found
     ∙ ap (λ (es : List ExprTree). with_faults old (misuses_of_each (resolved_each_by r (expressions (map expr_data es))))) c.deref-in-And.ensures.value
-    ∙ sym (ap (λ f. with_faults old (misuses (resolved_form (look_data r.look) r.file (spot_at r.file e.first) (spot_at r.file e.at) f))) (ap form_data c.in-And.is ∙ and_folded c.in-And.es c.in-And.ops))
+    ∙ sym (ap (λ f. with_faults old (misuses (resolved_form (look_data r.look) r.file (spot_at r.file e.first) (in_text (spot_at r.file e.at)) f))) (ap form_data c.in-And.is ∙ and_folded c.in-And.es c.in-And.ops))
 
 pub node-returns-in_ok-operators-in-Or-clause-tree : goal.node-returns-in_ok-operators-in-Or-clause-tree
 node-returns-in_ok-operators-in-Or-clause-tree t c =
     let r = c.args.resolver.now in
     let e = c.args.e.now in
     c.disjunction.ensures
-    ∙ (λ i. tree (c.spot_at-first.ensures i) (c.spot_at-at.ensures i) (Form.Or (c.in_ok-parts-in-Or.ensures.trees i) (c.in_ok-operators-in-Or.ensures i)))
-    ∙ (λ i. resolved_form (look_data r.look) r.file (spot_at r.file e.first) (spot_at r.file e.at) (written.Form.Or (expressions (map expr_data (c.deref-in-Or.ensures.value i))) (c.deref-in-Or-2.ensures.value i)))
-    ∙ sym (ap (resolved_form (look_data r.look) r.file (spot_at r.file e.first) (spot_at r.file e.at)) (ap form_data c.in-Or.is ∙ or_folded c.in-Or.es c.in-Or.ops))
+    ∙ (λ i. tree (c.spot_at-first.ensures i) (in_text (c.spot_at-at.ensures i)) (Form.Or (c.in_ok-parts-in-Or.ensures.trees i) (c.in_ok-operators-in-Or.ensures i)))
+    ∙ (λ i. resolved_form (look_data r.look) r.file (spot_at r.file e.first) (in_text (spot_at r.file e.at)) (written.Form.Or (expressions (map expr_data (c.deref-in-Or.ensures.value i))) (c.deref-in-Or-2.ensures.value i)))
+    ∙ sym (ap (resolved_form (look_data r.look) r.file (spot_at r.file e.first) (in_text (spot_at r.file e.at))) (ap form_data c.in-Or.is ∙ or_folded c.in-Or.es c.in-Or.ops))
 
 pub node-returns-in_ok-operators-in-Or-clause-found : goal.node-returns-in_ok-operators-in-Or-clause-found
 node-returns-in_ok-operators-in-Or-clause-found t c =
@@ -88,7 +88,7 @@ node-returns-in_ok-operators-in-Or-clause-found t c =
     let old = found_in c.args.findings.now in
     c.in_ok-parts-in-Or.ensures.found
     ∙ ap (λ (es : List ExprTree). with_faults old (misuses_of_each (resolved_each_by r (expressions (map expr_data es))))) c.deref-in-Or.ensures.value
-    ∙ sym (ap (λ f. with_faults old (misuses (resolved_form (look_data r.look) r.file (spot_at r.file e.first) (spot_at r.file e.at) f))) (ap form_data c.in-Or.is ∙ or_folded c.in-Or.es c.in-Or.ops))
+    ∙ sym (ap (λ f. with_faults old (misuses (resolved_form (look_data r.look) r.file (spot_at r.file e.first) (in_text (spot_at r.file e.at)) f))) (ap form_data c.in-Or.is ∙ or_folded c.in-Or.es c.in-Or.ops))
 
 pub tree-chain-preserved : goal.tree-chain-preserved
 tree-chain-preserved t c =
@@ -103,7 +103,7 @@ tree-chain-preserved t c =
     record {
       same = ap (λ (e : ExprTree). chained (resolved_by r (expr_data e)) (map link_data (reverse c.push.new.self.items))) next
           ∙ chain_step r head word a b c.in-Binary.is c.chain.links.items c.push.new.self.items c.in_ok-link.field-0 (resolved_by r (expr_data c.args.e.now)) c.in_ok-push.ensures.items
-          (c.in_ok-link.ensures.link ∙ ap (λ (e : ExprTree). record { first = spot_at r.file head.first; at = spot_at r.file head.at; word = word; second = resolved_by r (expr_data e) }) second)
+          (c.in_ok-link.ensures.link ∙ ap (λ (e : ExprTree). record { first = spot_at r.file head.first; at = in_text (spot_at r.file head.at); word = word; second = resolved_by r (expr_data e) }) second)
           c.chain.invariant.same;
       found = (λ i. with_faults (c.in_ok-link.ensures.found i) (misuses (resolved_by r (expr_data (next i)))))
           ∙ ap (λ (e : ExprTree). with_faults (with_faults (found_in c.chain.findings) (misuses (resolved_by r (expr_data e)))) (misuses (resolved_by r (expr_data a.value)))) second

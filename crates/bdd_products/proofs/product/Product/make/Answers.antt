@@ -24,4 +24,4 @@ pub release_list-requires : goal.release_list-requires
 release_list-requires c = lines_counted c.args.diagrams.now c.lines_of.new.diagrams c.in_ok-lines.lines _ _ c.in_ok-lines.ensures c.spread.new.diagrams _ c.in-Err.ensures.leaves
 
 pub returns-in-Err : goal.returns-in-Err
-returns-in-Err c = lines_back c.args.diagrams.now c.lines_of.new.diagrams c.in_ok-lines.lines _ _ c.in_ok-lines.ensures c.spread.new.diagrams c.release_list.new.diagrams c.in-Err.halt (Err c.in-Err.halt) c.args.out.now refl c.in-Err.ensures.leaves c.release_list.ensures.released c.release_list.ensures.table
+returns-in-Err c = lines_back c.args.diagrams.now c.lines_of.new.diagrams c.in_ok-lines.lines _ _ c.in_ok-lines.ensures c.spread.new.diagrams c.release_list.new.diagrams c.in-Err.halt (Err c.in-Err.halt) c.args.out.now refl c.in-Err.ensures.leaves c.release_list.ensures.released c.release_list.ensures.nodes

@@ -2,7 +2,7 @@ use Rattle.std.proofs.Common.{List, [], ◌∷◌, Some, None, sym, ◌∙◌, s
 use Rattle.spec_model.specs.Diagrams.{Diagram}
 use Rattle.spec_model.specs.GameViews.{game_data}
 use Rattle.regions.specs.Kept.{States}
-use Rattle.bdd_ops.specs.Contents.{function_at}
+use Rattle.bdd_bits.specs.Contents.{function_at}
 use Rattle.bit_compile.specs.Making.{Makes}
 use Rattle.bit_compile.proofs.MakingLemmas.{told_makes}
 use Rattle.region_bdd.specs.declared.slots.Content.TheVariants.{Region}

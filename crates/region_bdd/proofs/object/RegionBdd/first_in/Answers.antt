@@ -10,9 +10,10 @@ use Rattle.spec_model.specs.Games.{inputs_of}
 use Rattle.regions.specs.Rules.{AreBefore, inputs_into}
 use Rattle.game_values.specs.declared.seen.At.TheVariants.{Now, Next}
 use Rattle.bdd_store.specs.State.{IsRoot}
-use Rattle.bdd_ops.specs.Contents.{function_at}
+use Rattle.bdd_bits.specs.Contents.{function_at}
 use Rattle.bdd_ops.specs.Paths.{IsFirst, HasNone}
-use Rattle.bdd_ops.specs.Together.{Together, all_of}
+use Rattle.bdd_ops.specs.Together.{Together}
+use Rattle.bdd_bits.specs.Paths.{all_of}
 use Rattle.bit_compile.specs.Domains.{state_domains, level_count}
 use Rattle.bdd_sets.specs.declared.moves.Members.{Members}
 use Rattle.bdd_sets.specs.StateBits.{set_at}
@@ -148,7 +149,7 @@ returns-clause-first c = λ when' t b choice are.
     let there = c.first_common_path.ensures.first c.if-not-first_common_path.false in
     let first = subst (λ (f : Function). IsFirst c.fix_before.new.fixed f 0 (level_count (state_domains g)) s) asked
     (subst (λ (fx : List (Option Bool)). IsFirst fx (all_of d c.ask_inputs.new.all.roots) 0 (level_count (state_domains g)) s) (c.deref.ensures.value ∙ written _ c.fix_before.new.fixed _ (let a = c.fix_before.auto.fixed in let b = c.deref_mut.ensures.len in omega (arith, a, b)))
-    (subst (λ (n : ℕ). IsFirst c.deref.result.now (all_of d c.ask_inputs.new.all.roots) 0 n s) o.whole.levels there)) in
+    (subst (λ (n : ℕ). IsFirst c.deref.result.now (all_of d c.ask_inputs.new.all.roots) 0 n s) o.whole.fits.levels there)) in
     let read = subst (λ (bs : List Bool). (vs : List Value) → length vs ≡ length c.args.input.now → AreOf o.codes c.len-from.result vs → HaveValues o.codes Next c.len-from.result vs (bits_of bs) → c.read.new.values ≡ vs) (c.deref-2.ensures.value ∙ written _ c.first_common_path.new.out _ (let a = c.first_common_path.auto.out in let b = c.deref_mut-2.ensures.len in omega (arith, a, b))) c.read.ensures in
     of_inputs (λ w u. AreBefore g w b c.args.state.now → find (inputs_into g w u b) (inputs_of g) ≡ Some c.read.new.values) when when' set t both
     (λ are. input_read g o.codes o.coded c.len-from.result (omega (arith, from_is, hidden)) (inputs_into g when set b) s c.args.input.now c.read.new.values

@@ -11,9 +11,10 @@ use Rattle.spec_model.specs.Games.{outputs_of}
 use Rattle.regions.specs.Rules.{AreBefore, outputs_into}
 use Rattle.game_values.specs.declared.seen.At.TheVariants.{Next}
 use Rattle.bdd_store.specs.State.{IsRoot}
-use Rattle.bdd_ops.specs.Contents.{function_at}
+use Rattle.bdd_bits.specs.Contents.{function_at}
 use Rattle.bdd_ops.specs.Paths.{IsFirst, HasNone}
-use Rattle.bdd_ops.specs.Together.{Together, all_of}
+use Rattle.bdd_ops.specs.Together.{Together}
+use Rattle.bdd_bits.specs.Paths.{all_of}
 use Rattle.bit_compile.specs.Domains.{state_domains, level_count}
 use Rattle.bdd_sets.specs.StateBits.{TellsStates, set_at}
 use Rattle.bdd_products.proofs.KeepingLemmas.{keeps_itself}
@@ -159,7 +160,7 @@ returns-clause-first c = λ when' t b choice are.
     let there = c.first_common_path.ensures.first c.if-not-first_common_path.false in
     let first = subst (λ (f : Function). IsFirst c.fix_move.new.fixed f 0 (level_count (state_domains g)) s) asked
     (subst (λ (fx : List (Option Bool)). IsFirst fx (all_of d c.ask_outputs.new.all.roots) 0 (level_count (state_domains g)) s) (c.deref.ensures.value ∙ written _ c.fix_move.new.fixed _ (let a = c.fix_move.auto.fixed in let b = c.deref_mut.ensures.len in omega (arith, a, b)))
-    (subst (λ (n : ℕ). IsFirst c.deref.result.now (all_of d c.ask_outputs.new.all.roots) 0 n s) o.whole.levels there)) in
+    (subst (λ (n : ℕ). IsFirst c.deref.result.now (all_of d c.ask_outputs.new.all.roots) 0 n s) o.whole.fits.levels there)) in
     let read = subst (λ (bs : List Bool). (vs : List Value) → length vs ≡ length c.args.out.now → AreOf o.codes (c.count-count.result - length c.args.out.now) vs → HaveValues o.codes Next (c.count-count.result - length c.args.out.now) vs (bits_of bs) → c.read.new.values ≡ vs) (c.deref-2.ensures.value ∙ written _ c.first_common_path.new.out _ (let a = c.first_common_path.auto.out in let b = c.deref_mut-2.ensures.len in omega (arith, a, b))) c.read.ensures in
     of_outputs (λ w u. AreBefore g w b c.args.state.now → find (outputs_into g w u b x) (outputs_of g) ≡ Some c.read.new.values) when when' set t both
     (λ are. output_read g o.codes o.coded c.len-from.result (c.count-count.result - length c.args.out.now) (omega (arith, from_is, hidden)) (omega (arith, count_is, coded, long, c.requires.room)) (outputs_into g when set b x) s c.args.out.now c.read.new.values

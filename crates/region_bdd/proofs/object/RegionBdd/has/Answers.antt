@@ -6,7 +6,7 @@ use Rattle.spec_model.specs.Values.{DomainData, is_assignment}
 use Rattle.spec_model.specs.Games.{listed}
 use Rattle.spec_model.specs.DiagramReads.{bits_of}
 use Rattle.game_values.specs.declared.seen.At.TheVariants.{Now}
-use Rattle.bdd_ops.specs.Contents.{function_at}
+use Rattle.bdd_bits.specs.Contents.{function_at}
 use Rattle.bit_compile.specs.Domains.{state_domains}
 use Rattle.bit_compile.specs.Codes.{HasValues}
 use Rattle.bit_compile.proofs.LawLemmas.{state_listed}
@@ -54,4 +54,4 @@ returns-clause-answer c = λ s here is.
     let bits = bits_of c.write.new.bits in
     let shown : HasValues (state_domains g) Now c.args.state.now bits = subst (λ (ds : List DomainData). HasValues ds Now c.args.state.now bits) o.coded c.write.ensures.written in
     let has : HasValues (state_domains g) Now (listed s) bits = subst (λ (vs : List Value). HasValues (state_domains g) Now vs bits) (sym is) shown in
-    c.eval.ensures ∙ (ap (λ (bs : List Bool). f (bits_of bs)) (c.deref.ensures.value ∙ written _ c.write.new.bits _ (let a = c.write.auto.bits in let b = c.deref_mut.ensures.len in omega (arith, a, b))) ∙ told_at g Now f ((kept_of g d slots o.refused).set c.args.a.now) tells s bits here has)
+    c.eval.ensures.value ∙ (ap (λ (bs : List Bool). f (bits_of bs)) (c.deref.ensures.value ∙ written _ c.write.new.bits _ (let a = c.write.auto.bits in let b = c.deref_mut.ensures.len in omega (arith, a, b))) ∙ told_at g Now f ((kept_of g d slots o.refused).set c.args.a.now) tells s bits here has)

@@ -2,7 +2,7 @@ use Rattle.std.proofs.Common.{ℕ, true, [], None, refl, subst}
 use Rattle.spec_model.specs.GameViews.{game_data}
 use Rattle.game_values.specs.declared.seen.At.TheVariants.{Now}
 use Rattle.bdd_store.specs.State.{IsRoot}
-use Rattle.bdd_ops.specs.Contents.{function_at}
+use Rattle.bdd_bits.specs.Contents.{function_at}
 use Rattle.bdd_ops.specs.Functions.{joined, join_of}
 use Rattle.regions.specs.Rules.{states_holding}
 use Rattle.bdd_sets.specs.StateBits.{Tells}

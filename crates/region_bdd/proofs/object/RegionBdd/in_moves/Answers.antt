@@ -1,7 +1,7 @@
 use Rattle.std.proofs.Common.{inr, List, [], ◌∷◌, Some, None, sym, subst}
 use Rattle.spec_model.specs.GameViews.{game_data}
 use Rattle.regions.specs.Kept.{States}
-use Rattle.bdd_ops.specs.Contents.{function_at}
+use Rattle.bdd_bits.specs.Contents.{function_at}
 use Rattle.bdd_sets.specs.declared.moves.Members.{Members}
 use Rattle.bdd_sets.specs.Members.{AreMembers, move_functions, lists_at}
 use Rattle.bdd_sets.proofs.ShiftLemmas.{rises_to_next}
@@ -56,7 +56,7 @@ with_leading-made-requires-clause-rising c =
     let d = o.diagrams in
     let here = subst (λ (ss : List Slot). HasContent ss c.args.t.now.slot (Region c.region.result.now)) c.room.ensures.keeps c.region.ensures in
     let tells = region_tells g o.own o.levels d slots o.refused o.whole c.args.t.now c.region.result.now here in
-    rises_to_next g (function_at d c.region.result.now) tells.states d.state.table.levels o.levels.to.items o.whole.levels o.whole.lists_are.to
+    rises_to_next g (function_at d c.region.result.now) tells.states d.state.table.levels d.order o.levels.to.items o.whole.fits.levels o.whole.lists_are.to o.whole.fits.rising
 
 pub invariant_of-self-2 : goal.invariant_of-self-2
 invariant_of-self-2 c =

@@ -2,7 +2,7 @@ use Rattle.std.proofs.Common.{[], None, refl, sym, ◌∙◌, subst}
 use Rattle.spec_model.specs.Diagrams.{Diagram}
 use Rattle.spec_model.specs.GameViews.{game_data}
 use Rattle.spec_model.specs.Sets.{no_states}
-use Rattle.bdd_ops.specs.Contents.{function_at}
+use Rattle.bdd_bits.specs.Contents.{function_at}
 use Rattle.bit_compile.specs.Making.{Makes}
 use Rattle.bit_compile.proofs.MakingLemmas.{told_makes}
 use Rattle.region_bdd.specs.declared.own.Refused.{Refused}

@@ -3,7 +3,7 @@ use Rattle.spec_model.specs.GameViews.{game_data}
 use Rattle.spec_model.specs.Sets.{either}
 use Rattle.game_values.specs.declared.seen.At.TheVariants.{Now}
 use Rattle.regions.specs.Kept.{States}
-use Rattle.bdd_ops.specs.Contents.{function_at}
+use Rattle.bdd_bits.specs.Contents.{function_at}
 use Rattle.bdd_ops.specs.Functions.{joined, join_of}
 use Rattle.bdd_sets.proofs.SetLemmas.{tells_either}
 use Rattle.region_bdd.specs.declared.slots.Content.TheVariants.{Region}

@@ -2,8 +2,8 @@ use Rattle.std.proofs.Common.{ℕ, List, [], ◌∷◌, Some, None, sym, subst}
 use Rattle.spec_model.specs.Diagrams.{shifted}
 use Rattle.spec_model.specs.GameViews.{game_data}
 use Rattle.regions.specs.Kept.{States}
-use Rattle.bdd_ops.specs.Contents.{function_at}
-use Rattle.bdd_ops.specs.Calls.{RisesOver}
+use Rattle.bdd_bits.specs.Contents.{function_at}
+use Rattle.bdd_bits.specs.Calls.{RisesOver}
 use Rattle.bit_compile.specs.Making.{Makes}
 use Rattle.bdd_sets.proofs.ShiftLemmas.{rises_to_next, tells_next}
 use Rattle.region_bdd.specs.declared.slots.Content.TheVariants.{Region}
@@ -47,7 +47,7 @@ shift-made-requires-clause-rising c =
     let here_t = subst (λ (ss : List Slot). HasContent ss c.args.t.now.slot (Region c.region.result.now)) c.room.ensures.keeps c.region.ensures in
     let f = function_at d c.region.result.now in
     let tells = region_tells g o.own o.levels d slots o.refused o.whole c.args.t.now c.region.result.now here_t in
-    subst (λ (to : List ℕ). RisesOver d.state.table.levels to f) (sym c.deref.ensures.value) (rises_to_next g f tells.states d.state.table.levels o.levels.to.items o.whole.levels o.whole.lists_are.to)
+    subst (λ (to : List ℕ). RisesOver d.state.table.levels d.order to f) (sym c.deref.ensures.value) (rises_to_next g f tells.states d.state.table.levels d.order o.levels.to.items o.whole.fits.levels o.whole.lists_are.to o.whole.fits.rising)
 
 pub invariant_of-self-2 : goal.invariant_of-self-2
 invariant_of-self-2 c =

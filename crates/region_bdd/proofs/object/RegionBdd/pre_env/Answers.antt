@@ -3,7 +3,7 @@ use Rattle.spec_model.specs.Diagrams.{shifted}
 use Rattle.spec_model.specs.GameViews.{game_data}
 use Rattle.spec_model.specs.Sets.{pre_env as environment_forces_set}
 use Rattle.regions.specs.Kept.{States}
-use Rattle.bdd_ops.specs.Contents.{function_at}
+use Rattle.bdd_bits.specs.Contents.{function_at}
 use Rattle.bdd_ops.specs.Functions.{joined, join_of}
 use Rattle.bdd_ops.specs.Calls.{negated}
 use Rattle.bdd_sets.specs.Members.{move_functions, avoiding, lists_at}
@@ -56,7 +56,7 @@ environment_states-made-requires-clause-rising c =
     let slots = o.slots.slots.items in
     let d = o.diagrams in
     let here_t = subst (λ (ss : List Slot). HasContent ss c.args.t.now.slot (Region c.region.result.now)) c.room.ensures.keeps c.region.ensures in
-    rises_to_next g (function_at d c.region.result.now) (region_tells g o.own o.levels d slots o.refused c.args.self.now.whole c.args.t.now c.region.result.now here_t).states d.state.table.levels o.levels.to.items c.args.self.now.whole.levels c.args.self.now.whole.lists_are.to
+    rises_to_next g (function_at d c.region.result.now) (region_tells g o.own o.levels d slots o.refused c.args.self.now.whole c.args.t.now c.region.result.now here_t).states d.state.table.levels d.order o.levels.to.items c.args.self.now.whole.fits.levels c.args.self.now.whole.lists_are.to c.args.self.now.whole.fits.rising
 
 pub returns-clause-made : goal.returns-clause-made
 returns-clause-made c =

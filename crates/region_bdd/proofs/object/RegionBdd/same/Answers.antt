@@ -2,7 +2,7 @@ use Rattle.std.proofs.Common.{subst, sym}
 use Rattle.spec_model.specs.GameViews.{game_data}
 use Rattle.spec_model.specs.Sets.{StateSet}
 use Rattle.game_values.specs.declared.seen.At.TheVariants.{Now}
-use Rattle.bdd_ops.specs.Contents.{function_at}
+use Rattle.bdd_bits.specs.Contents.{function_at}
 use Rattle.bdd_sets.specs.StateBits.{Tells}
 use Rattle.bdd_sets.proofs.SetLemmas.{one_function, same_set}
 use Rattle.region_bdd.proofs.ObjectLaws.{region_root}

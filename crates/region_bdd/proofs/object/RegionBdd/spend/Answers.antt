@@ -1,12 +1,14 @@
-use Rattle.std.proofs.Common.{List, map, Option, sym, ◌∙◌, ap, subst}
+use Rattle.std.proofs.Common.{List, map, Option, refl, sym, ◌∙◌, ap, subst}
 use Rattle.spec_model.specs.GameViews.{game_data}
 use Rattle.regions.specs.Kept.{Region as RegionItem, Spends}
+use Rattle.bdd_sets.proofs.ShiftLemmas.{fits_still}
 use Rattle.region_bdd.specs.declared.slots.Content.TheVariants.{Region}
 use Rattle.region_bdd.specs.declared.own.Refused.{Refused}
 use Rattle.region_bdd.specs.Needs.{IsTight}
 use Rattle.region_bdd.specs.Slots.{Shown, shown_once}
 use Rattle.region_bdd.specs.Crowding.{IsJammed}
 use Rattle.region_bdd.specs.Object.{IsObject, IsOpen, jam_in, kept_of}
+use Rattle.region_bdd.proofs.BoundLaws.{same_bound}
 use Rattle.region_bdd.proofs.SlotLaws.{once_marked}
 use Rattle.region_bdd.proofs.Refusals.{still_named}
 use Rattle.region_bdd.proofs.ObjectLaws.{region_root, spends_freed, spends_marked, some_refused, not_refused, early_fits, same_table}
@@ -43,14 +45,14 @@ invariant_of-self c =
       whole =
           record {
             made = c.args.self.now.whole.made;
-            levels = c.args.self.now.whole.levels;
+            fits = c.args.self.now.whole.fits;
             lists_are = c.args.self.now.whole.lists_are;
             early = c.args.self.now.whole.early;
             sound = spent.1;
             unspent = subst (λ (r : Option Refused). IsOpen r new) (sym some.1) tt;
             tight = c.args.self.now.whole.tight;
             named = c.args.self.now.whole.named;
-            jammed = subst (λ (shown : List Shown). IsJammed g o.diagrams.state.table.budget (jam_in g shown o.refused)) (sym (once_marked o.diagrams slots new c.args.a.slot c.spend.ensures)) c.args.self.now.whole.jammed;
+            jammed = subst (λ (shown : List Shown). IsJammed g o.diagrams (jam_in g shown o.refused)) (sym (once_marked o.diagrams slots new c.args.a.slot c.spend.ensures)) c.args.self.now.whole.jammed;
           };
       coded = c.args.self.now.coded;
       room = c.args.self.now.room;
@@ -74,8 +76,11 @@ returns-clause-spends c =
     let new = c.free_region-root.new.self.slots.items in
     let none = not_refused o.refused (sym c.is_some.ensures ∙ c.if-is_some.false) in
     let clear = subst (λ (r : Option Refused). IsOpen r slots) none c.args.self.now.whole.unspent in
-    let spent = spends_freed g o.own o.diagrams c.release.new.self slots new c.args.a c.free_region-root.result c.args.self.now.whole.sound c.free_region-root.ensures.root c.free_region-root.ensures.frees c.release.ensures.released c.release.ensures.table clear in
+    let spent = spends_freed g o.own o.diagrams c.release.new.self slots new c.args.a c.free_region-root.result c.args.self.now.whole.sound c.free_region-root.ensures.root c.free_region-root.ensures.frees c.release.ensures.released c.release.ensures.nodes clear in
     subst (λ (r : Option Refused). Spends (kept_of g o.diagrams slots r) (kept_of g c.release.new.self new r) (RegionItem c.args.a)) (sym none) spent.0
+
+pub returns-clause-keeps : goal.returns-clause-keeps
+returns-clause-keeps c = let d = c.args.self.now.diagrams in record { game = refl; bound = same_bound d c.release.new.self (same_table d c.release.new.self c.release.ensures.nodes) }
 
 pub invariant_of-self-2 : goal.invariant_of-self-2
 invariant_of-self-2 c =
@@ -85,19 +90,19 @@ invariant_of-self-2 c =
     let new = c.free_region-root.new.self.slots.items in
     let none = not_refused o.refused (sym c.is_some.ensures ∙ c.if-is_some.false) in
     let clear = subst (λ (r : Option Refused). IsOpen r slots) none c.args.self.now.whole.unspent in
-    let spent = spends_freed g o.own o.diagrams c.release.new.self slots new c.args.a c.free_region-root.result c.args.self.now.whole.sound c.free_region-root.ensures.root c.free_region-root.ensures.frees c.release.ensures.released c.release.ensures.table clear in
+    let spent = spends_freed g o.own o.diagrams c.release.new.self slots new c.args.a c.free_region-root.result c.args.self.now.whole.sound c.free_region-root.ensures.root c.free_region-root.ensures.frees c.release.ensures.released c.release.ensures.nodes clear in
     record {
       whole =
           record {
             made = c.args.self.now.whole.made;
-            levels = ap (λ t. t.levels) c.release.ensures.table ∙ c.args.self.now.whole.levels;
+            fits = fits_still g o.levels.to.items _ _ (ap (λ t. t.levels) c.release.ensures.nodes.table) c.release.ensures.nodes.order c.args.self.now.whole.fits;
             lists_are = c.args.self.now.whole.lists_are;
-            early = early_fits g o.own o.diagrams c.release.new.self slots o.whole.sound (same_table o.diagrams c.release.new.self c.release.ensures.table) o.levels o.whole.early;
+            early = early_fits g o.own o.diagrams c.release.new.self slots o.whole.sound (same_table o.diagrams c.release.new.self c.release.ensures.nodes) o.levels o.whole.early;
             sound = spent.1;
             unspent = subst (λ (r : Option Refused). IsOpen r new) (sym none) spent.2;
             tight = subst (λ (r : Option Refused). IsTight r c.release.new.self.state.table) (sym none) tt;
-            named = still_named g o.own o.levels o.diagrams c.release.new.self slots (subst (λ (r : Option Refused). IsObject g o.diagrams o.own o.levels slots r) none o.whole) (same_table o.diagrams c.release.new.self c.release.ensures.table);
-            jammed = subst (λ (r : Option Refused). IsJammed g c.release.new.self.state.table.budget (jam_in g (map (shown_once c.release.new.self) new) r)) (sym none) tt;
+            named = still_named g o.own o.levels o.diagrams c.release.new.self slots (subst (λ (r : Option Refused). IsObject g o.diagrams o.own o.levels slots r) none o.whole) (same_table o.diagrams c.release.new.self c.release.ensures.nodes);
+            jammed = subst (λ (r : Option Refused). IsJammed g c.release.new.self (jam_in g (map (shown_once c.release.new.self) new) r)) (sym none) tt;
           };
       coded = c.args.self.now.coded;
       room = c.args.self.now.room;

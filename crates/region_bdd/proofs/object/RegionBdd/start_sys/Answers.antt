@@ -2,7 +2,7 @@ use Rattle.std.proofs.Common.{inr, ◌≡◌, [], ◌∷◌, Some, None}
 use Rattle.spec_model.specs.GameViews.{game_data}
 use Rattle.spec_model.specs.Sets.{system_forces}
 use Rattle.regions.specs.Kept.{States}
-use Rattle.bdd_ops.specs.Contents.{function_at}
+use Rattle.bdd_bits.specs.Contents.{function_at}
 use Rattle.bdd_sets.proofs.ShiftLemmas.{rises_to_next}
 use Rattle.bdd_sets.proofs.SpentLemmas.{still_root}
 use Rattle.region_bdd.specs.declared.own.Refused.{Refused}
@@ -49,7 +49,7 @@ avoiding_set-made-requires-clause-rising c =
     let slots = o.slots.slots.items in
     let d = o.diagrams in
     let here = c.region.ensures in
-    rises_to_next g (function_at d c.region.result.now) (region_tells g o.own o.levels d slots o.refused o.whole c.args.t.now c.region.result.now here).states d.state.table.levels o.levels.to.items o.whole.levels o.whole.lists_are.to
+    rises_to_next g (function_at d c.region.result.now) (region_tells g o.own o.levels d slots o.refused o.whole c.args.t.now c.region.result.now here).states d.state.table.levels d.order o.levels.to.items o.whole.fits.levels o.whole.lists_are.to o.whole.fits.rising
 
 pub is_empty-asked-requires-clause-made : goal.is_empty-asked-requires-clause-made
 is_empty-asked-requires-clause-made c =

@@ -1,0 +1,6 @@
+pub mod Orders
+pub mod Contents
+pub mod Calls
+pub mod Paths
+pub mod Settling
+pub mod Keeping

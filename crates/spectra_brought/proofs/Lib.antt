@@ -1,3 +1,0 @@
-mod Named
-mod Putting
-pub mod Found
