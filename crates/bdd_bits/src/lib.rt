@@ -13,7 +13,6 @@ mod diagrams;
 mod order;
 mod paths;
 mod placing;
-mod reading;
 mod together;
 
 pub use bdd_ops::{Root, StoreFault};

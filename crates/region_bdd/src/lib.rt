@@ -4,10 +4,11 @@
 //! own formulas. Where a call of the store is refused at its second try, the call of the object answers `Budget` and the
 //! object tells from then on which call it was and all that was held.
 //!
-//! Contract: `RegionBdd::make` gives an object that holds nothing, and `RegionBdd` meets the trait `Regions` whole. Where a
+//! Contract: `RegionBdd::make` gives an object that holds nothing, and `RegionBdd` meets the trait `Regions` whole. An object
+//! shows its budget where each bit stands at the level of its number, and 0 under the near order. Where it shows one and a
 //! call answered `Budget`, all that was held fills the budget exactly, with named sets and with what one operation made so far
-//! (`a_jam_fills_the_budget`); so the budget is then below the need of the game. `make` answers it only where named sets of the
-//! game's own formulas fill it.
+//! (`a_jam_fills_the_budget`); so the budget is then below the need of the game. Asked for the declared order, `make` answers
+//! `Budget` only where named sets of the game's own formulas fill it; of the near order nothing is told.
 //! Path: game → sets as diagrams → **regions as diagrams** → layers.
 #![tactic(auto)]
 
