@@ -1,3 +1,4 @@
+pub mod Places
 pub mod PutIn
 pub mod SoundBounds
 pub mod Unmeant

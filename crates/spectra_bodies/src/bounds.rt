@@ -12,6 +12,7 @@ ghost use Rattle.spectra_bodies.specs.Faults.{bound_faults, type_faults, each_ty
 ghost use Rattle.spectra_bodies.specs.BasisViews.{basis_data};
 
 use crate::basis::Basis;
+use crate::places::is_behind;
 use crate::putting::report_put_in;
 use spectra_bounds::types::report_range;
 use spectra_judge::reporting::report_faults;
@@ -21,7 +22,8 @@ use spectra_resolved::text::TypeUse;
 use spectra_resolved::tree::Resolved;
 use std::alloc::AllocError;
 
-// Reports the faults of a bound with everything put in. One that has a number has none, so nothing is put in for it.
+// Reports the faults of a bound with everything put in. Nothing is put in for one that stands behind the first fault so far, and
+// for one that has a number, which has none.
 fn report_bound_put_in(
     findings: &mut Findings,
     basis: &Basis<'_, '_>,
@@ -29,6 +31,9 @@ fn report_bound_put_in(
 ) -> Result<(), AllocError>
     ensures { OnOk result (found_in findings.new ≡ with_faults (found_in findings.old) (put_in_faults (definitions_data basis.now.definitions.now) (known_data basis.now.known) Stand.Bound (resolved_data t.now))) }
 {
+    if is_behind(findings, t) {
+        return Ok(());
+    }
     match basis.constants.sound_number(Stand::Bound, t) {
         Some(_) => Ok(()),
         None => report_put_in(

@@ -10,6 +10,7 @@ pub mod basis;
 pub mod bounds;
 mod definitions;
 pub mod laws;
+mod places;
 pub mod putting;
 pub mod reporting;
 mod types;

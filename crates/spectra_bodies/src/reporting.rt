@@ -31,8 +31,9 @@ fn first_wrong<'s, 'a>(
     ensures { IfOk result (λ first. first ≡ first_of_faults (wrong_in (text_data text.now))) }
 {
     let mut findings = Findings::new();
-    report_types(alloc, &mut findings, notes, definitions, text)?;
+    // Definitions are judged as they are written alone, so they come first: a bound behind their faults has nothing put in.
     report_definitions(alloc, &mut findings, notes, text)?;
+    report_types(alloc, &mut findings, notes, definitions, text)?;
     Ok(findings.first())
 }
 
