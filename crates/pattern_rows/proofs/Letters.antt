@@ -10,6 +10,7 @@ use Rattle.spec_model.specs.Values.{Assignment, TruthValues, assignments_of}
 use Rattle.spec_model.specs.Games.{letter_of}
 use Rattle.game_states.proofs.ChoicePlaces.{get-grid, length-grid}
 use Rattle.pattern_rows.specs.Rows.{letters}
+use Rattle.pattern_rows.specs.Blocks.{is_truth_value, is_letter}
 
 abbrev with_both : Assignment → List Assignment
 with_both l = (value.Bool false ∷ l) ∷ (value.Bool true ∷ l) ∷ []
@@ -33,6 +34,19 @@ all_longer n (l ∷ ls) is =
 pub letters_long : (n : ℕ) → list_all (λ l. length l == n) (letters n) ≡ true
 letters_long zero = refl
 letters_long (suc n) = all_longer n (letters n) (letters_long n)
+
+all_letters_longer : (n : ℕ) (ls : List Assignment) → list_all (is_letter n) ls ≡ true → list_all (is_letter (suc n)) (flat_map with_both ls) ≡ true
+all_letters_longer n [] is = refl
+all_letters_longer n (l ∷ ls) is =
+    let parts = and_parts (is_letter n l) (list_all (is_letter n) ls) is in
+    let one = and_parts (length l == n) (list_all is_truth_value l) parts.0 in
+    let long : suc (length l) ≡ suc n = ap suc (eqb-true (length l) n one.0) in
+    let longer = and_from _ _ (eq-eqb (suc (length l)) (suc n) long) one.1 in
+    and_from _ _ longer (and_from _ _ longer (all_letters_longer n ls parts.1))
+
+pub letters_are : (n : ℕ) → list_all (is_letter n) (letters n) ≡ true
+letters_are zero = refl
+letters_are (suc n) = all_letters_longer n (letters n) (letters_are n)
 
 -- ---- the same as all assignments
 

@@ -1,3 +1,7 @@
+pub mod Marks
+pub mod Parts
+pub mod Bits
+pub mod Several
 pub mod Values
 pub mod Steps
 pub mod Stepwise

@@ -3,7 +3,7 @@ use Rattle.std.specs.Prelude.{ℕ, suc, Bool, ◌==◌, if◌then◌else◌, Lis
 use Rattle.std.specs.List.{position_or_len, list_all}
 use Rattle.spec_model.specs.Values.{Assignment}
 use Rattle.spec_model.specs.Syntax.{PatternData}
-use Rattle.pattern_rows.specs.Rows.{letters, may_follow}
+use Rattle.pattern_rows.specs.Rows.{may_follow}
 
 -- ---- which one passes a test
 

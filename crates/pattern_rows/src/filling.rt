@@ -11,10 +11,13 @@ ghost use Rattle.spec_model.specs.WellTyped.{is_determined};
 ghost use Rattle.pattern_rows.specs.Patterns.{IsPattern, IsGoal, is_wide as is_wide_lem};
 ghost use Rattle.pattern_rows.specs.Rows.{letters as letters_lem, goal_holds as goal_holds_lem, rows_of};
 ghost use Rattle.pattern_rows.specs.ToldRows.{next_after, are_told_after};
+ghost use Rattle.pattern_rows.specs.Blocks.{AreBlocksOf};
 
 use crate::choices::{PAST, all_letters, assignments, count_assignments};
 use crate::fault::RowFault;
-use crate::numbering::{first_own, goal_holds, next_own};
+use crate::found::add_block;
+use crate::numbering::{first_own, goal_holds};
+use crate::words::{block_of, block_words};
 use spec_model::expr::Expr;
 use spec_model::game::Hidden;
 use spec_model::spec::Pattern;
@@ -26,6 +29,7 @@ fn add_next(
     pattern: &Pattern,
     owns: &[Vec<Value>],
     letters: &[Vec<Value>],
+    blocks: &[Vec<u64>],
     own: &[Value],
     next: &mut Vec<u16>,
 ) -> Result<(), RowFault>
@@ -33,17 +37,15 @@ fn add_next(
     requires owns { list_all (is_assignment (pattern_data pattern.now).domains) (map (λ c. c.items) owns.now) ≡ true }
     requires few { length owns.now ≤ 64 }
     requires letters { list_all (λ l. length l == (pattern_data pattern.now).params) (map (λ c. c.items) letters.now) ≡ true }
+    requires blocks { AreBlocksOf (map (λ c. c.items) letters.now) (map (λ c. c.items) blocks.now) }
     requires own { is_assignment (pattern_data pattern.now).domains own.now ≡ true }
     ensures added { OnOk result (next.new.items ≡ next.old.items ++ next_after (pattern_data pattern.now) (map (λ c. c.items) owns.now) (map (λ c. c.items) letters.now) own.now) }
     ensures told { OnOk result (are_told_after (pattern_data pattern.now) (map (λ c. c.items) owns.now) (map (λ c. c.items) letters.now) own.now ≡ true) }
     ensures open { IsErrOf result RowFault.Open → are_told_after (pattern_data pattern.now) (map (λ c. c.items) owns.now) (map (λ c. c.items) letters.now) own.now ≡ false }
     ensures wide { IsErrOf result RowFault.Wide → ⊥ }
 {
-    for letter in letters {
-        match next_own(pattern, owns, letter, own) {
-            Some(k) => next.push(k)?,
-            None => return Err(RowFault::Open),
-        }
+    for c in 0..blocks.len() {
+        add_block(pattern, owns, block_of(letters, c), &blocks[c], own, next)?;
     }
     Ok(())
 }
@@ -54,11 +56,13 @@ fn next_values(
     pattern: &Pattern,
     owns: &[Vec<Value>],
     letters: &[Vec<Value>],
+    blocks: &[Vec<u64>],
 ) -> Result<Vec<u16>, RowFault>
     requires shaped { IsPattern (pattern_data pattern.now) }
     requires owns { list_all (is_assignment (pattern_data pattern.now).domains) (map (λ c. c.items) owns.now) ≡ true }
     requires few { length owns.now ≤ 64 }
     requires letters { list_all (λ l. length l == (pattern_data pattern.now).params) (map (λ c. c.items) letters.now) ≡ true }
+    requires blocks { AreBlocksOf (map (λ c. c.items) letters.now) (map (λ c. c.items) blocks.now) }
     ensures next { IfOk result (λ next. next.items ≡ flat_map (next_after (pattern_data pattern.now) (map (λ c. c.items) owns.now) (map (λ c. c.items) letters.now)) (map (λ c. c.items) owns.now)) }
     ensures told { OnOk result (list_all (are_told_after (pattern_data pattern.now) (map (λ c. c.items) owns.now) (map (λ c. c.items) letters.now)) (map (λ c. c.items) owns.now) ≡ true) }
     ensures open { IsErrOf result RowFault.Open → list_all (are_told_after (pattern_data pattern.now) (map (λ c. c.items) owns.now) (map (λ c. c.items) letters.now)) (map (λ c. c.items) owns.now) ≡ false }
@@ -66,7 +70,7 @@ fn next_values(
 {
     let mut next = Vec::new(alloc);
     for own in owns {
-        add_next(pattern, owns, letters, own, &mut next)?;
+        add_next(pattern, owns, letters, blocks, own, &mut next)?;
     }
     Ok(next)
 }
@@ -159,7 +163,8 @@ fn filled(
     match first_own(pattern, owns, &letters[0]) {
         None => Err(RowFault::Open),
         Some(first) => {
-            let next = next_values(alloc, pattern, owns, letters)?;
+            let blocks = block_words(alloc, letters, pattern.params)?;
+            let next = next_values(alloc, pattern, owns, letters, &blocks)?;
             let tables = tables(alloc, pattern, owns, letters)?;
             Ok(Hidden {
                 values: owns.len() as u16,

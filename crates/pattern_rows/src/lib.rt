@@ -9,12 +9,16 @@
 //! `tables_are_patterns` it has the pattern's own values and goals on every run. Path: specification → **tables** → game.
 #![tactic(auto)]
 
+mod block;
 mod choices;
 mod fault;
 mod filling;
+mod found;
 mod laws;
 mod numbering;
 mod sight;
+mod wide;
+mod words;
 
 pub use fault::RowFault;
 pub use filling::rows;

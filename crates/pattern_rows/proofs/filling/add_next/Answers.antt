@@ -1,27 +1,32 @@
-use Rattle.std.proofs.Common.{◌==◌, length, map, sym, ap, ◌∙◌}
-use Rattle.std.specs.List.{position_or_len}
+use Rattle.std.proofs.Common.{◌==◌, ◌*◌, length, map, ap, ◌∙◌}
+use Rattle.std.specs.List.{list_all, position_or_len}
 use Rattle.spec_model.specs.Views.{pattern_data}
+use Rattle.pattern_rows.specs.declared.fault.RowFault.TheVariants.{Open}
 use Rattle.pattern_rows.specs.Rows.{may_follow}
 use Rattle.pattern_rows.specs.ToldRows.{is_told}
-use Rattle.pattern_rows.proofs.Steps.{rest_passes, added_last, rest_tells, one_fails}
+use Rattle.pattern_rows.proofs.Handed.{handed_on}
+use Rattle.pattern_rows.proofs.Parts.{part_passes, told_block, open_block, added_block}
 use Rattle.pattern_rows.proofs.filling.add_next.Goals as goal
 
-pub returns-in-None-clause-open : goal.returns-in-None-clause-open
-returns-in-None-clause-open c = λ is.
-    one_fails (λ c. c.items) c.args.letters.now c.loop-letter.letter-index c.letter-item.result c.loop-letter-test.true c.letter-item.is
-    (λ letter. is_told (may_follow (pattern_data c.args.pattern.now) letter c.args.own.now) (map (λ c. c.items) c.args.owns.now)) _
-    (ap (λ letter. is_told (may_follow (pattern_data c.args.pattern.now) letter c.args.own.now) (map (λ c. c.items) c.args.owns.now)) (sym c.deref.ensures.value) ∙ c.in-None.ensures) c.loop-letter.invariant.told
+pub add_block-requires-clause-letters : goal.add_block-requires-clause-letters
+add_block-requires-clause-letters c =
+    ap (λ ls. list_all (λ l. length l == (pattern_data c.args.pattern.now).params) ls) c.block_of.ensures
+    ∙ part_passes (λ l. length l == (pattern_data c.args.pattern.now).params) 64 (64 * c.loop-c.c) (map (λ c. c.items) c.args.letters.now) c.requires.letters
 
-pub loop-letter-preserved : goal.loop-letter-preserved
-loop-letter-preserved c =
+pub returns-in_err-add_block-clause-open : goal.returns-in_err-add_block-clause-open
+returns-in_err-add_block-clause-open c = λ is.
+    open_block (λ letter. is_told (may_follow (pattern_data c.args.pattern.now) letter c.args.own.now) (map (λ c. c.items) c.args.owns.now)) c.loop-c.c (map (λ c. c.items) c.args.letters.now) (map (λ c. c.items) c.block_of.result.now) c.block_of.ensures _ c.loop-c.invariant.told
+    (c.in_err-add_block.ensures.open (handed_on c.from_residual.result c.in_err-add_block.field-0.0 Open c.from_residual.ensures.1 is))
+
+pub loop-c-preserved : goal.loop-c-preserved
+loop-c-preserved c =
+    let letters = map (λ c. c.items) c.args.letters.now in
+    let block = map (λ c. c.items) c.block_of.result.now in
     record {
-      long = (rest_passes (λ c. c.items) c.args.letters.now c.loop-letter.letter-index c.letter-item.result c.loop-letter-test.true c.letter-item.is (λ l. length l == (pattern_data c.args.pattern.now).params) c.loop-letter.invariant.long).1;
       added =
-          added_last (λ c. c.items) c.args.letters.now c.loop-letter.letter-index c.letter-item.result c.loop-letter-test.true c.letter-item.is
-          (λ letter. position_or_len (may_follow (pattern_data c.args.pattern.now) letter c.args.own.now) (map (λ c. c.items) c.args.owns.now)) c.loop-letter.next.items _ c.in-Some.k _ c.in_ok-push-in-Some.ensures.items
-          (c.in-Some.ensures.1 ∙ ap (λ letter. position_or_len (may_follow (pattern_data c.args.pattern.now) letter c.args.own.now) (map (λ c. c.items) c.args.owns.now)) c.deref.ensures.value) c.loop-letter.invariant.added;
+          added_block (λ letter. position_or_len (may_follow (pattern_data c.args.pattern.now) letter c.args.own.now) (map (λ c. c.items) c.args.owns.now)) c.loop-c.c letters block c.block_of.ensures c.loop-c.next.items c.add_block.new.next.items _
+          c.in_ok-add_block.ensures.added c.loop-c.invariant.added;
       told =
-          rest_tells (λ c. c.items) c.args.letters.now c.loop-letter.letter-index c.letter-item.result c.loop-letter-test.true c.letter-item.is
-          (λ letter. is_told (may_follow (pattern_data c.args.pattern.now) letter c.args.own.now) (map (λ c. c.items) c.args.owns.now)) _
-          (ap (λ letter. is_told (may_follow (pattern_data c.args.pattern.now) letter c.args.own.now) (map (λ c. c.items) c.args.owns.now)) (sym c.deref.ensures.value) ∙ c.in-Some.ensures.0) c.loop-letter.invariant.told;
+          told_block (λ letter. is_told (may_follow (pattern_data c.args.pattern.now) letter c.args.own.now) (map (λ c. c.items) c.args.owns.now)) c.loop-c.c letters block c.block_of.ensures _ c.loop-c.invariant.told
+          c.in_ok-add_block.ensures.told;
     }

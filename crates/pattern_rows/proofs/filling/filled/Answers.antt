@@ -4,8 +4,9 @@ use Rattle.std.proofs.lemmas.List.{length-map}
 use Rattle.spec_model.specs.Values.{is_assignment}
 use Rattle.spec_model.specs.Views.{pattern_data}
 use Rattle.pattern_rows.specs.declared.fault.RowFault.TheVariants.{Open}
+use Rattle.pattern_rows.specs.Blocks.{is_letter}
 use Rattle.pattern_rows.proofs.Handed.{handed_on}
-use Rattle.pattern_rows.proofs.Letters.{letters_there, first_is_none, letters_long}
+use Rattle.pattern_rows.proofs.Letters.{letters_there, first_is_none, letters_long, letters_are}
 use Rattle.pattern_rows.proofs.Sizes.{owns_fit, open_later, determined_by, rows_are}
 use Rattle.pattern_rows.proofs.filling.filled.Goals as goal
 
@@ -17,6 +18,9 @@ first_own-requires-clause-letter c = c.deref.ensures.value ∙ first_is_none (λ
 
 pub first_own-requires-clause-owns : goal.first_own-requires-clause-owns
 first_own-requires-clause-owns c = ap (λ xs. list_all (is_assignment (pattern_data c.args.pattern.now).domains) xs) c.requires.owns ∙ owns_fit (pattern_data c.args.pattern.now).domains
+
+pub block_words-requires : goal.block_words-requires
+block_words-requires c = ap (λ ls. list_all (is_letter (pattern_data c.args.pattern.now).params) ls) c.requires.letters ∙ letters_are (pattern_data c.args.pattern.now).params
 
 pub next_values-requires-clause-owns : goal.next_values-requires-clause-owns
 next_values-requires-clause-owns c = ap (λ xs. list_all (is_assignment (pattern_data c.args.pattern.now).domains) xs) c.requires.owns ∙ owns_fit (pattern_data c.args.pattern.now).domains
@@ -33,7 +37,7 @@ tables-requires-clause-letters c = ap (λ ls. list_all (λ l. length l == (patte
 pub returns-in_err-next-in-Some-clause-open : goal.returns-in_err-next-in-Some-clause-open
 returns-in_err-next-in-Some-clause-open c = λ is.
     open_later (pattern_data c.args.pattern.now) (map (λ c. c.items) c.args.owns.now) (map (λ c. c.items) c.args.letters.now) c.requires.owns c.requires.letters
-    (c.in_err-next-in-Some.ensures.open (handed_on c.from_residual.result c.in_err-next-in-Some.field-0.0 Open c.from_residual.ensures.1 is))
+    (c.in_err-next-in-Some.ensures.open (handed_on c.from_residual-in_err-next-in-Some.result c.in_err-next-in-Some.field-0.0 Open c.from_residual-in_err-next-in-Some.ensures.1 is))
 
 pub returns-in_ok-parameters-in-Some-clause-rows : goal.returns-in_ok-parameters-in-Some-clause-rows
 returns-in_ok-parameters-in-Some-clause-rows c =
