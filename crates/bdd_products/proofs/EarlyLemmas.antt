@@ -16,7 +16,7 @@ use Rattle.bdd_sets.proofs.SpentLemmas.{function_kept, functions_kept}
 use Rattle.bdd_sets.proofs.ListLemmas.{times_here}
 use Rattle.bdd_products.specs.declared.early.Early.{Early}
 use Rattle.bdd_products.specs.declared.product.Product.{Product}
-use Rattle.bdd_products.specs.Products.{IsProductOf, IsProduct, MakesProduct, levels_of, AreOfMembers}
+use Rattle.bdd_products.specs.Products.{IsProductOf, IsProduct, MakesProduct, levels_of, AreOfMembers, both_lists}
 use Rattle.bdd_products.specs.Early.{FitsEarly, AreLinesOf, AreRootsOfEarly}
 use Rattle.bdd_products.proofs.ProductLemmas.{and_assoc}
 
@@ -89,11 +89,11 @@ and_true true = refl
 and_true false = refl
 
 -- the products of a game's lines, made one after the other
-pub early_fits_made : (old mid new : Contents) (m : Members) (levels : NextLevels) (replies inputs : Product) (os us is none reply all : List ℕ) → os ≡ m.outputs.items → us ≡ m.update.items → reply ≡ levels.reply.items → is ≡ m.inputs.items → none ≡ [] → all ≡ levels.all.items → AreMembers old m →
-    MakesProduct old mid (Ok replies) (functions_at old os) (functions_at old us) reply →
-    MakesProduct mid new (Ok inputs) (functions_at mid is) (functions_at mid none) all →
-    FitsEarly (move_functions old m) levels new (Some (record { replies = replies; inputs = inputs }))
-early_fits_made old mid new m levels replies inputs os us is none reply all os_is us_is reply_is is_is none_is all_is are first second =
+pub early_fits_made : (old mid new : Contents) (m : Members) (levels : NextLevels) (replies inputs : Product) (grouped : Bool) (os us is none reply all : List ℕ) → os ≡ m.outputs.items → us ≡ m.update.items → reply ≡ levels.reply.items → is ≡ m.inputs.items → none ≡ [] → all ≡ levels.all.items → AreMembers old m →
+    MakesProduct old mid (Ok replies) (both_lists (functions_at old os) (functions_at old us)) reply →
+    MakesProduct mid new (Ok inputs) (both_lists (functions_at mid is) (functions_at mid none)) all →
+    FitsEarly (move_functions old m) levels new (Some (record { replies = replies; inputs = inputs; grouped = grouped }))
+early_fits_made old mid new m levels replies inputs grouped os us is none reply all os_is us_is reply_is is_is none_is all_is are first second =
     let legal : Function = joined (join_of true) (all_true (functions_at old m.outputs.items)) (all_true (functions_at old m.update.items)) in
     let first' : IsProduct legal levels.reply.items mid replies = (rw (os_is, us_is, reply_is) at first.is_product) in
     let second' : IsProduct (joined (join_of true) (all_true (functions_at mid m.inputs.items)) (all_true (functions_at mid []))) levels.all.items new inputs = (rw (is_is, none_is, all_is) at second.is_product) in
@@ -105,14 +105,14 @@ early_fits_made old mid new m levels replies inputs os us is none reply all os_i
       inputs = subst (λ (k : Function). IsProduct k levels.all.items new inputs) whole second';
     }
 
-pub early_lines_made : (old mid new : Contents) (m : Members) (replies inputs : Product) (os us is none reply all : List ℕ) → os ≡ m.outputs.items → us ≡ m.update.items → is ≡ m.inputs.items → none ≡ [] → AreMembers old m →
-    MakesProduct old mid (Ok replies) (functions_at old os) (functions_at old us) reply →
-    MakesProduct mid new (Ok inputs) (functions_at mid is) (functions_at mid none) all →
-    AreLinesOf (lists_at old m) new (Some (record { replies = replies; inputs = inputs }))
-early_lines_made old mid new m replies inputs os us is none reply all os_is us_is is_is none_is are first second =
+pub early_lines_made : (old mid new : Contents) (m : Members) (replies inputs : Product) (grouped : Bool) (os us is none reply all : List ℕ) → os ≡ m.outputs.items → us ≡ m.update.items → is ≡ m.inputs.items → none ≡ [] → AreMembers old m →
+    MakesProduct old mid (Ok replies) (both_lists (functions_at old os) (functions_at old us)) reply → AreOfMembers (functions_at old os) (functions_at old us) (functions_at mid replies.lines.items) →
+    MakesProduct mid new (Ok inputs) (both_lists (functions_at mid is) (functions_at mid none)) all → AreOfMembers (functions_at mid is) (functions_at mid none) (functions_at new inputs.lines.items) →
+    AreLinesOf (lists_at old m) new (Some (record { replies = replies; inputs = inputs; grouped = grouped }))
+early_lines_made old mid new m replies inputs grouped os us is none reply all os_is us_is is_is none_is are first of_first second of_second =
     let lines : AreRoots mid replies.lines.items = (λ i below. (let here = times_here replies.lines.items i below in let added = first.added (slice_index replies.lines.items i) in omega (arith, here, added))) in
-    let first' : AreOfMembers (functions_at old m.outputs.items) (functions_at old m.update.items) (functions_at mid replies.lines.items) = (rw (os_is, us_is) at first.members) in
-    let second' : AreOfMembers (functions_at mid m.inputs.items) [] (functions_at new inputs.lines.items) = (rw (is_is, none_is) at second.members) in (
+    let first' : AreOfMembers (functions_at old m.outputs.items) (functions_at old m.update.items) (functions_at mid replies.lines.items) = (rw (os_is, us_is) at of_first) in
+    let second' : AreOfMembers (functions_at mid m.inputs.items) [] (functions_at new inputs.lines.items) = (rw (is_is, none_is) at of_second) in (
       subst (λ (fs : List Function). AreOfMembers (functions_at old m.outputs.items) (functions_at old m.update.items) fs) (sym (functions_kept mid new second.keeps replies.lines.items lines)) first',
       subst (λ (fs : List Function). AreOfMembers fs [] (functions_at new inputs.lines.items)) (functions_kept old mid first.keeps m.inputs.items are.inputs) second',
     )

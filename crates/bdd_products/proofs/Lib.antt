@@ -5,3 +5,5 @@ pub mod SpreadLemmas
 pub mod KeepingLemmas
 pub mod EarlyLemmas
 pub mod MadeLemmas
+pub mod SortLemmas
+pub mod GroupLemmas

@@ -1,5 +1,5 @@
 -- The lines of a game's moves as products.
-use Rattle.std.specs.Prelude.{ℕ, ◌+◌, true, [], Option, Some, None}
+use Rattle.std.specs.Prelude.{ℕ, ◌+◌, Bool, true, false, [], Option, Some, None}
 use Rattle.bdd_ops.specs.Functions.{joined, join_of}
 use Rattle.bdd_bits.specs.Contents.{Contents}
 use Rattle.bdd_sets.specs.declared.moves.NextLevels.{NextLevels}
@@ -36,6 +36,11 @@ roots_of_products n e = times_in n e.replies.lines.items + times_in n e.inputs.l
 abbrev pub roots_of_early : ℕ → Option Early → ℕ
 roots_of_early n None = 0
 roots_of_early n (Some e) = roots_of_products n e
+
+-- whether there are products whose lines are grouped
+abbrev pub is_grouped : Option Early → Bool
+is_grouped None = false
+is_grouped (Some e) = e.grouped
 
 -- each line of the products is a member of its kind, or the first several together
 abbrev pub AreLinesOf : MoveLists → Contents → Option Early → Type 0

@@ -1,5 +1,5 @@
 -- Lines with the levels that are taken out when each is joined.
-use Rattle.std.specs.Prelude.{◌≡◌, ◌⊎◌, ℕ, ◌+◌, ◌<◌, true, ◌||◌, List, [], ◌∷◌, ◌++◌, map, length, Vec, Result, Err, IfOk, OnErr}
+use Rattle.std.specs.Prelude.{◌≡◌, ◌⊎◌, ℕ, ◌+◌, true, ◌||◌, List, [], ◌∷◌, ◌++◌, map, slice_index, Vec, Result, Err, IfOk, OnErr}
 use Rattle.std.specs.List.{AllByRecursion, Contains}
 use Rattle.std.specs.declared.alloc.Global.{Global}
 use Rattle.spec_model.specs.Diagrams.{Function}
@@ -65,21 +65,26 @@ IsProduct whole out c p = IsProductOf whole out (functions_at c p.lines.items) (
 abbrev pub AreOfMembers : (first second : List Function) → List Function → Type 0
 AreOfMembers first second fs = AllByRecursion (λ f. IsOfConjunction first f ⊎ Contains second f) fs
 
--- the result is a list of roots of lines of two lists of members, which are together all of these, or a refusal that leaves
--- what is kept; `Budget` comes only where the store holds exactly its budget of nodes
-pub record MakesLines (old new : Contents) (result : Result (Vec ℕ Global) Halt) (first second : List Function) : Type 0 where
-  pub some : IfOk result (λ roots. 0 < length roots.items)
-  pub conjunction : IfOk result (λ roots. all_true (functions_at new roots.items) ≡ joined (join_of true) (all_true first) (all_true second))
-  pub members : IfOk result (λ roots. AreOfMembers first second (functions_at new roots.items))
+-- both lists together
+abbrev pub both_lists : (first second : List Function) → Function
+both_lists first second = joined (join_of true) (all_true first) (all_true second)
+
+-- the members at these places, each place beside a number by which it was put in order
+abbrev pub members_in : List ℕ → List (ℕ × ℕ) → List ℕ
+members_in members places = map (λ p. slice_index members p.1) places
+
+-- the result is a list of roots, which are together the whole, or a refusal that leaves what is kept; `Budget` comes only
+-- where the store holds exactly its budget of nodes
+pub record MakesLines (old new : Contents) (result : Result (Vec ℕ Global) Halt) (whole : Function) : Type 0 where
+  pub conjunction : IfOk result (λ roots. all_true (functions_at new roots.items) ≡ whole)
   pub added : IfOk result (λ roots. (n : ℕ) → roots_at new.state n ≡ roots_at old.state n + times_in n roots.items)
   pub refused : OnErr result (SameRoots old.state new.state)
   pub keeps : KeepsRoots old new
   pub full : result ≡ Err halt.Budget → IsFull new.state
 
 -- the same of a product
-pub record MakesProduct (old new : Contents) (result : Result Product Halt) (first second : List Function) (out : List ℕ) : Type 0 where
-  pub is_product : IfOk result (λ p. IsProduct (joined (join_of true) (all_true first) (all_true second)) out new p)
-  pub members : IfOk result (λ p. AreOfMembers first second (functions_at new p.lines.items))
+pub record MakesProduct (old new : Contents) (result : Result Product Halt) (whole : Function) (out : List ℕ) : Type 0 where
+  pub is_product : IfOk result (λ p. IsProduct whole out new p)
   pub added : IfOk result (λ p. (n : ℕ) → roots_at new.state n ≡ roots_at old.state n + times_in n p.lines.items)
   pub refused : OnErr result (SameRoots old.state new.state)
   pub keeps : KeepsRoots old new

@@ -1,7 +1,8 @@
 //! What players force, the early way first. Where it finds the store full, all that it made is given back, what no kept
-//! root needs is freed, and the plain way is tried, whose refusal alone is answered.
+//! root needs is freed, and the plain way is tried, whose refusal alone is answered. Where lines are grouped, which is under
+//! no declared order, its own refusal is answered, and nothing is told of it.
 
-ghost use Rattle.std.specs.Prelude.{◌≡◌, ◌≤◌, ◌+◌, ℕ, true, Ok};
+ghost use Rattle.std.specs.Prelude.{◌≡◌, ◌≤◌, ◌+◌, ℕ, true, false, Ok, None};
 ghost use Rattle.spec_model.specs.Diagrams.{Function, ite, shifted};
 ghost use Rattle.bdd_store.specs.State.{IsRoot, roots_at};
 ghost use Rattle.bdd_ops.specs.Functions.{joined, join_of};
@@ -14,7 +15,7 @@ ghost use Rattle.bdd_sets.specs.declared.moves.NextLevels.{NextLevels};
 ghost use Rattle.bdd_sets.specs.Members.{MoveFunctions, AreMembers, move_functions, avoiding, lists_at};
 ghost use Rattle.bdd_sets.specs.NamedMoves.{IsOfAvoiding};
 ghost use Rattle.bdd_sets.specs.NamedGame.{IsOfStep, IsOfRest};
-ghost use Rattle.bdd_products.specs.Early.{IsEarly, FitsEarly, AreLinesOf, AreEarlyRoots, AreRootsOfEarly, roots_of_products, roots_of_early};
+ghost use Rattle.bdd_products.specs.Early.{IsEarly, FitsEarly, AreLinesOf, AreEarlyRoots, AreRootsOfEarly, roots_of_products, roots_of_early, is_grouped};
 
 use crate::product::{Product, taken_out};
 use bdd_bits::{Diagrams, Root};
@@ -32,19 +33,24 @@ pub struct Early {
     pub replies: Product,
     /// The legal inputs, out of which all next bits are taken.
     pub inputs: Product,
+    /// Whether the lines are grouped.
+    pub grouped: bool,
 }
 
 impl Early {
-    /// The products of a game's lines, or none where one is refused.
+    /// The products of a game's lines, or none where one is refused. Where `near` has the bits in the order of their levels,
+    /// the lines are grouped.
     pub fn make(
         diagrams: &mut Diagrams,
         alloc: Global,
         members: &Members,
         levels: &NextLevels,
+        near: &Option<Vec<u32>>,
     ) -> Option<Early>
         requires { AreMembers diagrams.old members.now }
         ensures fits { FitsEarly (move_functions diagrams.old members.now) levels.now diagrams.new result }
-        ensures lines { AreLinesOf (lists_at diagrams.old members.now) diagrams.new result }
+        ensures lines { near.now ≡ None → AreLinesOf (lists_at diagrams.old members.now) diagrams.new result }
+        ensures plain { near.now ≡ None → is_grouped result ≡ false }
         ensures added { (n : ℕ) → roots_at diagrams.new.state n ≡ roots_at diagrams.old.state n + roots_of_early n result }
         ensures keeps { KeepsRoots diagrams.old diagrams.new }
     {
@@ -54,12 +60,17 @@ impl Early {
             &members.outputs,
             &members.update,
             &levels.reply,
+            near,
         );
         let Ok(replies) = made else {
             return None;
         };
-        match Product::make(diagrams, alloc, &members.inputs, &[], &levels.all) {
-            Ok(inputs) => Some(Early { replies, inputs }),
+        match Product::make(diagrams, alloc, &members.inputs, &[], &levels.all, near) {
+            Ok(inputs) => Some(Early {
+                replies,
+                inputs,
+                grouped: near.is_some(),
+            }),
             Err(_) => {
                 replies.release(diagrams);
                 None
@@ -75,7 +86,11 @@ pub fn release_early(diagrams: &mut Diagrams, early: Option<Early>)
     ensures nodes { SameNodes diagrams.old diagrams.new }
 {
     if let Some(early) = early {
-        let Early { replies, inputs } = early;
+        let Early {
+            replies,
+            inputs,
+            grouped: _,
+        } = early;
         replies.release(diagrams);
         inputs.release(diagrams);
     }
@@ -95,7 +110,8 @@ fn avoided_early(diagrams: &mut Diagrams, target: &Root, early: &Early) -> Resul
     taken_out(diagrams, out, &early.inputs)
 }
 
-/// The same by products first, and the plain way where that finds the store full. The target is given back.
+/// The same by products first. Where that finds the store full, the plain way, unless the lines are grouped: whoever had
+/// them grouped begins anew without. The target is given back.
 fn avoided_first(
     diagrams: &mut Diagrams,
     target: Root,
@@ -108,7 +124,7 @@ fn avoided_first(
     requires fits { IsEarly (move_functions diagrams.old members.now) levels.now diagrams.old early.now }
     ensures made { (base : Contents) (f : Function) → Makes base diagrams.old (Ok target) f → AreMembers base members.now →
         Makes base diagrams.new result (avoiding (move_functions base members.now) levels.now.reply.items levels.now.all.items f) }
-    ensures cause { (base : Contents) (f : Function) → Makes base diagrams.old (Ok target) f → AreMembers base members.now →
+    ensures cause { early.now.grouped ≡ false → (base : Contents) (f : Function) → Makes base diagrams.old (Ok target) f → AreMembers base members.now →
         HasCause base diagrams.new result (IsOfAvoiding (lists_at base members.now) levels.now.reply.items f) }
 {
     match avoided_early(diagrams, &target, early) {
@@ -121,6 +137,10 @@ fn avoided_first(
             Err(Halt::Memory)
         }
         Err(Halt::Budget) => {
+            if early.grouped {
+                diagrams.release(target);
+                return Err(Halt::Budget);
+            }
             diagrams.reclaim();
             avoided_plainly(diagrams, target, members, levels)
         }
@@ -140,7 +160,7 @@ pub fn avoided(
     requires fits { FitsEarly (move_functions diagrams.old members.now) levels.now diagrams.old early.now }
     ensures made { (base : Contents) (f : Function) → Makes base diagrams.old (Ok target) f → AreMembers base members.now →
         Makes base diagrams.new result (avoiding (move_functions base members.now) levels.now.reply.items levels.now.all.items f) }
-    ensures cause { (base : Contents) (f : Function) → Makes base diagrams.old (Ok target) f → AreMembers base members.now →
+    ensures cause { is_grouped early.now ≡ false → (base : Contents) (f : Function) → Makes base diagrams.old (Ok target) f → AreMembers base members.now →
         HasCause base diagrams.new result (IsOfAvoiding (lists_at base members.now) levels.now.reply.items f) }
 {
     match early {
@@ -165,7 +185,7 @@ pub fn system_states(
     requires fits { FitsEarly (move_functions diagrams.old roots.now.later) levels.now diagrams.old early.now }
     requires rising { RisesOver diagrams.old.state.table.levels diagrams.old.order levels.now.to.items (function_at diagrams.old t.now) }
     ensures cause { let old = diagrams.old in
-        HasCause old diagrams.new result (IsOfStep (lists_at old roots.now.later) levels.now (shifted levels.now.to.items (function_at old t.now))) }
+        is_grouped early.now ≡ false → HasCause old diagrams.new result (IsOfStep (lists_at old roots.now.later) levels.now (shifted levels.now.to.items (function_at old t.now))) }
     ensures made { let old = diagrams.old in
         Makes old diagrams.new result (ite (avoiding (move_functions old roots.now.later) levels.now.reply.items levels.now.all.items (shifted levels.now.to.items (function_at old t.now))) (function_at old roots.now.nothing) (function_at old roots.now.proper)) }
 {
@@ -189,7 +209,7 @@ pub fn environment_states(
     requires fits { FitsEarly (move_functions diagrams.old roots.now.later) levels.now diagrams.old early.now }
     requires rising { RisesOver diagrams.old.state.table.levels diagrams.old.order levels.now.to.items (function_at diagrams.old t.now) }
     ensures cause { let old = diagrams.old in
-        HasCause old diagrams.new result (IsOfRest (lists_at old roots.now.later) levels.now (shifted levels.now.to.items (function_at old t.now))) }
+        is_grouped early.now ≡ false → HasCause old diagrams.new result (IsOfRest (lists_at old roots.now.later) levels.now (shifted levels.now.to.items (function_at old t.now))) }
     ensures made { let old = diagrams.old in
         Makes old diagrams.new result (joined (join_of true) (avoiding (move_functions old roots.now.later) levels.now.reply.items levels.now.all.items (negated (shifted levels.now.to.items (function_at old t.now)))) (function_at old roots.now.proper)) }
 {

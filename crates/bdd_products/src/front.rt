@@ -1,13 +1,13 @@
 //! The lines of a product: the first several members joined, as many as take few nodes, and each other one alone.
 
-ghost use Rattle.std.specs.Prelude.{◌≡◌, ◌≤◌, true, Ok, IfOk, IfErr, length, take, if◌then◌else◌};
+ghost use Rattle.std.specs.Prelude.{◌≡◌, ◌<◌, ◌≤◌, true, Ok, IfOk, IfErr, length, take, if◌then◌else◌};
 ghost use Rattle.spec_model.specs.Diagrams.{Function};
 ghost use Rattle.bdd_store.specs.State.{IsRoot};
 ghost use Rattle.bdd_ops.specs.Functions.{joined, join_of};
 ghost use Rattle.bdd_bits.specs.Contents.{Contents, function_at};
 ghost use Rattle.bit_compile.specs.Making.{Makes};
 ghost use Rattle.bdd_sets.specs.Members.{AreRoots, all_true, functions_at};
-ghost use Rattle.bdd_products.specs.Products.{MakesLines};
+ghost use Rattle.bdd_products.specs.Products.{MakesLines, AreOfMembers, both_lists};
 
 use bdd_bits::{Diagrams, Root};
 use bdd_sets::lists::push_made;
@@ -21,9 +21,9 @@ use std::alloc::Global;
 const FEW: u32 = 100;
 
 /// The conjunction of the first several members.
-struct Front {
-    lines: Root,
-    count: usize,
+pub struct Front {
+    pub lines: Root,
+    pub count: usize,
 }
 
 /// What is joined so far with one member more, where that takes few nodes, and else what is joined so far; and whether
@@ -55,7 +55,7 @@ fn longer(diagrams: &mut Diagrams, lines: Root, member: &Root) -> Result<(Root, 
 }
 
 /// The conjunction of the first members, of as many as take few nodes more.
-fn front_of(diagrams: &mut Diagrams, members: &[Root]) -> Result<Front, Halt>
+pub fn front_of(diagrams: &mut Diagrams, members: &[Root]) -> Result<Front, Halt>
     requires { AreRoots diagrams.old members.now }
     ensures some { IfOk result (λ front. front.count ≤ length members.now) }
     ensures made { IfOk result (λ front. Makes diagrams.old diagrams.new (Ok front.lines) (all_true (functions_at diagrams.old (take front.count members.now)))) }
@@ -83,8 +83,11 @@ pub fn lines_of(
 ) -> Result<Vec<Root>, Halt>
     requires first { AreRoots diagrams.old first.now }
     requires second { AreRoots diagrams.old second.now }
-    ensures { let old = diagrams.old in
-        MakesLines old diagrams.new result (functions_at old first.now) (functions_at old second.now) }
+    ensures lines { let old = diagrams.old in
+        MakesLines old diagrams.new result (both_lists (functions_at old first.now) (functions_at old second.now)) }
+    ensures some { IfOk result (λ roots. 0 < length roots.items) }
+    ensures members { let old = diagrams.old in
+        IfOk result (λ roots. AreOfMembers (functions_at old first.now) (functions_at old second.now) (functions_at diagrams.new roots.items)) }
 {
     let front = front_of(diagrams, first)?;
     let Front { lines, count } = front;

@@ -1,6 +1,6 @@
 //! Products of lines, and levels taken out of a target joined with them.
 
-ghost use Rattle.std.specs.Prelude.{◌≡◌, ◌≤◌, ◌+◌, ℕ, List, Ok};
+ghost use Rattle.std.specs.Prelude.{◌≡◌, ◌<◌, ◌≤◌, ◌+◌, ℕ, List, Ok, None, IfOk, length};
 ghost use Rattle.spec_model.specs.Diagrams.{Function, and_exists_over};
 ghost use Rattle.bdd_store.specs.State.{IsRoot, roots_at};
 ghost use Rattle.bdd_bits.specs.Contents.{Contents, function_at};
@@ -8,9 +8,10 @@ ghost use Rattle.bdd_bits.specs.Calls.{SameNodes};
 ghost use Rattle.bit_compile.specs.Making.{Makes};
 ghost use Rattle.bdd_sets.specs.Members.{AreRoots, functions_at};
 ghost use Rattle.bdd_sets.specs.Lists.{times_in};
-ghost use Rattle.bdd_products.specs.Products.{IsProduct, MakesProduct};
+ghost use Rattle.bdd_products.specs.Products.{IsProduct, MakesProduct, MakesLines, AreOfMembers, both_lists};
 
 use crate::front::lines_of;
+use crate::grouping::grouped;
 use crate::spreading::spread;
 use bdd_bits::{Diagrams, Root};
 use bdd_sets::lists::release_list;
@@ -25,22 +26,49 @@ pub struct Product {
     pub outs: Vec<Vec<u32>>,
 }
 
+/// The lines of a product of two lists of members: in groups where `near` has the bits in the order of their levels, and
+/// else in their order.
+fn lines_by(
+    diagrams: &mut Diagrams,
+    alloc: Global,
+    first: &[Root],
+    second: &[Root],
+    near: &Option<Vec<u32>>,
+) -> Result<Vec<Root>, Halt>
+    requires first { AreRoots diagrams.old first.now }
+    requires second { AreRoots diagrams.old second.now }
+    ensures lines { let old = diagrams.old in
+        MakesLines old diagrams.new result (both_lists (functions_at old first.now) (functions_at old second.now)) }
+    ensures some { IfOk result (λ roots. 0 < length roots.items) }
+    ensures members { let old = diagrams.old in
+        near.now ≡ None → IfOk result (λ roots. AreOfMembers (functions_at old first.now) (functions_at old second.now) (functions_at diagrams.new roots.items)) }
+{
+    match near {
+        None => lines_of(diagrams, alloc, first, second),
+        Some(bits) => grouped(diagrams, alloc, first, second, bits),
+    }
+}
+
 impl Product {
-    /// The product of two lists of members, in their order, out of which the levels `out` are taken. `Budget`: the store
-    /// is full. `Memory`: none was given.
+    /// The product of two lists of members, out of which the levels `out` are taken. Where `near` has the bits in the order of
+    /// their levels, the members are grouped, and nothing is told of each line. `Budget`: the store is full. `Memory`: none
+    /// was given.
     pub fn make(
         diagrams: &mut Diagrams,
         alloc: Global,
         first: &[Root],
         second: &[Root],
         out: &[u32],
+        near: &Option<Vec<u32>>,
     ) -> Result<Product, Halt>
         requires first { AreRoots diagrams.old first.now }
         requires second { AreRoots diagrams.old second.now }
-        ensures { let old = diagrams.old in
-            MakesProduct old diagrams.new result (functions_at old first.now) (functions_at old second.now) out.now }
+        ensures product { let old = diagrams.old in
+            MakesProduct old diagrams.new result (both_lists (functions_at old first.now) (functions_at old second.now)) out.now }
+        ensures members { let old = diagrams.old in
+            near.now ≡ None → IfOk result (λ p. AreOfMembers (functions_at old first.now) (functions_at old second.now) (functions_at diagrams.new p.lines.items)) }
     {
-        let lines = lines_of(diagrams, alloc, first, second)?;
+        let lines = lines_by(diagrams, alloc, first, second, near)?;
         match spread(diagrams, alloc, &lines, out) {
             Ok(outs) => Ok(Product { lines, outs }),
             Err(halt) => {

@@ -32,7 +32,7 @@ fn exists(diagrams: &mut Diagrams, a: &Root, levels: &[u32]) -> Result<Root, Hal
 }
 
 /// Whether a diagram reads none of these levels.
-fn ignores(diagrams: &mut Diagrams, line: &Root, levels: &[u32]) -> Result<bool, Halt>
+pub fn ignores(diagrams: &mut Diagrams, line: &Root, levels: &[u32]) -> Result<bool, Halt>
     requires { IsRoot diagrams.old.state line.now }
     ensures ignored { IfOk result (λ b. IsTrue b → IgnoresAll levels.now (function_at diagrams.old line.now)) }
     ensures leaves { LeavesRoots diagrams.old diagrams.new result }

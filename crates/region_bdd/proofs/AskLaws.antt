@@ -107,7 +107,7 @@ told g own lists c c' slots was refused object free fact why arguments are made 
     let none = none_refused g c slots was free in
     let object' : IsObject g c own lists slots None = subst (λ (o : Option Refused). IsObject g c own lists slots o) none object in
     subst (λ (o : Option Refused). Told g own lists c c' slots o refused result fact (call_of why.asked) arguments) (sym none)
-    (told_plain g own lists c c' slots object' fact why arguments are made asked (refusal_fills g own lists c c' slots object' asked.keeps asked.roots N made cause (call_of why.asked) arguments calls) result refused (subst (SettlesAnswer refused made result) is_given settles))
+    (told_plain g own lists c c' slots object' fact why arguments are made asked (refusal_fills g own lists c c' slots object' asked.keeps asked.roots N made (λ declared own_is. cause) (call_of why.asked) arguments calls) result refused (subst (SettlesAnswer refused made result) is_given settles))
 
 pub answers_by : (result : Result Bool Halt) (fact : Type 0) (x : Bool) (Left : Type 0) → IfOk result (λ said. IsTrue said ↔ fact) → IfOk result (λ said. Left) → ((said : Bool) → (IsTrue said ↔ fact) → said ≡ x) → IfOk result (λ said. (said ≡ x) × Left)
 answers_by (Ok said) fact x Left answer left by = (by said answer, left)

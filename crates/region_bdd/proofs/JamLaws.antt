@@ -234,7 +234,7 @@ module _ (g : GameData) (c : Contents) where
       | inr none ↦ inputs_named (function_at c n) (all_at _ (functions_at c e.inputs.lines.items) (function_at c n) are.1 (root_there c n e.inputs.lines.items (omega (arith, some, none))))
     ]
 
-    module _ (own : Own) (nothing : function_at c own.step.nothing ≡ (λ b. false)) (named : OwnIsNamed g to c own) where
+    module _ (own : Own) (nothing : function_at c own.step.nothing ≡ (λ b. false)) (named : OwnIsNamed g to c own) (declared : IsDeclared c) where
       pub own_named : (n : ℕ) → 0 < roots_of_own n own → IsOfGame g (function_at c n)
       own_named n some = elim (cases_lt 0 (one_at n own.step.nothing)) [
         | inl here ↦ subst (IsOfGame g) (sym nothing ∙ root_is c n own.step.nothing here) (nothing_named g)
@@ -248,7 +248,7 @@ module _ (g : GameData) (c : Contents) where
                 | inl here ↦ member_named First own.first named.first n here
                 | inr no_first ↦ elim (cases_lt 0 (roots_of_members n own.step.later)) [
                   | inl here ↦ member_named Later own.step.later named.later n here
-                  | inr no_later ↦ early_named own.early named.early n (omega (arith, some, no_nothing, no_proper, no_assume, no_goal, no_first, no_later))
+                  | inr no_later ↦ early_named own.early (named.early declared) n (omega (arith, some, no_nothing, no_proper, no_assume, no_goal, no_first, no_later))
                 ]
               ]
             ]
@@ -273,15 +273,16 @@ module _ (g : GameData) (c c' : Contents) where
       let inputs_are = list_same c c' e.inputs.lines.items (λ n some. same n (omega (arith, some))) in
       (subst (λ (fs : List Function). AreOfMembers m.outputs m.update fs) (sym replies_are) are.0, subst (λ (fs : List Function). AreOfMembers m.inputs [] fs) (sym inputs_are) are.1)
 
-  pub named_stays : (to : List ℕ) (own : Own) → ((n : ℕ) → 0 < roots_of_own n own → function_at c' n ≡ function_at c n) → OwnIsNamed g to c own → OwnIsNamed g to c' own
-  named_stays to own same named =
+  pub named_stays : (to : List ℕ) (own : Own) → c'.order ≡ c.order → ((n : ℕ) → 0 < roots_of_own n own → function_at c' n ≡ function_at c n) → OwnIsNamed g to c own → OwnIsNamed g to c' own
+  named_stays to own order same named =
       record {
         states = same own.step.proper (let one = one_itself own.step.proper in omega (arith, one)) ∙ named.states;
         assume = list_same c c' own.assume.items (λ n some. same n (omega (arith, some))) ∙ named.assume;
         goals = list_same c c' own.goals.items (λ n some. same n (omega (arith, some))) ∙ named.goals;
         first = lists_same own.first (λ n some. same n (omega (arith, some))) ∙ named.first;
         later = lists_same own.step.later (λ n some. same n (omega (arith, some))) ∙ named.later;
-        early = early_same (lines_of g to Later) own.early (λ n some. same n (omega (arith, some))) named.early;
+        early = λ declared. early_same (lines_of g to Later) own.early (λ n some. same n (omega (arith, some))) (named.early (subst IsDeclaredOrder order declared));
+        plain = λ declared. named.plain (subst IsDeclaredOrder order declared);
       }
 
 -- ---- what a jam lists is among the diagrams
@@ -352,7 +353,7 @@ slots_there (slot ∷ slots) n there = elim (Contains-append_cases (slot_roots s
     at (Spent content) there = within_there content n there
 
 module _ {V : Type 0} (g : GameData) (own : Own) (lists : NextLevels) (c c' : Contents) (slots : List Slot) (sound : IsSound g c' own slots) (unspent : NoneSpent slots) (levels_are : c'.state.table.levels ≡ level_count (state_domains g)) (lists_are : AreLevelsOf g lists) (named : ∥ OwnIsNamed g lists.to.items c' own ∥₁)
-    (same : SameRoots c.state c'.state) (keeps : KeepsRoots c c') (N : Function → Type 0) (result : Result V Halt) (cause : HasCause c c' result N) (is : result ≡ Err halt.Budget)
+    (same : SameRoots c.state c'.state) (keeps : KeepsRoots c c') (N : Function → Type 0) (result : Result V Halt) (cause : IsDeclared c' → OwnIsNamed g lists.to.items c' own → HasCause c c' result N) (is : result ≡ Err halt.Budget)
     (asked : Call) (arguments : List Meaning) (calls : OwnIsNamed g lists.to.items c' own → (f : Function) → N f → IsOfGame g f ⊎ IsOfCall g asked arguments f) where
   abbrev the_jam : Jam
   the_jam = record { call = asked; arguments = arguments; held = listed g c' slots }
@@ -360,7 +361,7 @@ module _ {V : Type 0} (g : GameData) (own : Own) (lists : NextLevels) (c c' : Co
   module _ (declared : IsDeclared c') (own_is : OwnIsNamed g lists.to.items c' own) (says : AllSay g c' slots) where
     root_held : (n : ℕ) → IsRoot c'.state n → IsHeldAt g the_jam (function_at c' n)
     root_held n root = elim (cases_lt 0 (roots_of_own n own)) [
-      | inl here ↦ inr (inl (own_named g c' lists.to.items lists_are.to own sound.own_fits.nothing own_is n here))
+      | inl here ↦ inr (inl (own_named g c' lists.to.items lists_are.to own sound.own_fits.nothing own_is declared n here))
       | inr none ↦ inl (slots_listed g c' slots says n (let counted = sound.counted n in omega (arith, root, counted, none)))
     ]
 
@@ -371,14 +372,14 @@ module _ {V : Type 0} (g : GameData) (own : Own) (lists : NextLevels) (c c' : Co
     is_held d (inr n) = elim (calls own_is (value d) (subst N (declared_function c d (subst IsDeclaredOrder keeps.order declared)) n)) [ inl here ↦ inr (inl here) | inr here ↦ inr (inr here) ]
 
     crowd : IsCrowdedBy c'.state.table (λ d. IsHeldAt g the_jam (value d))
-    crowd = crowded_wider c'.state.table (IsHeldSince c N) (λ d. IsHeldAt g the_jam (value d)) is_held (cause.crowded is)
+    crowd = crowded_wider c'.state.table (IsHeldSince c N) (λ d. IsHeldAt g the_jam (value d)) is_held ((cause declared own_is).crowded is)
 
     slot_root : (n : ℕ) → Contains (all_roots slots) n → IsLive c'.state.table n × IsHeldAt g the_jam (value (diagram_at c'.state.table n))
     slot_root n there =
         let counted = sound.counted n in
         let some = slots_there slots n there in
         let root : IsRoot c'.state n = omega (arith, counted, some) in
-        (cause.rooted is n (subst (λ (k : ℕ). 0 < k) (same n) root), subst (IsHeldAt g the_jam) (declared_function c' (diagram_of c'.state n) declared) (root_held n root))
+        ((cause declared own_is).rooted is n (subst (λ (k : ℕ). 0 < k) (same n) root), subst (IsHeldAt g the_jam) (declared_function c' (diagram_of c'.state n) declared) (root_held n root))
 
     fills : FillsBudget g c'.state.table.budget the_jam
     fills =

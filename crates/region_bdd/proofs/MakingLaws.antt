@@ -51,7 +51,7 @@ use Rattle.bdd_sets.specs.StateBits.{Tells}
 use Rattle.bdd_sets.specs.declared.moves.NextLevels.{NextLevels}
 use Rattle.regions.specs.declared.types.When.TheVariants.{First, Later}
 use Rattle.bdd_products.specs.declared.early.Early.{Early}
-use Rattle.bdd_products.specs.Early.{FitsEarly, AreLinesOf, roots_of_early}
+use Rattle.bdd_products.specs.Early.{FitsEarly, AreLinesOf, roots_of_early, is_grouped}
 use Rattle.bdd_products.proofs.EarlyLemmas.{members_kept}
 use Rattle.bdd_sets.proofs.ProperLemmas.{proper_tells}
 use Rattle.bdd_sets.proofs.ListLemmas.{one_itself, times_here}
@@ -203,7 +203,7 @@ early_part N mid new e added keeps = record { fit = tt; added = added; refused =
 
 pub own_made : (g : GameData) (to : List ℕ) (ds : List DomainData) (N : Function → Type 0) (old mid made new : Contents) (nothing all : ℕ) (p : (Vec ℕ Global × Vec ℕ Global) × (Members × Members)) (early : Option Early) → ds ≡ state_domains g →
     MakesPart times_in_sets (FitSets ds) N old mid (Ok (all, nothing)) → MakesPart times_in_formulas (FitFormulas g to) N mid made (Ok p) →
-    ((n : ℕ) → roots_at new.state n ≡ roots_at made.state n + roots_of_early n early) → KeepsRoots made new → AreLinesOf (lists_at made p.1.1) new early →
+    ((n : ℕ) → roots_at new.state n ≡ roots_at made.state n + roots_of_early n early) → KeepsRoots made new → (IsDeclared new → AreLinesOf (lists_at made p.1.1) new early × (is_grouped early ≡ false)) →
     MakesPart roots_of_own (FitOwn g to) N old new (Ok (record { step = record { nothing = nothing; proper = all; later = p.1.1 }; assume = p.0.0; goals = p.0.1; first = p.1.0; early = early }))
 own_made g to ds N old mid made new nothing all p early same first second added keeps lines =
     let stays = both_stay one_at one_at (FitProper ds) FitNothing (root_stays (proper ds Now)) (root_stays (λ b. false)) in
@@ -228,7 +228,8 @@ own_made g to ds N old mid made new nothing all p early same first second added 
           goals = fit.1.0.1.1;
           first = fit.1.1.0.1;
           later = fit.1.1.1.1;
-          early = subst (λ (m : MoveLists). AreLinesOf m new early) second.fit.1.1.1 lines;
+          early = λ declared. subst (λ (m : MoveLists). AreLinesOf m new early) second.fit.1.1.1 (lines declared).0;
+          plain = λ declared. (lines declared).1;
         },
       );
       added = λ n. (let all_of = both.added n in omega (arith, all_of));

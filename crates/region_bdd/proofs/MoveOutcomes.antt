@@ -139,9 +139,9 @@ module _ (g : GameData) (own : Own) (when : When) (lists : NextLevels) (c c' : C
   pub outputs_answered : (f : Function) → Tells g Next f t → (made : Result ℕ Halt) (result : Result BddMove Halt) → Makes c c' made f → (N : Function → Type 0) → HasCause c c' made N → (OwnIsNamed g lists.to.items c' own → (h : Function) → N h → IsOfGame g h ⊎ IsOfCall g (call_of why.asked) arguments h) → (given : Refused) → given ≡ why → SettlesOutputs mid new refused made result when given → MoveOutcome g own lists c c' slots new was refused result (OutputMoves when t) (call_of why.asked) arguments
   outputs_answered f tells made result makes N cause calls given is_given settles =
       subst (λ (o : Option Refused). MoveOutcome g own lists c c' slots new o refused result (OutputMoves when t) (call_of why.asked) arguments) (sym none)
-      (outputs_outcome g own when lists c c' slots new refused object' t why arguments arguments_are f tells made result makes (λ is. refusal_fills g own lists c c' slots object' makes.keeps (subst (λ (r : Result ℕ Halt). OnErr r (SameRoots c.state c'.state)) is makes.refused) N made cause (call_of why.asked) arguments calls is) (subst (λ (ss : List Slot). SettlesOutputs ss new refused made result when why) room (subst (SettlesOutputs mid new refused made result when) is_given settles)))
+      (outputs_outcome g own when lists c c' slots new refused object' t why arguments arguments_are f tells made result makes (λ is. refusal_fills g own lists c c' slots object' makes.keeps (subst (λ (r : Result ℕ Halt). OnErr r (SameRoots c.state c'.state)) is makes.refused) N made (λ declared own_is. cause) (call_of why.asked) arguments calls is) (subst (λ (ss : List Slot). SettlesOutputs ss new refused made result when why) room (subst (SettlesOutputs mid new refused made result when) is_given settles)))
 
   pub inputs_answered : (f h : Function) → Tells g Now f t → TellsMoves g when h (λ b s. not (some_leads g (λ s. not (t s)) b s.position.input)) → ∥ LeadsInto g when t h ∥₁ → (made : Result (ℕ × ℕ) Halt) (result : Result BddMove Halt) → MakesTwo c c' made f h → (N : Function → Type 0) → HasCause c c' made N → (OwnIsNamed g lists.to.items c' own → (h : Function) → N h → IsOfGame g h ⊎ IsOfCall g (call_of why.asked) arguments h) → (given : Refused) → given ≡ why → SettlesInputs mid new refused made result when given → MoveOutcome g own lists c c' slots new was refused result (InputMoves when t) (call_of why.asked) arguments
   inputs_answered f h tells leads into made result makes N cause calls given is_given settles =
       subst (λ (o : Option Refused). MoveOutcome g own lists c c' slots new o refused result (InputMoves when t) (call_of why.asked) arguments) (sym none)
-      (inputs_outcome g own when lists c c' slots new refused object' t why arguments arguments_are f h tells leads into made result makes (λ is. refusal_fills g own lists c c' slots object' makes.keeps (subst (λ (r : Result (ℕ × ℕ) Halt). OnErr r (SameRoots c.state c'.state)) is makes.refused) N made cause (call_of why.asked) arguments calls is) (subst (λ (ss : List Slot). SettlesInputs ss new refused made result when why) room (subst (SettlesInputs mid new refused made result when) is_given settles)))
+      (inputs_outcome g own when lists c c' slots new refused object' t why arguments arguments_are f h tells leads into made result makes (λ is. refusal_fills g own lists c c' slots object' makes.keeps (subst (λ (r : Result (ℕ × ℕ) Halt). OnErr r (SameRoots c.state c'.state)) is makes.refused) N made (λ declared own_is. cause) (call_of why.asked) arguments calls is) (subst (λ (ss : List Slot). SettlesInputs ss new refused made result when why) room (subst (SettlesInputs mid new refused made result when) is_given settles)))

@@ -10,7 +10,7 @@ use Rattle.game_values.specs.declared.seen.At.TheVariants.{Now}
 use Rattle.regions.specs.Kept.{Region as RegionItem, Meaning, States, Call, MakesRegion, Halts, IsSameGame}
 use Rattle.regions.specs.declared.types.Halt.{Halt}
 use Rattle.regions.specs.declared.types.Halt.TheVariants as halt
-use Rattle.bdd_bits.specs.Contents.{Contents, function_at}
+use Rattle.bdd_bits.specs.Contents.{Contents, function_at, IsDeclared}
 use Rattle.bdd_store.specs.State.{SameRoots}
 use Rattle.bit_compile.specs.Making.{Makes, halted}
 use Rattle.bit_compile.specs.Crowding.{HasCause}
@@ -116,14 +116,21 @@ module _ (g : GameData) (own : Own) (lists : NextLevels) (c : Contents) (slots :
       subst (λ (o : Option Refused). Answered g own lists c c' slots new o refused result t asked arguments) (sym free)
       (record { made = outcome.made; halted = outcome.halted; same = outcome.same; object = outcome.object })
 
-  pub answered : (c' : Contents) (mid new : List Slot) (was refused : Option Refused) (object : IsObject g c own lists slots was) → (kept_of g c slots was).jam ≡ None → mid ≡ slots → (f : Function) (t : StateSet) → Tells g Now f t → (why : Refused) (arguments : List Meaning) →
-      argument_in g (map (shown_of c) slots) why.first ++ argument_in g (map (shown_of c) slots) why.second ≡ arguments → (made : Result ℕ Halt) (result : Result BddRegion Halt) → Makes c c' made f → (N : Function → Type 0) → HasCause c c' made N → (OwnIsNamed g lists.to.items c' own → (h : Function) → N h → IsOfGame g h ⊎ IsOfCall g (call_of why.asked) arguments h) → (given : Refused) → given ≡ why → Settles mid new refused made result given →
+  -- where a cause is told under the declared order, of what is kept there
+  pub answered_where : (c' : Contents) (mid new : List Slot) (was refused : Option Refused) (object : IsObject g c own lists slots was) → (kept_of g c slots was).jam ≡ None → mid ≡ slots → (f : Function) (t : StateSet) → Tells g Now f t → (why : Refused) (arguments : List Meaning) →
+      argument_in g (map (shown_of c) slots) why.first ++ argument_in g (map (shown_of c) slots) why.second ≡ arguments → (made : Result ℕ Halt) (result : Result BddRegion Halt) → Makes c c' made f → (N : Function → Type 0) → (IsDeclared c' → OwnIsNamed g lists.to.items c' own → HasCause c c' made N) → (OwnIsNamed g lists.to.items c' own → (h : Function) → N h → IsOfGame g h ⊎ IsOfCall g (call_of why.asked) arguments h) → (given : Refused) → given ≡ why → Settles mid new refused made result given →
       Answered g own lists c c' slots new was refused result t (call_of why.asked) arguments
-  answered c' mid new was refused object free room f t tells why arguments are made result makes N cause calls given is_given settles =
+  answered_where c' mid new was refused object free room f t tells why arguments are made result makes N cause calls given is_given settles =
       let none = none_refused g c slots was free in
       let object' : IsObject g c own lists slots None = subst (λ (o : Option Refused). IsObject g c own lists slots o) none object in
       let settles' : Settles slots new refused made result why = subst (λ (ss : List Slot). Settles ss new refused made result why) room (subst (Settles mid new refused made result) is_given settles) in
       answered_free c' new refused result t (call_of why.asked) arguments was none (outcome g own lists c c' slots new refused object' f t tells why arguments are made result makes (λ is. refusal_fills g own lists c c' slots object' makes.keeps (subst (λ (r : Result ℕ Halt). OnErr r (SameRoots c.state c'.state)) is makes.refused) N made cause (call_of why.asked) arguments calls is) settles')
+
+  pub answered : (c' : Contents) (mid new : List Slot) (was refused : Option Refused) (object : IsObject g c own lists slots was) → (kept_of g c slots was).jam ≡ None → mid ≡ slots → (f : Function) (t : StateSet) → Tells g Now f t → (why : Refused) (arguments : List Meaning) →
+      argument_in g (map (shown_of c) slots) why.first ++ argument_in g (map (shown_of c) slots) why.second ≡ arguments → (made : Result ℕ Halt) (result : Result BddRegion Halt) → Makes c c' made f → (N : Function → Type 0) → HasCause c c' made N → (OwnIsNamed g lists.to.items c' own → (h : Function) → N h → IsOfGame g h ⊎ IsOfCall g (call_of why.asked) arguments h) → (given : Refused) → given ≡ why → Settles mid new refused made result given →
+      Answered g own lists c c' slots new was refused result t (call_of why.asked) arguments
+  answered c' mid new was refused object free room f t tells why arguments are made result makes N cause calls given is_given settles =
+      answered_where c' mid new was refused object free room f t tells why arguments are made result makes N (λ declared own_is. cause) calls given is_given settles
 
   -- where there was no room for it
   pub no_room : (mid : List Slot) (was : Option Refused) (object : IsObject g c own lists slots was) → (kept_of g c slots was).jam ≡ None → mid ≡ slots → (t : StateSet) (asked : Call) (arguments : List Meaning) → Answered g own lists c c slots mid was was (Err halt.Memory) t asked arguments

@@ -11,7 +11,7 @@ use Rattle.regions.specs.declared.types.Halt.{Halt}
 use Rattle.regions.specs.declared.types.Halt.TheVariants as halt
 use Rattle.regions.specs.Kept.{Meaning, Call, Jam}
 use Rattle.bdd_store.specs.State.{SameRoots}
-use Rattle.bdd_bits.specs.Contents.{Contents, function_at}
+use Rattle.bdd_bits.specs.Contents.{Contents, function_at, IsDeclared}
 use Rattle.bdd_ops.specs.Calls.{negated}
 use Rattle.bdd_bits.specs.Calls.{KeepsRoots}
 use Rattle.bdd_bits.proofs.CallLemmas.{keeps_function}
@@ -44,7 +44,7 @@ module _ (g : GameData) (own : Own) (lists : NextLevels) (c c' : Contents) (slot
 
   -- the object's own diagrams stay named
   pub still_named : ∥ OwnIsNamed g lists.to.items c' own ∥₁
-  still_named = ∥∥₁_map object.named (named_stays g c c' lists.to.items own own_same)
+  still_named = ∥∥₁_map object.named (named_stays g c c' lists.to.items own keeps.order own_same)
 
   -- the lines that it keeps were those of the game before the call too
   pub members_are : (when : When) → OwnIsNamed g lists.to.items c' own → lists_at c (members_at own when) ≡ lines_of g lists.to.items when
@@ -61,7 +61,7 @@ module _ (g : GameData) (own : Own) (lists : NextLevels) (c c' : Contents) (slot
 
   module _ (same : SameRoots c.state c'.state) where
     -- a refusal fills the budget, where what its cause names is of the game or of the call
-    pub refusal_fills : {V : Type 0} (N : Function → Type 0) (result : Result V Halt) → HasCause c c' result N → (asked : Call) (arguments : List Meaning) → (OwnIsNamed g lists.to.items c' own → (f : Function) → N f → IsOfGame g f ⊎ IsOfCall g asked arguments f) →
+    pub refusal_fills : {V : Type 0} (N : Function → Type 0) (result : Result V Halt) → (IsDeclared c' → OwnIsNamed g lists.to.items c' own → HasCause c c' result N) → (asked : Call) (arguments : List Meaning) → (OwnIsNamed g lists.to.items c' own → (f : Function) → N f → IsOfGame g f ⊎ IsOfCall g asked arguments f) →
         result ≡ Err halt.Budget → FillsIn g c' (jam_of g c' slots asked arguments)
     refusal_fills N result cause asked arguments calls is =
         jam_made g own lists c c' slots (sound_same g own c c' slots object.sound keeps same) object.unspent (keeps.levels ∙ object.fits.levels) object.lists_are still_named same keeps N result cause is asked arguments calls

@@ -9,7 +9,7 @@ use Rattle.regions.specs.Kept.{Kept, Meaning, Call, Jam}
 use Rattle.regions.specs.Kept as kept
 use Rattle.regions.specs.declared.types.When.TheVariants.{First, Later}
 use Rattle.bdd_store.specs.State.{roots_at}
-use Rattle.bdd_bits.specs.Contents.{Contents, function_at}
+use Rattle.bdd_bits.specs.Contents.{Contents, function_at, IsDeclared}
 use Rattle.bit_compile.specs.Domains.{state_domains}
 use Rattle.bit_compile.specs.Compiled.{compiled, proper}
 use Rattle.bdd_sets.specs.NextOrders.{FitsNext}
@@ -24,7 +24,7 @@ use Rattle.bdd_sets.specs.MoveFunctions.{MoveFunctions}
 use Rattle.bdd_sets.specs.Lists.{one_at, times_in}
 use Rattle.bdd_sets.specs.Goals.{TellGoals}
 use Rattle.bdd_sets.specs.NamedGame.{lines_of}
-use Rattle.bdd_products.specs.Early.{FitsEarly, AreLinesOf, roots_of_early}
+use Rattle.bdd_products.specs.Early.{FitsEarly, AreLinesOf, roots_of_early, is_grouped}
 use Rattle.region_bdd.specs.declared.slots.Slot.{Slot}
 use Rattle.region_bdd.specs.declared.slots.Slot.TheVariants.{Free, Taken, Spent}
 use Rattle.region_bdd.specs.declared.slots.BddRegion.{BddRegion}
@@ -78,14 +78,16 @@ roots_of_own n own = one_at n own.step.nothing + (one_at n own.step.proper + (ti
 abbrev pub FitsOwnEarly : NextLevels → Contents → Own → Type 0
 FitsOwnEarly lists c own = FitsEarly (move_functions c own.step.later) lists c own.early
 
--- What is kept are the diagrams of the game's own formulas: all states, its goals, and its lines with their products.
+-- What is kept are the diagrams of the game's own formulas: all states, its goals, and its lines; so are the products' lines
+-- under the declared order, and under another one they are grouped.
 pub record OwnIsNamed (g : GameData) (to : List ℕ) (c : Contents) (own : Own) : Type 0 where
   pub states : function_at c own.step.proper ≡ proper (state_domains g) Now
   pub assume : functions_at c own.assume.items ≡ map (λ goal. compiled g goal.holds) g.assume
   pub goals : functions_at c own.goals.items ≡ map (λ goal. compiled g goal.holds) g.goals
   pub first : lists_at c own.first ≡ lines_of g to First
   pub later : lists_at c own.step.later ≡ lines_of g to Later
-  pub early : AreLinesOf (lines_of g to Later) c own.early
+  pub early : IsDeclared c → AreLinesOf (lines_of g to Later) c own.early
+  pub plain : IsDeclared c → is_grouped own.early ≡ false
 
 -- ---- what slots hold
 

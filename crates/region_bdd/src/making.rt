@@ -4,6 +4,7 @@ ghost use Rattle.std.specs.Prelude.{◌≡◌, ◌<◌, ◌≤◌, false, [], No
 ghost use Rattle.spec_model.specs.GameViews.{game_data};
 ghost use Rattle.spec_model.specs.WellMade.{WellMade};
 ghost use Rattle.bit_compile.specs.Domains.{state_domains, level_count};
+ghost use Rattle.bdd_bits.specs.Contents.{IsDeclared};
 ghost use Rattle.bdd_sets.specs.Forcing.{AreLevelsOf};
 ghost use Rattle.bdd_sets.specs.NextOrders.{FitsNext};
 ghost use Rattle.region_bdd.specs.Slots.{kept_in};
@@ -20,7 +21,7 @@ ghost use Rattle.region_bdd.specs.Seen.{seen};
 
 use crate::ending::{release_members, release_own};
 use crate::object::RegionBdd;
-use crate::ordering::order_of;
+use crate::ordering::{bits_near, order_of};
 use crate::own::Own;
 use crate::search::Search;
 use crate::slots::Slots;
@@ -126,7 +127,8 @@ fn formulas(
     }
 }
 
-/// The diagrams that an object keeps for itself, with the products of later lines where there is room. `Budget`: at the
+/// The diagrams that an object keeps for itself, with the products of later lines where there is room. Where `near` has the
+/// bits in the order of their levels, which isn't the declared one, these lines are grouped. `Budget`: at the
 /// second try of an operation, after the store was reclaimed, it held its budget of nodes. `Memory`: none was given.
 /// Neither changes what is kept.
 fn own(
@@ -135,11 +137,13 @@ fn own(
     codes: &Codes,
     game: &Game,
     levels: &NextLevels,
+    near: &Option<Vec<u32>>,
 ) -> Result<Own, Halt>
     requires made { WellMade (game_data game.now) }
     requires codes { codes.now ≡ state_domains (game_data game.now) }
     requires fits { FitsNext (game_data game.now) levels.now.to.items diagrams.old }
     requires lists { AreLevelsOf (game_data game.now) levels.now }
+    requires named { IsDeclared diagrams.old → near.now ≡ None }
     ensures part { let g = game_data game.now in
         MakesPart roots_of_own (FitOwn g levels.now.to.items) (IsOfGame g) diagrams.old diagrams.new result }
     ensures early { IfOk result (λ own. FitsOwnEarly levels.now diagrams.new own) }
@@ -148,7 +152,7 @@ fn own(
     match formulas(diagrams, codes, game, levels) {
         Ok(parts) => {
             let ((assume, guaranteed), (first, later)) = parts;
-            let early = Early::make(diagrams, alloc, &later, levels);
+            let early = Early::make(diagrams, alloc, &later, levels, near);
             Ok(Own {
                 step: StepRoots {
                     nothing,
@@ -226,24 +230,23 @@ impl RegionBdd {
         let Ok(order) = order_of(alloc, &game, &codes, &levels.to, near) else {
             return Err(Halt::Memory);
         };
+        let Ok(bits) = bits_near(alloc, &order) else {
+            return Err(Halt::Memory);
+        };
         let Ok(mut diagrams) = Diagrams::make(alloc, order, budget) else {
             return Err(Halt::Memory);
         };
-        let own = own(&mut diagrams, alloc, &codes, &game, &levels)?;
+        let own = own(&mut diagrams, alloc, &codes, &game, &levels, &bits)?;
         let Ok(search) = room(alloc, codes.levels(), &own) else {
             release_own(&mut diagrams, own);
             return Err(Halt::Memory);
-        };
-        let slots = Slots {
-            slots: Vec::new(alloc),
-            free: 0,
         };
         Ok(RegionBdd {
             game,
             diagrams,
             own,
             levels,
-            slots,
+            slots: Slots::none(alloc),
             refused: None,
             codes,
             search,

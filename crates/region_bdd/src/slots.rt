@@ -1,11 +1,11 @@
 //! What is held, each in a slot of its own; a slot that is freed is used again.
 
-ghost use Rattle.std.specs.Prelude.{◌≡◌, ◌<◌, OnOk, vec_len, vec_capacity};
+ghost use Rattle.std.specs.Prelude.{◌≡◌, ◌<◌, [], OnOk, vec_len, vec_capacity};
 ghost use Rattle.region_bdd.specs.Slots.{TakesSlot, FreesSlot, MarksSpent, HasContent, HasRegionRoot};
 
 use bdd_bits::Root;
 use regions::When;
-use std::alloc::AllocError;
+use std::alloc::{AllocError, Global};
 use std::mem;
 
 /// A region, by the slot of its diagram. It must be spent.
@@ -44,6 +44,16 @@ pub struct Slots {
 }
 
 impl Slots {
+    /// No slot.
+    pub fn none(alloc: Global) -> Slots
+        ensures { result.slots.items ≡ [] }
+    {
+        Slots {
+            slots: Vec::new(alloc),
+            free: 0,
+        }
+    }
+
     /// Makes room for one content more.
     pub fn room(&mut self) -> Result<(), AllocError>
         ensures room { OnOk result (vec_len self.new.slots < vec_capacity self.new.slots) }

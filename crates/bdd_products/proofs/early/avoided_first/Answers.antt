@@ -47,20 +47,31 @@ avoided-requires c =
     let refused = (subst (λ (h : Halt). Makes old c.avoided_early.new.diagrams (Err h) (avoiding (move_functions old c.args.members.now) c.args.levels.now.reply.items c.args.levels.now.all.items (function_at old c.args.target))) c.in-Err-Budget.field-0-is (c.in-Err-Budget.ensures (move_functions old c.args.members.now) c.args.levels.now c.requires.fits)) in
     (r.0, r.1, still_target r.0 old c.avoided_early.new.diagrams c.reclaim.new.self c.args.target r.1 _ r.2 refused c.reclaim.ensures.roots c.reclaim.ensures.keeps, r.3)
 
-pub returns-in-Err-Budget-clause-made : goal.returns-in-Err-Budget-clause-made
-returns-in-Err-Budget-clause-made c = λ base f first are.
+pub returns-else-early-clause-made : goal.returns-else-early-clause-made
+returns-else-early-clause-made c = λ base f first are.
     let old = c.args.diagrams.now in
     let refused = (subst (λ (h : Halt). Makes old c.avoided_early.new.diagrams (Err h) (avoiding (move_functions old c.args.members.now) c.args.levels.now.reply.items c.args.levels.now.all.items (function_at old c.args.target))) c.in-Err-Budget.field-0-is (c.in-Err-Budget.ensures (move_functions old c.args.members.now) c.args.levels.now c.requires.fits)) in
     c.avoided.ensures.made base f (still_target base old c.avoided_early.new.diagrams c.reclaim.new.self c.args.target f _ first refused c.reclaim.ensures.roots c.reclaim.ensures.keeps) are
 
 pub returns-in-Ok-clause-cause : goal.returns-in-Ok-clause-cause
-returns-in-Ok-clause-cause c = λ base f first are. cause_ok base c.release.new.self c.in-Ok.made (IsOfAvoiding (lists_at base c.args.members.now) c.args.levels.now.reply.items f)
+returns-in-Ok-clause-cause c = λ plain base f first are. cause_ok base c.release.new.self c.in-Ok.made (IsOfAvoiding (lists_at base c.args.members.now) c.args.levels.now.reply.items f)
 
 pub returns-in-Err-Memory-clause-cause : goal.returns-in-Err-Memory-clause-cause
-returns-in-Err-Memory-clause-cause c = λ base f first are. cause_memory base c.release-in-Err-Memory.new.self (IsOfAvoiding (lists_at base c.args.members.now) c.args.levels.now.reply.items f)
+returns-in-Err-Memory-clause-cause c = λ plain base f first are. cause_memory base c.release-in-Err-Memory.new.self (IsOfAvoiding (lists_at base c.args.members.now) c.args.levels.now.reply.items f)
 
-pub returns-in-Err-Budget-clause-cause : goal.returns-in-Err-Budget-clause-cause
-returns-in-Err-Budget-clause-cause c = λ base f first are.
+pub returns-else-early-clause-cause : goal.returns-else-early-clause-cause
+returns-else-early-clause-cause c = λ plain base f first are.
     let old = c.args.diagrams.now in
     let refused = (subst (λ (h : Halt). Makes old c.avoided_early.new.diagrams (Err h) (avoiding (move_functions old c.args.members.now) c.args.levels.now.reply.items c.args.levels.now.all.items (function_at old c.args.target))) c.in-Err-Budget.field-0-is (c.in-Err-Budget.ensures (move_functions old c.args.members.now) c.args.levels.now c.requires.fits)) in
     c.avoided.ensures.cause base f (still_target base old c.avoided_early.new.diagrams c.reclaim.new.self c.args.target f _ first refused c.reclaim.ensures.roots c.reclaim.ensures.keeps) are
+
+pub release-requires-then-early : goal.release-requires-then-early
+release-requires-then-early c =
+    let r = c.requires.target in
+    let old = c.args.diagrams.now in
+    still_root old c.avoided_early.new.diagrams (Err halt.Budget) _ (subst (λ (h : Halt). Makes old c.avoided_early.new.diagrams (Err h) (avoiding (move_functions old c.args.members.now) c.args.levels.now.reply.items c.args.levels.now.all.items (function_at old c.args.target))) c.in-Err-Budget.field-0-is (c.in-Err-Budget.ensures (move_functions old c.args.members.now) c.args.levels.now c.requires.fits)) c.args.target (is_root r.0 old c.args.target r.1 r.2)
+
+pub returns-then-early-clause-made : goal.returns-then-early-clause-made
+returns-then-early-clause-made c = λ base f first are.
+    let old = c.args.diagrams.now in
+    early_made base old c.avoided_early.new.diagrams c.release-then-early.new.self c.args.target f c.args.members.now c.args.levels.now (Err halt.Budget) first are (subst (λ (h : Halt). Makes old c.avoided_early.new.diagrams (Err h) (avoiding (move_functions old c.args.members.now) c.args.levels.now.reply.items c.args.levels.now.all.items (function_at old c.args.target))) c.in-Err-Budget.field-0-is (c.in-Err-Budget.ensures (move_functions old c.args.members.now) c.args.levels.now c.requires.fits)) c.release-then-early.ensures.released c.release-then-early.ensures.nodes

@@ -70,7 +70,7 @@ avoided-requires-clause-fits c =
     fits_after old c.shift.new.diagrams c.in_ok-target.target _ c.args.roots.now.later c.args.levels.now c.args.early.now (c.in_ok-target.ensures.makes) c.requires.later c.requires.kept c.requires.fits
 
 pub returns-in_err-target-clause-cause : goal.returns-in_err-target-clause-cause
-returns-in_err-target-clause-cause c =
+returns-in_err-target-clause-cause c = λ plain.
     let old = c.args.diagrams.now in
     let t = function_at old c.args.t.now in
     let lists = lists_at old c.args.roots.now.later in
@@ -82,7 +82,7 @@ returns-in_err-target-clause-cause c =
     (cause_wider NoFunction (named c.deref.result.now) (no_name (named c.deref.result.now)) old c.shift.new.diagrams _ (cause_moved c.deref.result.now old c.shift.new.diagrams c.args.t.now f _ c.requires.t c.in_err-target.ensures)))
 
 pub returns-in_err-out-clause-cause : goal.returns-in_err-out-clause-cause
-returns-in_err-out-clause-cause c =
+returns-in_err-out-clause-cause c = λ plain.
     let old = c.args.diagrams.now in
     let t = function_at old c.args.t.now in
     let lists = lists_at old c.args.roots.now.later in
@@ -91,10 +91,10 @@ returns-in_err-out-clause-cause c =
     let named = λ (to : List ℕ). IsOfStep lists levels (shifted to t) in
     subst (λ (to : List ℕ). HasCause old c.avoided.new.diagrams c.from_residual-in_err-out.result (named to)) c.deref.ensures.value
     (cause_by old c.avoided.new.diagrams c.from_residual-in_err-out.result c.in_err-out.field-0.0 (named c.deref.result.now) c.from_residual-in_err-out.ensures.1
-    (cause_wider (IsOfAvoiding lists levels.reply.items f) (named c.deref.result.now) (λ g is. inl is) old c.avoided.new.diagrams _ (c.in_err-out.ensures.cause old f c.in_ok-target.ensures.makes c.requires.later)))
+    (cause_wider (IsOfAvoiding lists levels.reply.items f) (named c.deref.result.now) (λ g is. inl is) old c.avoided.new.diagrams _ (c.in_err-out.ensures.cause plain old f c.in_ok-target.ensures.makes c.requires.later)))
 
 pub returns-clause-cause : goal.returns-clause-cause
-returns-clause-cause c =
+returns-clause-cause c = λ plain.
     let old = c.args.diagrams.now in
     let t = function_at old c.args.t.now in
     let lists = lists_at old c.args.roots.now.later in

@@ -1,6 +1,7 @@
-use Rattle.std.proofs.Common.{ℕ, Ok, Err, arith}
+use Rattle.std.proofs.Common.{ℕ, Ok, Err, arith, subst, ◌∙◌}
 use Rattle.spec_model.specs.GameViews.{game_data}
 use Rattle.game_values.specs.declared.seen.At.TheVariants.{Now}
+use Rattle.bdd_bits.specs.Orders.{IsDeclared}
 use Rattle.bit_compile.specs.Named.{IsOfProper}
 use Rattle.bdd_sets.specs.NamedGame.{IsOfGame}
 use Rattle.region_bdd.specs.Object.{roots_of_own}
@@ -31,7 +32,8 @@ returns-in-Ok-clause-part c =
     let p : ℕ × ℕ = (c.in_ok-all.all, c.in_ok-all.nothing) in
     own_made g c.args.levels.now.to.items ds (IsOfGame g) old mid c.formulas.new.diagrams c.make-early.new.diagrams c.in_ok-all.nothing c.in_ok-all.all c.in-Ok.parts c.make-early.result c.requires.codes
     (part_wider times_in_sets (FitSets ds) (IsOfProper ds Now) (IsOfGame g) (proper_named g ds c.requires.codes) old mid (Ok p) c.in_ok-all.ensures)
-    c.in-Ok.ensures c.make-early.ensures.added c.make-early.ensures.keeps c.make-early.ensures.lines
+    c.in-Ok.ensures c.make-early.ensures.added c.make-early.ensures.keeps
+    (λ declared. (let none = c.requires.named (subst IsDeclared (c.make-early.ensures.keeps.order ∙ (c.in-Ok.ensures.keeps.order ∙ c.in_ok-all.ensures.keeps.order)) declared) in (c.make-early.ensures.lines none, c.make-early.ensures.plain none)))
 
 pub returns-in-Ok-clause-early : goal.returns-in-Ok-clause-early
 returns-in-Ok-clause-early c =

@@ -1,4 +1,4 @@
-use Rattle.std.proofs.Common.{rules, ◌≡◌, ℕ, Err, length, sym, ◌∙◌, subst}
+use Rattle.std.proofs.Common.{rules, ◌≡◌, ℕ, Err, length, sym, ◌∙◌, subst, arith}
 use Rattle.spec_model.specs.GameViews.{game_data}
 use Rattle.bdd_bits.specs.Orders.{IsDeclared}
 use Rattle.region_bdd.specs.Room.{IsRoom}
@@ -11,12 +11,18 @@ own-requires-clause-fits c =
     let o = c.in-Ok-order_of.order in
     new_fits (game_data c.args.game) (length o.names) c.args.budget c.in-Ok-make.diagrams o c.in-Ok-next_levels.levels.to.items c.deref.result.now c.in-Ok-make.ensures.store c.in-Ok-make.ensures.order c.in-Ok-order_of.ensures.bits.0 c.deref.ensures.value c.in-Ok-order_of.ensures.bits.1
 
+pub own-requires-clause-named : goal.own-requires-clause-named
+own-requires-clause-named c = λ declared. c.in-Ok-bits_near.ensures (subst IsDeclared c.in-Ok-make.ensures.order declared)
+
+pub release_own-requires : goal.release_own-requires
+release_own-requires c n = let all = c.in_ok-own.ensures.part.added n in omega (arith, all)
+
 pub invariant_of-result : goal.invariant_of-result
 invariant_of-result c =
     let o = c.in-Ok-order_of.order in
     let fits = new_fits (game_data c.args.game) (length o.names) c.args.budget c.in-Ok-make.diagrams o c.in-Ok-next_levels.levels.to.items c.deref.result.now c.in-Ok-make.ensures.store c.in-Ok-make.ensures.order c.in-Ok-order_of.ensures.bits.0 c.deref.ensures.value c.in-Ok-order_of.ensures.bits.1 in
     record {
-      whole = object_made (game_data c.args.game) (length o.names) c.args.budget c.in-Ok-make.diagrams c.own.new.diagrams c.in_ok-own.own c.in-Ok-next_levels.levels c.new.result.items c.new.ensures.items c.requires.made
+      whole = object_made (game_data c.args.game) (length o.names) c.args.budget c.in-Ok-make.diagrams c.own.new.diagrams c.in_ok-own.own c.in-Ok-next_levels.levels c.none.result.slots.items c.none.ensures c.requires.made
           c.in-Ok-next_levels.ensures c.in-Ok-make.ensures.store fits c.in_ok-own.ensures.part c.in_ok-own.ensures.early;
       coded = c.in-Ok.ensures.domains;
       room = subst (λ (n : ℕ). IsRoom n c.in_ok-own.own c.in-Ok-room.search) c.levels.ensures c.in-Ok-room.ensures;

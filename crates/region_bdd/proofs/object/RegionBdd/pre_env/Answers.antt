@@ -16,7 +16,7 @@ use Rattle.region_bdd.specs.Slots.{HasContent, HasRegionRoot}
 use Rattle.region_bdd.specs.Object.{kept_of}
 use Rattle.bdd_products.proofs.KeepingLemmas.{keeps_itself}
 use Rattle.region_bdd.proofs.ObjectLaws.{region_root, early_roots}
-use Rattle.region_bdd.proofs.OutcomeLaws.{answered}
+use Rattle.region_bdd.proofs.OutcomeLaws.{answered_where}
 use Rattle.region_bdd.proofs.SetCalls.{later_roots, held_root, region_tells, one_argument, tells_kept_in}
 use Rattle.regions.specs.declared.types.When.TheVariants.{Later}
 use Rattle.bdd_sets.specs.NamedGame.{IsOfRest}
@@ -67,7 +67,7 @@ returns-clause-made c =
     let here_t = subst (λ (ss : List Slot). HasContent ss c.args.t.now.slot (Region c.region.result.now)) c.room.ensures.keeps c.region.ensures in
     let now = kept_of g d slots o.refused in
     let why : Refused = record { asked = asked.PreEnv; first = Some c.args.t.now.slot; second = None } in
-    let done = answered g o.own o.levels d slots c.environment_states-made.new.diagrams c.room.new.self.slots.items c.settle.new.slots.slots.items o.refused c.settle.new.refused c.args.self.now.whole c.requires.free c.room.ensures.keeps (joined (join_of true) (avoiding (move_functions d o.own.step.later) o.levels.reply.items o.levels.all.items (negated (shifted o.levels.to.items (function_at d c.region.result.now)))) (function_at d o.own.step.proper)) (environment_forces_set g (now.set c.args.t.now)) (tells_kept_in g o.own o.levels d slots o.refused c.args.self.now.whole c.args.t.now c.region.result.now here_t) why (States (now.set c.args.t.now) ∷ []) (one_argument g o.own o.levels d slots o.refused c.args.self.now.whole c.args.t.now c.region.result.now here_t) c.environment_states-made.result c.settle.result c.environment_states-made.ensures.made (IsOfRest (lists_at d o.own.step.later) o.levels (shifted o.levels.to.items (function_at d c.region.result.now))) c.environment_states-made.ensures.cause (λ own_is h is. inr (rest_of g o.own o.levels d slots o.refused c.args.self.now.whole c.args.t.now c.region.result.now here_t Later c.environment_states-made.new.diagrams c.requires.free c.environment_states-made.ensures.made.keeps own_is h is)) c.of-why.result c.of-why.ensures c.settle.ensures in
+    let done = answered_where g o.own o.levels d slots c.environment_states-made.new.diagrams c.room.new.self.slots.items c.settle.new.slots.slots.items o.refused c.settle.new.refused c.args.self.now.whole c.requires.free c.room.ensures.keeps (joined (join_of true) (avoiding (move_functions d o.own.step.later) o.levels.reply.items o.levels.all.items (negated (shifted o.levels.to.items (function_at d c.region.result.now)))) (function_at d o.own.step.proper)) (environment_forces_set g (now.set c.args.t.now)) (tells_kept_in g o.own o.levels d slots o.refused c.args.self.now.whole c.args.t.now c.region.result.now here_t) why (States (now.set c.args.t.now) ∷ []) (one_argument g o.own o.levels d slots o.refused c.args.self.now.whole c.args.t.now c.region.result.now here_t) c.environment_states-made.result c.settle.result c.environment_states-made.ensures.made (IsOfRest (lists_at d o.own.step.later) o.levels (shifted o.levels.to.items (function_at d c.region.result.now))) (λ declared own_is. c.environment_states-made.ensures.cause (own_is.plain declared)) (λ own_is h is. inr (rest_of g o.own o.levels d slots o.refused c.args.self.now.whole c.args.t.now c.region.result.now here_t Later c.environment_states-made.new.diagrams c.requires.free c.environment_states-made.ensures.made.keeps own_is h is)) c.of-why.result c.of-why.ensures c.settle.ensures in
     done.made
 
 pub returns-clause-halted : goal.returns-clause-halted
@@ -79,7 +79,7 @@ returns-clause-halted c =
     let here_t = subst (λ (ss : List Slot). HasContent ss c.args.t.now.slot (Region c.region.result.now)) c.room.ensures.keeps c.region.ensures in
     let now = kept_of g d slots o.refused in
     let why : Refused = record { asked = asked.PreEnv; first = Some c.args.t.now.slot; second = None } in
-    let done = answered g o.own o.levels d slots c.environment_states-made.new.diagrams c.room.new.self.slots.items c.settle.new.slots.slots.items o.refused c.settle.new.refused c.args.self.now.whole c.requires.free c.room.ensures.keeps (joined (join_of true) (avoiding (move_functions d o.own.step.later) o.levels.reply.items o.levels.all.items (negated (shifted o.levels.to.items (function_at d c.region.result.now)))) (function_at d o.own.step.proper)) (environment_forces_set g (now.set c.args.t.now)) (tells_kept_in g o.own o.levels d slots o.refused c.args.self.now.whole c.args.t.now c.region.result.now here_t) why (States (now.set c.args.t.now) ∷ []) (one_argument g o.own o.levels d slots o.refused c.args.self.now.whole c.args.t.now c.region.result.now here_t) c.environment_states-made.result c.settle.result c.environment_states-made.ensures.made (IsOfRest (lists_at d o.own.step.later) o.levels (shifted o.levels.to.items (function_at d c.region.result.now))) c.environment_states-made.ensures.cause (λ own_is h is. inr (rest_of g o.own o.levels d slots o.refused c.args.self.now.whole c.args.t.now c.region.result.now here_t Later c.environment_states-made.new.diagrams c.requires.free c.environment_states-made.ensures.made.keeps own_is h is)) c.of-why.result c.of-why.ensures c.settle.ensures in
+    let done = answered_where g o.own o.levels d slots c.environment_states-made.new.diagrams c.room.new.self.slots.items c.settle.new.slots.slots.items o.refused c.settle.new.refused c.args.self.now.whole c.requires.free c.room.ensures.keeps (joined (join_of true) (avoiding (move_functions d o.own.step.later) o.levels.reply.items o.levels.all.items (negated (shifted o.levels.to.items (function_at d c.region.result.now)))) (function_at d o.own.step.proper)) (environment_forces_set g (now.set c.args.t.now)) (tells_kept_in g o.own o.levels d slots o.refused c.args.self.now.whole c.args.t.now c.region.result.now here_t) why (States (now.set c.args.t.now) ∷ []) (one_argument g o.own o.levels d slots o.refused c.args.self.now.whole c.args.t.now c.region.result.now here_t) c.environment_states-made.result c.settle.result c.environment_states-made.ensures.made (IsOfRest (lists_at d o.own.step.later) o.levels (shifted o.levels.to.items (function_at d c.region.result.now))) (λ declared own_is. c.environment_states-made.ensures.cause (own_is.plain declared)) (λ own_is h is. inr (rest_of g o.own o.levels d slots o.refused c.args.self.now.whole c.args.t.now c.region.result.now here_t Later c.environment_states-made.new.diagrams c.requires.free c.environment_states-made.ensures.made.keeps own_is h is)) c.of-why.result c.of-why.ensures c.settle.ensures in
     done.halted
 
 pub invariant_of-self-2 : goal.invariant_of-self-2
@@ -91,7 +91,7 @@ invariant_of-self-2 c =
     let here_t = subst (λ (ss : List Slot). HasContent ss c.args.t.now.slot (Region c.region.result.now)) c.room.ensures.keeps c.region.ensures in
     let now = kept_of g d slots o.refused in
     let why : Refused = record { asked = asked.PreEnv; first = Some c.args.t.now.slot; second = None } in
-    let done = answered g o.own o.levels d slots c.environment_states-made.new.diagrams c.room.new.self.slots.items c.settle.new.slots.slots.items o.refused c.settle.new.refused c.args.self.now.whole c.requires.free c.room.ensures.keeps (joined (join_of true) (avoiding (move_functions d o.own.step.later) o.levels.reply.items o.levels.all.items (negated (shifted o.levels.to.items (function_at d c.region.result.now)))) (function_at d o.own.step.proper)) (environment_forces_set g (now.set c.args.t.now)) (tells_kept_in g o.own o.levels d slots o.refused c.args.self.now.whole c.args.t.now c.region.result.now here_t) why (States (now.set c.args.t.now) ∷ []) (one_argument g o.own o.levels d slots o.refused c.args.self.now.whole c.args.t.now c.region.result.now here_t) c.environment_states-made.result c.settle.result c.environment_states-made.ensures.made (IsOfRest (lists_at d o.own.step.later) o.levels (shifted o.levels.to.items (function_at d c.region.result.now))) c.environment_states-made.ensures.cause (λ own_is h is. inr (rest_of g o.own o.levels d slots o.refused c.args.self.now.whole c.args.t.now c.region.result.now here_t Later c.environment_states-made.new.diagrams c.requires.free c.environment_states-made.ensures.made.keeps own_is h is)) c.of-why.result c.of-why.ensures c.settle.ensures in
+    let done = answered_where g o.own o.levels d slots c.environment_states-made.new.diagrams c.room.new.self.slots.items c.settle.new.slots.slots.items o.refused c.settle.new.refused c.args.self.now.whole c.requires.free c.room.ensures.keeps (joined (join_of true) (avoiding (move_functions d o.own.step.later) o.levels.reply.items o.levels.all.items (negated (shifted o.levels.to.items (function_at d c.region.result.now)))) (function_at d o.own.step.proper)) (environment_forces_set g (now.set c.args.t.now)) (tells_kept_in g o.own o.levels d slots o.refused c.args.self.now.whole c.args.t.now c.region.result.now here_t) why (States (now.set c.args.t.now) ∷ []) (one_argument g o.own o.levels d slots o.refused c.args.self.now.whole c.args.t.now c.region.result.now here_t) c.environment_states-made.result c.settle.result c.environment_states-made.ensures.made (IsOfRest (lists_at d o.own.step.later) o.levels (shifted o.levels.to.items (function_at d c.region.result.now))) (λ declared own_is. c.environment_states-made.ensures.cause (own_is.plain declared)) (λ own_is h is. inr (rest_of g o.own o.levels d slots o.refused c.args.self.now.whole c.args.t.now c.region.result.now here_t Later c.environment_states-made.new.diagrams c.requires.free c.environment_states-made.ensures.made.keeps own_is h is)) c.of-why.result c.of-why.ensures c.settle.ensures in
     record { whole = done.object; coded = o.coded; room = o.room }
 
 pub environment_states-made-requires-clause-kept : goal.environment_states-made-requires-clause-kept

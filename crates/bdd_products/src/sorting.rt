@@ -1,0 +1,96 @@
+//! Members in the order of the levels at which they begin, the deepest first.
+
+ghost use Rattle.std.specs.Prelude.{◌<◌, length, IfOk, IsPermutation};
+ghost use Rattle.std.specs.List.{All};
+ghost use Rattle.bdd_store.specs.State.{IsRoot};
+ghost use Rattle.bdd_sets.specs.Members.{AreRoots, all_true, functions_at};
+ghost use Rattle.bdd_sets.specs.Lists.{MakesList};
+ghost use Rattle.bdd_products.specs.Products.{LeavesRoots, MakesLines, members_in};
+
+use crate::reading::ignores;
+use bdd_bits::{Diagrams, Root};
+use bdd_sets::lists::push_made;
+use bit_compile::steps::keep;
+use regions::Halt;
+use std::alloc::Global;
+
+/// How many of the bits, from the first on, come before those that a member reads. They are looked at by halves.
+fn unread(diagrams: &mut Diagrams, member: &Root, bits: &[u32]) -> Result<usize, Halt>
+    requires { IsRoot diagrams.old.state member.now }
+    ensures { LeavesRoots diagrams.old diagrams.new result }
+{
+    let mut from = 0;
+    let mut end = bits.len();
+    while from < end {
+        let mid = from + (end - from - 1) / 2;
+        let (_, rest) = bits.split_at(from);
+        let (tried, _) = rest.split_at(mid + 1 - from);
+        if ignores(diagrams, member, tried)? {
+            from = mid + 1;
+        } else {
+            end = mid;
+        }
+    }
+    Ok(from)
+}
+
+/// The place of each member, with how many bits come after those before it: the lowest first, in their order among equals.
+fn places_of(
+    diagrams: &mut Diagrams,
+    alloc: Global,
+    members: &[Root],
+    bits: &[u32],
+) -> Result<Vec<(usize, usize)>, Halt>
+    requires { AreRoots diagrams.old members.now }
+    ensures places { IfOk result (λ places. IsPermutation members.now (members_in members.now places.items)) }
+    ensures within { IfOk result (λ places. All (λ p. p.1 < length members.now) places.items) }
+    ensures leaves { LeavesRoots diagrams.old diagrams.new result }
+{
+    let mut places = Vec::new(alloc);
+    for place in 0..members.len() {
+        let before = unread(diagrams, &members[place], bits)?;
+        if places
+            .push((bits.len().saturating_sub(before), place))
+            .is_err()
+        {
+            return Err(Halt::Memory);
+        }
+    }
+    if places.sort().is_err() {
+        return Err(Halt::Memory);
+    }
+    Ok(places)
+}
+
+/// A second root of each member, in the order of these places.
+fn picked(
+    diagrams: &mut Diagrams,
+    alloc: Global,
+    members: &[Root],
+    places: &[(usize, usize)],
+) -> Result<Vec<Root>, Halt>
+    requires members { AreRoots diagrams.old members.now }
+    requires places { All (λ p. p.1 < length members.now) places.now }
+    ensures { MakesList diagrams.old diagrams.new result (functions_at diagrams.old (members_in members.now places.now)) }
+{
+    let mut list = Vec::new(alloc);
+    for &(_, place) in places {
+        let again = keep(diagrams, &members[place]);
+        list = push_made(diagrams, list, again)?;
+    }
+    Ok(list)
+}
+
+/// A second root of each member, those that begin deepest first, where these are the bits in the order of their levels.
+pub fn sorted(
+    diagrams: &mut Diagrams,
+    alloc: Global,
+    members: &[Root],
+    bits: &[u32],
+) -> Result<Vec<Root>, Halt>
+    requires { AreRoots diagrams.old members.now }
+    ensures { MakesLines diagrams.old diagrams.new result (all_true (functions_at diagrams.old members.now)) }
+{
+    let places = places_of(diagrams, alloc, members, bits)?;
+    picked(diagrams, alloc, members, &places)
+}
