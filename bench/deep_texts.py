@@ -78,6 +78,11 @@ def doubled(lines):
     return defines("# + #", 19, "0", lines)
 
 
+def unbounded(count):
+    """A variable, 16 sums, each of the one before it twice, and so many bounds, none of which has a number."""
+    return defines("(# + #) mod 3", 16, "r", "".join(f"sys Int(0..d#) y{k};\n" for k in range(count)))
+
+
 def row(word, count, operand="0"):
     return operand + f" {word} {operand}" * (count - 1)
 
@@ -133,6 +138,7 @@ DOUBLING = [
     won("40 doubled defines in an argument that isn't read", defines("# & #", 40, line="predicate q(boolean x): true;\ngar alw g | q(d#);\n")),
     won("40 doubled defines that aren't read", defines("# & #", 40, line="gar alw g;\n")),
     won("1,000 bounds by 19 doubled defines", doubled("".join(f"sys Int(0..d19) y{k};\n" for k in range(1_000))), TIME),
+    *(refused(f"{n:,} bounds without a number by 16 doubled defines", unbounded(n), behind(16), 12, "9 WrongType", TIME) for n in (100, 1_000)),
     won("3,000 parameters with bounds by 19 doubled defines", doubled("".join(f"predicate p{k}(Int(0..d19) n): true;\n" for k in range(3_000))), TIME),
 ]
 

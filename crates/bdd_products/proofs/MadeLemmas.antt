@@ -6,7 +6,7 @@ use Rattle.spec_model.specs.Diagrams.{Function}
 use Rattle.bdd_store.specs.State.{IsRoot, roots_at}
 use Rattle.bdd_bits.specs.Contents.{Contents, function_at}
 use Rattle.bdd_bits.proofs.CallLemmas.{same_function}
-use Rattle.bdd_bits.specs.Calls.{SameNodes}
+use Rattle.bdd_bits.specs.Calls.{KeepsRoots, SameNodes}
 use Rattle.regions.specs.declared.types.Halt.{Halt}
 use Rattle.bit_compile.specs.Making.{Makes}
 use Rattle.bit_compile.proofs.Between.{keeps_between, makes_between}
@@ -15,7 +15,7 @@ use Rattle.bdd_sets.specs.Lists.{times_in}
 use Rattle.bdd_sets.proofs.SpentLemmas.{functions_kept}
 use Rattle.bdd_sets.proofs.ListLemmas.{times_here}
 use Rattle.bdd_products.specs.Products.{IsProductOf, IsSpread, levels_of, MakesLines, MakesProduct, LeavesRoots}
-use Rattle.bdd_products.proofs.KeepingLemmas.{halt_or}
+use Rattle.bdd_products.proofs.KeepingLemmas.{halt_or, keeps_itself}
 use Rattle.bdd_products.proofs.SpreadLemmas.{spread_product}
 
 -- where nodes stay, so do functions
@@ -73,3 +73,24 @@ module _ (old mid : Contents) (v : Vec ℕ Global) (whole : Function) (lines : M
       let refused : Makes mid tried (Err h) (λ s. true) = record { meaning = tt; added = tt; refused = made.refused; keeps = made.keeps; full = λ e. made.full (ap (λ (k : Halt). Err k) (ap (halt_or h) e)) } in
       let there = makes_between old mid tried new (λ n. times_in n v.items) (record { keeps = lines.keeps; added = lines.added }) back nodes (Err h) (λ s. true) refused in
       record { conjunction = tt; added = tt; refused = there.refused; keeps = there.keeps; full = λ e. there.full (ap (λ (k : Halt). Err k) (ap (halt_or h) e)) }
+
+  -- these lines, where the others are given back
+  pub others_back : (tried new : Contents) (w : Vec ℕ Global) (f : Function) → MakesLines mid tried (Ok w) f → ((n : ℕ) → roots_at tried.state n ≡ roots_at new.state n + times_in n w.items) → SameNodes tried new → MakesLines old new (Ok v) whole
+  others_back tried new w f made back nodes =
+      let keeps = keeps_between mid tried tried new (λ n. times_in n w.items) (record { keeps = made.keeps; added = made.added }) back nodes (keeps_itself tried) in
+      record {
+        conjunction = ap all_true (functions_kept mid new keeps v.items lines_roots) ∙ lines.conjunction;
+        added = λ n. (let one = back n in let two = made.added n in let three = lines.added n in omega (arith, one, two, three));
+        refused = tt;
+        keeps = keeps_then_lines new keeps;
+        full = λ e. absurd (false≢true (sym (ap is_ok e)));
+      }
+    where
+      keeps_then_lines : (c : Contents) → KeepsRoots mid c → KeepsRoots old c
+      keeps_then_lines c keeps =
+          record {
+            levels = keeps.levels ∙ lines.keeps.levels;
+            budget = keeps.budget ∙ lines.keeps.budget;
+            order = keeps.order ∙ lines.keeps.order;
+            meaning = λ n root. keeps.meaning n (lines_before n root) ∙ lines.keeps.meaning n root;
+          }

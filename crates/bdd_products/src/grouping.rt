@@ -1,5 +1,5 @@
-//! The lines of a product in groups: members joined one after the other, those that begin deepest first, as long as each
-//! takes few nodes more. No group has a name, so lines are grouped only where nothing is told of what fills a budget.
+//! The lines of a product in groups: members joined one after the other, in the order of the levels at which they begin, as
+//! long as each takes few nodes more. No group has a name, so lines are grouped only where nothing is told of what fills a budget.
 
 ghost use Rattle.std.specs.Prelude.{◌≡◌, ◌<◌, ◌≤◌, ◌++◌, ◌∷◌, [], length, take, IfOk, IfErr, Ok, Err, List, true};
 ghost use Rattle.spec_model.specs.Diagrams.{Function};
@@ -10,7 +10,7 @@ ghost use Rattle.bit_compile.specs.Making.{Makes};
 ghost use Rattle.bdd_products.specs.Products.{MakesLines, both_lists};
 
 use crate::front::{Front, front_of};
-use crate::sorting::sorted;
+use crate::sorting::{First, sorted};
 use bdd_bits::{Diagrams, Root};
 use bdd_sets::lists::{push_made, release_list};
 use bdd_sets::members::with_kept;
@@ -85,8 +85,26 @@ fn groups_of(diagrams: &mut Diagrams, alloc: Global, members: &[Root]) -> Result
     Ok(list)
 }
 
-/// Members in groups, those that begin deepest first, where these are the bits in the order of their levels.
+/// Members in groups, in the order of the levels at which they begin, where these are the bits in the order of their levels.
 fn sorted_groups(
+    diagrams: &mut Diagrams,
+    alloc: Global,
+    members: &[Root],
+    bits: &[u32],
+    first: First,
+) -> Result<Vec<Root>, Halt>
+    requires { AreRoots diagrams.old members.now }
+    ensures lines { MakesLines diagrams.old diagrams.new result (all_true (functions_at diagrams.old members.now)) }
+    ensures some { IfOk result (λ roots. 0 < length roots.items) }
+{
+    let sorted = sorted(diagrams, alloc, members, bits, first)?;
+    let made = groups_of(diagrams, alloc, &sorted);
+    release_list(diagrams, sorted);
+    made
+}
+
+/// Members in the fewer groups of two orders, those that begin deepest first or those that begin at the top.
+fn fewest_groups(
     diagrams: &mut Diagrams,
     alloc: Global,
     members: &[Root],
@@ -96,10 +114,22 @@ fn sorted_groups(
     ensures lines { MakesLines diagrams.old diagrams.new result (all_true (functions_at diagrams.old members.now)) }
     ensures some { IfOk result (λ roots. 0 < length roots.items) }
 {
-    let sorted = sorted(diagrams, alloc, members, bits)?;
-    let made = groups_of(diagrams, alloc, &sorted);
-    release_list(diagrams, sorted);
-    made
+    let deepest = sorted_groups(diagrams, alloc, members, bits, First::Deepest)?;
+    match sorted_groups(diagrams, alloc, members, bits, First::Topmost) {
+        Ok(topmost) => {
+            if topmost.len() < deepest.len() {
+                release_list(diagrams, deepest);
+                Ok(topmost)
+            } else {
+                release_list(diagrams, topmost);
+                Ok(deepest)
+            }
+        }
+        Err(halt) => {
+            release_list(diagrams, deepest);
+            Err(halt)
+        }
+    }
 }
 
 /// The members of two lists in groups, where these are the bits in the order of their levels.
@@ -118,7 +148,7 @@ pub fn grouped(
 {
     let all = with_kept(diagrams, Vec::new(alloc), first)?;
     let all = with_kept(diagrams, all, second)?;
-    let made = sorted_groups(diagrams, alloc, &all, bits);
+    let made = fewest_groups(diagrams, alloc, &all, bits);
     release_list(diagrams, all);
     made
 }

@@ -1,4 +1,4 @@
-//! Members in the order of the levels at which they begin, the deepest first.
+//! Members in the order of the levels at which they begin.
 
 ghost use Rattle.std.specs.Prelude.{◌<◌, length, IfOk, IsPermutation};
 ghost use Rattle.std.specs.List.{All};
@@ -13,6 +13,13 @@ use bdd_sets::lists::push_made;
 use bit_compile::steps::keep;
 use regions::Halt;
 use std::alloc::Global;
+
+/// Which members come first: those that begin deepest, or those that begin at the top.
+#[derive(Clone, Copy)]
+pub enum First {
+    Deepest,
+    Topmost,
+}
 
 /// How many of the bits, from the first on, come before those that a member reads. They are looked at by halves.
 fn unread(diagrams: &mut Diagrams, member: &Root, bits: &[u32]) -> Result<usize, Halt>
@@ -34,12 +41,13 @@ fn unread(diagrams: &mut Diagrams, member: &Root, bits: &[u32]) -> Result<usize,
     Ok(from)
 }
 
-/// The place of each member, with how many bits come after those before it: the lowest first, in their order among equals.
+/// The place of each member, with a number by which it is put in order; equals are in their order.
 fn places_of(
     diagrams: &mut Diagrams,
     alloc: Global,
     members: &[Root],
     bits: &[u32],
+    first: First,
 ) -> Result<Vec<(usize, usize)>, Halt>
     requires { AreRoots diagrams.old members.now }
     ensures places { IfOk result (λ places. IsPermutation members.now (members_in members.now places.items)) }
@@ -49,10 +57,11 @@ fn places_of(
     let mut places = Vec::new(alloc);
     for place in 0..members.len() {
         let before = unread(diagrams, &members[place], bits)?;
-        if places
-            .push((bits.len().saturating_sub(before), place))
-            .is_err()
-        {
+        let number = match first {
+            First::Deepest => bits.len().saturating_sub(before),
+            First::Topmost => before,
+        };
+        if places.push((number, place)).is_err() {
             return Err(Halt::Memory);
         }
     }
@@ -81,16 +90,18 @@ fn picked(
     Ok(list)
 }
 
-/// A second root of each member, those that begin deepest first, where these are the bits in the order of their levels.
+/// A second root of each member, in the order of the levels at which they begin, where these are the bits in the order of
+/// their levels.
 pub fn sorted(
     diagrams: &mut Diagrams,
     alloc: Global,
     members: &[Root],
     bits: &[u32],
+    first: First,
 ) -> Result<Vec<Root>, Halt>
     requires { AreRoots diagrams.old members.now }
     ensures { MakesLines diagrams.old diagrams.new result (all_true (functions_at diagrams.old members.now)) }
 {
-    let places = places_of(diagrams, alloc, members, bits)?;
+    let places = places_of(diagrams, alloc, members, bits, first)?;
     picked(diagrams, alloc, members, &places)
 }

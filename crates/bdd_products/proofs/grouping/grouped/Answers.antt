@@ -27,8 +27,8 @@ returns-in_err-all-2-clause-lines c =
     list_refuses old c.with_kept-2.new.diagrams c.from_residual-in_err-all-2.result c.in_err-all-2.field-0.0 _ _ c.from_residual-in_err-all-2.ensures.1
     (c.in_err-all-2.ensures.made old _ (c.in_ok-all.ensures.made old [] (no_list old c.new.result c.new.ensures.items) c.requires.first) c.requires.second)
 
-pub sorted_groups-made-requires : goal.sorted_groups-made-requires
-sorted_groups-made-requires c =
+pub fewest_groups-made-requires : goal.fewest_groups-made-requires
+fewest_groups-made-requires c =
     let old = c.args.diagrams.now in
     let list = c.in_ok-all-2.ensures.made old _ (c.in_ok-all.ensures.made old [] (no_list old c.new.result c.new.ensures.items) c.requires.first) c.requires.second in
     subst (λ (ms : List ℕ). AreRoots c.with_kept-2.new.diagrams ms) (sym c.deref.ensures.value) (list_roots old c.with_kept-2.new.diagrams c.in_ok-all-2.all _ list)
@@ -39,7 +39,7 @@ release_list-requires c =
     let mid = c.with_kept-2.new.diagrams in
     let list = c.in_ok-all-2.ensures.made old _ (c.in_ok-all.ensures.made old [] (no_list old c.new.result c.new.ensures.items) c.requires.first) c.requires.second in
     let lines = list_lines old mid (Ok c.in_ok-all-2.all) _ _ list refl in
-    counted_then old mid c.in_ok-all-2.all _ lines c.sorted_groups-made.new.diagrams _ c.sorted_groups-made.result c.sorted_groups-made.ensures.lines
+    counted_then old mid c.in_ok-all-2.all _ lines c.fewest_groups-made.new.diagrams _ c.fewest_groups-made.result c.fewest_groups-made.ensures.lines
 
 pub returns-clause-lines : goal.returns-clause-lines
 returns-clause-lines c =
@@ -50,5 +50,5 @@ returns-clause-lines c =
     let list = c.in_ok-all-2.ensures.made old first (c.in_ok-all.ensures.made old [] (no_list old c.new.result c.new.ensures.items) c.requires.first) c.requires.second in
     let whole = both_lists first second in
     let lines = list_lines old mid (Ok c.in_ok-all-2.all) (first ++ second) whole list (all_true-append first second) in
-    let made = subst (λ (f : Function). MakesLines mid c.sorted_groups-made.new.diagrams c.sorted_groups-made.result f) (ap (λ (ms : List ℕ). all_true (functions_at mid ms)) c.deref.ensures.value ∙ lines.conjunction) c.sorted_groups-made.ensures.lines in
-    lines_beside old mid c.in_ok-all-2.all whole lines c.sorted_groups-made.new.diagrams c.release_list.new.diagrams whole c.sorted_groups-made.result made c.release_list.ensures.released c.release_list.ensures.nodes
+    let made = subst (λ (f : Function). MakesLines mid c.fewest_groups-made.new.diagrams c.fewest_groups-made.result f) (ap (λ (ms : List ℕ). all_true (functions_at mid ms)) c.deref.ensures.value ∙ lines.conjunction) c.fewest_groups-made.ensures.lines in
+    lines_beside old mid c.in_ok-all-2.all whole lines c.fewest_groups-made.new.diagrams c.release_list.new.diagrams whole c.fewest_groups-made.result made c.release_list.ensures.released c.release_list.ensures.nodes
