@@ -43,6 +43,8 @@ def plain(row):
         text = Text(name, Shelf(row.files))
     except NoText as refused:
         return (refused.line + "\n").encode(), refused.status
+    except RuntimeError:
+        raise LeftOut("bodies are put in too often for the plain program") from None
     if command not in ("audit", "verify", "order") and state_count(Game(text)) > MOST_STATES:
         raise LeftOut("there are too many states for the plain program")
     lines, status = answer(command, text, input_of(command, row.input))

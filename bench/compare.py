@@ -35,9 +35,25 @@ class Maker:
         self.random = random.Random(seed)
 
     def declared(self, owner, most):
+        """Variables, each with how many elements it has; 0 for what is no array."""
         names = "ab" if owner == "env" else "gh"
         count = self.random.randint(0 if owner == "env" else 1, most)
-        return [(name, owner, self.random.choice(DOMAINS)) for name in names[:count]]
+        return [(name, owner, self.random.choice(DOMAINS), self.random.choice((0, 0, 0, 2))) for name in names[:count]]
+
+    def read(self, declared, others):
+        """What may be read of variables: themselves, or elements, and quantifiers of these. An index may read one of the others."""
+        whole = [name for name, _, kind, count in others if kind.startswith("Int") and not count]
+        found = []
+        for name, _, kind, count in declared:
+            if not count:
+                found.append((name, kind))
+                continue
+            indexes = ["0", "1"] + [f"{other} mod {count}" for other in whole]
+            found += [(f"{name}[{index}]", kind) for index in indexes]
+            word = self.random.choice(("forall", "exists"))
+            body = {"b": f"{name}[i]", "I": f"{name}[i] <= i", "{": f"{name}[1 - i] = RED"}[kind[0]]
+            found.append((f"({word} i in 0..{count - 1}: {body})", "boolean"))
+        return found
 
     def number(self, variables):
         some = [name for name, kind in variables if kind.startswith("Int")]
@@ -105,8 +121,8 @@ class Maker:
 
     def text(self):
         declared = self.declared("env", 2) + self.declared("sys", 2)
-        inputs = [(name, kind) for name, owner, kind in declared if owner == "env"]
-        outputs = [(name, kind) for name, owner, kind in declared if owner == "sys"]
+        own = {who: [one for one in declared if one[1] == who] for who in ("env", "sys")}
+        inputs, outputs = self.read(own["env"], own["env"]), self.read(own["sys"], declared)
         more = []
         if self.random.random() < 0.25:
             more.append(self.monitor(inputs + outputs))
@@ -115,7 +131,7 @@ class Maker:
         if self.random.random() < 0.35:
             lines.insert(self.random.randint(0, len(lines)), self.owed(inputs + outputs))
         self.random.shuffle(lines)
-        variables = [f"{owner} {kind} {name};" for name, owner, kind in declared]
+        variables = [f"{owner} {kind}{f'[{count}]' if count else ''} {name};" for name, owner, kind, count in declared]
         return "\n".join(["import \"responds.spectra\"", "spec X"] + variables + more + lines) + "\n"
 
     def given(self, variables, count):

@@ -109,6 +109,7 @@ CHAINS = [
     won("510 past operators", defines("PREV #", 510), STACK),
     Hostile("510 past operators, played", defines("PREV #", 510), WON + "g=true\n", 0, "run", "e=true r=0\n", STACK),
     Hostile("510 past operators, audited", defines("PREV #", 510), "audit ok 1\n", 0, "audit", "e=true r=0 g=true\n", STACK),
+    *(won(f"500 times {body}", defines(body, 500), STACK) for body in ("# & g", "g | #", "# -> g", "g -> #", "g <-> #", "g SINCE #")),
     won("508 sums", defines("# + 0", 508, "r", "gar alw g | d# = 0;\n"), STACK),
     *(won(f"{n:,} defines in a bound", defines("#", n, "1", "sys Int(0..d#) y;\n"), STACK) for n in (3_000, 30_000)),
     won("3,000 sums in a bound", defines("# + 0", 3_000, "1", "sys Int(0..d#) y;\n"), STACK),

@@ -2,7 +2,8 @@
 """read.py PROGRAM FOLDER ROUNDS: how long `PROGRAM audit` reads texts of rising length, with an empty log.
 
 A text of n variables has an enum, n - 1 ranges, as many defines, 16 predicates, and 4n lines with enum names, comparisons,
-sums and remainders. It has no fault, and nothing is solved: the log has no position.
+sums and remainders. A text of arrays is at the limits of length, of elements (1,024), of lines and of a quantifier's numbers (256),
+nested twice, and its formulas have nearly as many nodes as they may. It has no fault, and nothing is solved: the log has no position.
 """
 import os
 import sys
@@ -24,15 +25,32 @@ def text_of(count):
     return "\n".join(lines) + "\n"
 
 
+def text_of_arrays():
+    """Four arrays of 256 elements and 4,096 lines: one over each pair of elements of two arrays, and others over 26 elements each,
+    read by sums, in defines and predicates."""
+    sorts = ("env boolean", "env Int(0..7)", "sys boolean", "sys Int(0..7)")
+    names = ("request_of_each_client", "level_that_is_wanted", "grant_for_each_client", "level_that_is_set")
+    lines = ["spec Arrays", *(f"{sort}[256] {name};" for sort, name in zip(sorts, names))]
+    lines += [f"define all_are_calm{k} := forall client in {k}..{k + 7}: level_that_is_set[client] < 7;" for k in range(16)]
+    lines.append("predicate is_served(Int(0..255) client): request_of_each_client[client] -> grant_for_each_client[client];")
+    lines.append("gar each_with_each: alw forall one in 0..255: forall other in 0..255: request_of_each_client[one] | grant_for_each_client[other];")
+    for k in range(4095):
+        low = 7 * k % 210
+        served = f"is_served(client + {k % 20})" if k % 3 else f"request_of_each_client[255 - client] | level_that_is_set[client] < {k % 7 + 1}"
+        lines.append(f"gar guarantee_of_row_{k}_that_some_of_these_clients_are_served_in_turn_or_that_all_of_the_others_are_calm_as_each_of_them_may_expect: alw all_are_calm{k % 16} | (forall client in {low}..{low + 25}: grant_for_each_client[client] | {served});")
+    return "\n".join(lines) + "\n"
+
+
 def main():
     program, folder, rounds = sys.argv[1], sys.argv[2], int(sys.argv[3])
-    print("| Variables | Lines | Bytes | s |\n|---|---|---|---|")
-    for count in (64, 256, 1024):
-        path = f"{folder}/reader{count}.spectra"
-        with open(path, "w", encoding="ascii") as text:
-            text.write(text_of(count))
+    print("| Text | Variables | Lines | Bytes | s |\n|---|---|---|---|---|")
+    texts = [("plain", count, 4 * count, text_of(count)) for count in (64, 256, 1024)]
+    for sort, count, lines, text in [*texts, ("arrays", 1024, 4096, text_of_arrays())]:
+        path = f"{folder}/reader-{sort}{count}.spectra"
+        with open(path, "w", encoding="ascii") as file:
+            file.write(text)
         took = seconds([program, "audit", path], "audit ok 0\n", rounds)
-        print(f"| {count:,} | {4 * count:,} | {os.path.getsize(path):,} | {took:.3f} |")
+        print(f"| {sort} | {count:,} | {lines:,} | {os.path.getsize(path):,} | {took:.3f} |")
 
 
 main()

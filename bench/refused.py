@@ -24,9 +24,14 @@ type Small = Int(0..N - 1);
 type Colour = {RED, GREEN};
 env Small x;
 env Colour light;
+env boolean[3] req;
 sys boolean g;
+sys boolean[3] grant;
+sys Small[2] slot;
 aux {GREEN, RED} sign;
-define N := 4; twice := x * 2; later := next(g);
+define N := 4; twice := x * 2; later := next(g); busy := exists i in 0..2: req[i] & grant[i];
+predicate alone(Int(0..2) k): forall i in 0..2: i = k | !grant[i];
+predicate upto(Int(0..3) n): exists i in 0..n: i < 3 & slot[i mod 2] <= i;
 predicate near(Small a, Int(-3..3) b): a - b <= 1 & b - a <= 1;
 predicate was(boolean b): PREV b;
 predicate shown(Colour c): light = c;
@@ -52,6 +57,9 @@ gar alw (g SINCE (x = 1)) -> sign = RED;
 gar toggles(shown(RED));
 gar responds(x = 3, g & HISTORICALLY (x >= 0));
 gar trig [true]* [x = 2] |=> [true]{0,2} [g]+;
+gar alw forall i in 0..N - 2: grant[i] -> req[i];
+gar alw alone(x mod 3) | busy & next(slot[x mod 2]) <= slot[0] + x;
+gar alw exists i in 0..1: forall j in i..2: grant[j] | slot[i] = j | upto(j) | next(req[2 - j]);
 gar named: alwEv x + twice < 12;
 """
 
@@ -66,7 +74,9 @@ def texts():
 ALIKE = [
     ["&", "|", "->", "<->"], ["=", "!=", "<", "<=", ">", ">="], ["+", "-", "*"], ["!", "PREV", "ONCE", "HISTORICALLY", "next"],
     ["SINCE", "TRIGGERED"], ["ini", "alw", "alwEv"], ["asm", "gar"], ["env", "sys", "aux"],
+    ["forall", "exists"],
 ]  # fmt: skip
+ELEMENTS = ["req[0]", "slot[x]", "grant[i]", "(forall i in 0..x: g)", "(exists k in 0..1: grant[k])"]
 NUMBERS = ["0", "1", "2", "3", "64", "100", "257", "4096", "1000000000001"]
 
 
@@ -76,7 +86,7 @@ def in_place_of(token, tokens, some):
         words = [t.text for t in tokens] + sorted(RESERVED) + SIGNS
         return some.choice(["", f"{token.text} {token.text}", some.choice(words)])
     if token.kind == "name":
-        return some.choice([t.text for t in tokens if t.kind == "name"] + ["true", "nope", "next(g)", "(PREV g)", "x + 1"])
+        return some.choice([t.text for t in tokens if t.kind == "name"] + ["true", "nope", "next(g)", "(PREV g)", "x + 1", *ELEMENTS])
     if token.kind == "number":
         return some.choice(NUMBERS)
     alike = next((group for group in ALIKE if token.text in group), None)

@@ -6,7 +6,8 @@
 Only whole `env`, `sys` and `aux` declarations are moved. One that stands alone on its lines takes its comments along: those right
 above it, up to an empty line, and that behind it. All else stays at its place, monitors too, since their lines are numbered. Where
 no better order is told, FILE is written as it is. It ends with 0; with 1 where no order is told, or its names aren't those that FILE
-declares, or monitors would change places; with 2 at wrong words.
+declares, or monitors would change places, or the elements of an array wouldn't stand together, since one declaration has them; with
+2 at wrong words.
 """
 import sys
 from itertools import accumulate, zip_longest
@@ -169,10 +170,23 @@ def told(answer):
     """The names that an answer of `order` tells; None where there is no better order."""
     for row in answer:
         if row.startswith("order "):
-            return row.split()[1:]
+            return declared(row.split()[1:])
         if row.strip() == "no better order":
             return None
     raise Unfit("no order is told")
+
+
+def declared(names):
+    """The names of declarations, for those of variables: an array's elements stand together, in their order."""
+    made, count = [], 0
+    for name in names:
+        array, bracket, number = name.partition("[")
+        count = count + 1 if bracket and number != "0]" else 0
+        if count and (made[-1:] != [array] or number != f"{count}]"):
+            raise Unfit(f"the elements of {array} don't stand together in their order")
+        if not count:
+            made.append(array)
+    return made
 
 
 def check(source, names, text):

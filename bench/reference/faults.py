@@ -1,11 +1,12 @@
 """All faults of several files whose tokens are texts of the grammar. A fault is a place and a number; the least is told."""
-from .formulas import erased, operators_in, regex_of
+from .formulas import Formulas, FormulaTooLarge, operators_in, regex_of, size_of
 from .hidden import TooWide, TriggerTable, pattern_table
 from .names import TOO_MANY
-from .putting import MOST_LEVELS, MOST_NODES, Facts, TooLarge, is_range, sized
+from .putting import MOST_LEVELS, Facts, TooLarge, is_range
 
 WIDE, CYCLE, TOO_LARGE, OPEN, PATTERN_WIDE, TRIGGER_WIDE = 14, 15, 19, 20, 21, 22
 MOST_PARAMETERS, MOST_OWN, MOST_REPEATS, MOST_TABLES = 8, 64, 256, 1024
+MOST_NODES = 1_000_000
 
 
 def stand_of(line):
@@ -94,7 +95,7 @@ class Faults:
         for bound in (kind.low, kind.high):
             self.found += self.faults(bound, "bound", inside)
             made = self.made([bound], "bound", inside)
-            if made and made[0].levels <= MOST_LEVELS:
+            if made:
                 self.found += self.faults(made[0], "bound", inside)
 
     def definitions(self):
@@ -113,32 +114,42 @@ class Faults:
             return None
 
     def lines(self):
-        before = 0
+        """Lines and patterns' lines in text order. What follows one that is too large isn't put in."""
+        room = MOST_NODES
         for what, line in self.declared.said:
             stand = f"{line.time} own" if what == "part" else stand_of(line)
+            inside = self.facts.inside_pattern(line.pattern) if what == "part" else None
             trees = [line.says] if what == "part" else trees_of(line)
+            written = [f for t in trees for f in self.faults(t, stand, inside)]
+            self.found += written
+            made, formulas = None, None
+            if room is not None:
+                made = self.made(trees, stand, inside)
+                formulas, room = (None, None) if made is None else self.formulas(made, inside, room)
+                if room is None:
+                    self.found.append((line.at, TOO_LARGE))
             if what == "line":
-                written = [f for t in trees for f in self.faults(t, stand)]
-                self.found += written
-            made = self.sizes(trees) if what == "part" else self.made(trees, stand)
-            nodes = MOST_NODES + 1 if made is None else sum(t.nodes for t in made)
-            deep = made is not None and any(t.levels > MOST_LEVELS for t in made)
-            if deep or before <= MOST_NODES < before + nodes:
-                self.found.append((line.at, TOO_LARGE))
-                if what == "part":
-                    line.pattern.sound = False
-            before += nodes
-            if what == "line":
-                small = not deep and before <= MOST_NODES
-                self.put_line(line, made if small else None, stand, written)
+                self.put_line(line, made if formulas is not None else None, formulas, stand, written)
+            else:
+                line.sound = formulas is not None and not written
+                line.formula = formulas[0] if formulas else None
+                if formulas:
+                    faults = self.faults(made[0], stand, inside)
+                    self.found += faults
+                    line.sound = line.sound and not faults
 
-    def sizes(self, trees):
+    def formulas(self, trees, inside, room):
+        """The formulas of expressions, and the room that is left; None where they are too large or too deep."""
+        maker = Formulas(lambda t: self.facts.judge.kind(t, inside), room)
         try:
-            return [sizes_of(t) for t in trees]
-        except TooLarge:
-            return None
+            formulas = [maker.of(t) for t in trees]
+        except FormulaTooLarge:
+            return None, None
+        if any(size_of(formula)[1] > MOST_LEVELS for formula in formulas):
+            return None, None
+        return formulas, maker.room
 
-    def put_line(self, line, made, stand, written):
+    def put_line(self, line, made, formulas, stand, written):
         """A line that isn't too large with everything put in; a trigger's repeats are looked at as they are written."""
         if line.time == "trig" and not (repeats_well(line.cause) and repeats_well(line.effect)):
             self.found.append((line.word, TRIGGER_WIDE))
@@ -147,7 +158,7 @@ class Faults:
             return
         faults = [f for t in made for f in self.faults(t, stand)]
         self.found += faults
-        self.put[id(line)] = [erased(t) for t in made]
+        self.put[id(line)] = formulas
         if line.time == "trig" and not faults + written:
             atoms = iter(self.put[id(line)])
             try:
@@ -158,13 +169,10 @@ class Faults:
     # ---- patterns
 
     def patterns(self):
-        """A pattern's lines, and its table where it has no other fault and its variables' types have a meaning."""
+        """A pattern's table, where it has no other fault and its variables' types have a meaning."""
         for pattern in self.declared.all_patterns:
-            inside = self.facts.inside_pattern(pattern)
-            faults = [f for line in pattern.lines for f in self.faults(line.says, f"{line.time} own", inside)]
-            self.found += faults
-            if not faults and pattern.sound:
-                self.pattern_as_a_whole(pattern, inside["own"])
+            if pattern.sound and all(line.sound for line in pattern.lines):
+                self.pattern_as_a_whole(pattern, self.facts.inside_pattern(pattern)["own"])
 
     def pattern_as_a_whole(self, pattern, kinds):
         domains = [values_of(kind) for kind in kinds]
@@ -174,7 +182,7 @@ class Faults:
         if pattern.arity > MOST_PARAMETERS or count > MOST_OWN:
             self.found.append((pattern.name.at, PATTERN_WIDE))
         elif None not in domains:
-            lines = {time: [erased(line.says) for line in pattern.lines if line.time == time] for time in ("ini", "alw")}
+            lines = {time: [line.formula for line in pattern.lines if line.time == time] for time in ("ini", "alw")}
             if pattern_table(pattern.arity, domains, lines["ini"], lines["alw"]) is None:
                 self.found.append((pattern.name.at, OPEN))
 
@@ -190,12 +198,6 @@ class Faults:
             if len(operators) + others > MOST_TABLES:
                 self.found.append((line.item, TOO_MANY))
                 return
-
-
-def sizes_of(t):
-    for operand in t.operands:
-        sizes_of(operand)
-    return sized(t)
 
 
 def values_of(kind):

@@ -4,20 +4,103 @@ A leaf is `("truth", b)`, `("number", n)`, `("enum", name)`, or what is read: `(
 `("parameter", k)` and `("own", k)`. What is known at a position is a table from what is read, and from each past operator to
 what its hidden table has there.
 """
+from .trees import COMPARED, Tree
+
 CONSTANTS = ("truth", "number", "enum", "hole")
 READ = ("variable", "parameter", "own")
 PAST = ("PREV", "ONCE", "HISTORICALLY", "SINCE", "TRIGGERED")
 
 
-def erased(t):
-    """The formula of an expression with everything put in."""
-    if t.form == "variable":
-        return ("variable", t.says.name.text)
-    if t.form in CONSTANTS or t.form in READ:
-        return (t.form, t.says)
-    if t.form == "mod":
-        return ("mod", erased(t.operands[0]), ("number", t.says))
-    return (t.form, *map(erased, t.operands))
+class FormulaTooLarge(Exception):
+    """A formula with more nodes than there is room for."""
+
+
+class Formulas:
+    """The formulas of expressions with everything put in; `kind` gives the kind of one. `room` is left for nodes."""
+
+    def __init__(self, kind, room):
+        self.kind, self.room = kind, room
+
+    def of(self, t):
+        """The formula of an expression. Each index that may be several elements is replaced by cases, the first in the text first."""
+        if t.form in COMPARED:
+            found = self.chosen(t.operands, False)
+            if found:
+                index, under = found
+                return self.cases(index, under, lambda element: self.of(replaced(t, index, element)))
+        if t.form == "index":
+            element = self.one(t)
+            if element is None and self.kind(t)[0] != "truth":
+                return self.of_leaf(t.says.elements[0])
+            return self.of_leaf(element) if element else self.cases(t, False, self.of_leaf)
+        self.count()
+        if t.form == "variable":
+            return ("variable", t.says.name.text)
+        if t.form in CONSTANTS or t.form in READ:
+            return (t.form, t.says)
+        if t.form == "mod":
+            return ("mod", self.of(t.operands[0]), ("number", t.says))
+        if t.form in ("forall", "exists"):
+            return ("&" if t.form == "forall" else "|", *map(self.of, t.operands[2:]))
+        return (t.form, *map(self.of, t.operands))
+
+    def count(self):
+        self.room -= 1
+        if self.room < 0:
+            raise FormulaTooLarge
+
+    def of_leaf(self, element):
+        self.count()
+        return ("variable", element.name.text)
+
+    def one(self, t):
+        """The element that an index is, where its span is one number."""
+        kind, elements = self.kind(t.operands[0]), t.says.elements
+        if kind[0] == "whole" and kind[1] == kind[2] and 0 <= kind[1] < len(elements):
+            return elements[kind[1]]
+        return None
+
+    def chosen(self, operands, under):
+        """The first index in parts of a comparison that may be several elements, and whether a `next` stands around it."""
+        for t in operands:
+            if t.form == "index":
+                if self.one(t) is None and self.kind(t)[0] != "truth":
+                    return t, under
+            elif t.form in ("+", "-", "*", "mod", "next"):
+                found = self.chosen(t.operands, under or t.form == "next")
+                if found:
+                    return found
+        return None
+
+    def cases(self, index, under, with_element):
+        self.count()
+        found = ["|"]
+        for number, element in enumerate(index.says.elements):
+            self.count()
+            found.append(("&", self.of(equation(index.operands[0], under, number)), with_element(element)))
+        return tuple(found)
+
+
+def equation(t, under, number):
+    """That an expression is a number, or is it at the next position."""
+    read = Tree("next", t.first, t.at, [t]) if under else t
+    return Tree("=", t.first, t.at, [read, Tree("number", t.first, t.at, says=number)])
+
+
+def replaced(t, index, element):
+    """An expression with an element in the place of an index."""
+    if t is index:
+        return Tree("variable", t.first, t.at, says=element)
+    operands = [replaced(operand, index, element) for operand in t.operands]
+    if all(new is old for new, old in zip(operands, t.operands)):
+        return t
+    return Tree(t.form, t.first, t.at, operands, t.says, t.places)
+
+
+def size_of(e):
+    """The nodes and the levels of a formula; a remainder's number is no node."""
+    sizes = [size_of(operand) for operand in (operands_of(e)[:1] if e[0] == "mod" else operands_of(e))]
+    return 1 + sum(nodes for nodes, _ in sizes), 1 + max((levels for _, levels in sizes), default=0)
 
 
 def regex_of(r, formulas):

@@ -10,7 +10,7 @@ GRAMMAR = """
 text      = { import } ( "spec" | "module" ) NAME { item } END
 import    = "import" TEXT [ ";" ]
 item      = vardecl | typedecl | define | predicate | pattern | monitor | line
-vardecl   = ( "env" | "sys" | "aux" ) type NAME ";"
+vardecl   = ( "env" | "sys" | "aux" ) type [ "[" NUMBER "]" ] NAME ";"
 type      = "boolean" | "Int" "(" sum ".." sum ")" | "{" NAME { "," NAME } "}" | NAME
 typedecl  = "type" NAME "=" type ";"
 define    = "define" NAME ":=" expr ";" { NAME ":=" expr ";" }
@@ -27,6 +27,7 @@ post      = ratom { "*" | "+" | "?" | "{" NUMBER [ "," NUMBER ] "}" }
 ratom     = "[" expr "]" | "(" regex ")"
 expr      = disj [ ( "->" | "implies" | "<->" | "iff" ) disj ]
           | prim ( "SINCE" | "S" | "TRIGGERED" | "T" ) prim
+          | ( "forall" | "exists" ) NAME "in" sum ".." sum ":" expr
 disj      = conj { ( "|" | "or" ) conj }
 conj      = cmp { ( "&" | "and" ) cmp }
 cmp       = prefixed | sum [ ( "=" | "!=" | "<" | "<=" | ">" | ">=" ) ( sum | prefixed ) ]
@@ -35,7 +36,7 @@ PREFIX    = "!" | "not" | "PREV" | "Y" | "ONCE" | "O" | "HISTORICALLY" | "H"
 sum       = prod { ( "+" | "-" ) prod } | prim "mod" NUMBER
 prod      = prim { "*" prim }
 prim      = "true" | "false" | [ "-" ] NUMBER | NAME | NAME "(" [ expr { "," expr } ] ")"
-          | "next" "(" expr ")" | "(" expr ")"
+          | NAME "[" sum "]" | "next" "(" expr ")" | "(" expr ")"
 ASM       = "asm" | "assumption"
 GAR       = "gar" | "guarantee"
 INI       = "ini" | "initially"
@@ -46,6 +47,7 @@ TERMINALS = {"NAME": "name", "NUMBER": "number", "TEXT": "text", "END": "end"}
 EXPRESSIONS = ("expr", "disj", "conj", "cmp", "prefixed", "sum", "prod", "prim")
 OPERATORS = set("-> <-> implies iff | or & and = != < <= > >= + - * mod SINCE S TRIGGERED T".split())
 PREFIXES = set("! not PREV Y ONCE O HISTORICALLY H".split())
+QUANTIFIERS = {"forall", "exists"}
 MOST_LEVELS, MOST_FOLLOWED = 128, 100_000
 
 
@@ -145,22 +147,26 @@ def opens_level(tokens, k):
 
 def first_too_deep(tokens, end):
     """The number of the first token before this one that opens a level past the limit."""
-    brackets, prefixes = [], 0
+    brackets, prefixes, quantifiers = [], 0, 0
     for k in range(end):
         token = tokens[k]
         if token.kind in ("word", "sign") and token.text in PREFIXES:
             prefixes += 1
+        elif token.kind == "word" and token.text in QUANTIFIERS:
+            quantifiers += 1
         elif token.text in ("(", "["):
-            brackets.append((opens_level(tokens, k), prefixes))
+            brackets.append((opens_level(tokens, k), prefixes, quantifiers))
         elif token.text in (")", "]") and brackets:
-            brackets.pop()
+            quantifiers = brackets.pop()[2]
             prefixes = brackets[-1][1] if brackets else 0
+        elif token.text in (",", ";"):
+            quantifiers = brackets[-1][2] if brackets else 0
         elif token.kind in ("name", "number") or token.text in ("true", "false"):
-            if tokens[k + 1].text != "(":
+            if tokens[k + 1].text not in ("(", "["):
                 prefixes = brackets[-1][1] if brackets else 0
         else:
             continue
-        if sum(counts for counts, _ in brackets) + prefixes > MOST_LEVELS:
+        if sum(counts for counts, _, _ in brackets) + prefixes + quantifiers > MOST_LEVELS:
             return k
     return None
 

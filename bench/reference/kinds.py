@@ -5,14 +5,17 @@ an enum's values, `("name", n)` for one enum name, or `("anything",)`, which fit
 
 In an expression with bodies put in, each part of a body has the place of the name that brings it, and is marked so.
 """
+from types import SimpleNamespace as Item
+
 from .names import FAR, WRONG
 
-NEXT_HERE, NESTED, OF_SYSTEM, IN_INITIAL, WIDE = 10, 11, 12, 13, 14
+NEXT_HERE, NESTED, OF_SYSTEM, IN_INITIAL, WIDE, OUTSIDE = 10, 11, 12, 13, 14, 25
 TRUTH, SOME, ANYTHING = ("truth",), ("some",), ("anything",)
 PAST = ("PREV", "ONCE", "HISTORICALLY", "SINCE", "TRIGGERED")
 PREFIXES = ("!", "PREV", "ONCE", "HISTORICALLY")
 LOGICAL = ("->", "<->", "SINCE", "TRIGGERED")
 ARITHMETIC = ("+", "-", "*")
+QUANTIFIERS = ("forall", "exists")
 MOST_NUMBERS = 4096
 
 # Where an expression stands, and what may not stand in it.
@@ -25,9 +28,9 @@ BANS = {
     "bound": {"next", "variable", "parameter"},
     "atom": {"next"},
     "argument": {"next"},
-    "ini own": {"next", "past", "parameter"},
-    "alw own": {"past", "parameter in next"},
-    "alwEv own": {"next", "past"},
+    "ini own": {"next", "past", "parameter", "parameter in bounds"},
+    "alw own": {"past", "parameter in next", "parameter in bounds"},
+    "alwEv own": {"next", "past", "parameter in bounds"},
     "define": set(),
     "predicate": set(),
 }
@@ -59,6 +62,11 @@ def is_wide(kind):
     return kind[0] == "whole" and (kind[1] < -FAR or kind[2] > FAR or kind[2] - kind[1] >= MOST_NUMBERS)
 
 
+def is_outside(kind, array):
+    """Whether a span isn't within the numbers of an array's elements, where both are known."""
+    return array.known and kind[0] == "whole" and (kind[1] < 0 or kind[2] >= len(array.elements))
+
+
 def given(form, a, b):
     """The kind that an operator gives, whatever it is given."""
     if form not in ARITHMETIC:
@@ -88,8 +96,10 @@ class Judge:
             return ("whole", t.says, t.says)
         if form == "enum":
             return ("name", t.says)
-        if form == "variable":
-            return self.variable(t.says)
+        if form in ("variable", "index"):
+            return self.variable(t.says if form == "variable" else t.says.elements[0])
+        if form == "bound":
+            return SOME
         if form == "define":
             return self.define(t.says)
         if form in ("hole", "misused"):
@@ -119,9 +129,14 @@ class Judge:
         return found
 
     def walk(self, t, bans, inside, around, found):
-        """The faults inside an expression; `around` has the `next` and the past operators that are open, outermost first."""
+        """The faults inside an expression; `around` has what is open, outermost first: each `next`, past operator, and quantifier
+        in whose bounds this stands."""
         form, at = t.form, t.at
+        if form in QUANTIFIERS:
+            self.quantifier(t, bans, inside, around, found)
+            return
         reads = (form, t.says) if form != "misused" else t.says[1] or ("", None)
+        reads = ("variable", t.says.elements[0]) if form == "index" else reads
         if reads[0] in ("variable", "parameter", "own"):
             self.read(t, reads, bans, around, found)
         if form == "misused":
@@ -137,10 +152,26 @@ class Judge:
         if form == "mod" and t.says <= 0:
             found.append((t.places[0], WIDE))
 
+    def quantifier(self, t, bans, inside, around, found):
+        """The faults of a quantifier: of its bounds, of its range, and of its copies, or of its body alone."""
+        in_bounds = (*around, Item(form="bounds", at=t.at, brought=t.brought))
+        for bound in t.operands[:2]:
+            self.walk(bound, bans, inside, in_bounds, found)
+            self.want(is_whole(self.kind(bound, inside)), bound.first, found)
+        for copy in t.operands[2:]:
+            self.walk(copy, bans, inside, around, found)
+            self.want(is_truth(self.kind(copy, inside)), copy.first, found)
+        if t.says.extent == "wrong":
+            found.append((t.at, WIDE))
+
     def operands(self, t, kinds, found):
         """The operands or arguments of the wrong kind."""
         form = t.form
-        if form == "predicate":
+        if form == "index":
+            self.want(is_whole(kinds[0]), t.operands[0].first, found)
+            if is_outside(kinds[0], t.says):
+                found.append((t.at, OUTSIDE))
+        elif form == "predicate":
             for operand, kind, wanted in zip(t.operands, kinds, self.wanted(t.says)):
                 self.want(fits(wanted, kind), operand.first, found)
         elif form in ("&", "|"):
@@ -167,6 +198,8 @@ class Judge:
         if system and "system" in bans:
             found.append((t.at, IN_INITIAL))
         for outer in around:
+            if outer.form == "bounds" and (reads[0] != "parameter" or "parameter in bounds" in bans):
+                found.append((outer.at if outer.brought else t.at, WRONG))
             if outer.form != "next":
                 continue
             where = outer.at if outer.brought or not t.brought else t.at
@@ -183,5 +216,8 @@ class Judge:
         if t.form != "next" and "past" in bans:
             found.append((t.at, WRONG))
         for outer in around:
-            if "next" in (t.form, outer.form):
+            if outer.form == "bounds":
+                if t.form == "next":
+                    found.append((outer.at if outer.brought else t.at, NEXT_HERE))
+            elif "next" in (t.form, outer.form):
                 found.append((outer.at if outer.brought else t.at, NESTED))

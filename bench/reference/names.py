@@ -1,14 +1,15 @@
 """What several files declare and say, each name by what it stands for, and every fault of names.
 
-A fault is a place and a number. What a name stands for is a form and a thing: a variable, an enum name, a define, a predicate,
-or in a predicate or pattern a parameter, or an own variable.
+A fault is a place and a number. What a name stands for is a form and a thing: a variable, an array, an enum name, a define, a
+predicate, the variable of a quantifier, or in a predicate or pattern a parameter, or an own variable.
 """
 from types import SimpleNamespace as Item
 
 from .trees import Tree
 
 FAR = 10**12
-UNKNOWN, TWICE, WRONG, ARITY, IMPORTED, TOO_MANY = 7, 8, 9, 16, 17, 18
+UNKNOWN, TWICE, WRONG, ARITY, IMPORTED, TOO_MANY, WIDE_ARRAY = 7, 8, 9, 16, 17, 18, 26
+MOST_ELEMENTS = 256
 LIMITS = {"variables": 1024, "lines": 4096, "enum names": 65_535, "imports": 64}
 
 
@@ -24,6 +25,18 @@ def twice(names):
 
 def enum_names(kind):
     return kind.names if kind.form == "names" else []
+
+
+def has_elements(item):
+    """Whether a declared variable is an array of a right length."""
+    return item.length is not None and 0 < item.length.count <= MOST_ELEMENTS
+
+
+def variables_of(item):
+    """How many variables an item declares: an array of a wrong length is one."""
+    if item.kind == "variable" and has_elements(item):
+        return item.length.count
+    return int(item.kind in ("variable", "monitor"))
 
 
 def types_of(item):
@@ -71,7 +84,7 @@ class Declared:
         counts, told = {"variables": 0, "lines": 0, "enum names": 0}, set()
         for item in items:
             self.enum_names |= {name.text for kind in types_of(item) for name in enum_names(kind)}
-            counts["variables"] += item.kind in ("variable", "monitor")
+            counts["variables"] += variables_of(item)
             counts["lines"] += {"line": 1, "monitor": len(getattr(item, "parts", ()))}.get(item.kind, 0)
             counts["enum names"] = len(self.enum_names)
             for what, count in counts.items():
@@ -89,7 +102,14 @@ class Declared:
         for kind in types_of(item):
             for name in enum_names(kind):
                 self.value(name, ("enum", name.text))
-        if item.kind in ("variable", "monitor"):
+        if item.kind == "variable" and item.length is not None:
+            known = has_elements(item)
+            names = [Item(text=f"{item.name.text}[{k}]", at=item.name.at) for k in range(variables_of(item))]
+            item.means = Item(elements=[Item(name=name, owner=item.owner) for name in names], known=known)
+            self.value(item.name, ("array", item.means))
+            if not known:
+                self.fault(item.length.at, WIDE_ARRAY)
+        elif item.kind in ("variable", "monitor"):
             owner = "sys" if item.kind == "monitor" else item.owner
             item.means = Item(name=item.name, owner=owner)
             self.value(item.name, ("variable", item.means))
@@ -120,8 +140,10 @@ class Declared:
 
     def look_into(self, item):
         if item.kind in ("variable", "monitor"):
-            item.means.domain = self.type(item.domain, self.values.get)
-            self.variables.append(item.means)
+            domain, elements = self.type(item.domain, self.values.get), getattr(item.means, "elements", [item.means])
+            for element in elements:
+                element.domain = domain
+            self.variables += elements
         if item.kind == "monitor":
             for part in item.parts:
                 says = self.tree(part.says, self.values.get)
@@ -225,22 +247,34 @@ class Declared:
         """The tree with each name by what it stands for. A misused name has the kind of its hole, what it reads, and its fault."""
         if t.form == "number":
             return Tree("number", t.first, t.at, says=max(-FAR - 1, min(FAR + 1, t.says)))
-        if t.form not in ("name", "call"):
+        if t.form in ("forall", "exists"):
+            return self.quantified(t, look)
+        if t.form not in ("name", "call", "index"):
             return Tree(t.form, t.first, t.at, [self.tree(o, look) for o in t.operands], t.says, t.places)
         meaning = look(t.says)
         operands = [self.tree(o, look) for o in t.operands]
         number, hole = self.misuse(t, meaning)
         if number:
             self.fault(t.at, number)
+            if meaning and meaning[0] == "array":
+                meaning = ("variable", meaning[1].elements[0])
             return Tree("misused", t.first, t.at, operands, (hole, meaning, number))
-        return Tree(meaning[0], t.first, t.at, operands, meaning[1])
+        return Tree(t.form if t.form == "index" else meaning[0], t.first, t.at, operands, meaning[1])
+
+    def quantified(self, t, look):
+        """A quantifier that isn't written out yet. Its variable hides what is outside, in its body alone."""
+        variable = Item(name=t.says)
+        inside = lambda text: ("bound", variable) if text == t.says.text else look(text)
+        low, high, body = t.operands
+        operands = [self.tree(low, look), self.tree(high, look), self.tree(body, inside)]
+        return Tree(t.form, t.first, t.at, operands, Item(variable=variable, extent="open"))
 
     @staticmethod
     def misuse(t, meaning):
         """The number of the fault of a name where it stands, and the kind of its hole."""
         if meaning is None:
             return UNKNOWN, "anything"
-        if (t.form == "call") != (meaning[0] == "predicate"):
+        if (t.form == "call") != (meaning[0] == "predicate") or (t.form == "index") != (meaning[0] == "array"):
             return WRONG, "anything"
         if t.form == "call" and meaning[1].arity != len(t.operands):
             return ARITY, "truth"

@@ -1,13 +1,16 @@
 """Expressions with everything put in, and what is known of a text's types and definitions for that."""
-from .kinds import ANYTHING, BANS, MOST_NUMBERS, PAST, TRUTH, Judge, fits
+from types import SimpleNamespace as Item
+
+from .copies import NoRoom, Writer, write_text
+from .kinds import ANYTHING, ARITHMETIC, BANS, MOST_NUMBERS, PAST, QUANTIFIERS, TRUTH, Judge, fits
 from .names import FAR
 from .trees import Tree
 
-MOST_NODES, MOST_LEVELS, MOST_STEPS = 1_000_000, 512, 3_000_000
+MOST_PUT, MOST_LEVELS, MOST_STEPS = 2_000_000, 512, 3_000_000
 
 
 class TooLarge(Exception):
-    """An expression with more nodes than a whole text may have."""
+    """An expression that is too large or too deep with everything put in."""
 
 
 def uses(t):
@@ -38,6 +41,7 @@ class Facts:
         following = lambda d: used[id(d)]
         self.cyclic = [d for d in declared.definitions if any(d is e for e in reached(following(d), following))]
         self.steps = 0
+        write_text(declared, self.number)
 
     def once(self, what, thing, make):
         key = (what, id(thing))
@@ -130,6 +134,11 @@ class Facts:
             return Tree("hole", t.first, t.at, says=t.says[0])
         if t.form in ("next", *PAST):
             around = (*around, t)
+        if t.form in QUANTIFIERS:
+            in_bounds = (*around, Item(form="bounds", at=t.at, brought=t.brought))
+            operands = [self.holed(bound, stand, inside, in_bounds) for bound in t.operands[:2]]
+            operands += [self.holed(copy, stand, inside, around) for copy in t.operands[2:]]
+            return Tree(t.form, t.first, t.at, operands, t.says)
         wanted = self.parameter_kinds(t.says) if t.form == "predicate" else [None] * len(t.operands)
         operands = []
         for operand, kind in zip(t.operands, wanted):
@@ -151,9 +160,13 @@ class Facts:
     # ---- put in
 
     def put_in(self, t):
-        """A holed expression with all bodies put in; each node has the numbers of nodes and levels from it down."""
+        """A holed expression with all bodies put in, and quantifiers written out whose bounds have numbers then."""
         self.steps = 0
-        return self.put(t, None, None)
+        made = self.put(t, None, None)
+        try:
+            return Writer(self.number, MOST_PUT).written(made)
+        except NoRoom:
+            raise TooLarge from None
 
     def put(self, t, given, name):
         """With arguments for parameters, where a name brings this part, or with none where it is the text's own."""
@@ -189,8 +202,12 @@ def is_range(low, high):
 
 
 def sized(t):
+    """Counts what is put in. Sums, differences and products in a row are one level."""
     t.nodes = 1 + sum(operand.nodes for operand in t.operands)
-    t.levels = 1 + max((operand.levels for operand in t.operands), default=0)
-    if t.nodes > MOST_NODES:
+    levels = [operand.levels for operand in t.operands]
+    if t.form in ARITHMETIC and t.operands[0].form in ARITHMETIC:
+        levels[0] -= 1
+    t.levels = 1 + max(levels, default=0)
+    if t.nodes > MOST_PUT or t.levels > MOST_LEVELS:
         raise TooLarge
     return t

@@ -2,7 +2,7 @@
 import sys
 
 from .faults import Faults, values_of
-from .formulas import erased, regex_of, value
+from .formulas import regex_of, value
 from .grammar import check
 from .hidden import PatternTable, TriggerTable
 from .names import Declared
@@ -13,6 +13,7 @@ WORDS = {
     1: "NotUtf8", 2: "BadCharacter", 3: "TooLong", 4: "Unexpected", 5: "TooDeep", 6: "Parentheses", 7: "Unknown", 8: "Twice",
     9: "WrongType", 10: "NextHere", 11: "NextNested", 12: "NextOfSystem", 13: "SystemInInitial", 14: "WideInt", 15: "Cycle",
     16: "Arity", 17: "ImportedLine", 18: "TooMany", 19: "TooLarge", 20: "PatternOpen", 21: "PatternWide", 22: "TriggerWide",
+    25: "OutOfBounds", 26: "WideArray",
 }  # fmt: skip
 sys.setrecursionlimit(400_000)
 sys.set_int_max_str_digits(0)
@@ -85,7 +86,7 @@ class SpecPattern:
 
     def __init__(self, pattern, kinds):
         self.arity, self.domains = pattern.arity, [values_of(kind) for kind in kinds]
-        says = {time: [erased(line.says) for line in pattern.lines if line.time == time] for time in ("ini", "alw", "alwEv")}
+        says = {time: [line.formula for line in pattern.lines if line.time == time] for time in ("ini", "alw", "alwEv")}
         self.first, self.step, self.goals = says["ini"], says["alw"], says["alwEv"]
 
 

@@ -6,7 +6,7 @@ SIGNS = "<-> |=> -> := .. != <= >= < > = ! & | + - * ? : ; , ( ) [ ] { }".split(
 RESERVED = set(
     "spec module import env sys aux boolean Int type define predicate pattern var monitor asm assumption gar guarantee "
     "ini initially alw always G trans alwEv alwaysEventually GF trig next true false not and or implies iff mod "
-    "PREV Y ONCE O HISTORICALLY H SINCE S TRIGGERED T".split()
+    "PREV Y ONCE O HISTORICALLY H SINCE S TRIGGERED T forall exists in".split()
 )
 
 # A token: "word", "name", "number", "text", "sign" or "end", its characters, and its line and column.

@@ -17,8 +17,9 @@ COMPARED = ("=", "!=", "<", "<=", ">", ">=")
 class Tree:
     """An expression: its form, the places of its first token and of itself, its operands, and what else its form has.
 
-    The form is `truth`, `number`, `name`, `call`, `next`, `mod` or an operator. `places` are those of the operators of a
-    conjunction or disjunction, or that of a remainder's number.
+    The form is `truth`, `number`, `name`, `call`, `index`, `next`, `mod`, `forall`, `exists` or an operator. `places` are those
+    of the operators of a conjunction or disjunction, or that of a remainder's number. The operands of a quantifier are its
+    bounds and its body.
     """
 
     def __init__(self, form, first, at, operands=(), says=None, places=()):
@@ -80,9 +81,19 @@ class Reader:
         return read[word](at) if word in read else self.variable(at, "env" if word == "env" else "sys")
 
     def variable(self, at, owner):
-        domain, name = self.type(), self.name()
+        domain, length = self.type(), self.length()
+        name = self.name()
         self.at += 1
-        return Item(kind="variable", at=at, owner=owner, domain=domain, name=name)
+        return Item(kind="variable", at=at, owner=owner, domain=domain, length=length, name=name)
+
+    def length(self):
+        """How many elements an array is to have, with the place of the bracket; None for what is no array."""
+        at = self.place()
+        if not self.accept("["):
+            return None
+        count = int(self.take())
+        self.at += 1
+        return Item(at=at, count=count)
 
     def alias(self, at):
         name = self.name()
@@ -219,12 +230,23 @@ class Reader:
     # ---- expressions
 
     def expression(self):
+        if self.peek() in ("forall", "exists"):
+            return self.quantified()
         left = self.disjunction()
         if self.peek() in ("->", "<->"):
             return self.binary(left, self.disjunction)
         if self.peek() in ("SINCE", "TRIGGERED"):
             return self.binary(left, self.primary)
         return left
+
+    def quantified(self):
+        at, word, name = self.place(), self.take(), self.name()
+        self.at += 1
+        low = self.sum()
+        self.at += 1
+        high = self.sum()
+        self.at += 1
+        return Tree(word, at, at, [low, high, self.expression()], name)
 
     def binary(self, left, operand):
         at, word = self.place(), self.take()
@@ -291,4 +313,8 @@ class Reader:
             return Tree("truth", first, first, says=word == "true")
         if self.peek() == "(":
             return Tree("call", first, first, self.arguments(), word)
+        if self.accept("["):
+            inner = self.sum()
+            self.at += 1
+            return Tree("index", first, first, [inner], word)
         return Tree("name", first, first, says=word)

@@ -12,9 +12,11 @@ from pathlib import Path
 
 from exported import TOP, Disk, Text, written  # noqa: I001  (puts bench/ and tools/ on the path)
 from reference.talks import answer
-from reorder import Source, Unfit, Text as Declared, check, told
+from reorder import Source, Unfit, Text as Declared, check, declared, told
 
 FEW = ("bus-joined", "fleet", "trapped")
+# so many variables `order` puts in order
+MOST = 32
 
 
 class Beside(Disk):
@@ -53,7 +55,7 @@ def wrong_orders(file, some):
             yield f"{' '.join(names)}: {why}"
             continue
         after = Text(file, Beside(file, moved))
-        if said(after) != said(before) or [name for name, _, _ in after.variables] != names:
+        if said(after) != said(before) or declared(name for name, _, _ in after.variables) != names:
             yield f"{' '.join(names)}: it says something else"
         if sorted("".join(moved.split())) != sorted("".join(text.text.split())):
             yield f"{' '.join(names)}: some signs are lost or new"
@@ -64,16 +66,34 @@ def ordered(program, file):
     return written(program, "order", file) if program else answer("order", Text(file, Disk()), [])[0]
 
 
+def unrefused(text, names):
+    """What is otherwise where an order is told in which monitors change places: it is refused."""
+    try:
+        text.in_order(names)
+        yield f"{' '.join(names)}: monitors change places"
+    except Unfit:
+        pass
+
+
 def wrong_told(program, file, folder):
     """What is otherwise where an example is put in the order that is told."""
     rows = ordered(program, file)
+    if len(Text(file, Disk()).variables) > MOST:
+        if rows != ["size limit reached"]:
+            yield f"{rows} is told of more than {MOST} variables"
+        return
     names = told(rows)
     if names is None:
+        return
+    text = Declared(Source(file))
+    monitors = [block.name for block in text.blocks if block.is_monitor]
+    if [name for name in names if name in monitors] != monitors:
+        yield from unrefused(text, names)
         return
     # (beside the files that it imports)
     beside = shutil.copytree(Path(file).parent, Path(folder) / Path(file).stem)
     better = beside / "better.spectra"
-    better.write_text(Declared(Source(file)).in_order(names))
+    better.write_text(text.in_order(names))
     if ordered(program, str(better)) != [rows[2], "no better order"]:
         yield f"in the order that is told it isn't {rows[2]}"
 

@@ -2,7 +2,8 @@
 //!
 //! An answer is the number of a node, under the number of an operation and those of three nodes. The table has a
 //! bounded number of cells, and a later answer may take an earlier one's cell: so a look-up is one step, and a miss
-//! means nothing (Brace, Rudell and Bryant 1990, the memory function of a diagram package).
+//! means nothing (Brace, Rudell and Bryant 1990, the memory function of a diagram package). Beside the cells stands the last
+//! answer that fits into none.
 //!
 //! Contract: an answer that `Answers::get` finds was put under that key and nothing has removed it;
 //! `Answers::keep_only` leaves exactly the answers whose nodes are all live. Path: nodes → **answers** → operations.
@@ -10,6 +11,7 @@
 
 mod answer;
 mod answers;
+mod cell;
 
 pub use answer::Answer;
 pub use answers::Answers;

@@ -5,7 +5,7 @@ use Rattle.bdd_store.specs.declared.edge.Edge.{Edge}
 use Rattle.bdd_store.specs.declared.fault.StoreFault.{StoreFault}
 use Rattle.bdd_ops.specs.Functions.{joined, join_of, split}
 use Rattle.bdd_ops.specs.Contents.{Contents}
-use Rattle.bdd_ops.specs.Steps.{IsChoice, IsChoiceOfParts, HasFunction, IsJoinOfParts, IsSplit}
+use Rattle.bdd_ops.specs.Steps.{IsChoice, IsChoiceOfParts, HasFunction, IsSplit}
 use Rattle.bdd_ops.specs.Calls.{IsNegatedPart, negated}
 
 if_and : (a b : Bool) → (if a then b else false) ≡ (a && b)
@@ -38,30 +38,6 @@ negated_parts a b c d never always made =
       x = made.x;
       x_part = made.x_part;
       is_negated = made.is_choice ∙ ite-not (value made.x) (value made.y) (value made.z) (ap value low) (ap value high);
-    }
-
--- a choice with false is a conjunction
-pub both_parts : (a b c d : Diagram) → c ≡ constant false → IsChoiceOfParts a b c d → IsJoinOfParts (join_of true) a b d
-both_parts a b c d never made =
-    let part : IsPartOf made.z (constant false) = subst (λ (x : Diagram). IsPartOf made.z x) never made.z_part in
-    record {
-      x = made.x;
-      y = made.y;
-      x_part = made.x_part;
-      y_part = made.y_part;
-      is_join = made.is_choice ∙ ite-and (value made.x) (value made.y) (value made.z) (ap value part);
-    }
-
--- and one with true a disjunction
-pub either_parts : (a b c d : Diagram) → b ≡ constant true → IsChoiceOfParts a b c d → IsJoinOfParts (join_of false) a c d
-either_parts a b c d always made =
-    let part : IsPartOf made.y (constant true) = subst (λ (x : Diagram). IsPartOf made.y x) always made.y_part in
-    record {
-      x = made.x;
-      y = made.z;
-      x_part = made.x_part;
-      y_part = made.z_part;
-      is_join = made.is_choice ∙ ite-or (value made.x) (value made.y) (value made.z) (ap value part);
     }
 
 -- a choice has the function that it is equal to

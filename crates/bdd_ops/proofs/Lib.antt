@@ -10,6 +10,7 @@ pub mod OverLemmas
 pub mod QuestionLemmas
 pub mod QuantifiedLemmas
 pub mod RelatedLemmas
+pub mod JoiningLemmas
 pub mod CallLemmas
 pub mod ListLemmas
 pub mod ListCallLemmas

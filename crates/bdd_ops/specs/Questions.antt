@@ -11,7 +11,7 @@ use Rattle.bdd_ops.specs.declared.frames.Turn.{Turn}
 use Rattle.bdd_ops.specs.declared.frames.Turn.TheVariants.{Ask, Given}
 use Rattle.bdd_ops.specs.Functions.{joined, joined_over, join_of}
 use Rattle.bdd_ops.specs.Contents.{Contents, function_at, list_at}
-use Rattle.bdd_ops.specs.Steps.{IsSplitAt, HasFunction, level_at, IsUnfinished, IsQuantifiedPart, IsRelatedPart}
+use Rattle.bdd_ops.specs.Steps.{IsSplitAt, HasFunction, level_at, IsUnfinished, IsQuantifiedPart, IsRelatedPart, IsJoinOfParts}
 use Rattle.bdd_ops.specs.Frames.{Leads}
 
 -- an operation on diagrams as they are: the first level that a question looks at, which questions are live, the two parts at a level, and which nodes are answers
@@ -138,4 +138,23 @@ relating list c = record {
   IsLive = λ asked. AreBothLive c asked;
   Splits = λ level asked low high. SplitsBoth c level asked low high;
   Answers = λ asked n. HasFunction c (related_at c list asked.a.0 asked.b.0) n;
+}
+
+-- ---- `and` and `or`
+
+-- two nodes' functions, joined
+abbrev pub joined_of : Bool → Contents → ℕ → ℕ → Function
+joined_of all c a b = joined (join_of all) (function_at c a) (function_at c b)
+
+-- what joining two nodes may make
+abbrev pub MayJoin : Bool → Contents → ℕ → ℕ → Diagram → Type 0
+MayJoin all c a b = IsJoinOfParts (join_of all) (diagram_of c.state a) (diagram_of c.state b)
+
+abbrev pub joining : Bool → Contents → Operation Pair
+joining all c = record {
+  levels = c.state.table.levels;
+  first = λ asked. min (level_at c asked.a.0) (level_at c asked.b.0);
+  IsLive = λ asked. AreBothLive c asked;
+  Splits = λ level asked low high. SplitsBoth c level asked low high;
+  Answers = λ asked n. HasFunction c (joined_of all c asked.a.0 asked.b.0) n;
 }

@@ -27,6 +27,8 @@ pub struct Diagrams {
     pub(crate) edges: Vec<Frame<Edge>>,
     /// The same, of operations on two.
     pub(crate) pairs: Vec<Frame<Pair>>,
+    /// The same, of `and` and `or`, which other operations ask while theirs wait.
+    pub(crate) joins: Vec<Frame<Pair>>,
 }
 
 impl Model for Diagrams {
@@ -51,6 +53,7 @@ impl Diagrams {
             choices: Vec::new(alloc),
             edges: Vec::new(alloc),
             pairs: Vec::new(alloc),
+            joins: Vec::new(alloc),
         })
     }
 

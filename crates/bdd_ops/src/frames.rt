@@ -161,4 +161,22 @@ impl Diagrams {
     {
         self.pairs = frames;
     }
+
+    /// The memory for frames of `and` and `or`, with no frame in it.
+    pub(crate) fn take_joins(&mut self) -> Vec<Frame<Pair>>
+        ensures same { self.new ≡ self.old }
+        ensures none { result.items ≡ [] }
+    {
+        let none = Vec::new(self.alloc);
+        let mut frames = mem::replace(&mut self.joins, none);
+        frames.clear();
+        frames
+    }
+
+    /// Keeps that memory for the next of them.
+    pub(crate) fn put_joins(&mut self, frames: Vec<Frame<Pair>>)
+        ensures { self.new ≡ self.old }
+    {
+        self.joins = frames;
+    }
 }

@@ -11,6 +11,7 @@
 //! Path: store → **operations** → formulas, regions.
 #![tactic(auto)]
 
+mod bits;
 mod calls;
 mod choice;
 mod common_paths;

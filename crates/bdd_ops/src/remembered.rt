@@ -6,6 +6,7 @@ ghost use Rattle.bdd_store.specs.State.{IsEdge};
 ghost use Rattle.bdd_ops.specs.Functions.{joined, joined_over, join_of};
 ghost use Rattle.bdd_ops.specs.Contents.{function_at, list_at, over_op};
 ghost use Rattle.bdd_ops.specs.Steps.{IsChoice, SameNodes, HasFunction};
+ghost use Rattle.bdd_ops.specs.Questions.{joined_of};
 
 use crate::diagrams::Diagrams;
 use bdd_store::Edge;
@@ -42,6 +43,35 @@ impl Diagrams {
         ensures { SameNodes self.old self.new }
     {
         self.store.remember(CHOICE, a, b, c, r);
+    }
+
+    /// The answer to `and` where `all` holds, and else to `or`, if one was remembered: both are choices.
+    pub(crate) fn recall_joined(&self, all: bool, a: Edge, b: Edge) -> Option<Edge>
+        requires a_live { IsEdge self.now.state a.0 }
+        requires b_live { IsEdge self.now.state b.0 }
+        ensures { IfSome result (λ e. HasFunction self.now (joined_of all self.now a.0 b.0) e.0) }
+    {
+        let decides = self.constant_edge(!all);
+        if all {
+            self.recall_choice(a, b, decides)
+        } else {
+            self.recall_choice(a, decides, b)
+        }
+    }
+
+    /// Remembers the answer to `and` or `or`.
+    pub(crate) fn remember_joined(&mut self, all: bool, a: Edge, b: Edge, r: Edge)
+        requires a_live { IsEdge self.old.state a.0 }
+        requires b_live { IsEdge self.old.state b.0 }
+        requires joined { HasFunction self.old (joined_of all self.old a.0 b.0) r.0 }
+        ensures { SameNodes self.old self.new }
+    {
+        let decides = self.constant_edge(!all);
+        if all {
+            self.remember_choice(a, b, decides, r);
+        } else {
+            self.remember_choice(a, decides, b, r);
+        }
     }
 
     /// The answer to "some" or "all" over a list, if one was remembered.

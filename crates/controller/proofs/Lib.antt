@@ -13,3 +13,4 @@ pub mod Makings
 mod Begun
 pub mod Serving
 pub mod Spotting
+pub mod Remembering

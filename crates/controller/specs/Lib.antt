@@ -2,6 +2,7 @@ pub mod Aims
 pub mod Turns
 pub mod Places
 pub mod Settled
+pub mod Replies
 pub mod Owned
 pub mod Made
 pub mod Objects

@@ -23,6 +23,7 @@ use Rattle.controller.specs.Made.{made_meanings}
 use Rattle.controller.specs.Places.{IsAt}
 use Rattle.strategy_parts.specs.Positions.{IsWholeBefore}
 use Rattle.controller.specs.Turns.{HaveParts}
+use Rattle.controller.specs.Replies.{AreRepliesOf, HasRoomFor}
 
 module _ {G R M : Type 0} where
   -- each layer of each goal has so many parts
@@ -85,6 +86,8 @@ module _ {G R M : Type 0} where
       pub owned : HasAll (kept c.g) (items_of c)
       pub few : 1 + sum (ranks_of c.layers.items) ≤ 18446744073709551615
       pub judge : IsJudgeOf (game_of c) c.judge
+      pub replies : AreRepliesOf (game_of c) l c.replies
+      pub room : HasRoomFor (game_of c) c.replies
 
     abbrev pub Stands : Controller G R M → Type 0
     Stands c = (z : StateSet) × (l : LayerSets) × (h : Run) × (b : Before) × (m : Memory) × StandsFor c z l h b m

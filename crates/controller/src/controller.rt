@@ -14,7 +14,8 @@ ghost use Rattle.gr1_law.specs.Layers.{LayerSets};
 ghost use Rattle.gr1_law.specs.Choice.{Memory, first_memory};
 ghost use Rattle.controller.specs.Made.{AreLayersOf, IsRefused};
 ghost use Rattle.strategy_parts.specs.Counts.{HasFewGoals, value_count};
-ghost use Rattle.controller.specs.Places.{IsAt};
+ghost use Rattle.controller.specs.Places.{IsAt, memory_at};
+ghost use Rattle.controller.specs.Replies.{IsWithoutReplies, IsToldTurn, noted_data};
 ghost use Rattle.controller.specs.Spots.{EndsAt, CanGo, BeginsAgain};
 ghost use Rattle.controller.specs.Objects.{IsFresh, IsStarted, game_of, StandsFor, Stands, InEachPlay, Begins, GoesOn, HoldsTheSame, GivesBack};
 
@@ -22,6 +23,7 @@ use crate::aims::Aim;
 use crate::choosing::least_rank;
 use crate::equipping::equip;
 use crate::remembered::Remembered;
+use crate::replies::{Noted, Replies};
 use crate::settling::new_index;
 use crate::spending::spend_made;
 use crate::spot::Spot;
@@ -31,6 +33,7 @@ use gr1_sys::{SysLayer, SysLayers};
 use regions::{Halt, MakeRefusal, Regions};
 use spec_model::game::{Game, Label};
 use spec_model::value::Value;
+use spec_model::variables::{count_inputs, count_outputs};
 use std::alloc::{AllocError, Global};
 
 /// A play of the system's strategy. It must be closed.
@@ -47,16 +50,33 @@ pub struct Controller<G: Regions> {
     holds: Vec<G::R>,
     place: Remembered,
     judge: InputJudge,
+    /// What was chosen after earlier states, so that it needn't be looked for again.
+    replies: Replies,
 }
 
-/// Before the first position, and a judge of the inputs. `AllocError`: no memory was given.
-fn prepared(alloc: Global, game: &Game) -> Result<(Remembered, InputJudge), AllocError>
+/// Room for replies, and none of them.
+fn no_replies(alloc: Global, game: &Game) -> Result<Replies, AllocError>
+    ensures { IfOk result (IsWithoutReplies (game_data game.now)) }
+{
+    let inputs = count_inputs(&game.vars);
+    let outputs = count_outputs(&game.vars);
+    Replies::make(
+        alloc,
+        game.hidden.len() + (inputs + outputs),
+        inputs,
+        outputs,
+    )
+}
+
+/// Before the first position, a judge of the inputs, and no reply. `AllocError`: no memory was given.
+fn prepared(alloc: Global, game: &Game) -> Result<(Remembered, InputJudge, Replies), AllocError>
     requires { WellMade (game_data game.now) }
-    ensures { IfOk result (λ p. IsAt (game_data game.now) p.0 None first_memory × IsJudgeOf (game_data game.now) p.1) }
+    ensures { IfOk result (λ p. IsAt (game_data game.now) p.0 None first_memory × IsJudgeOf (game_data game.now) p.1 × IsWithoutReplies (game_data game.now) p.2) }
 {
     let place = Remembered::make(alloc, game)?;
     let judge = InputJudge::make(alloc, game)?;
-    Ok((place, judge))
+    let replies = no_replies(alloc, game)?;
+    Ok((place, judge, replies))
 }
 
 /// The moves of one goal.
@@ -79,7 +99,7 @@ impl<G: Regions> Controller<G> {
         ensures refused { (l : LayerSets) → AreLayersOf (G.kept g) layers.z layers.goals.items l → IfErr result (λ r. IsRefused (G.kept g) (G.kept r.g) layers.z layers.goals.items r.halt) }
     {
         let mut g = g;
-        let Ok((place, judge)) = prepared(alloc, g.game()) else {
+        let Ok((place, judge, replies)) = prepared(alloc, g.game()) else {
             layers.spend_all(&mut g);
             return Err(MakeRefusal {
                 halt: Halt::Memory,
@@ -98,6 +118,7 @@ impl<G: Regions> Controller<G> {
                     holds,
                     place,
                     judge,
+                    replies,
                 })
             }
             Err(halt) => {
@@ -149,8 +170,8 @@ impl<G: Regions> Controller<G> {
         self.place.remember(0, rank + 1, index);
     }
 
-    /// Writes the output that is chosen after the last position.
-    pub fn step(&mut self, input: &[Value], out: &mut [Value])
+    /// Looks for the output that is chosen after the last position, and writes it.
+    fn look_for(&mut self, input: &[Value], out: &mut [Value])
         requires stands { Stands G.kept self.old }
         requires started { IsStarted self.old }
         requires input { IsTrue (is_input (game_of G.kept self.old) input.now) }
@@ -158,6 +179,7 @@ impl<G: Regions> Controller<G> {
         requires room { length out.old ≡ output_count (game_of G.kept self.old) }
         ensures chosen { InEachPlay G.kept self.old (λ z l h b m. (next : Memory) × GoesOn G.kept self.old self.new z l h b m input.now out.new next) }
         ensures keeps { HoldsTheSame G.kept self.old self.new }
+        ensures replies { self.new.replies ≡ self.old.replies }
     {
         let last_goal = self.place.goal;
         let last_rank = self.place.rank;
@@ -176,6 +198,53 @@ impl<G: Regions> Controller<G> {
         self.place.go_on(self.g.game(), input, out);
         let index = new_index(&mut self.g, &self.layers, &self.place, goal, rank, waits);
         self.place.remember(goal, rank + 1, index);
+    }
+
+    /// Goes on by an output that is known, and remembers what is remembered then.
+    fn repeat(&mut self, after: Noted, input: &[Value], out: &[Value])
+        requires stands { Stands G.kept self.old }
+        requires started { IsStarted self.old }
+        requires input { IsTrue (is_input (game_of G.kept self.old) input.now) }
+        requires legal { InEachPlay G.kept self.old (λ z l h b m. IsTrue (legal_input (game_of G.kept self.old) b input.now)) }
+        requires told { InEachPlay G.kept self.old (λ z l h b m. IsToldTurn (game_of G.kept self.old) l b m input.now out.now (noted_data after)) }
+        ensures chosen { InEachPlay G.kept self.old (λ z l h b m. (next : Memory) × GoesOn G.kept self.old self.new z l h b m input.now out.now next) }
+        ensures keeps { HoldsTheSame G.kept self.old self.new }
+    {
+        self.place.go_on(self.g.game(), input, out);
+        self.place.remember(after.goal, after.rank, after.index);
+    }
+
+    /// Looks for the output that is chosen after the last position, writes it, and keeps it as a reply.
+    fn look_and_keep(&mut self, before: Noted, input: &[Value], out: &mut [Value])
+        requires stands { Stands G.kept self.old }
+        requires started { IsStarted self.old }
+        requires input { IsTrue (is_input (game_of G.kept self.old) input.now) }
+        requires legal { InEachPlay G.kept self.old (λ z l h b m. IsTrue (legal_input (game_of G.kept self.old) b input.now)) }
+        requires room { length out.old ≡ output_count (game_of G.kept self.old) }
+        requires before { noted_data before ≡ memory_at self.old.place }
+        ensures chosen { InEachPlay G.kept self.old (λ z l h b m. (next : Memory) × GoesOn G.kept self.old self.new z l h b m input.now out.new next) }
+        ensures keeps { HoldsTheSame G.kept self.old self.new }
+    {
+        self.replies.note(self.place.values());
+        self.look_for(input, out);
+        self.replies.keep(before, self.place.noted(), input, out);
+    }
+
+    /// Writes the output that is chosen after the last position.
+    pub fn step(&mut self, input: &[Value], out: &mut [Value])
+        requires stands { Stands G.kept self.old }
+        requires started { IsStarted self.old }
+        requires input { IsTrue (is_input (game_of G.kept self.old) input.now) }
+        requires legal { InEachPlay G.kept self.old (λ z l h b m. IsTrue (legal_input (game_of G.kept self.old) b input.now)) }
+        requires room { length out.old ≡ output_count (game_of G.kept self.old) }
+        ensures chosen { InEachPlay G.kept self.old (λ z l h b m. (next : Memory) × GoesOn G.kept self.old self.new z l h b m input.now out.new next) }
+        ensures keeps { HoldsTheSame G.kept self.old self.new }
+    {
+        let before = self.place.noted();
+        match self.replies.recall(before, self.place.values(), input, out) {
+            Some(after) => self.repeat(after, input, out),
+            None => self.look_and_keep(before, input, out),
+        }
     }
 
     /// Writes the state of the last position, the hidden values first, and gives its spot. It takes no memory.
@@ -223,6 +292,7 @@ impl<G: Regions> Controller<G> {
             holds,
             place: _place,
             judge: _judge,
+            replies: _replies,
         } = self;
         SysLayers { z, goals: layers }.spend_all(&mut g);
         spend_made(&mut g, first, goals, holds);

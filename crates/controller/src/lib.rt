@@ -8,7 +8,7 @@
 //! names the first assumption that an input breaks, and `close` spends all that is held. `spot` tells where a play is, by its
 //! last state and what is remembered there, `go` goes to where any such play ends, and `again` to the start. Only
 //! `Controller::make` takes memory: it makes the moves into each layer and each part, so that a position tries moves and reads
-//! regions, and makes none.
+//! regions, and makes none. Replies are remembered, and a state that comes again with its input tries nothing.
 //! Path: layers → **controller** → lines.
 #![tactic(auto)]
 
@@ -18,6 +18,7 @@ mod controller;
 mod equipping;
 mod making;
 mod remembered;
+mod replies;
 mod settling;
 mod spending;
 mod spot;

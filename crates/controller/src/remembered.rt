@@ -8,8 +8,10 @@ ghost use Rattle.spec_model.specs.WellMade.{WellMade};
 ghost use Rattle.gr1_law.specs.Choice.{Memory, first_memory};
 ghost use Rattle.strategy_parts.specs.Positions.{IsClosedAt, values_at};
 ghost use Rattle.controller.specs.Places.{IsAt, memory_at};
+ghost use Rattle.controller.specs.Replies.{noted_data};
 ghost use Rattle.controller.specs.Spots.{spot_at};
 
+use crate::replies::Noted;
 use crate::spot::Spot;
 use spec_model::game::Game;
 use spec_model::value::Value;
@@ -88,6 +90,17 @@ impl Remembered {
             spot.rank as usize,
             spot.index as usize - 1,
         );
+    }
+
+    /// What is remembered.
+    pub fn noted(&self) -> Noted
+        ensures { noted_data result ≡ memory_at self.now }
+    {
+        Noted {
+            goal: self.goal,
+            rank: self.rank,
+            index: self.index,
+        }
     }
 
     /// What is remembered, as a spot.

@@ -18,7 +18,7 @@ use Rattle.counterstrategy.specs.Spots.{spot_at}
 use Rattle.counter_tables.specs.Seats.{SeatData, IsSeatOf}
 use Rattle.counter_tables.specs.Walks.{Ending, IsEnding, IsAtSeat, IsFrom}
 use Rattle.counter_tables.proofs.Meeting.{seat_by_parts}
-use Rattle.counter_tables.proofs.Splitting.{listed_once}
+use Rattle.strategy_parts.proofs.Splitting.{listed_once}
 
 memory : Bool → (layer goal before index : ℕ) → CounterMemory
 memory denying layer goal before index = record { denying = denying; layer = layer; goal = goal; before = before; index = index }

@@ -4,7 +4,6 @@ pub mod Ends
 pub mod Moves
 pub mod Walked
 pub mod Leading
-pub mod Splitting
 pub mod Seating
 pub mod Rowing
 pub mod Tables

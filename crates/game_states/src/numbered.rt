@@ -3,7 +3,7 @@
 ghost use Rattle.std.specs.Prelude.{◌≡◌, ◌<◌, ◌≤◌, ◌+◌, true, Some, None, map, length, option_map, slice_get, IfOk};
 ghost use Rattle.std.proofs.Props.{props};
 ghost use Rattle.spec_model.specs.GameViews.{game_data};
-ghost use Rattle.spec_model.specs.OneSpelling.{IsName-prop};
+ghost use Rattle.spec_model.proofs.OneSpelling.{IsVariableName-prop};
 ghost use Rattle.spec_model.specs.Games.{inputs_of, outputs_of, step_reading};
 ghost use Rattle.spec_model.specs.Moves.{has_next};
 ghost use Rattle.spec_model.specs.Steps.{states_of, waits_for_output, assumptions_hold, guarantees_hold};
@@ -35,7 +35,7 @@ pub struct Numbered {
     /// Which safety assumptions wait for the output, and which safety guarantees read a next value.
     pub waits: Vec<bool>,
     pub nexts: Vec<bool>,
-    pub ghost made: { WellMade (game_data game) } by { Prim.hlevel (props, IsName-prop) },
+    pub ghost made: { WellMade (game_data game) } by { Prim.hlevel (props, IsVariableName-prop) },
     pub ghost hidden_listed: { map (λ c. c.items) hidden.items ≡ hidden_choices (game_data game) },
     pub ghost inputs_listed: { map (λ c. c.items) inputs.items ≡ inputs_of (game_data game) },
     pub ghost outputs_listed: { map (λ c. c.items) outputs.items ≡ outputs_of (game_data game) },

@@ -5,7 +5,7 @@ use Rattle.std.proofs.lemmas.List.Elements.{All-nil, All-cons}
 use Rattle.spec_model.specs.declared.value.Value.TheVariants as value
 use Rattle.spec_model.specs.Rules.{after}
 use Rattle.spec_model.specs.Syntax.{Variable, VariableData}
-use Rattle.spec_model.specs.Names.{IsName}
+use Rattle.spec_model.specs.Names.{IsVariableName}
 use Rattle.spec_model.specs.Meaning.{holds_at}
 use Rattle.spec_model.specs.Realizable.{IsRealizable}
 use Rattle.spec_model.specs.Games.{GameData, State}
@@ -32,10 +32,10 @@ abbrev pub state : Bool → Bool → State
 state a g = record { hidden = []; position = record { input = value.Bool a ∷ []; output = value.Bool g ∷ [] } }
 
 -- both variables have names
-pub spelled_both : All (λ (v : VariableData). IsName v.name) a_and_g
+pub spelled_both : All (λ (v : VariableData). IsVariableName v.name) a_and_g
 spelled_both =
-    All-cons (λ (v : VariableData). IsName v.name) (record { name = codes "a"; owner = Env; domain = TruthValues }) (record { name = codes "g"; owner = Sys; domain = TruthValues } ∷ []) a_is_name
-    (All-cons (λ (v : VariableData). IsName v.name) (record { name = codes "g"; owner = Sys; domain = TruthValues }) [] g_is_name (All-nil (λ (v : VariableData). IsName v.name)))
+    All-cons (λ (v : VariableData). IsVariableName v.name) (record { name = codes "a"; owner = Env; domain = TruthValues }) (record { name = codes "g"; owner = Sys; domain = TruthValues } ∷ []) (inl a_is_name)
+    (All-cons (λ (v : VariableData). IsVariableName v.name) (record { name = codes "g"; owner = Sys; domain = TruthValues }) [] (inl g_is_name) (All-nil (λ (v : VariableData). IsVariableName v.name)))
 
 -- ---- of any game
 

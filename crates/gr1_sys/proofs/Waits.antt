@@ -1,9 +1,9 @@
 -- The equation of a layer's part, at the regions that stand for its sets.
-use Rattle.std.proofs.Common.{◌≡◌, ℕ, ◌<◌, ◌&&◌, ◌||◌, Bool, true, false, [], ◌∷◌, refl, ◌∙◌, ap, subst}
+use Rattle.std.proofs.Common.{◌≡◌, ℕ, ◌<◌, ◌&&◌, ◌||◌, Bool, true, false, [], ◌∷◌, refl, sym, ◌∙◌, ap, subst}
 use Rattle.std.proofs.lemmas.Bool.{and_parts}
 use Rattle.spec_model.specs.Games.{GameData}
 use Rattle.spec_model.specs.Steps.{states_of}
-use Rattle.spec_model.specs.Sets.{StateSet, all_states, both, either, rest, pre_sys, IsPartOf}
+use Rattle.spec_model.specs.Sets.{StateSet, all_states, no_states, both, either, rest, pre_sys, IsPartOf}
 use Rattle.spec_model.specs.Counts.{count_in}
 use Rattle.spec_model.proofs.SetLaws.{pre_sys_grows, pre_sys-inside}
 use Rattle.spec_model.proofs.Fixpoints.{IsFalling, falling-first, falling-next, falling-last, falling-fewer, greatest-one}
@@ -35,6 +35,21 @@ module _ (g : GameData) (base lapse : StateSet) (proper : IsPartOf base (all_sta
   waiting-last x falling settled =
       greatest-one (waiting g base lapse) x (greatest_of g (waiting g base lapse)) (falling-last g (waiting g base lapse) waiting-grows waiting-inside x falling settled)
       (greatest_of-greatest g (waiting g base lapse) waiting-grows waiting-inside)
+
+  -- where the assumption is never false
+  pub waiting-never : lapse ≡ no_states → either base lapse ≡ greatest_of g (waiting g base lapse)
+  waiting-never never =
+      let same : (t : StateSet) → waiting g base lapse t ≡ base = λ t. ap (λ l. either (both (pre_sys g t) l) base) never ∙ (λ i s. off (pre_sys g t s) (base s) i) in
+      let falling = subst (IsFalling g (waiting g base lapse)) (same (all_states g)) (waiting-next (all_states g) waiting-first) in
+      ap (either base) never ∙ (λ i s. alone (base s) i) ∙ waiting-last base falling (sym (same base))
+    where
+      off : (p b : Bool) → ((p && false) || b) ≡ b
+      off true b = refl
+      off false b = refl
+
+      alone : (b : Bool) → (b || false) ≡ b
+      alone true = refl
+      alone false = refl
 
 -- it is the equation of the layers
 pub waiting_is : (g : GameData) (z below : StateSet) (j i : ℕ) →

@@ -1,7 +1,7 @@
 //! The parts of a layer: where the play can wait while an assumption is false.
 
 ghost use Rattle.std.specs.Prelude.{◌≡◌, ◌↔◌, ℕ, [], None, IfOk, IfErr, OnErr, IsTrue};
-ghost use Rattle.spec_model.specs.Sets.{StateSet};
+ghost use Rattle.spec_model.specs.Sets.{StateSet, no_states};
 ghost use Rattle.regions.specs.Kept.{Region, States, HasRegion, HoldsBesides, HoldsWithout, MakesRegion, IsSameGame, Replaces};
 ghost use Rattle.gr1_sys.specs.Solution.{greatest_of};
 ghost use Rattle.gr1_sys.specs.Moment.{part_iterate};
@@ -62,17 +62,27 @@ fn next_part<G: Regions>(
     }
 }
 
-/// The greatest set that is its own value: the base, and where the play can wait for it while the assumption is false.
-pub fn greatest_part<G: Regions>(g: &mut G, base: &G::R, lapse: &G::R) -> Result<G::R, Halt>
+/// The greatest set that is its own value: the base, and where the play can wait for it while the assumption is false. Where it
+/// is never false that is the base alone, and no predecessor is asked for.
+pub fn greatest_part<G: Regions>(
+    g: &mut G,
+    base: &G::R,
+    lapse: &G::R,
+    none: &G::R,
+) -> Result<G::R, Halt>
     requires free { (G.kept g.old).jam ≡ None }
     requires base { HasRegion (G.kept g.old) base.now }
     requires lapse { HasRegion (G.kept g.old) lapse.now }
+    requires none { HasRegion (G.kept g.old) none.now × ((G.kept g.old).set none.now ≡ no_states) }
     ensures made { let k = G.kept g.old in
         IfOk result (λ x. MakesRegion k (G.kept g.new) x (greatest_of k.game (waiting k.game (k.set base.now) (k.set lapse.now)))) }
     ensures halted { OnErr result (HoldsBesides (G.kept g.old) (G.kept g.new) []) }
     ensures told { let k = G.kept g.old in (z : StateSet) (j r i : ℕ) → AreOfPart k.game z j r i (k.set base.now) (k.set lapse.now) → IfErr result (TellsHalt k (G.kept g.new) z) }
     ensures keeps { IsSameGame (G.kept g.old) (G.kept g.new) }
 {
+    if g.same(lapse, none) {
+        return g.or(base, lapse);
+    }
     let mut x = all_states(g)?;
     loop {
         let (next, settled) = next_part(g, base, lapse, x)?;

@@ -3,7 +3,7 @@
 ghost use Rattle.std.specs.Prelude.{◌≡◌, ◌≤◌, ℕ, List, [], None, Some, IfOk, IfErr, OnErr, length, map};
 ghost use Rattle.std.specs.Vec.{vec_len};
 ghost use Rattle.spec_model.specs.Steps.{below};
-ghost use Rattle.spec_model.specs.Sets.{StateSet, either, both, pre_sys};
+ghost use Rattle.spec_model.specs.Sets.{StateSet, no_states, either, both, pre_sys};
 ghost use Rattle.regions.specs.Kept.{HasRegion, HoldsBesides, MakesRegion, IsSameGame};
 ghost use Rattle.gr1_law.specs.Layers.{goal_set, assumption_sets, union};
 ghost use Rattle.gr1_sys.specs.Solution.{layer_of, part_of};
@@ -25,10 +25,12 @@ fn solutions<G: Regions>(
     g: &mut G,
     base: &G::R,
     lapses: &[G::R],
+    none: &G::R,
 ) -> Result<Vec<G::R>, Halt>
     requires free { (G.kept g.old).jam ≡ None }
     requires base { HasRegion (G.kept g.old) base.now }
     requires lapses { HasEach (G.kept g.old) lapses.now }
+    requires none { HasRegion (G.kept g.old) none.now × ((G.kept g.old).set none.now ≡ no_states) }
     ensures made { let k = G.kept g.old in
         IfOk result (λ xs. MakesRegions k (G.kept g.new) xs.items (map (part_at k base.now lapses.now) (below (length lapses.now)))) }
     ensures halted { OnErr result (HoldsBesides (G.kept g.old) (G.kept g.new) []) }
@@ -39,7 +41,7 @@ fn solutions<G: Regions>(
         return Err(Halt::Memory);
     };
     for lapse in lapses {
-        match greatest_part(g, base, lapse) {
+        match greatest_part(g, base, lapse, none) {
             Ok(x) => xs.push_reserved(x),
             Err(halt) => {
                 spend_all(g, xs);
@@ -73,10 +75,12 @@ fn layer_on<G: Regions>(
     g: &mut G,
     base: &G::R,
     lapses: &[G::R],
+    none: &G::R,
 ) -> Result<SysLayer<G>, Halt>
     requires free { (G.kept g.old).jam ≡ None }
     requires base { HasRegion (G.kept g.old) base.now }
     requires lapses { HasEach (G.kept g.old) lapses.now }
+    requires none { HasRegion (G.kept g.old) none.now × ((G.kept g.old).set none.now ≡ no_states) }
     ensures made { let k = G.kept g.old in
         IfOk result (λ l. MakesRegions k (G.kept g.new) (layer_regions l) (layer_sets (part_at k base.now lapses.now) (length lapses.now))) }
     ensures parts { IfOk result (λ l. vec_len l.x ≡ length lapses.now) }
@@ -84,7 +88,7 @@ fn layer_on<G: Regions>(
     ensures told { let k = G.kept g.old in (z : StateSet) (j r : ℕ) → IsGoal k.game j → k.set base.now ≡ base_of k.game z j r → AreLapses k.game (map k.set lapses.now) → IfErr result (TellsHalt k (G.kept g.new) z) }
     ensures keeps { IsSameGame (G.kept g.old) (G.kept g.new) }
 {
-    let x = solutions(alloc, g, base, lapses)?;
+    let x = solutions(alloc, g, base, lapses, none)?;
     match union_of(g, &x) {
         Ok(y) => Ok(SysLayer { y, x }),
         Err(halt) => {
@@ -130,7 +134,7 @@ pub fn layer_above<G: Regions>(
     ensures keeps { IsSameGame (G.kept g.old) (G.kept g.new) }
 {
     let base = base_above(g, reach, below)?;
-    match layer_on(alloc, g, &base, &given.lapses) {
+    match layer_on(alloc, g, &base, &given.lapses, &given.none) {
         Ok(layer) => {
             g.spend(base);
             Ok(layer)

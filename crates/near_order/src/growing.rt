@@ -1,37 +1,56 @@
-//! The order, slot by slot.
+//! A tree of nearest slots, as it grows.
 
 use crate::OutOfMemory;
 use crate::lines::Lines;
-use crate::share::{FAR, Nearness};
+use crate::share::{NOTHING, Share};
+use crate::walk::Walk;
 use spec_model::game::Game;
 use std::alloc::Global;
 
-/// What is known while the order grows.
+/// What is known while the tree grows.
 #[derive(Drop)]
 struct Growing {
     lines: Lines,
-    /// How near each slot is to those that stand.
-    near: Vec<Nearness>,
+    /// How near each slot is to the nearest one of those that stand, and which one that is: past them all where there is none.
+    near: Vec<Share>,
+    nearest: Vec<usize>,
     stands: Vec<bool>,
-    /// How many lines each slot shares with the one that was placed last.
-    shared: Vec<u32>,
+    /// What each slot shares with the one that was placed last, by weight.
+    shared: Vec<u64>,
+    /// How many slots stand in a line with each, itself included.
+    others: Vec<u32>,
 }
 
 impl Growing {
     fn make(alloc: Global, game: &Game, count: usize) -> Result<Growing, OutOfMemory> {
+        let lines = Lines::of(alloc, game, count)?;
+        let others = lines.others(alloc)?;
         Ok(Growing {
-            lines: Lines::of(alloc, game, count)?,
-            near: vec![in alloc; FAR; count]?,
+            lines,
+            others,
+            near: vec![in alloc; NOTHING; count]?,
+            nearest: vec![in alloc; count; count]?,
             stands: vec![in alloc; false; count]?,
             shared: vec![in alloc; 0; count]?,
         })
     }
 
-    /// Whether a slot is taken before another one.
+    /// Whether a slot shares lines with more others than another one, or with as many, and is read by more lines.
+    fn is_more_tied(&self, slot: usize, other: usize) -> bool {
+        match (self.others.get(slot), self.others.get(other)) {
+            (Some(one), Some(two)) => {
+                one > two || one == two && self.lines.count(slot) > self.lines.count(other)
+            }
+            _ => false,
+        }
+    }
+
+    /// Whether a slot is taken before another: the nearer one, and of two that are near nothing the one that is tied to more.
     fn is_before(&self, slot: usize, other: usize) -> bool {
         match (self.near.get(slot), self.near.get(other)) {
             (Some(one), Some(two)) => {
-                one.is_before(self.lines.count(slot), two, self.lines.count(other))
+                let tied = one.part == 0 && two.part == 0 && self.is_more_tied(slot, other);
+                one.is_more(two) || tied
             }
             _ => false,
         }
@@ -62,46 +81,75 @@ impl Growing {
         best
     }
 
-    /// Counts the lines that each slot shares with this one.
+    /// Weighs what each slot shares with this one.
     fn share(&mut self, slot: usize) {
         let Some(lines) = self.lines.lines.get(slot) else {
             return;
         };
         for &line in lines {
-            if let Some(slots) = self.lines.slots.get(line) {
-                count_each(&mut self.shared, slots);
+            if let Some(read) = self.lines.slots.get(line) {
+                weigh_each(&mut self.shared, &read.slots, read.weight);
             }
         }
     }
 
-    /// Places a slot.
-    fn place(&mut self, slot: usize) {
+    /// What a slot shares with the one that was placed last, which is forgotten.
+    fn forget(&mut self, slot: usize) -> u64 {
+        match self.shared.get_mut(slot) {
+            Some(both) => {
+                let known = *both;
+                *both = 0;
+                known
+            }
+            None => 0,
+        }
+    }
+
+    /// Takes what is shared with a slot into what is known.
+    fn approach(&mut self, slot: usize) {
+        let own = self.lines.weight(slot);
+        for other in 0..self.near.len() {
+            let both = self.forget(other);
+            if both > 0 {
+                let share = Share::of(both, own, self.lines.weight(other));
+                self.bring_near(other, share, slot);
+            }
+        }
+    }
+
+    /// A slot shares so much with this one, which stands.
+    fn bring_near(&mut self, other: usize, share: Share, slot: usize) {
+        if let (Some(near), Some(nearest)) = (
+            self.near.get_mut(other),
+            self.nearest.get_mut(other),
+        ) {
+            if share.is_more(near) {
+                *near = share;
+                *nearest = slot;
+            }
+        }
+    }
+
+    /// Places a slot, and gives the one that it hangs on.
+    fn place(&mut self, slot: usize) -> usize {
         if let Some(stands) = self.stands.get_mut(slot) {
             *stands = true;
         }
+        let on = match self.nearest.get(slot) {
+            Some(&on) => on,
+            None => slot,
+        };
         self.share(slot);
-        let own = self.lines.count(slot);
-        approach(&mut self.near, &mut self.shared, &self.lines, own);
+        self.approach(slot);
+        on
     }
 }
 
-/// Takes what is shared with a slot that so many lines read into what is known, and forgets it.
-fn approach(near: &mut [Nearness], shared: &mut [u32], lines: &Lines, own: u32) {
-    for other in 0..near.len() {
-        if let Some(both) = shared.get_mut(other) {
-            if *both > 0 {
-                near[other] = near[other].or_to(own, lines.count(other), *both);
-                *both = 0;
-            }
-        }
-    }
-}
-
-/// Counts one more for each of these slots.
-fn count_each(shared: &mut [u32], slots: &[usize]) {
+/// Adds a weight for each of these slots.
+fn weigh_each(shared: &mut [u64], slots: &[usize], weight: u64) {
     for &slot in slots {
-        if let Some(count) = shared.get_mut(slot) {
-            *count = count.saturating_add(1);
+        if let Some(both) = shared.get_mut(slot) {
+            *both = both.saturating_add(weight);
         }
     }
 }
@@ -110,12 +158,12 @@ fn count_each(shared: &mut [u32], slots: &[usize]) {
 /// Where a tie is left, the slot that stands first in a state comes first.
 pub fn near_slots(alloc: Global, game: &Game, count: usize) -> Result<Vec<usize>, OutOfMemory> {
     let mut growing = Growing::make(alloc, game, count)?;
-    let mut slots = Vec::with_capacity(alloc, count)?;
+    let mut walk = Walk::make(alloc, count)?;
     for _ in 0..count {
         if let Some(slot) = growing.next() {
-            growing.place(slot);
-            slots.push(slot)?;
+            let on = growing.place(slot);
+            walk.hang(slot, on);
         }
     }
-    Ok(slots)
+    walk.slots(alloc)
 }

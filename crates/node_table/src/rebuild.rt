@@ -36,7 +36,7 @@ pub fn rebuild(slots: &mut Vec<u32>, nodes: &[Node], live: &[bool])
     }
 }
 
-/// The slot for the number of a new node, whose search ended at the empty slot `at`: that slot, or, where half of the
+/// The slot for the number of a new node, whose search ended at the empty slot `at`: that slot, or, where a quarter of the
 /// slots are used, the one in twice as many. `count` is the number of live nodes. Want of memory changes nothing.
 pub fn room_for(
     slots: &mut Vec<u32>,
@@ -63,7 +63,7 @@ pub fn room_for(
     ensures used { used slots.new.items + 2 ≡ count }
     ensures unchanged { OnErr result (slots.new.items ≡ slots.old.items) }
 {
-    if count as usize + 1 <= slots.len() / 2 {
+    if count as usize + 1 <= slots.len() / 4 {
         return Ok(at);
     }
     let size = slots.len();

@@ -13,7 +13,7 @@ use Rattle.spec_model.specs.Diagrams.{Bits, Function}
 use Rattle.spec_model.specs.Moves.{is_env, domains_of}
 use Rattle.spec_model.specs.Games.{GameData, GoalData, HiddenData, State, listed}
 use Rattle.spec_model.specs.Steps.{Before, is_state, is_input, are_hidden_values}
-use Rattle.spec_model.specs.OneSpelling.{IsName-prop}
+use Rattle.spec_model.proofs.OneSpelling.{IsVariableName-prop}
 use Rattle.spec_model.specs.Sets.{StateSet}
 use Rattle.spec_model.specs.WellMade.{WellMade}
 use Rattle.regions.specs.declared.types.When.{When}
@@ -195,7 +195,7 @@ early_one m lists c None = λ x y. refl
 early_one m lists c (Some e) = λ x y i. record { replies = product_one _ _ _ _ x.replies y.replies i; inputs = product_one _ _ _ _ x.inputs y.inputs i }
 
 well_made_one : (g : GameData) → IsProp (WellMade g)
-well_made_one g = λ x y i. record { few_variables = le_prop x.few_variables y.few_variables i; names = Bool-set _ true x.names y.names i; spelled = λ k d lt. IsName-prop _ (x.spelled k d lt) (y.spelled k d lt) i; domains = Bool-set _ true x.domains y.domains i; hidden = Bool-set _ true x.hidden y.hidden i; initial_asm = Bool-set _ true x.initial_asm y.initial_asm i; initial_gar = Bool-set _ true x.initial_gar y.initial_gar i; safe_asm = Bool-set _ true x.safe_asm y.safe_asm i; safe_gar = Bool-set _ true x.safe_gar y.safe_gar i; assume = Bool-set _ true x.assume y.assume i; goals = Bool-set _ true x.goals y.goals i }
+well_made_one g = λ x y i. record { few_variables = le_prop x.few_variables y.few_variables i; names = Bool-set _ true x.names y.names i; spelled = λ k d lt. IsVariableName-prop _ (x.spelled k d lt) (y.spelled k d lt) i; domains = Bool-set _ true x.domains y.domains i; hidden = Bool-set _ true x.hidden y.hidden i; initial_asm = Bool-set _ true x.initial_asm y.initial_asm i; initial_gar = Bool-set _ true x.initial_gar y.initial_gar i; safe_asm = Bool-set _ true x.safe_asm y.safe_asm i; safe_gar = Bool-set _ true x.safe_gar y.safe_gar i; assume = Bool-set _ true x.assume y.assume i; goals = Bool-set _ true x.goals y.goals i }
 
 pub object_is_one : (g : GameData) (c : Contents) (own : Own) (lists : NextLevels) (slots : List Slot) (refused : Option Refused) → IsProp (IsObject g c own lists slots refused)
 object_is_one g c own lists slots refused = λ x y i. record { made = well_made_one g x.made y.made i; fits = fits_one g lists.to.items c x.fits y.fits i; lists_are = lists_one g lists x.lists_are y.lists_are i; early = early_one (move_functions c own.step.later) lists c own.early x.early y.early i; named = ∥∥₁_prop x.named y.named i; sound = sound_one g c own slots x.sound y.sound i; unspent = open_one refused slots x.unspent y.unspent i; tight = tight_one refused c.state.table x.tight y.tight i; jammed = jammed_one g c (jam_in g (map (shown_once c) slots) refused) x.jammed y.jammed i }

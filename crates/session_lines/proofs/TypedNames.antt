@@ -13,9 +13,9 @@ use Rattle.spec_model.specs.Values.{DomainData, TruthValues, WholeNumbers, Enume
 use Rattle.spec_model.specs.Syntax.{VariableData, Specification}
 use Rattle.spec_model.specs.Typing.{Whole, whole}
 use Rattle.spec_model.specs.WellMade.{all_differ, is_domain}
-use Rattle.spec_model.specs.Names.{IsName}
+use Rattle.spec_model.specs.Names.{IsVariableName}
 use Rattle.spec_model.specs.WellTyped.{WellTyped, is_domain_of}
-use Rattle.spec_model.proofs.SpelledNames.{none_in_name}
+use Rattle.spec_model.proofs.SpelledNames.{none_in_name, none_in_variable}
 use Rattle.spec_model.proofs.SameNames.{differ-bytes}
 use Rattle.session_lines.specs.Shown.{show}
 use Rattle.session_lines.specs.Reading.{is_blank, words, Reads}
@@ -25,7 +25,7 @@ use Rattle.session_lines.proofs.Values.{mag_between}
 use Rattle.session_lines.proofs.ShownIsRead.{shown_reads}
 use Rattle.session_lines.proofs.OneReading.{all_given_once}
 
--- ---- blanks and equals signs stand in no name
+-- ---- blanks and equals signs stand in no name, nor in a variable's
 
 abbrev IsOutside : ℕ → Type 0
 IsOutside c = (c < 128) × ((is_ascii_alphanumeric c || c == 95) ≡ false)
@@ -95,14 +95,14 @@ module _ (keep : VariableData → Bool) where
       by true here later = or_from _ _ here later
       by false here later = later
 
-  plain_kept : (vs : List VariableData) → all_differ bytes_eq (names_of vs) ≡ true → All (λ (v : VariableData). IsName v.name) vs → ArePlain (names_of (filter keep vs))
+  plain_kept : (vs : List VariableData) → all_differ bytes_eq (names_of vs) ≡ true → All (λ (v : VariableData). IsVariableName v.name) vs → ArePlain (names_of (filter keep vs))
   plain_kept [] differ spelled = tt
   plain_kept (v ∷ vs) differ spelled =
       let parts = and_parts (not (list_any (bytes_eq v.name) (names_of vs))) (all_differ bytes_eq (names_of vs)) differ in
-      by (keep v) (not-true _ parts.0) (plain_kept vs parts.1 (All-tail (λ (v : VariableData). IsName v.name) v vs spelled))
+      by (keep v) (not-true _ parts.0) (plain_kept vs parts.1 (All-tail (λ (v : VariableData). IsVariableName v.name) v vs spelled))
     where
       plain : IsPlain v.name
-      plain = none_in_name (λ c. is_blank c || c == 61) mark_outside v.name (All-head (λ (v : VariableData). IsName v.name) v vs spelled)
+      plain = none_in_variable (λ c. is_blank c || c == 61) mark_outside refl refl v.name (All-head (λ (v : VariableData). IsVariableName v.name) v vs spelled)
 
       by : (b : Bool) → list_any (bytes_eq v.name) (names_of vs) ≡ false → ArePlain (names_of (filter keep vs)) → ArePlain (names_of (cond b (v ∷ filter keep vs) (filter keep vs)))
       by true none rest = (plain, none_kept v.name vs none, rest)

@@ -7,7 +7,7 @@ ghost use Rattle.spec_model.specs.Moves.{is_guarantee};
 ghost use Rattle.spec_model.specs.WellTyped.{WellTyped};
 ghost use Rattle.spec_model.specs.Cores.{guarantees_of};
 ghost use Rattle.solve.specs.Places.{at_places};
-ghost use Rattle.spec_model.specs.OneSpelling.{IsName-prop};
+ghost use Rattle.spec_model.proofs.OneSpelling.{IsName-prop, IsVariableName-prop};
 
 use crate::answers::Numbers;
 use crate::deciding::part_numbers;
@@ -34,7 +34,7 @@ pub struct Parts<'a> {
     fault: Option<Halt>,
     /// The part that the last fault was answered for.
     asked: Vec<usize>,
-    ghost typed: { WellTyped (spec_data spec.now) } by { Prim.hlevel (props, IsName-prop) },
+    ghost typed: { WellTyped (spec_data spec.now) } by { Prim.hlevel (props, IsName-prop, IsVariableName-prop) },
     ghost enough: { 2 ≤ budget },
     ghost numbered: { numbers.now ≡ guarantees_of (spec_data spec.now) },
     ghost part_room: { length numbers.now ≤ vec_capacity part },

@@ -1,4 +1,4 @@
--- Which ASCII characters stand in names.
+-- Which ASCII characters stand in names and in names of elements.
 use Rattle.std.proofs.Common.{◌≡◌, ℕ, suc, ◌<◌, ◌==◌, ◌||◌, ◌==◌, ◌⊎◌, Bool, true, false, List, [], ◌∷◌, ◌++◌, length, get_or, refl, sym, ap, ◌∙◌, arith, inl, inr}
 use Rattle.std.specs.Prelude.{codes}
 use Rattle.std.specs.List.{list_all, list_any}
@@ -8,10 +8,13 @@ use Rattle.std.proofs.lemmas.Bool.{and_parts, and_from, or_from, or_cases, eqb-t
 use Rattle.std.proofs.lemmas.List.Folds.{list_any-append}
 use Rattle.std.proofs.lemmas.List.{append-nil}
 use Rattle.std.proofs.lemmas.Str.{inside_one, encode_ascii}
+use Rattle.std.proofs.lemmas.Fmt.{decimal_is_IsNumeral}
+use Rattle.std.proofs.lemmas.Str.Parse.{digit_at}
+use Rattle.std.proofs.lemmas.Bool.Decides.{nat_tests}
 use Rattle.unicode_ident.specs.Ident.{is_xid_start, is_xid_continue}
 use Rattle.unicode_ident.proofs.Computing.{unicode_ident}
 use Rattle.unicode_ident.proofs.IdentLemmas.{is_xid_continue-ascii, is_xid_start-is_xid_continue}
-use Rattle.spec_model.specs.Names.{begins_name, is_spelled, is_reserved, IsName}
+use Rattle.spec_model.specs.Names.{begins_name, is_spelled, is_reserved, index_text, IsName, IsVariableName}
 
 underscore_goes_on : is_xid_continue 95 ≡ true
 unfolding unicode_ident
@@ -55,6 +58,24 @@ module _ (p : ℕ → Bool) (never : (c : ℕ) → p c ≡ true → (c < 128) ×
   -- no byte of a name passes it
   pub none_in_name : (text : List ℕ) → IsName text → list_any p text ≡ false
   none_in_name text is = ap (list_any p) is.bytes ∙ none_in_all is.characters (all_go_on is.characters is.spelled)
+
+  none_in_index : (n : ℕ) → n < 256 → list_any p (index_text n) ≡ false
+  none_in_index n small = none_of p (index_text n) (λ k below. false_from_ne_true (p (get_or (index_text n) k 0)) (λ passes. out k below passes))
+    where
+      out : (k : ℕ) → k < length (index_text n) → p (get_or (index_text n) k 0) ≡ true → ⊥
+      out k below passes =
+          let digit = digit_at (index_text n) k (decimal_is_IsNumeral n (omega arith)).0.1 below in
+          let never_passes = never (get_or (index_text n) k 0) passes in
+          grind (arith, nat_tests)
+
+  -- no byte of a variable's name passes it, where neither bracket does
+  pub none_in_variable : p 91 ≡ false → p 93 ≡ false → (text : List ℕ) → IsVariableName text → list_any p text ≡ false
+  none_in_variable opens closes text (inl is) = none_in_name text is
+  none_in_variable opens closes text (inr is) =
+      ap (list_any p) is.bytes
+      ∙ list_any-append p is.array (91 ∷ (index_text is.number ++ 93 ∷ []))
+      ∙ or_from _ _ (none_in_name is.array is.named)
+      (or_from (p 91) _ opens (list_any-append p (index_text is.number) (93 ∷ []) ∙ or_from _ _ (none_in_index is.number is.below) (or_from (p 93) false closes refl)))
 
 -- ---- short names
 

@@ -1,5 +1,6 @@
--- Which texts are names: how they are spelled, and which words are reserved.
-use Rattle.std.specs.Prelude.{ℕ, ◌≡◌, ◌&&◌, Bool, true, false, List, [], ◌∷◌}
+-- Which texts are names, and which are names of elements: how they are spelled, and which words are reserved.
+use Rattle.std.specs.Prelude.{ℕ, ◌≡◌, ◌<◌, ◌&&◌, ◌⊎◌, Bool, true, false, List, [], ◌∷◌, ◌++◌}
+use Rattle.std.specs.Fmt.{decimal}
 use Rattle.std.specs.List.{list_all}
 use Rattle.std.specs.Str.{encode_utf8_all, all_scalars}
 use Rattle.unicode_ident.specs.Ident.{is_xid_continue}
@@ -18,3 +19,19 @@ pub record IsName (text : List ℕ) : Type 0 where
   pub bytes : text ≡ encode_utf8_all characters
   pub spelled : is_spelled characters ≡ true
   pub unreserved : is_reserved characters ≡ false
+
+-- how the number of an element is written: its decimal digits, without leading zeros
+abbrev pub index_text : ℕ → List ℕ
+index_text n = decimal n
+
+-- an array's name, and the number of one of its elements in brackets
+pub record IsElementName (text : List ℕ) : Type 0 where
+  pub array : List ℕ
+  pub number : ℕ
+  pub named : IsName array
+  pub below : number < 256
+  pub bytes : text ≡ array ++ (91 ∷ (index_text number ++ 93 ∷ []))
+
+-- what a variable of a specification may be called
+abbrev pub IsVariableName : List ℕ → Type 0
+IsVariableName text = IsName text ⊎ IsElementName text

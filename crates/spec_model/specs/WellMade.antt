@@ -4,7 +4,7 @@ use Rattle.std.specs.List.{list_any, list_all}
 use Rattle.spec_model.specs.Values.{DomainData, TruthValues, WholeNumbers, Enumeration, same_names}
 use Rattle.spec_model.specs.Syntax.{Formula, Constant, Variable, NextOf, Negation, Conjunction, Disjunction, Implication, Equivalence, Comparison, Sum, Difference, Product, Remainder, PastOf, Entry, Formulas, VariableData}
 use Rattle.spec_model.specs.Moves.{has_next}
-use Rattle.spec_model.specs.Names.{IsName}
+use Rattle.spec_model.specs.Names.{IsVariableName}
 use Rattle.spec_model.specs.Typing.{Scope, kind_of, is_truth, whole}
 use Rattle.spec_model.specs.Games.{GameData, HiddenData}
 use Rattle.spec_model.specs.Steps.{is_output_variable, waits_for_output}
@@ -112,7 +112,7 @@ is_safety_assumption g e = is_step_formula (scope_of g) e && not (awaits_output 
 pub record WellMade (g : GameData) : Type 0 where
   pub few_variables : length g.variables ≤ 1024
   pub names : IsTrue (all_differ same_names (map (λ v. v.name) g.variables))
-  pub spelled : All (λ v. IsName v.name) g.variables
+  pub spelled : All (λ v. IsVariableName v.name) g.variables
   pub domains : IsTrue (list_all (λ v. is_domain v.domain) g.variables)
   pub hidden : IsTrue (are_tables (record { domains = map (λ v. v.domain) g.variables; tables = [] }) g.hidden)
   pub initial_asm : IsTrue (list_all (λ l. is_initial_assumption g l.1) g.initial_asm)

@@ -11,7 +11,7 @@ use Rattle.spec_model.specs.Sizes.{atoms_of, past_trees, domain_size, formulas_o
 use Rattle.spec_model.specs.Steps.{is_output_variable}
 use Rattle.spec_model.specs.Typing.{Scope, kind_of, is_truth}
 use Rattle.spec_model.specs.WellMade.{all_differ, is_domain}
-use Rattle.spec_model.specs.Names.{IsName}
+use Rattle.spec_model.specs.Names.{IsName, IsVariableName}
 use Rattle.spec_model.specs.FormulaSizes.{nodes_in, levels_in}
 use Rattle.spec_model.specs.TriggerStates.{trigger_atoms, trigger_states}
 pub use Rattle.spec_model.specs.Patterns.{tells_one, letters_of, is_determined}
@@ -234,7 +234,7 @@ pub record WellTyped (s : Specification) : Type 0 where
   pub spelled_names : All IsName s.names
   pub few_variables : length s.variables ≤ 1024
   pub different_variables : IsTrue (all_differ same_names (map (λ v. v.name) s.variables))
-  pub spelled_variables : All (λ v. IsName v.name) s.variables
+  pub spelled_variables : All (λ v. IsVariableName v.name) s.variables
   pub domains : IsTrue (list_all (λ v. is_domain_of (length s.names) v.domain) s.variables)
   pub patterns : IsTrue (list_all (is_typed_pattern (length s.names)) s.patterns)
   pub triggers : IsTrue (list_all (is_typed_trigger s) s.triggers)

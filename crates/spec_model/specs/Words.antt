@@ -18,7 +18,8 @@ reserved_words =
     codes "alwEv" ∷ codes "alwaysEventually" ∷ codes "GF" ∷ codes "trig" ∷ codes "next" ∷ codes "true" ∷
     codes "false" ∷ codes "not" ∷ codes "and" ∷ codes "or" ∷ codes "implies" ∷ codes "iff" ∷
     codes "mod" ∷ codes "PREV" ∷ codes "Y" ∷ codes "ONCE" ∷ codes "O" ∷ codes "HISTORICALLY" ∷
-    codes "H" ∷ codes "SINCE" ∷ codes "S" ∷ codes "TRIGGERED" ∷ codes "T" ∷ []
+    codes "H" ∷ codes "SINCE" ∷ codes "S" ∷ codes "TRIGGERED" ∷ codes "T" ∷ codes "forall" ∷
+    codes "exists" ∷ codes "in" ∷ []
 
 -- a word that is no name
 unfoldable pub is_reserved : List ℕ → Bool

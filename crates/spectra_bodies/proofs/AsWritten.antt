@@ -51,7 +51,7 @@ bodies_are_as_written text arities good order ordered single meant written e =
         ∙ ap Some (holed_is_as_written arities good (get_or arities k 0) known (stand_of d.word) (record { counts = meant.counts; kinds = meant.kinds }) d.body (written.each k d.body body) right)
 
 pub lines_are_put_in : LinesArePutIn
-lines_are_put_in text arities good order ordered single meant written e stand t is none =
+lines_are_put_in text arities good order numbers ordered single meant written e stand t is none =
     let ds = text.definitions in
     let trees = map body_of ds in
     let known = known_in_line (noted text) in
@@ -61,7 +61,7 @@ lines_are_put_in text arities good order ordered single meant written e stand t 
     let all : bodies text ≡ map (λ (body : ResolvedTree). Some body) trees =
     bodies_are_as_written text arities good order ordered single meant written e ∙ sym (map_twice (λ (body : ResolvedTree). Some body) body_of ds) in
     let stays : holed known stand t ≡ t = holed_is_as_written arities good 0 known stand meant t is none in
-    let whole = everything_is_put_in arities good trees order written
+    let whole = everything_is_put_in arities good trees order numbers written
     (subst (λ us. IsOrderOf us (length trees) order) (sym uses) (subst (λ n. IsOrderOf (all_uses ds) n order) (sym count) ordered))
     (λ k below. (λ i. reaches (uses i) (counts i) k k) ∙ none_goes_round text e k (omega (arith, below, count))) t is in
     (λ i. is_put_in good (put_in (all i) (stays i))) ∙ whole

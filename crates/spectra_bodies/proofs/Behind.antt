@@ -10,9 +10,10 @@ use Rattle.spectra_resolved.specs.Resolved.{ResolvedTree}
 use Rattle.spectra_judge.specs.Around.{comes_before}
 use Rattle.spectra_judge.specs.Known.{Known}
 use Rattle.spectra_elaboration.specs.Putting.{Bodies, put_in}
-use Rattle.spectra_elaboration.specs.Levels.{within_limits}
+use Rattle.spectra_copies.specs.Levels.{within_limits}
 use Rattle.spectra_holes.specs.Holed.{holed}
-use Rattle.spectra_bodies.specs.PutIn.{most_nodes, most_levels, made_faults, put_in_faults}
+use Rattle.spectra_judge.specs.Judged.{faults_of}
+use Rattle.spectra_bodies.specs.PutIn.{most_nodes, most_levels, is_shallow, made_faults, put_in_faults}
 use Rattle.spectra_bodies.specs.Places.{all_places, is_behind}
 use Rattle.spectra_bodies.proofs.Standing.{AreThere, all_there}
 use Rattle.spectra_bodies.proofs.PlacesPut.{put_in_there}
@@ -36,9 +37,13 @@ none_first f (g ∷ gs) all =
     let parts = and_parts (comes_before f.at g.at) (list_all (λ (g : Finding). comes_before f.at g.at) gs) all in
     ap (λ b. with_faults (Some (if b then g else f)) gs) (later f g parts.0) ∙ none_first f gs parts.1
 
+few_there : (f : Finding) (known : Known) (st : Stand) (t : ResolvedTree) → all_places (comes_before f.at) t ≡ true → (few : Bool) → AreThere (comes_before f.at) (if few then faults_of known st t else [])
+few_there f known st t all true = all_there (comes_before f.at) known st t all
+few_there f known st t all false = refl
+
 made_there : (f : Finding) (known : Known) (st : Stand) (t : ResolvedTree) → all_places (comes_before f.at) t ≡ true
     → (room : Bool) → AreThere (comes_before f.at) (made_faults known st (if room then Some t else None))
-made_there f known st t all true = all_there (comes_before f.at) known st t all
+made_there f known st t all true = few_there f known st t all (is_shallow known t)
 made_there f known st t all false = refl
 
 -- so it is with those of an expression with everything put in

@@ -1,5 +1,5 @@
 -- A bound that has a number has no fault with everything put in.
-use Rattle.std.proofs.Common.{◌≡◌, ◌⊎◌, inl, inr, ℕ, zero, suc, ◌+◌, ◌≤◌, ℤ, pos, ◌+ℤ◌, ◌-ℤ◌, ◌*ℤ◌, Bool, true, false, ◌&&◌, if◌then◌else◌, List, [], ◌++◌, Option, Some, None, length, get_or, slice_get, refl, sym, ap, subst, ◌∙◌, arith}
+use Rattle.std.proofs.Common.{◌≡◌, ◌⊎◌, inl, inr, ℕ, zero, suc, ◌+◌, ◌≤◌, ℤ, pos, ◌+ℤ◌, ◌-ℤ◌, ◌*ℤ◌, Bool, true, false, ◌&&◌, ◌||◌, if◌then◌else◌, List, [], ◌++◌, Option, Some, None, length, get_or, slice_get, refl, sym, ap, subst, ◌∙◌, arith}
 use Rattle.std.specs.Prelude.{int_le}
 use Rattle.std.specs.List.{enumerate_from}
 use Rattle.std.proofs.Math.ListN as lists
@@ -31,12 +31,16 @@ use Rattle.spectra_judge.specs.Judged.{leaf_kind, kind_of, form_kind, wrong, wid
 use Rattle.spectra_judge.proofs.Empty.{empty_parts, no_fault, right}
 use Rattle.spectra_uses.specs.Uses.{all_uses}
 use Rattle.spectra_bounds.specs.ByUses.{is_on_cycle, made_to_depth}
-use Rattle.spectra_bounds.specs.Numbers.{both, joined_number, remainder_number, leaf_number, number_in, form_number, Constants, known_constants, is_faulty, sound_number, Constant, no_constant, each_of, constant_with, constant_of, constants}
+use Rattle.spectra_copies.specs.Numbers.{both, joined_number, remainder_number, leaf_number, number_in, form_number}
+use Rattle.spectra_bounds.specs.Numbers.{Constants, known_constants, is_faulty, sound_number, Constant, no_constant, each_of, constant_with, constant_of, constants}
 use Rattle.spectra_holes.specs.Holed.{part_holed, form_holed, holed}
-use Rattle.spectra_elaboration.specs.Putting.{Bodies, Put, placed, marked, hole_at, leaf_put, filled, form_filled, body_put, put_deep, put_in}
-use Rattle.spectra_elaboration.specs.Levels.{within_limits}
+use Rattle.spectra_copies.specs.Places.{placed, marked}
+use Rattle.spectra_elaboration.specs.Putting.{Bodies, Put, hole_at, leaf_put, filled, form_filled, body_put, put_deep, with_bodies, put_in}
+use Rattle.spectra_copies.specs.Levels.{within_limits}
+use Rattle.spectra_copies.specs.Copies.{has_quantifier}
+use Rattle.spectra_elaboration.proofs.WrittenOut.{plain_stays}
 use Rattle.spectra_notes.specs.Notes.{stand_of, known_inside, noted}
-use Rattle.spectra_bodies.specs.PutIn.{bodies, most_nodes, most_levels, made_faults, put_in_faults}
+use Rattle.spectra_bodies.specs.PutIn.{bodies, most_nodes, most_levels, is_shallow, made_faults, put_in_faults}
 use Rattle.spectra_bodies.specs.SoundBounds.{HaveSoundBounds}
 use Rattle.spectra_bodies.proofs.Inside.{no_body, some_body}
 use Rattle.spectra_bodies.proofs.Meaning.{nothing_wrong}
@@ -99,9 +103,10 @@ lost_second (Whole a b) Anything e = (refl, refl, refl)
 record IsPlain (k : Kind) (t : ResolvedTree) : Type 0 where
   kind : (known : Known) → IsAtMost k (kind_of known t)
   free : (s : Setting) (o : Around) → faults s o t ≡ []
+  simple : has_quantifier t ≡ false
 
 hole_plain : (k : Kind) (at : Spot) → IsPlain k (hole_at at hole.Anything)
-hole_plain k at = record { kind = λ known. inr refl; free = λ s o. refl }
+hole_plain k at = record { kind = λ known. inr refl; free = λ s o. refl; simple = refl }
 
 -- ---- one operation
 
@@ -122,7 +127,7 @@ module _ (word : BinaryWord) (future : is_past word ≡ false) (whole : (j k : K
 
   joined_plain : (j k : Kind) (first : Spot) (at : Mark) (a b : ResolvedTree) → takes word j k ≡ true → is_wide (gives word j k) ≡ false → IsPlain j a → IsPlain k b
       → IsPlain (gives word j k) (tree first at (Form.Binary word a b))
-  joined_plain j k first at a b taken thin p q = record { kind = kind; free = free }
+  joined_plain j k first at a b taken thin p q = record { kind = kind; free = free; simple = λ i. p.simple i || q.simple i }
     where
       kind : (known : Known) → IsAtMost (gives word j k) (gives word (kind_of known a) (kind_of known b))
       kind known = at_most j k (kind_of known a) (kind_of known b) (p.kind known) (q.kind known)
@@ -177,18 +182,19 @@ module _ (c : Constants) (bans : Bans) (put : Put) (uses : (k : ℕ) (z : ℤ) (
   abbrev written : Setting
   written = record { known = known_constants c.kinds; bans = bans }
 
-  leaf_plain : (next : Option Mark) (first : Spot) (there at : Mark) (l : Leaf) (z : ℤ) → leaf_faults written next at l ≡ [] → leaf_number c.numbers l ≡ Some z
+  leaf_plain : (o : Around) (first : Spot) (there at : Mark) (l : Leaf) (z : ℤ) → leaf_faults written o at l ≡ [] → leaf_number c.numbers l ≡ Some z
       → IsPlain (leaf_kind written.known l) (leaf_put put arguments first there l)
-  leaf_plain next first there at (leaf.Number n) z none is =
+  leaf_plain o first there at (leaf.Number n) z none is =
       let thin = no_fault (is_wide (Whole n n)) (number_of WideInt) at.spot none in
-      record { kind = λ known. inl refl; free = λ s o i. fault_if (thin i) (number_of WideInt) there.spot }
-  leaf_plain next first there at (leaf.Define k) z none is = uses k z there.spot is
-  leaf_plain next first there at (leaf.Truth b) z none is = absurd (none_some is)
-  leaf_plain next first there at (leaf.EnumName k) z none is = absurd (none_some is)
-  leaf_plain next first there at (leaf.Variable k) z none is = absurd (none_some is)
-  leaf_plain next first there at (leaf.Parameter k) z none is = absurd (none_some is)
-  leaf_plain next first there at (leaf.Own k) z none is = absurd (none_some is)
-  leaf_plain next first there at (leaf.Hole k) z none is = absurd (none_some is)
+      record { kind = λ known. inl refl; free = λ s o' i. fault_if (thin i) (number_of WideInt) there.spot; simple = refl }
+  leaf_plain o first there at (leaf.Define k) z none is = uses k z there.spot is
+  leaf_plain o first there at (leaf.Truth b) z none is = absurd (none_some is)
+  leaf_plain o first there at (leaf.EnumName k) z none is = absurd (none_some is)
+  leaf_plain o first there at (leaf.Variable k) z none is = absurd (none_some is)
+  leaf_plain o first there at (leaf.Parameter k) z none is = absurd (none_some is)
+  leaf_plain o first there at (leaf.Own k) z none is = absurd (none_some is)
+  leaf_plain o first there at (leaf.Bound variable) z none is = absurd (none_some is)
+  leaf_plain o first there at (leaf.Hole k) z none is = absurd (none_some is)
 
   module _ (holes : Setting) where
     mutual
@@ -197,7 +203,7 @@ module _ (c : Constants) (bans : Bans) (put : Put) (uses : (k : ℕ) (z : ℤ) (
 
       form_plain : (around o : Around) (first : Spot) (there at : Mark) (form : Form) (z : ℤ) → form_faults written o at form ≡ [] → form_number c.numbers form ≡ Some z
           → IsPlain (form_kind written.known form) (form_filled put brought arguments first there (form_holed holes around at form))
-      form_plain around o first there at (Form.LeafOf l) z none is = leaf_plain o.next first there at l z none is
+      form_plain around o first there at (Form.LeafOf l) z none is = leaf_plain o first there at l z none is
       form_plain around o first there at (Form.Binary word a b) z none is =
           let known = written.known in
           let inner = within (is_past word) at o in
@@ -223,6 +229,7 @@ module _ (c : Constants) (bans : Bans) (put : Put) (uses : (k : ℕ) (z : ℤ) (
           record {
             kind = λ k. inl refl;
             free = λ s o i. inside.free s o i ++ (wrong (whole s.known i) there.spot ++ (fault_if (some i) (number_of WideInt) (placed brought number_at) ++ fault_if (thin i) (number_of WideInt) there.spot));
+            simple = inside.simple;
           }
       form_plain around o first there at (Form.PredicateOf k ts) z none is = absurd (none_some is)
       form_plain around o first there at (Form.MisuseOf m ts) z none is = absurd (none_some is)
@@ -230,6 +237,8 @@ module _ (c : Constants) (bans : Bans) (put : Put) (uses : (k : ℕ) (z : ℤ) (
       form_plain around o first there at (Form.Prefix word t) z none is = absurd (none_some is)
       form_plain around o first there at (Form.And ts operators) z none is = absurd (none_some is)
       form_plain around o first there at (Form.Or ts operators) z none is = absurd (none_some is)
+      form_plain around o first there at (Form.Index array n t) z none is = absurd (none_some is)
+      form_plain around o first there at (Form.Quantified word variable extent low high ts) z none is = absurd (none_some is)
 
 sound_parts : (c : Constants) (st : Stand) (t : ResolvedTree) (z : ℤ) → sound_number c st t ≡ Some z → (faults_of (known_constants c.kinds) st t ≡ []) × (number_in c.numbers t ≡ Some z)
 sound_parts c st t z is = by (is_faulty (faults_of (known_constants c.kinds) st t)) refl is
@@ -332,9 +341,13 @@ made_free known nodes levels k t whole p = by _
   where
     by : (room : Bool) → made_faults known stand.Bound (if room then Some t else None) ≡ []
     by false = refl
-    by true =
-        let fits = still_whole k (kind_of known t) (p.kind known) whole in
-        λ i. p.free (record { known = known; bans = bans_of stand.Bound }) nothing_open i ++ wrong (fits i) (first_of t)
+    by true = few (is_shallow known t)
+      where
+        few : (shallow : Bool) → (if shallow then faults_of known stand.Bound t else []) ≡ []
+        few false = refl
+        few true =
+            let fits = still_whole k (kind_of known t) (p.kind known) whole in
+            λ i. p.free (record { known = known; bans = bans_of stand.Bound }) nothing_open i ++ wrong (fits i) (first_of t)
 
 pub have_sound_bounds : (text : ResolvedText) → HaveSoundBounds (constants text.definitions) (bodies text)
 unfolding put_in_faults
@@ -345,7 +358,8 @@ have_sound_bounds text known t z is =
     let parts = empty_parts (faults (record { known = known_constants c.kinds; bans = bans_of stand.Bound }) nothing_open t) _ sound.0 in
     let whole = right (is_whole (kind_of (known_constants c.kinds) t)) (first_of t) parts.1 in
     let made = plain c (bans_of stand.Bound) (put_deep (length b) b) (use_plain text (length text.definitions) (length b)) None [] (record { known = known; bans = bans_of stand.Bound }) nothing_open nothing_open t z parts.0 sound.1 in
-    made_free known most_nodes most_levels (kind_of (known_constants c.kinds) t) (put_in b (holed known stand.Bound t)) whole made
+    let k = kind_of (known_constants c.kinds) t in
+    made_free known most_nodes most_levels k (put_in b (holed known stand.Bound t)) whole (subst (IsPlain k) (sym (plain_stays [] (with_bodies b (holed known stand.Bound t)) made.simple)) made)
 
 -- so for whatever is the same as these
 pub same_sound_bounds : (text : ResolvedText) (c : Constants) (b : Bodies) → c ≡ constants text.definitions → b ≡ bodies text → HaveSoundBounds c b

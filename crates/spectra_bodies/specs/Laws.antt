@@ -1,7 +1,7 @@
 -- Laws over the definitions alone, each of which the function of its name in src/laws.rt proves.
-use Rattle.std.specs.Prelude.{◌≡◌, ℕ, ◌<◌, nat_lt, Bool, true, false, List, [], Some, length, map, get_or, slice_get}
+use Rattle.std.specs.Prelude.{◌≡◌, ℕ, ℤ, ◌<◌, nat_lt, Bool, true, false, List, [], Some, length, map, get_or, slice_get}
 use Rattle.spectra_resolved.specs.declared.stand.Stand.{Stand}
-use Rattle.spectra_resolved.specs.declared.tree.Leaf.{Leaf}
+use Rattle.spectra_resolved.specs.declared.tree.Leaf.TheVariants as leaf
 use Rattle.spectra_resolved.specs.Resolved.{ResolvedTree}
 use Rattle.spectra_resolved.specs.Texts.{ResolvedType, TypeNumber, NoType, ResolvedAlias, ResolvedDefinition, ResolvedText}
 use Rattle.spectra_uses.specs.Uses.{all_uses}
@@ -10,7 +10,7 @@ use Rattle.spectra_bounds.specs.ByUses.{is_on_cycle}
 use Rattle.spectra_bounds.specs.Cycles.{type_uses}
 use Rattle.spectra_notes.specs.Notes.{noted, known_in_line}
 use Rattle.spectra_judge.specs.Judged.{faults_of}
-use Rattle.spectra_judge.specs.PutIn.{is_put_in}
+use Rattle.spectra_judge.specs.PutIn.{Parts, is_put_in}
 use Rattle.spectra_holes.specs.Holed.{holed}
 use Rattle.spectra_elaboration.specs.Putting.{put_in}
 use Rattle.spectra_elaboration.specs.Written.{is_written, AreWritten}
@@ -40,13 +40,13 @@ EachHasAMeaning = (text : ResolvedText) (order : List ℕ) → IsOrderOf (all_us
 -- Where types and definitions have no fault, no name is misused or stands twice among parameters, and no parameter's type is
 -- without meaning, each body is put in as it is written. `arities` has for each definition how many parameters it has.
 abbrev pub BodiesAreAsWritten : Type 0
-BodiesAreAsWritten = (text : ResolvedText) (arities : List ℕ) (good : Leaf → Bool) (order : List ℕ) → IsOrderOf (all_uses text.definitions) (length text.definitions) order →
+BodiesAreAsWritten = (text : ResolvedText) (arities : List ℕ) (good : Parts) (order : List ℕ) → IsOrderOf (all_uses text.definitions) (length text.definitions) order →
     NoneIsDoubled text → HasMeantParameters arities (known_in_line (noted text)) → AreWritten arities good (map (λ (d : ResolvedDefinition). d.body) text.definitions) → declared_faults text ≡ [] →
     bodies text ≡ map (λ (d : ResolvedDefinition). Some d.body) text.definitions
 
--- In an expression of a line, without faults as it is written, everything is put in then.
+-- In an expression of a line, without faults as it is written, everything is put in then, where numbers pass the test.
 abbrev pub LinesArePutIn : Type 0
-LinesArePutIn = (text : ResolvedText) (arities : List ℕ) (good : Leaf → Bool) (order : List ℕ) → IsOrderOf (all_uses text.definitions) (length text.definitions) order →
+LinesArePutIn = (text : ResolvedText) (arities : List ℕ) (good : Parts) (order : List ℕ) → ((z : ℤ) → good.leaf (leaf.Number z) ≡ true) → IsOrderOf (all_uses text.definitions) (length text.definitions) order →
     NoneIsDoubled text → HasMeantParameters arities (known_in_line (noted text)) → AreWritten arities good (map (λ (d : ResolvedDefinition). d.body) text.definitions) → declared_faults text ≡ [] →
     (stand : Stand) (t : ResolvedTree) → is_written arities good 0 t ≡ true → faults_of (known_in_line (noted text)) stand t ≡ [] →
     is_put_in good (put_in (bodies text) (holed (known_in_line (noted text)) stand t)) ≡ true

@@ -22,6 +22,8 @@ abbrev mutual
   form_places good (Form.Mod t number_at n) = all_places good t && good number_at
   form_places good (Form.And ts operators) = each_places good ts && list_all good operators
   form_places good (Form.Or ts operators) = each_places good ts && list_all good operators
+  form_places good (Form.Index first n t) = all_places good t
+  form_places good (Form.Quantified word variable extent low high ts) = all_places good low && (all_places good high && each_places good ts)
 
   pub each_places : (good : Spot → Bool) → ResolvedTrees → Bool
   each_places good ResolvedTrees.none = true

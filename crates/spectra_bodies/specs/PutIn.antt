@@ -1,5 +1,5 @@
 -- What is put in for definitions, and the faults of an expression in which everything is put in.
-use Rattle.std.specs.Prelude.{ℕ, Bool, true, if◌then◌else◌, List, [], Option, Some, None, map, get_or}
+use Rattle.std.specs.Prelude.{ℕ, nat_le, Bool, true, if◌then◌else◌, List, [], Option, Some, None, map, get_or}
 use Rattle.std.specs.List.{enumerate_from}
 use Rattle.spectra_resolved.specs.declared.stand.Stand.{Stand}
 use Rattle.spectra_resolved.specs.declared.findings.Finding.{Finding}
@@ -9,7 +9,9 @@ use Rattle.spectra_judge.specs.Known.{Known}
 use Rattle.spectra_judge.specs.Judged.{faults_of}
 use Rattle.spectra_holes.specs.Holed.{holed}
 use Rattle.spectra_elaboration.specs.Putting.{Bodies, put_in}
-use Rattle.spectra_elaboration.specs.Levels.{within_limits}
+use Rattle.spectra_copies.specs.Levels.{within_limits}
+use Rattle.spectra_cases.specs.Formulas.{formula_of}
+use Rattle.spectra_cases.specs.Sizes.{size_of}
 use Rattle.spectra_notes.specs.Notes.{stand_of, known_inside, noted}
 
 -- ---- bodies
@@ -35,9 +37,13 @@ most_nodes = 1_000_000
 abbrev pub most_levels : ℕ
 most_levels = 512
 
+-- whether the formula of an expression has few levels, where each operator is one
+abbrev pub is_shallow : Known → ResolvedTree → Bool
+is_shallow known t = nat_le (size_of (formula_of known 0 t)).levels most_levels
+
 -- the faults of what was made where there was room
 abbrev pub made_faults : Known → Stand → Option ResolvedTree → List Finding
-made_faults known st (Some t) = faults_of known st t
+made_faults known st (Some t) = if is_shallow known t then faults_of known st t else []
 made_faults known st None = []
 
 -- the faults of an expression that stands there, with everything put in for its names, where that isn't too large

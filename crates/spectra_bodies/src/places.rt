@@ -77,7 +77,17 @@ fn shape_behind(at: Spot, shape: &Shape) -> bool
         Shape::Mod(t, number_at, _) => stands_behind(at, t) && comes_before(at, *number_at),
         Shape::And(ts, operators) => each_behind(at, ts) && all_behind(at, operators),
         Shape::Or(ts, operators) => each_behind(at, ts) && all_behind(at, operators),
+        Shape::Index(_, _, t) => stands_behind(at, t),
+        Shape::Quantified(_, _, _, low, high, copies) => bounded_behind(at, low, high, copies),
     }
+}
+
+// So it is with the bounds and the copies of a quantifier.
+#[cycle(placing)]
+fn bounded_behind(at: Spot, low: &Resolved, high: &Resolved, copies: &[Resolved]) -> bool
+    ensures { result ≡ (all_places (comes_before_lem at) (resolved_data low.now) && (all_places (comes_before_lem at) (resolved_data high.now) && each_places (comes_before_lem at) (trees (map resolved_data copies.now)))) }
+{
+    stands_behind(at, low) && (stands_behind(at, high) && each_behind(at, copies))
 }
 
 // So it is with several expressions.

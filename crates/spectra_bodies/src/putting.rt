@@ -10,8 +10,9 @@ ghost use Rattle.spectra_elaboration.specs.PuttingViews.{bodies_data};
 ghost use Rattle.spectra_elaboration.specs.DefinitionViews.{definitions_data};
 ghost use Rattle.spectra_notes.specs.Notes.{noted};
 ghost use Rattle.spectra_notes.specs.NoteViews.{notes_data};
-ghost use Rattle.spectra_bodies.specs.PutIn.{bodies as bodies_lem, made_faults, put_in_faults};
+ghost use Rattle.spectra_bodies.specs.PutIn.{bodies as bodies_lem, is_shallow as is_shallow_lem, made_faults, put_in_faults};
 
+use spectra_cases::sizes::size_of;
 use spectra_elaboration::definitions::{Definitions, definitions_of};
 use spectra_elaboration::putting::put_in;
 use spectra_holes::holing::holed;
@@ -95,23 +96,34 @@ pub fn bodies_of(
 
 // ---- faults
 
-// Reports the first fault of what was made where there was room.
+// Whether the formula of an expression has few levels, where each operator is one.
+fn is_shallow(known: &Known<'_, '_>, t: &Resolved) -> Result<bool, AllocError>
+    ensures { IfOk result (λ few. few ≡ is_shallow_lem (known_data known.now) (resolved_data t.now)) }
+{
+    let size = size_of(known, t)?;
+    Ok(size.levels <= MOST_LEVELS as u64)
+}
+
+// Reports the first fault of what was made where there was room. The error is a number of a variable past 64 bits, which no
+// text has.
 fn report_made(
     findings: &mut Findings,
     known: &Known<'_, '_>,
     stand: Stand,
     made: &Option<Resolved>,
-)
-    ensures { found_in findings.new ≡ with_faults (found_in findings.old) (made_faults (known_data known.now) stand (option_map resolved_data made.now)) }
+) -> Result<(), AllocError>
+    ensures { OnOk result (found_in findings.new ≡ with_faults (found_in findings.old) (made_faults (known_data known.now) stand (option_map resolved_data made.now))) }
 {
-    match made {
-        Some(t) => report_faults(findings, known, stand, t),
-        None => {}
+    if let Some(t) = made {
+        if is_shallow(known, t)? {
+            report_faults(findings, known, stand, t);
+        }
     }
+    Ok(())
 }
 
 /// Reports the first fault of an expression that stands somewhere, with everything put in for its names, where that has at
-/// most 1,000,000 nodes and 512 levels. The error is that memory is short.
+/// most 1,000,000 nodes and 512 levels, and so has its formula, each operator one. The error is that memory is short.
 pub fn report_put_in(
     alloc: Global,
     findings: &mut Findings,
@@ -124,6 +136,6 @@ pub fn report_put_in(
 {
     let written = holed(alloc, known, stand, t)?;
     let made = put_in(alloc, definitions, MOST_NODES, MOST_LEVELS, &written)?;
-    report_made(findings, known, stand, &made);
+    report_made(findings, known, stand, &made)?;
     Ok(())
 }

@@ -1,5 +1,6 @@
 -- The kind and the faults of an expression rest on the kinds of the defines that it uses alone.
 use Rattle.std.proofs.Common.{◌≡◌, ℕ, zero, suc, List, [], ◌∷◌, ◌++◌, Some, drop, get_or, refl, ap}
+use Rattle.spectra_trees.specs.Faults.{WideInt, number_of}
 use Rattle.spectra_resolved.specs.declared.spot.Spot.{Spot}
 use Rattle.spectra_resolved.specs.declared.spot.Mark.{Mark}
 use Rattle.spectra_resolved.specs.declared.stand.Stand.{Stand}
@@ -10,14 +11,15 @@ use Rattle.spectra_resolved.specs.declared.tree.Misuse.TheVariants as misuse
 use Rattle.spectra_resolved.specs.Findings.{fault}
 use Rattle.spectra_resolved.specs.Resolving.{fault_of}
 use Rattle.spectra_resolved.specs.Resolved.{ResolvedTree, tree, Form, ResolvedTrees}
-use Rattle.spectra_judge.specs.Kinds.{Kind, Anything, is_truth, can_equal}
+use Rattle.spectra_judge.specs.Findings.{fault_if}
+use Rattle.spectra_judge.specs.Kinds.{Kind, Anything, is_truth, is_whole, can_equal}
 use Rattle.spectra_judge.specs.Operators.{gives, is_past, is_past_prefix}
 use Rattle.spectra_judge.specs.declared.standing.Bans.{Bans}
 use Rattle.spectra_judge.specs.declared.around.Around.{Around}
 use Rattle.spectra_judge.specs.Standings.{bans_of, is_wanted}
-use Rattle.spectra_judge.specs.Around.{nothing_open, under_next, within, next_faults}
+use Rattle.spectra_judge.specs.Around.{nothing_open, under_next, in_bound, within, next_faults}
 use Rattle.spectra_judge.specs.Known.{Known, Setting, wanted}
-use Rattle.spectra_judge.specs.Judged.{kind_of, form_kind, leaf_kind, leaf_faults, called_faults, operator_faults, binary_faults, remainder_faults, wrong, first_of, faults, form_faults, operand_faults, argument_faults, faults_of}
+use Rattle.spectra_judge.specs.Judged.{kind_of, form_kind, leaf_kind, leaf_faults, called_faults, operator_faults, binary_faults, remainder_faults, index_faults, is_wrong, wrong, first_of, faults, form_faults, operand_faults, copy_faults, argument_faults, faults_of}
 use Rattle.spectra_uses.specs.Uses.{leaf_uses, misuse_uses, uses_in, form_uses, each_uses}
 use Rattle.spectra_bounds.proofs.Made.{AgreeOn}
 
@@ -53,6 +55,7 @@ module _ (known : Known) (kinds : List Kind) where
   leaf_kind-same (leaf.Parameter k) h = refl
   leaf_kind-same (leaf.Own k) h = refl
   leaf_kind-same (leaf.Define k) h = h zero k refl
+  leaf_kind-same (leaf.Bound at) h = refl
   leaf_kind-same (leaf.Hole hole) h = refl
 
   mutual
@@ -70,6 +73,8 @@ module _ (known : Known) (kinds : List Kind) where
     form_kind-same (Form.Mod t number_at n) h = refl
     form_kind-same (Form.And ts operators) h = refl
     form_kind-same (Form.Or ts operators) h = refl
+    form_kind-same (Form.Index first n t) h = refl
+    form_kind-same (Form.Quantified word variable extent low high ts) h = refl
 
   module _ (bans : Bans) where
     abbrev mine : Setting
@@ -78,7 +83,7 @@ module _ (known : Known) (kinds : List Kind) where
     abbrev theirs : Setting
     theirs = record { known = other; bans = bans }
 
-    leaf_faults-same : (o : Around) (at : Mark) (l : Leaf) → leaf_faults mine o.next at l ≡ leaf_faults theirs o.next at l
+    leaf_faults-same : (o : Around) (at : Mark) (l : Leaf) → leaf_faults mine o at l ≡ leaf_faults theirs o at l
     leaf_faults-same o at (leaf.Truth b) = refl
     leaf_faults-same o at (leaf.Number z) = refl
     leaf_faults-same o at (leaf.EnumName n) = refl
@@ -86,9 +91,10 @@ module _ (known : Known) (kinds : List Kind) where
     leaf_faults-same o at (leaf.Parameter k) = refl
     leaf_faults-same o at (leaf.Own k) = refl
     leaf_faults-same o at (leaf.Define k) = refl
+    leaf_faults-same o at (leaf.Bound variable) = refl
     leaf_faults-same o at (leaf.Hole hole) = refl
 
-    called_faults-same : (o : Around) (at : Mark) (m : Misuse) → called_faults mine o.next at m ≡ called_faults theirs o.next at m
+    called_faults-same : (o : Around) (at : Mark) (m : Misuse) → called_faults mine o at m ≡ called_faults theirs o at m
     called_faults-same o at misuse.Unknown = refl
     called_faults-same o at (misuse.Bare k) = refl
     called_faults-same o at (misuse.Called l) = leaf_faults-same o at l
@@ -120,6 +126,27 @@ module _ (known : Known) (kinds : List Kind) where
           let inner = faults-same o t h in let kind = kind-same t h in λ i. inner i ++ remainder_faults (kind i) at.spot number_at n
       form_faults-same o at (Form.And ts operators) h = operand_faults-same o at.spot (at.spot ∷ operators) ts h
       form_faults-same o at (Form.Or ts operators) h = operand_faults-same o at.spot (at.spot ∷ operators) ts h
+      form_faults-same o at (Form.Index array n t) h =
+          let inner = faults-same o t h in let kind = kind-same t h in λ i. inner i ++ index_faults mine o at array n (kind i) (first_of t)
+      form_faults-same o at (Form.Quantified word variable extent low high ts) h =
+          let in_low = left (uses_in low) (uses_in high ++ each_uses ts) h in
+          let behind_low = right (uses_in low) (uses_in high ++ each_uses ts) h in
+          let in_high = left (uses_in high) (each_uses ts) behind_low in
+          let first = faults-same (in_bound at o) low in_low in
+          let second = faults-same (in_bound at o) high in_high in
+          let kind_low = kind-same low in_low in
+          let kind_high = kind-same high in_high in
+          let rest = copy_faults-same o ts (right (uses_in high) (each_uses ts) behind_low) in
+          λ i. ((first i ++ wrong (is_whole (kind_low i)) (first_of low)) ++ (second i ++ wrong (is_whole (kind_high i)) (first_of high))) ++ (fault_if (is_wrong extent) (number_of WideInt) at.spot ++ rest i)
+
+      copy_faults-same : (o : Around) (ts : ResolvedTrees) → Agree (each_uses ts) → copy_faults mine o ts ≡ copy_faults theirs o ts
+      copy_faults-same o ResolvedTrees.none h = refl
+      copy_faults-same o (ResolvedTrees.one_more t ts) h =
+          let here = left (uses_in t) (each_uses ts) h in
+          let first = faults-same o t here in
+          let kind = kind-same t here in
+          let rest = copy_faults-same o ts (right (uses_in t) (each_uses ts) h) in
+          λ i. first i ++ (wrong (is_truth (kind i)) (first_of t) ++ rest i)
 
       operand_faults-same : (o : Around) (at : Spot) (operators : List Spot) (ts : ResolvedTrees) → Agree (each_uses ts)
           → operand_faults mine o at operators ts ≡ operand_faults theirs o at operators ts

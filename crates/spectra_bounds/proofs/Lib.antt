@@ -3,5 +3,4 @@ pub mod Judging
 pub mod Marks
 mod Sound
 mod Found
-mod Chained
 mod Names

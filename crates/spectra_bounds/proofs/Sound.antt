@@ -8,7 +8,8 @@ use Rattle.spectra_resolved.specs.Resolved.{ResolvedTree, tree, Form}
 use Rattle.spectra_resolved.specs.Texts.{ResolvedDefinition}
 use Rattle.spectra_judge.specs.Kinds.{Anything}
 use Rattle.spectra_uses.specs.Uses.{leaf_uses, uses_in, form_uses}
-use Rattle.spectra_bounds.specs.Numbers.{joined_number, remainder_number, leaf_number, number_in, form_number, Constants, known_constants, is_faulty, Constant, no_constant, each_of, constant_with, constant_of}
+use Rattle.spectra_copies.specs.Numbers.{joined_number, remainder_number, leaf_number, number_in, form_number}
+use Rattle.spectra_bounds.specs.Numbers.{Constants, known_constants, is_faulty, Constant, no_constant, each_of, constant_with, constant_of}
 use Rattle.spectra_bounds.proofs.Made.{AgreeOn}
 use Rattle.spectra_bounds.proofs.Judging.{agree_left, agree_right, kind-same, faults_of-same}
 
@@ -21,6 +22,7 @@ module _ (f g : List (Option ℤ)) where
   leaf_number-same (leaf.Parameter k) h = refl
   leaf_number-same (leaf.Own k) h = refl
   leaf_number-same (leaf.Define k) h = h zero k refl
+  leaf_number-same (leaf.Bound at) h = refl
   leaf_number-same (leaf.Hole hole) h = refl
 
   mutual
@@ -40,6 +42,8 @@ module _ (f g : List (Option ℤ)) where
     form_number-same (Form.Mod t number_at n) h = ap (remainder_number n) (number-same t h)
     form_number-same (Form.And ts operators) h = refl
     form_number-same (Form.Or ts operators) h = refl
+    form_number-same (Form.Index first n t) h = refl
+    form_number-same (Form.Quantified word variable extent low high ts) h = refl
 
 pub constant-same : (c e : Constants) (body : ResolvedTree) → AgreeOn None c.numbers e.numbers (uses_in body) → AgreeOn Anything c.kinds e.kinds (uses_in body)
     → constant_of c body ≡ constant_of e body

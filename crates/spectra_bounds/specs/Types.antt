@@ -7,7 +7,8 @@ use Rattle.spectra_resolved.specs.declared.findings.Finding.{Finding}
 use Rattle.spectra_resolved.specs.Texts.{ResolvedType, Booleans, RangeOf, EnumOf, TypeNumber, NoType, ResolvedAlias}
 use Rattle.spectra_judge.specs.Findings.{fault_if}
 use Rattle.spectra_judge.specs.Kinds.{Kind, Truth, Whole, NameOf, Anything}
-use Rattle.spectra_bounds.specs.Numbers.{Constants, number_in, sound_number}
+use Rattle.spectra_copies.specs.Numbers.{number_in}
+use Rattle.spectra_bounds.specs.Numbers.{Constants, sound_number}
 
 -- the numbers from one to another: one at least, and 4,096 at most
 abbrev pub is_range : ℤ → ℤ → Bool

@@ -7,10 +7,11 @@ ghost use Rattle.spectra_resolved.specs.Views.{resolved_data};
 ghost use Rattle.spectra_resolved.specs.TextViews.{definition_data};
 ghost use Rattle.spectra_judge.specs.KindViews.{kind_data, known_data};
 ghost use Rattle.spectra_uses.specs.Uses.{all_uses};
-ghost use Rattle.spectra_bounds.specs.Numbers.{number_in as number_in_lem, known_constants, no_constant, sound_number as sound_number_lem, constant_of as constant_of_lem, constants as constants_lem};
+ghost use Rattle.spectra_copies.specs.Numbers.{number_in as number_in_lem};
+ghost use Rattle.spectra_bounds.specs.Numbers.{known_constants, no_constant, sound_number as sound_number_lem, constant_of as constant_of_lem, constants as constants_lem};
 ghost use Rattle.spectra_bounds.specs.TypeViews.{constant_data, constants_data};
 
-use crate::numbers::number_in;
+use spectra_copies::numbers::number_in;
 use spectra_judge::judging::judge;
 use spectra_judge::kind::Kind;
 use spectra_judge::known::Known;

@@ -9,5 +9,4 @@
 
 pub mod constants;
 pub mod cycles;
-pub mod numbers;
 pub mod types;

@@ -9,7 +9,7 @@ ghost use Rattle.spectra_bounds.specs.Types.{is_range as is_range_lem, range_kin
 ghost use Rattle.spectra_bounds.specs.TypeViews.{constants_data};
 
 use crate::constants::Constants;
-use crate::numbers::number_in;
+use spectra_copies::numbers::number_in;
 use spectra_judge::findings::report_if;
 use spectra_judge::kind::Kind;
 use spectra_resolved::findings::Findings;

@@ -2,9 +2,10 @@
 use Rattle.spectra_trees.specs.Faults.{ImportedLine, TooMany, number_of}
 use Rattle.std.specs.Prelude.{ℕ, suc, ◌+◌, ◌-◌, nat_lt, Bool, true, false, if◌then◌else◌, List, [], ◌∷◌, ◌++◌, Option, Some, None, length, map, flat_map, position, unwrap_or, slice_get, option_to_list, bytes_eq}
 use Rattle.spectra_trees.specs.declared.tree.Place.{Place}
-use Rattle.spectra_trees.specs.Data.{NameData, Expression, ItemData, TreeData}
+use Rattle.spectra_trees.specs.Data.{NameData, Expression, LengthData, ItemData, TreeData}
 use Rattle.spectra_resolved.specs.declared.spot.Spot.{Spot}
 use Rattle.spectra_resolved.specs.declared.tree.Leaf.TheVariants as leaves
+use Rattle.spectra_resolved.specs.declared.table.Named.{Named}
 use Rattle.spectra_resolved.specs.declared.table.Named.TheVariants as names
 use Rattle.spectra_declared.specs.declared.declaring.Space.{Space}
 use Rattle.spectra_declared.specs.declared.declaring.Space.TheVariants as spaces
@@ -16,16 +17,17 @@ use Rattle.spectra_resolved.specs.Enums.{with_names}
 use Rattle.spectra_declared.specs.Items.{FiledItem, items_from, enum_names_of}
 use Rattle.spectra_resolved.specs.Spaces.{Entry, declared, clashes}
 use Rattle.spectra_resolved.specs.Looks.{Names}
+use Rattle.spectra_items.specs.Lengths.{elements_of, count_of}
 
 -- ---- numbers
 
--- how many variables and monitors, types, defines and predicates, and patterns stand before an item
+-- how many variables, elements of arrays and monitors, types, defines and predicates, and patterns stand before an item
 abbrev pub no_counts : Counts
 no_counts = record { variables = 0; types = 0; definitions = 0; patterns = 0 }
 
 -- the counts behind an item
 abbrev pub counted : Counts → ItemData → Counts
-counted c (ItemData.Variable x) = record c { variables = c.variables + 1 }
+counted c (ItemData.Variable x) = record c { variables = c.variables + count_of x.length }
 counted c (ItemData.Monitor m) = record c { variables = c.variables + 1 }
 counted c (ItemData.Alias t) = record c { types = c.types + 1 }
 counted c (ItemData.Define d) = record c { definitions = c.definitions + length d.bodies }
@@ -39,13 +41,18 @@ counted c (ItemData.Statement l) = c
 abbrev pub enum_entry : (enums : List (List ℕ)) → (file : ℕ) → NameData → Entry
 enum_entry enums file n = (mentioned file n, names.Leaf (leaves.EnumName (unwrap_or (position (bytes_eq n.text) enums) 0)))
 
+-- a variable's name, before which so many variables stand
+abbrev pub variable_named : (before : ℕ) → Option LengthData → Named
+variable_named k (Some l) = names.Array k (elements_of l)
+variable_named k None = names.Leaf (leaves.Variable k)
+
 abbrev pub define_entries : (file number : ℕ) → List (NameData × Expression) → List Entry
 define_entries file k [] = []
 define_entries file k (b ∷ bodies) = (mentioned file b.0, names.Leaf (leaves.Define k)) ∷ define_entries file (k + 1) bodies
 
 -- the name of an item in a name space
 abbrev pub own_entries : Space → Counts → (file : ℕ) → ItemData → List Entry
-own_entries spaces.Values c f (ItemData.Variable x) = (mentioned f x.name, names.Leaf (leaves.Variable c.variables)) ∷ []
+own_entries spaces.Values c f (ItemData.Variable x) = (mentioned f x.name, variable_named c.variables x.length) ∷ []
 own_entries spaces.Values c f (ItemData.Monitor m) = (mentioned f m.name, names.Leaf (leaves.Variable c.variables)) ∷ []
 own_entries spaces.Values c f (ItemData.Define d) = define_entries f c.definitions d.bodies
 own_entries spaces.Values c f (ItemData.Predicate p) = (mentioned f p.name, names.Predicate c.definitions (length p.params)) ∷ []
@@ -119,7 +126,7 @@ spot_of_item i = spot_at i.0 (place_of_item i.1)
 
 -- the variables that an item declares, and the lines that it has
 abbrev pub variables_of : ItemData → ℕ
-variables_of (ItemData.Variable x) = 1
+variables_of (ItemData.Variable x) = count_of x.length
 variables_of (ItemData.Monitor m) = 1
 variables_of _ = 0
 

@@ -108,7 +108,7 @@ fn report_counted(findings: &mut Findings, trees: &[Tree], items: &[Filed<'_>])
 
 /// What several files declare: their items, and what their names stand for. The last file is the main one. Each fault of
 /// the declarations is reported: a name of one name space that is declared again (8); an import, a variable, a monitor or a
-/// line in an imported file (17); more than 1,024 variables and monitors, 4,096 lines, 65,535 enum names, or 64 imports (18).
+/// line in an imported file (17); more than 1,024 variables, elements of arrays and monitors, 4,096 lines, 65,535 enum names, or 64 imports (18).
 pub fn declared<'t>(
     alloc: Global,
     findings: &mut Findings,

@@ -1,7 +1,7 @@
 //! What the items of several files declare.
 
-ghost use Rattle.std.specs.Prelude.{◌≡◌, ◌+◌, [], ◌∷◌, map, IfOk, OnOk};
-ghost use Rattle.spectra_trees.specs.Views.{name_data, expr_data, item_data};
+ghost use Rattle.std.specs.Prelude.{◌≡◌, ◌+◌, [], ◌∷◌, map, option_map, IfOk, OnOk};
+ghost use Rattle.spectra_trees.specs.Views.{name_data, expr_data, length_data, item_data};
 ghost use Rattle.spectra_resolved.specs.Reports.{found_in};
 ghost use Rattle.spectra_resolved.specs.Spaces.{no_names};
 ghost use Rattle.spectra_resolved.specs.SpaceViews.{with_entries};
@@ -10,16 +10,17 @@ ghost use Rattle.spectra_resolved.specs.Spots.{mentioned as mentioned_lem};
 ghost use Rattle.spectra_resolved.specs.EnumViews.{names_in};
 ghost use Rattle.spectra_declared.specs.MentionViews.{names_data};
 ghost use Rattle.spectra_declared.specs.ItemViews.{filed_data};
-ghost use Rattle.spectra_declared.specs.Declarations.{no_counts, counted as counted_lem, enum_entry, define_entries, own_entries, enum_entries, entries_of, entries};
+ghost use Rattle.spectra_declared.specs.Declarations.{no_counts, counted as counted_lem, variable_named as variable_named_lem, enum_entry, define_entries, own_entries, enum_entries, entries_of, entries};
 
 use crate::items::Filed;
 use crate::mentions::enum_names_of;
+use spectra_items::lengths::{count_of, elements_of};
 use spectra_resolved::enum_names::EnumNames;
 use spectra_resolved::findings::Findings;
 use spectra_resolved::spot::mentioned;
 use spectra_resolved::table::{Named, Table};
 use spectra_resolved::tree::Leaf;
-use spectra_trees::tree::{ExprTree, Item, Name};
+use spectra_trees::tree::{ExprTree, Item, Length, Name};
 use std::alloc::{AllocError, Global};
 
 /// A name space.
@@ -31,7 +32,7 @@ pub enum Space {
     Lines,
 }
 
-/// How many variables and monitors, types, defines and predicates, and patterns there are.
+/// How many variables, types, defines and predicates, and patterns there are.
 #[derive(Clone, Copy)]
 pub struct Counts {
     pub variables: usize,
@@ -66,7 +67,10 @@ impl Counts {
     {
         let mut counts = self;
         match item {
-            Item::Variable(_) | Item::Monitor(_) => counts.variables = more(counts.variables, 1)?,
+            Item::Variable(x) => {
+                counts.variables = more(counts.variables, count_of(&x.length))?;
+            }
+            Item::Monitor(_) => counts.variables = more(counts.variables, 1)?,
             Item::Alias(_) => counts.types = more(counts.types, 1)?,
             Item::Define(d) => counts.definitions = more(counts.definitions, d.bodies.len())?,
             Item::Predicate(_) => counts.definitions = more(counts.definitions, 1)?,
@@ -137,6 +141,16 @@ fn declare_defines<'t>(
     Ok(())
 }
 
+// What the name of a variable stands for, before which so many stand: an array where it has a length.
+fn variable_named(before: usize, length: &Option<Length>) -> Named
+    ensures { result ≡ variable_named_lem before (option_map length_data length.now) }
+{
+    match length {
+        Some(length) => Named::Array(before, elements_of(length)),
+        None => Named::Leaf(Leaf::Variable(before)),
+    }
+}
+
 // Declares an item's own name in the space of values.
 fn declare_value<'t>(
     table: &mut Table<'t>,
@@ -147,10 +161,15 @@ fn declare_value<'t>(
 ) -> Result<(), AllocError>
     ensures { OnOk result (told table.new findings.new ≡ with_entries (told table.old findings.old) (own_entries Space.Values counts file (item_data item.now))) }
 {
-    let variable = Named::Leaf(Leaf::Variable(counts.variables));
     match item {
-        Item::Variable(x) => declare(table, findings, file, &x.name, variable),
-        Item::Monitor(m) => declare(table, findings, file, &m.name, variable),
+        Item::Variable(x) => {
+            let variable = variable_named(counts.variables, &x.length);
+            declare(table, findings, file, &x.name, variable)
+        }
+        Item::Monitor(m) => {
+            let monitor = Named::Leaf(Leaf::Variable(counts.variables));
+            declare(table, findings, file, &m.name, monitor)
+        }
         Item::Define(d) => declare_defines(table, findings, file, counts.definitions, &d.bodies),
         Item::Predicate(p) => {
             let predicate = Named::Predicate(counts.definitions, p.params.len());

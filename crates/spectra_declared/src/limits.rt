@@ -9,6 +9,7 @@ ghost use Rattle.spectra_declared.specs.Declarations.{spot_of_item as spot_of_it
 ghost use Rattle.spectra_declared.specs.LimitViews.{weight_of};
 
 use crate::items::Filed;
+use spectra_items::lengths::count_of;
 use spectra_resolved::findings::Findings;
 use spectra_resolved::spot::{Spot, spot_at, spot_of};
 use spectra_trees::faults::{IMPORTED_LINE, TOO_MANY};
@@ -42,7 +43,7 @@ fn weight(limited: Limited, item: &Item) -> usize
     ensures { result ≡ weight_of limited (item_data item.now) }
 {
     match (limited, item) {
-        (Limited::Variables, Item::Variable(_)) => 1,
+        (Limited::Variables, Item::Variable(x)) => count_of(&x.length),
         (Limited::Variables, Item::Monitor(_)) => 1,
         (Limited::Lines, Item::Statement(_)) => 1,
         (Limited::Lines, Item::Monitor(m)) => m.parts.len(),

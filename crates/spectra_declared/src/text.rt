@@ -5,8 +5,8 @@ ghost use Rattle.spectra_trees.specs.Views.{tree_data};
 ghost use Rattle.spectra_declared.specs.ItemViews.{filed_data};
 ghost use Rattle.spectra_resolved.specs.LookViews.{scope_data};
 ghost use Rattle.spectra_resolved.specs.TextViews.{text_data};
-ghost use Rattle.spectra_items.specs.Meanings.{faults_in};
-ghost use Rattle.spectra_items.specs.Steps.{Finds};
+ghost use Rattle.spectra_items.specs.Meanings.{at_large, faults_in};
+ghost use Rattle.spectra_items.specs.Steps.{names_by, look_by, Finds};
 ghost use Rattle.spectra_declared.specs.Wholes.{text_of_items as text_of_items_lem, text_of, item_faults, faults_of};
 ghost use Rattle.spectra_declared.specs.WholeViews.{AddsItem};
 
@@ -24,6 +24,22 @@ use spectra_resolved::text::Text;
 use spectra_trees::tree::{Item, Tree};
 use std::alloc::{AllocError, Global};
 
+// What expressions of a file are resolved by outside of predicates and patterns.
+fn resolver_outside<'s, 't>(alloc: Global, scope: &'s Scope<'t>, file: usize) -> Resolver<'s, 't>
+    ensures names { names_by result ≡ scope_data scope.now }
+    ensures look { look_by result ≡ at_large (scope_data scope.now) }
+    ensures file { result.file ≡ file }
+{
+    let around = None;
+    let look = Look {
+        scope,
+        around,
+        sight: Sight::Values,
+        quantified: &[],
+    };
+    Resolver { alloc, look, file }
+}
+
 #[tactic(auto, using(spectra_items::proofs::Loops::nothing_more, spectra_resolved::proofs::Mapped::map_push, spectra_resolved::proofs::First::with_faults_append))]
 // Puts what an item says behind what is said so far. What means nothing in it is reported.
 fn add_item<'t>(
@@ -37,18 +53,11 @@ fn add_item<'t>(
     ensures found { OnOk result (Finds findings.old findings.new
         (faults_in (scope_data scope.now) (filed_data filed.entry).0 (filed_data filed.entry).1)) }
 {
-    let look = Look {
-        scope,
-        around: None,
-        sight: Sight::Values,
-    };
-    let file = filed.file;
-    let by = Resolver { alloc, look, file };
+    let by = resolver_outside(alloc, scope, filed.file);
     match filed.item {
         Item::Variable(x) => {
             let owner = owner_of(x.owner);
-            text.variables
-                .push(variable(&by, findings, &x.name, owner, &x.domain)?)?;
+            text.variables.push(variable(&by, findings, &x.name, owner, &x.domain, &x.length)?)?;
             Ok(())
         }
         Item::Alias(t) => {
@@ -65,8 +74,7 @@ fn add_item<'t>(
             Ok(())
         }
         Item::Monitor(m) => {
-            text.variables
-                .push(variable(&by, findings, &m.name, Owner::Sys, &m.domain)?)?;
+            text.variables.push(variable(&by, findings, &m.name, Owner::Sys, &m.domain, &None)?)?;
             add_monitor_lines(&mut text.lines, &by, findings, m.at, &m.parts)
         }
         Item::Statement(l) => {
@@ -104,7 +112,8 @@ fn text_of_items<'t>(
 
 /// All that several files declare and say, with each name resolved. The last file is the main one. The fault that comes
 /// first among these is found: each fault of the declarations (8, 17, 18), an unknown name (7), a name twice in an enum,
-/// among parameters or among the names of a pattern (8), a misused name (9), and a wrong number of arguments (16).
+/// among parameters or among the names of a pattern (8), a misused name (9), a wrong number of arguments (16), and an array's
+/// length of 0 or past 256 (26).
 pub fn resolved_text<'t>(
     alloc: Global,
     findings: &mut Findings,

@@ -1,25 +1,27 @@
 -- The levels of what is made, from those of its parts.
-use Rattle.std.proofs.Common.{◌≡◌, ℕ, ◌+◌, ◌<◌, ◌≤◌, nat_le, Bool, true, false, ◌&&◌, if◌then◌else◌, List, length, map, get_or, Option, Some, None, Result, Ok, Err, IsErrAnd, IsErrOf, refl, sym, ap, ◌∙◌, arith}
-use Rattle.std.proofs.lemmas.List.{length-map}
-use Rattle.spectra_resolved.specs.declared.spot.Spot.{Spot}
-use Rattle.spectra_resolved.specs.declared.spot.Mark.{Mark}
+use Rattle.std.proofs.Common.{◌≡◌, ℕ, ◌+◌, ◌<◌, ◌≤◌, max, nat_le, Bool, true, false, ◌&&◌, if◌then◌else◌, List, ◌∷◌, length, map, drop, get_or, Some, None, Result, Ok, Err, IsErrAnd, IsErrOf, refl, sym, ap, subst, ◌∙◌, arith}
+use Rattle.std.proofs.lemmas.Bool.Decides.{nat_tests}
 use Rattle.spectra_resolved.specs.declared.tree.Resolved.{Resolved}
-use Rattle.spectra_resolved.specs.declared.tree.Link.{Link}
-use Rattle.spectra_resolved.specs.Resolved.{ResolvedTree, ResolvedTrees, tree, Form}
+use Rattle.spectra_resolved.specs.Resolved.{ResolvedTree, ResolvedTrees}
 use Rattle.spectra_resolved.specs.Chained.{LinkData, chained}
 use Rattle.spectra_resolved.specs.Views.{resolved_data}
-use Rattle.spectra_elaboration.specs.declared.counted.Counted.{Counted}
-use Rattle.spectra_elaboration.specs.declared.refusal.Refusal.{Refusal}
-use Rattle.spectra_elaboration.specs.declared.refusal.Refusal.TheVariants.{Large, Deep, Memory}
-use Rattle.spectra_elaboration.specs.Putting.{Put, filled, form_filled}
-use Rattle.std.proofs.lemmas.Bool.Decides.{nat_tests}
-use Rattle.spectra_elaboration.specs.Nodes.{tree_nodes}
-use Rattle.spectra_elaboration.specs.Levels.{tree_levels, each_levels, within_limits}
-use Rattle.spectra_elaboration.specs.Links.{are_flat_above}
-use Rattle.spectra_elaboration.specs.Making.{Makes, IsFlat, AreFlat, AreFlatLinks}
-use Rattle.spectra_elaboration.proofs.Chained.{link_filled, chained_filled}
-use Rattle.spectra_elaboration.proofs.Flat.{none_flat, max_le, le-suc, chained_deep, chain_levels}
-use Rattle.spectra_elaboration.proofs.Made.{tree_is, small, nodes_are, large, LinksFrom, TreesFrom, link_left, tree_left, none_links, none_trees}
+use Rattle.spectra_judge.proofs.Lists.{mapped_left}
+use Rattle.spectra_copies.specs.declared.counted.Counted.{Counted}
+use Rattle.spectra_copies.specs.declared.refusal.Refusal.{Refusal}
+use Rattle.spectra_copies.specs.declared.refusal.Refusal.TheVariants.{Large, Deep, Memory}
+use Rattle.spectra_elaboration.specs.declared.frames.Frame.{Frame}
+use Rattle.spectra_elaboration.specs.declared.rows.Piece.{Piece}
+use Rattle.spectra_elaboration.specs.Putting.{Bodies}
+use Rattle.spectra_elaboration.specs.Frames.{filled_at}
+use Rattle.spectra_elaboration.specs.Rows.{piece_link, piece_at, pieces_at}
+use Rattle.spectra_copies.specs.Nodes.{tree_nodes}
+use Rattle.spectra_copies.specs.Levels.{tree_levels, each_levels, is_row, within_limits}
+use Rattle.spectra_copies.specs.Links.{ends_row, ends_at, link_levels, are_flat_above}
+use Rattle.spectra_copies.specs.Making.{Makes, IsFlat, AreFlat, AreFlatLinks}
+use Rattle.spectra_copies.proofs.Made.{tree_is, small, nodes_are, large, OneByOne, TreesFrom, tree_left, none_trees}
+use Rattle.spectra_elaboration.proofs.RowLevels.{max_le, le-suc, row_levels}
+use Rattle.spectra_elaboration.proofs.Unwound.{ends_same}
+use Rattle.spectra_elaboration.proofs.Pieces.{PiecesFrom, piece_left, no_pieces}
 
 -- ---- what an answer says
 
@@ -80,14 +82,10 @@ module _ (levels : ℕ) where
   stop_links_flat ls halt (Ok nodes) is few = absurd is
   stop_links_flat ls halt (Err y) is few = λ e. few (sym is ∙ e)
 
--- ---- operators in a row, and operands
+-- ---- operators in rows
 
 none_fits : (levels : ℕ) → nat_le 0 levels ≡ true
 none_fits levels = grind (arith, nat_tests)
-
--- each expression has a level
-pub no_levels : (t : ResolvedTree) → nat_le (tree_levels t) 0 ≡ false
-no_levels (tree first at form) = none_flat form
 
 pub one_level : (levels : ℕ) → 0 < levels → nat_le 1 levels ≡ true
 one_level levels some = grind (arith, nat_tests)
@@ -96,81 +94,82 @@ and-false : (p : Bool) → (p && false) ≡ false
 and-false true = refl
 and-false false = refl
 
-module _ (put : Put) (brought : Option Spot) (arguments : List ResolvedTree) where
-  abbrev Fill : ResolvedTree → ResolvedTree
-  Fill t = filled put brought arguments t
+-- operators behind what is no row itself
+module _ (head : ResolvedTree) (ls : List LinkData) (apart : is_row head ≡ false) (first limit : ℕ) (is : first + link_levels ls ≡ limit) where
+  whole : (p q : Bool) → nat_le (tree_levels head) first ≡ p → are_flat_above first ls ≡ q → nat_le (tree_levels (chained head ls)) limit ≡ (p && q)
+  whole p q own more = ap (nat_le (tree_levels (chained head ls))) (sym is) ∙ row_levels head ls first apart ∙ (λ i. own i && more i)
 
-  abbrev FillLinks : List LinkData → List LinkData
-  FillLinks ls = map (link_filled put brought arguments) ls
+  pub rows_flat : nat_le (tree_levels head) first ≡ true → are_flat_above first ls ≡ true → nat_le (tree_levels (chained head ls)) limit ≡ true
+  rows_flat own more = whole true true own more
 
-  module _ (head : ResolvedTree) (ls : List LinkData) (first limit : ℕ) (is : first + length ls ≡ limit) where
-    whole : (p q : Bool) → nat_le (tree_levels (Fill head)) first ≡ p → are_flat_above first (FillLinks ls) ≡ q → nat_le (tree_levels (Fill (chained head ls))) limit ≡ (p && q)
-    whole p q own more =
-        ap (λ t. nat_le (tree_levels t) limit) (chained_filled put brought arguments head ls)
-        ∙ sym (chain_levels (Fill head) (FillLinks ls) first limit (ap (λ n. first + n) (length-map ls (link_filled put brought arguments)) ∙ is) p q (sym own) (sym more))
+  pub rows_deep_first : nat_le (tree_levels head) first ≡ false → nat_le (tree_levels (chained head ls)) limit ≡ false
+  rows_deep_first own = whole false (are_flat_above first ls) own refl
 
-    pub row_flat : nat_le (tree_levels (Fill head)) first ≡ true → are_flat_above first (FillLinks ls) ≡ true → nat_le (tree_levels (Fill (chained head ls))) limit ≡ true
-    row_flat own more = whole true true own more
+  pub rows_deep_links : are_flat_above first ls ≡ false → nat_le (tree_levels (chained head ls)) limit ≡ false
+  rows_deep_links more = whole (nat_le (tree_levels head) first) false refl more ∙ and-false (nat_le (tree_levels head) first)
 
-    pub row_deep_head : nat_le (tree_levels (Fill head)) first ≡ false → nat_le (tree_levels (Fill (chained head ls))) limit ≡ false
-    row_deep_head own = whole false (are_flat_above first (FillLinks ls)) own refl
+module _ (b : Bodies) (fs : List Frame) (ps : List Piece) (k : ℕ) where
+  -- what the end of a row adds to the levels
+  abbrev pub LevelsBehind : ℕ → ℕ
+  LevelsBehind levels = levels + (if ends_at (map piece_link (drop k ps)) then 1 else 0)
 
-    pub row_deep_links : are_flat_above first (FillLinks ls) ≡ false → nat_le (tree_levels (Fill (chained head ls))) limit ≡ false
-    row_deep_links more = whole (nat_le (tree_levels (Fill head)) first) false refl more ∙ and-false (nat_le (tree_levels (Fill head)) first)
+  module _ (p : Piece) (below : k < length ps) (is : p ≡ get_or ps k p) (levels : ℕ) where
+    ends : ends_at (map piece_link (drop k ps)) ≡ ends_row (piece_at b fs p) (pieces_at b fs (drop (k + 1) ps))
+    ends = ap ends_at (mapped_left piece_link ps k p below is) ∙ sym (ends_same b fs p (drop (k + 1) ps))
 
-  pub row_deep : (head : ResolvedTree) (ls : List LinkData) (limit : ℕ) → limit ≤ length ls → nat_le (tree_levels (Fill (chained head ls))) limit ≡ false
-  row_deep head ls limit small =
-      let size = length-map ls (link_filled put brought arguments) in
-      ap (λ t. nat_le (tree_levels t) limit) (chained_filled put brought arguments head ls) ∙ chained_deep (Fill head) (FillLinks ls) limit (omega (arith, size, small))
+    flat_left : (q : Bool) → nat_le (tree_levels (filled_at b fs p.frame (resolved_data p.link.now.second))) levels ≡ q
+        → are_flat_above levels (PiecesFrom b fs ps k) ≡ (q && are_flat_above (LevelsBehind levels) (PiecesFrom b fs ps (k + 1)))
+    flat_left q own =
+        ap (are_flat_above levels) (piece_left b fs ps k p below is)
+        ∙ (λ i. own i && are_flat_above (levels + (if sym ends i then 1 else 0)) (PiecesFrom b fs ps (k + 1)))
 
-  module _ (ls : List Link) (k : ℕ) (l : Link) (below : k < length ls) (is : l ≡ get_or ls k l) (levels : ℕ) where
-    links_flat_left : (p : Bool) → nat_le (tree_levels (Fill (resolved_data l.second))) levels ≡ p
-        → are_flat_above levels (LinksFrom put brought arguments ls k) ≡ (p && are_flat_above (levels + 1) (LinksFrom put brought arguments ls (k + 1)))
-    links_flat_left p own = ap (are_flat_above levels) (link_left put brought arguments ls k l below is) ∙ (λ i. own i && are_flat_above (levels + 1) (LinksFrom put brought arguments ls (k + 1)))
+    pub links_flat_on : nat_le (tree_levels (filled_at b fs p.frame (resolved_data p.link.now.second))) levels ≡ true
+        → are_flat_above (LevelsBehind levels) (PiecesFrom b fs ps (k + 1)) ≡ are_flat_above levels (PiecesFrom b fs ps k)
+    links_flat_on own = sym (flat_left true own)
 
-    pub links_flat_on : nat_le (tree_levels (Fill (resolved_data l.second))) levels ≡ true
-        → are_flat_above (levels + 1) (LinksFrom put brought arguments ls (k + 1)) ≡ are_flat_above levels (LinksFrom put brought arguments ls k)
-    links_flat_on own = sym (links_flat_left true own)
+    pub links_flat_off : nat_le (tree_levels (filled_at b fs p.frame (resolved_data p.link.now.second))) levels ≡ false → are_flat_above levels (PiecesFrom b fs ps k) ≡ false
+    links_flat_off own = flat_left false own
 
-    pub links_flat_off : nat_le (tree_levels (Fill (resolved_data l.second))) levels ≡ false → are_flat_above levels (LinksFrom put brought arguments ls k) ≡ false
-    links_flat_off own = links_flat_left false own
+  pub links_flat_end : (levels : ℕ) → length ps ≤ k → are_flat_above levels (PiecesFrom b fs ps k) ≡ true
+  links_flat_end levels end = ap (are_flat_above levels) (no_pieces b fs ps k end)
 
-  pub links_flat_end : (ls : List Link) (k levels : ℕ) → length ls ≤ k → are_flat_above levels (LinksFrom put brought arguments ls k) ≡ true
-  links_flat_end ls k levels end = ap (are_flat_above levels) (none_links put brought arguments ls k end)
+-- ---- operands
 
+module _ (Own : ResolvedTree → ResolvedTree) (Each : ResolvedTrees → ResolvedTrees) (each : OneByOne Own Each) where
   module _ (ts : List Resolved) (k : ℕ) (t : Resolved) (below : k < length ts) (is : t ≡ get_or ts k t) (levels : ℕ) where
-    each_flat_left : (p : Bool) → nat_le (tree_levels (Fill (resolved_data t))) levels ≡ p
-        → nat_le (each_levels (TreesFrom put brought arguments ts k)) levels ≡ (p && nat_le (each_levels (TreesFrom put brought arguments ts (k + 1))) levels)
+    each_flat_left : (p : Bool) → nat_le (tree_levels (Own (resolved_data t))) levels ≡ p
+        → nat_le (each_levels (TreesFrom Own Each each ts k)) levels ≡ (p && nat_le (each_levels (TreesFrom Own Each each ts (k + 1))) levels)
     each_flat_left p own =
-        ap (λ us. nat_le (each_levels us) levels) (tree_left put brought arguments ts k t below is)
-        ∙ max_le (tree_levels (Fill (resolved_data t))) (each_levels (TreesFrom put brought arguments ts (k + 1))) levels
-        ∙ (λ i. own i && nat_le (each_levels (TreesFrom put brought arguments ts (k + 1))) levels)
+        ap (λ us. nat_le (each_levels us) levels) (tree_left Own Each each ts k t below is)
+        ∙ max_le (tree_levels (Own (resolved_data t))) (each_levels (TreesFrom Own Each each ts (k + 1))) levels
+        ∙ (λ i. own i && nat_le (each_levels (TreesFrom Own Each each ts (k + 1))) levels)
 
-    pub each_flat_on : nat_le (tree_levels (Fill (resolved_data t))) levels ≡ true
-        → nat_le (each_levels (TreesFrom put brought arguments ts (k + 1))) levels ≡ nat_le (each_levels (TreesFrom put brought arguments ts k)) levels
+    pub each_flat_on : nat_le (tree_levels (Own (resolved_data t))) levels ≡ true
+        → nat_le (each_levels (TreesFrom Own Each each ts (k + 1))) levels ≡ nat_le (each_levels (TreesFrom Own Each each ts k)) levels
     each_flat_on own = sym (each_flat_left true own)
 
-    pub each_flat_off : nat_le (tree_levels (Fill (resolved_data t))) levels ≡ false → nat_le (each_levels (TreesFrom put brought arguments ts k)) levels ≡ false
+    pub each_flat_off : nat_le (tree_levels (Own (resolved_data t))) levels ≡ false → nat_le (each_levels (TreesFrom Own Each each ts k)) levels ≡ false
     each_flat_off own = each_flat_left false own
 
-  pub each_flat_end : (ts : List Resolved) (k levels : ℕ) → length ts ≤ k → nat_le (each_levels (TreesFrom put brought arguments ts k)) levels ≡ true
-  each_flat_end ts k levels end = ap (λ us. nat_le (each_levels us) levels) (none_trees put brought arguments ts k end) ∙ none_fits levels
+  pub each_flat_end : (ts : List Resolved) (k levels : ℕ) → length ts ≤ k → nat_le (each_levels (TreesFrom Own Each each ts k)) levels ≡ true
+  each_flat_end ts k levels end = ap (λ us. nat_le (each_levels us) levels) (none_trees Own Each each ts k end) ∙ none_fits levels
 
 -- ---- operators above their operands
 
-module _ (put : Put) (brought : Option Spot) (arguments : List ResolvedTree) (levels : ℕ) (first : Spot) (at : Mark) (form : Form) (r : Result Counted Refusal) where
-  abbrev Whole : ResolvedTree
-  Whole = form_filled put brought arguments first at form
-
+module _ (levels : ℕ) (whole : ResolvedTree) (r : Result Counted Refusal) where
   -- an operator is a level above operands of so many
-  above : (n : ℕ) (p : Bool) → tree_levels Whole ≡ 1 + n → nat_le n levels ≡ p → nat_le (tree_levels Whole) (levels + 1) ≡ p
+  above : (n : ℕ) (p : Bool) → tree_levels whole ≡ 1 + n → nat_le n levels ≡ p → nat_le (tree_levels whole) (levels + 1) ≡ p
   above n p size own = ap (λ m. nat_le m (levels + 1)) size ∙ le-suc n levels ∙ own
 
-  pub above_flat : (n : ℕ) → tree_levels Whole ≡ 1 + n → nat_le n levels ≡ true → (IsErrOf r Deep → ⊥) → IsFlat (levels + 1) Whole r
-  above_flat n size own never = flat_of (levels + 1) Whole r (above n true size own) never
+  pub above_flat : (n : ℕ) → tree_levels whole ≡ 1 + n → nat_le n levels ≡ true → (IsErrOf r Deep → ⊥) → IsFlat (levels + 1) whole r
+  above_flat n size own never = flat_of (levels + 1) whole r (above n true size own) never
 
-  pub above_deep : (n : ℕ) (halt : Refusal) → tree_levels Whole ≡ 1 + n → IsErrAnd r (λ y. y ≡ halt) → (halt ≡ Deep → nat_le n levels ≡ false) → IsFlat (levels + 1) Whole r
-  above_deep n halt size err own = stop_flat (levels + 1) Whole halt r err (λ e. above n false size (own e))
+  pub above_deep : (n : ℕ) (halt : Refusal) → tree_levels whole ≡ 1 + n → IsErrAnd r (λ y. y ≡ halt) → (halt ≡ Deep → nat_le n levels ≡ false) → IsFlat (levels + 1) whole r
+  above_deep n halt size err own = stop_flat (levels + 1) whole halt r err (λ e. above n false size (own e))
+
+-- the greatest of three is past a limit where one is
+pub most_of : (a b c n : ℕ) (p q r : Bool) → nat_le a n ≡ p → nat_le b n ≡ q → nat_le c n ≡ r → nat_le (max a (max b c)) n ≡ (p && (q && r))
+most_of a b c n p q r first second third = max_le a (max b c) n ∙ ap (λ x. nat_le a n && x) (max_le b c n) ∙ (λ i. first i && (second i && third i))
 
 -- ---- within limits
 

@@ -9,7 +9,7 @@ use Rattle.spectra_resolved.specs.Chained.{trees}
 use Rattle.spectra_resolved.specs.Views.{resolved_data}
 use Rattle.spectra_elaboration.specs.declared.frames.Frame.{Frame}
 use Rattle.spectra_elaboration.specs.declared.following.Use.{Use}
-use Rattle.spectra_elaboration.specs.Putting.{Bodies, Put, filled, each_filled, put_deep, body_put, body_of, hole_at, put_in}
+use Rattle.spectra_elaboration.specs.Putting.{Bodies, Put, filled, each_filled, put_deep, body_put, body_of, hole_at, with_bodies}
 use Rattle.spectra_elaboration.specs.Frames.{Around, nothing_around, frame_around, arounds_behind, around_at, filled_at, AreFrames, Grows}
 use Rattle.spectra_elaboration.specs.Following.{Goes, put_use}
 use Rattle.spectra_elaboration.proofs.Chained.{map_twice}
@@ -129,7 +129,7 @@ listed_each put brought arguments [] = refl
 listed_each put brought arguments (x ∷ xs) = ap (λ ys. filled put brought arguments x ∷ ys) (listed_each put brought arguments xs)
 
 -- the line itself
-pub line_filled : (b : Bodies) (fs before : List Frame) (f : Frame) → fs ≡ before ++ f ∷ [] → before ≡ [] → f.deep ≡ length b → f.brought ≡ None → f.arguments.now ≡ [] → (t : ResolvedTree) → filled_at b fs 0 t ≡ put_in b t
+pub line_filled : (b : Bodies) (fs before : List Frame) (f : Frame) → fs ≡ before ++ f ∷ [] → before ≡ [] → f.deep ≡ length b → f.brought ≡ None → f.arguments.now ≡ [] → (t : ResolvedTree) → filled_at b fs 0 t ≡ with_bodies b t
 line_filled b fs before f is none deep brought arguments t =
     ap (λ (w : Around). filled (put_deep w.deep b) w.brought w.arguments t) (ap (λ xs. around_at b xs 0) (is ∙ ap (λ xs. xs ++ f ∷ []) none) ∙ pushed b [] f)
     ∙ (λ j. filled (put_deep (deep j) b) (brought j) (map (λ u. filled_at b [] f.outer (resolved_data u)) (arguments j)) t)

@@ -18,7 +18,8 @@ use Rattle.spectra_resolved.specs.Chained.{trees}
 use Rattle.spectra_resolved.specs.Views.{resolved_data}
 use Rattle.spectra_elaboration.specs.declared.given.Given.{Given}
 use Rattle.spectra_elaboration.specs.declared.frames.Frame.{Frame}
-use Rattle.spectra_elaboration.specs.Putting.{Bodies, placed, marked, filled, form_filled, each_filled, put_deep, body_put, body_of}
+use Rattle.spectra_copies.specs.Places.{placed, marked}
+use Rattle.spectra_elaboration.specs.Putting.{Bodies, filled, form_filled, each_filled, put_deep, body_put, body_of}
 use Rattle.spectra_elaboration.specs.Frames.{around_at, filled_at, used_at}
 use Rattle.spectra_elaboration.specs.Giving.{is_within, place_of, leaf_gives, gives, form_gives, operand_gives, is_given, AreGiven}
 use Rattle.spectra_elaboration.proofs.Framed.{deep_is}
@@ -64,6 +65,8 @@ module _ (b : Bodies) (gs : List (Option Given)) (deep : ℕ) (given : GivenAt b
     form_given first at (Form.Mod t number_at n) is = absurd (false≢true is)
     form_given first at (Form.And ts operators) is = absurd (false≢true is)
     form_given first at (Form.Or ts operators) is = absurd (false≢true is)
+    form_given first at (Form.Index array n t) is = absurd (false≢true is)
+    form_given first at (Form.Quantified word variable extent low high ts) is = absurd (false≢true is)
 
     operand_given : (i : ℕ) (ts : ResolvedTrees) → operand_gives gs need place i ts ≡ true
         → (i < length (listed (each_filled (put_deep deep b) brought args ts))) × (get_or (listed (each_filled (put_deep deep b) brought args ts)) i d ≡ get_or args place d)
@@ -137,6 +140,8 @@ module _ (gs hs : List (Option Given)) (more : Extends gs hs) (deep place : ℕ)
     form_more (Form.Mod t number_at n) is = absurd (false≢true is)
     form_more (Form.And ts operators) is = absurd (false≢true is)
     form_more (Form.Or ts operators) is = absurd (false≢true is)
+    form_more (Form.Index array n t) is = absurd (false≢true is)
+    form_more (Form.Quantified word variable extent low high ts) is = absurd (false≢true is)
 
     operand_more : (i : ℕ) (ts : ResolvedTrees) → operand_gives gs deep place i ts ≡ true → operand_gives hs deep place i ts ≡ true
     operand_more i ResolvedTrees.none is = absurd (false≢true is)

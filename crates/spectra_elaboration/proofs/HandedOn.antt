@@ -17,7 +17,8 @@ use Rattle.spectra_resolved.specs.Chained.{trees}
 use Rattle.spectra_resolved.specs.Views.{resolved_data}
 use Rattle.spectra_elaboration.specs.declared.last.Last.{Last}
 use Rattle.spectra_elaboration.specs.declared.following.Use.{Use}
-use Rattle.spectra_elaboration.specs.Putting.{Bodies, Put, placed, marked, filled, form_filled, each_filled, put_deep, body_put, body_of}
+use Rattle.spectra_copies.specs.Places.{placed, marked}
+use Rattle.spectra_elaboration.specs.Putting.{Bodies, Put, filled, form_filled, each_filled, put_deep, body_put, body_of}
 use Rattle.spectra_elaboration.specs.Handing.{is_parameter, are_parameters, how_many, only, leaf_next, form_next, tree_next, next_of, same_hole, one_is, leads, IsLast, AreLast}
 use Rattle.spectra_elaboration.specs.Following.{put_use}
 use Rattle.spectra_elaboration.proofs.Tables.{entry, none_at}

@@ -1,5 +1,5 @@
 -- What an expression comes to when it is followed.
-use Rattle.std.specs.Prelude.{◌≡◌, ◌<◌, Bool, true, false, List, length, map}
+use Rattle.std.specs.Prelude.{◌≡◌, ◌<◌, Bool, true, false, List, Option, Some, None, length, map}
 use Rattle.spectra_resolved.specs.declared.spot.Spot.{Spot}
 use Rattle.spectra_resolved.specs.Resolved.{ResolvedTree, tree, Form}
 use Rattle.spectra_resolved.specs.Chained.{chained}
@@ -20,6 +20,11 @@ is_operator (Form.PredicateOf k ts) = false
 is_operator (Form.MisuseOf m ts) = false
 is_operator (Form.Binary word a b) = false
 is_operator _ = true
+
+-- a quantifier, where an operator is one
+abbrev pub quantified_of : Form → Option Form
+quantified_of (Form.Quantified word variable extent low high ts) = Some (Form.Quantified word variable extent low high ts)
+quantified_of _ = None
 
 -- the expression that an end of the way stands for
 abbrev pub front_data : Bodies → List Frame → Front → ResolvedTree

@@ -9,7 +9,7 @@ use Rattle.spectra_resolved.specs.Chained.{LinkData}
 use Rattle.spectra_resolved.specs.Views.{resolved_data}
 use Rattle.spectra_elaboration.specs.declared.frames.Frame.{Frame}
 use Rattle.spectra_elaboration.specs.Putting.{Bodies, Put, put_deep, leaf_put, filled, form_filled, each_filled}
-use Rattle.spectra_elaboration.specs.Links.{placed_link}
+use Rattle.spectra_copies.specs.Links.{placed_link}
 
 -- what an expression in a body is put in by: how deep other bodies may stand in it, the name in the line that brings the body,
 -- and its arguments

@@ -34,6 +34,8 @@ abbrev mutual
   form_gives gs deep place (Form.Mod t number_at n) = false
   form_gives gs deep place (Form.And ts operators) = false
   form_gives gs deep place (Form.Or ts operators) = false
+  form_gives gs deep place (Form.Index first n t) = false
+  form_gives gs deep place (Form.Quantified word variable extent low high ts) = false
 
   pub operand_gives : List (Option Given) → (deep place : ℕ) → (i : ℕ) → ResolvedTrees → Bool
   operand_gives gs deep place i ResolvedTrees.none = false

@@ -1,9 +1,4 @@
 pub mod Putting
-pub mod Nodes
-pub mod Links
-pub mod Operands
-pub mod Making
-pub mod Levels
 pub mod Written
 pub mod PuttingViews
 pub mod Giving
@@ -12,5 +7,5 @@ pub mod Handing
 pub mod DefinitionViews
 pub mod Frames
 pub mod Following
-pub mod Counting
 pub mod Laws
+pub mod Rows

@@ -10,23 +10,13 @@ use Rattle.spectra_resolved.specs.declared.tree.Hole.TheVariants as hole
 use Rattle.spectra_resolved.specs.declared.tree.Misuse.{Misuse}
 use Rattle.spectra_resolved.specs.declared.tree.Misuse.TheVariants as misuse
 use Rattle.spectra_resolved.specs.Resolved.{ResolvedTree, tree, Form, ResolvedTrees, listed}
+use Rattle.spectra_copies.specs.Places.{placed, marked}
+use Rattle.spectra_copies.specs.Copies.{written}
 
 -- What is put in for each definition of a text: its body, with holes for faulty arguments; and nothing where the definition
 -- has no meaning, since it is faulty as it is written or is used in its own body.
 abbrev pub Bodies : Type 0
 Bodies = List (Option ResolvedTree)
-
--- ---- places
-
--- In a line each part stays where it is. All parts of a body stand at the name in the line that brings it.
-abbrev pub placed : (brought : Option Spot) → Spot → Spot
-placed (Some name) at = name
-placed None at = at
-
--- so does a part with its mark, which says then that a body brings it
-abbrev pub marked : (brought : Option Spot) → Mark → Mark
-marked (Some name) at = brought_at name
-marked None at = at
 
 -- ---- holes
 
@@ -64,6 +54,9 @@ abbrev mutual
   form_filled put brought arguments first at (Form.Mod t number_at n) = tree first at (Form.Mod (filled put brought arguments t) (placed brought number_at) n)
   form_filled put brought arguments first at (Form.And ts operators) = tree first at (Form.And (each_filled put brought arguments ts) (map (placed brought) operators))
   form_filled put brought arguments first at (Form.Or ts operators) = tree first at (Form.Or (each_filled put brought arguments ts) (map (placed brought) operators))
+  form_filled put brought arguments first at (Form.Index array n t) = tree first at (Form.Index array n (filled put brought arguments t))
+  form_filled put brought arguments first at (Form.Quantified word variable extent low high ts) =
+      tree first at (Form.Quantified word variable extent (filled put brought arguments low) (filled put brought arguments high) (each_filled put brought arguments ts))
 
   pub each_filled : Put → (brought : Option Spot) → (arguments : List ResolvedTree) → ResolvedTrees → ResolvedTrees
   each_filled put brought arguments ResolvedTrees.none = ResolvedTrees.none
@@ -82,6 +75,10 @@ abbrev pub put_deep : (deep : ℕ) → Bodies → Put
 put_deep zero b h k at arguments = hole_at at h
 put_deep (suc deep) b h k at arguments = body_put (put_deep deep b) h at arguments (body_of b k)
 
--- an expression of a line in which everything is put in: one body in another at most as often as there are definitions
+-- an expression of a line with bodies for names: one body in another at most as often as there are definitions
+abbrev pub with_bodies : Bodies → ResolvedTree → ResolvedTree
+with_bodies b t = filled (put_deep (length b) b) None [] t
+
+-- an expression of a line in which everything is put in, and each quantifier is written out whose bounds have numbers then
 abbrev pub put_in : Bodies → ResolvedTree → ResolvedTree
-put_in b t = filled (put_deep (length b) b) None [] t
+put_in b t = written [] [] (with_bodies b t)

@@ -18,7 +18,8 @@ use crate::definitions::Definitions;
 use crate::frames::{By, Frame};
 use crate::giving::given_at;
 use crate::handing::last_at;
-use crate::parts::{body_of, marked, misuse_hole, placed};
+use crate::parts::{body_of, misuse_hole};
+use spectra_copies::parts::{marked, placed};
 use spectra_resolved::spot::{Mark, Spot};
 use spectra_resolved::tree::{Hole, Leaf, Link, Resolved, Shape};
 use std::alloc::AllocError;
@@ -214,6 +215,7 @@ fn leaf_step<'s>(
         | Leaf::EnumName(_)
         | Leaf::Variable(_)
         | Leaf::Own(_)
+        | Leaf::Bound(_)
         | Leaf::Hole(_) => Ok(Step::Ends(Front::Leaf(first, at, leaf))),
     }
 }
@@ -246,6 +248,10 @@ fn node_step<'s>(
         Shape::Mod(_, _, _) => Ok(Step::Ends(Front::Node(frame, first, at, shape))),
         Shape::And(_, _) => Ok(Step::Ends(Front::Node(frame, first, at, shape))),
         Shape::Or(_, _) => Ok(Step::Ends(Front::Node(frame, first, at, shape))),
+        Shape::Index(_, _, _) => Ok(Step::Ends(Front::Node(frame, first, at, shape))),
+        Shape::Quantified(_, _, _, _, _, _) => {
+            Ok(Step::Ends(Front::Node(frame, first, at, shape)))
+        }
     }
 }
 

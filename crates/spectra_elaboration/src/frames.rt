@@ -2,7 +2,7 @@
 
 ghost use Rattle.std.specs.Prelude.{◌≡◌, ◌<◌, length, IfOk};
 ghost use Rattle.spectra_resolved.specs.Resolved.{ResolvedTree};
-ghost use Rattle.spectra_elaboration.specs.Putting.{put_in};
+ghost use Rattle.spectra_elaboration.specs.Putting.{with_bodies};
 ghost use Rattle.spectra_elaboration.specs.DefinitionViews.{definitions_data};
 ghost use Rattle.spectra_elaboration.specs.Frames.{AreFrames, filled_at};
 
@@ -32,7 +32,7 @@ pub struct Frame<'s> {
 pub fn line_frame<'s>(by: &By<'s>) -> Result<Vec<Frame<'s>>, AllocError>
     ensures framed { IfOk result (λ frames. AreFrames frames.items) }
     ensures within { IfOk result (λ frames. 0 < length frames.items) }
-    ensures line { IfOk result (λ frames. (t : ResolvedTree) → filled_at (definitions_data by.now.definitions.now) frames.items 0 t ≡ put_in (definitions_data by.now.definitions.now) t) }
+    ensures line { IfOk result (λ frames. (t : ResolvedTree) → filled_at (definitions_data by.now.definitions.now) frames.items 0 t ≡ with_bodies (definitions_data by.now.definitions.now) t) }
 {
     let line = Frame {
         deep: by.definitions.bodies.len(),

@@ -42,6 +42,7 @@ fn look_at_leaf<'s>(leaf: Leaf) -> Look<'s>
         | Leaf::EnumName(_)
         | Leaf::Variable(_)
         | Leaf::Own(_)
+        | Leaf::Bound(_)
         | Leaf::Hole(_) => Look::Nothing,
     }
 }
@@ -77,6 +78,8 @@ fn look_at_node<'s>(given: &[Option<Given>], need: usize, shape: &'s Shape) -> L
         Shape::Mod(_, _, _) => Look::Nothing,
         Shape::And(_, _) => Look::Nothing,
         Shape::Or(_, _) => Look::Nothing,
+        Shape::Index(_, _, _) => Look::Nothing,
+        Shape::Quantified(_, _, _, _, _, _) => Look::Nothing,
     }
 }
 

@@ -87,6 +87,7 @@ fn next_define(leaf: Leaf) -> Option<Last>
         | Leaf::EnumName(_)
         | Leaf::Variable(_)
         | Leaf::Own(_)
+        | Leaf::Bound(_)
         | Leaf::Hole(_) => None,
     }
 }
@@ -104,6 +105,8 @@ fn next_at_node(shape: &Shape) -> Option<Last>
         Shape::Mod(_, _, _) => None,
         Shape::And(_, _) => None,
         Shape::Or(_, _) => None,
+        Shape::Index(_, _, _) => None,
+        Shape::Quantified(_, _, _, _, _, _) => None,
     }
 }
 

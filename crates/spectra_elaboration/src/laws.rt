@@ -1,16 +1,6 @@
 //! Laws over the definitions alone. These functions do nothing: their contracts are the laws.
 
-ghost use Rattle.spectra_elaboration.specs.Laws.{NodesAreThoseOfTheFormula, LevelsAreThoseOfTheFormula, EverythingIsPutIn, HoledIsAsWritten};
-
-/// An expression has as many nodes as its formula.
-pub fn nodes_are_those_of_the_formula()
-    ensures { NodesAreThoseOfTheFormula }
-{}
-
-/// It has as many levels, too.
-pub fn levels_are_those_of_the_formula()
-    ensures { LevelsAreThoseOfTheFormula }
-{}
+ghost use Rattle.spectra_elaboration.specs.Laws.{EverythingIsPutIn, HoledIsAsWritten};
 
 /// Where every definition has a meaning and none is used in its own body, everything is put in.
 pub fn everything_is_put_in()

@@ -1,75 +1,14 @@
-//! What is put in, and the places of what is put in.
+//! What is put in.
 
-ghost use Rattle.std.specs.Prelude.{◌≡◌, option_map, map, IfOk};
-ghost use Rattle.spectra_resolved.specs.Chained.{chained, trees};
-ghost use Rattle.spectra_resolved.specs.Views.{resolved_data, link_data, form_data};
-ghost use Rattle.spectra_elaboration.specs.Putting.{placed as placed_lem, marked as marked_lem, misuse_hole as misuse_hole_lem, body_of as body_of_lem};
-ghost use Rattle.spectra_elaboration.specs.Operands.{one_of as one_of_lem, several_of as several_of_lem};
-ghost use Rattle.spectra_elaboration.specs.Links.{placed_link as placed_link_lem};
+ghost use Rattle.std.specs.Prelude.{◌≡◌, option_map};
+ghost use Rattle.spectra_resolved.specs.Views.{resolved_data, form_data};
+ghost use Rattle.spectra_copies.specs.PartViews.{quantifier_data};
+ghost use Rattle.spectra_elaboration.specs.Following.{quantified_of};
+ghost use Rattle.spectra_elaboration.specs.Putting.{misuse_hole as misuse_hole_lem, body_of as body_of_lem};
 ghost use Rattle.spectra_elaboration.specs.PuttingViews.{bodies_data};
 
-use spectra_resolved::spot::{Mark, Spot, brought_at};
-use spectra_resolved::tree::{Hole, Link, Misuse, Resolved, Shape};
-use std::alloc::{AllocError, Global};
-
-/// Where a part stands of a line, or of a body that a name in the line brings.
-pub fn placed(brought: Option<Spot>, at: Spot) -> Spot
-    ensures { result ≡ placed_lem brought at }
-{
-    match brought {
-        Some(name) => name,
-        None => at,
-    }
-}
-
-/// The same of a part with its mark, which says then that a body brings it.
-pub fn marked(brought: Option<Spot>, at: Mark) -> Mark
-    ensures { result ≡ marked_lem brought at }
-{
-    match brought {
-        Some(name) => brought_at(name),
-        None => at,
-    }
-}
-
-/// Where several parts stand.
-pub fn placed_each(
-    alloc: Global,
-    brought: Option<Spot>,
-    places: &[Spot],
-) -> Result<Vec<Spot>, AllocError>
-    ensures { IfOk result (λ made. made.items ≡ map (placed_lem brought) places.now) }
-{
-    let mut made = Vec::new(alloc);
-    for at in places {
-        made.push(placed(brought, *at))?;
-    }
-    Ok(made)
-}
-
-/// An operator where it stands, with another second operand.
-pub fn placed_link(brought: Option<Spot>, link: &Link, second: Resolved) -> Link
-    ensures { link_data result ≡ placed_link_lem brought (link_data link.now) (resolved_data second) }
-{
-    Link {
-        first: placed(brought, link.first),
-        at: marked(brought, link.at),
-        word: link.word,
-        second,
-    }
-}
-
-#[tactic(auto, using(spectra_resolved::proofs::Trees::chain_data))]
-/// A tree with operators behind it.
-pub fn chain(
-    alloc: Global,
-    head: Box<Resolved>,
-    links: Vec<Link>,
-) -> Result<Box<Resolved>, AllocError>
-    ensures { IfOk result (λ t. resolved_data t.value ≡ chained (resolved_data head.value) (map link_data links.items)) }
-{
-    Ok(Box::new(alloc, Resolved::Chain(head, links))?)
-}
+use spectra_copies::parts::{Quantifier, quantifier_of};
+use spectra_resolved::tree::{Hole, Misuse, Resolved, Shape};
 
 /// What stands for a misused name.
 pub fn misuse_hole(misuse: Misuse) -> Hole
@@ -94,34 +33,22 @@ pub fn body_of<'s>(bodies: &'s [Option<Resolved>], number: usize) -> Option<&'s 
     }
 }
 
-/// The one operand of an operator that has no others.
-pub fn one_of<'s>(shape: &'s Shape) -> Option<&'s Resolved>
-    ensures { option_map (λ t. resolved_data t.now) result ≡ one_of_lem (form_data shape.now) }
+/// A quantifier, where an operator is one.
+pub fn quantifier_in<'s>(shape: &'s Shape) -> Option<Quantifier<'s>>
+    ensures { option_map quantifier_data result ≡ quantified_of (form_data shape.now) }
 {
     match shape {
+        Shape::Quantified(word, variable, extent, low, high, copies) => {
+            Some(quantifier_of(*word, *variable, *extent, low, high, copies))
+        }
         Shape::Leaf(_) => None,
         Shape::Predicate(_, _) => None,
         Shape::Misuse(_, _) => None,
-        Shape::Next(t) => Some(t),
-        Shape::Prefix(_, t) => Some(t),
-        Shape::Mod(t, _, _) => Some(t),
+        Shape::Next(_) => None,
+        Shape::Prefix(_, _) => None,
+        Shape::Mod(_, _, _) => None,
         Shape::And(_, _) => None,
         Shape::Or(_, _) => None,
-    }
-}
-
-/// The operands of an operator that has a list of them.
-pub fn several_of<'s>(shape: &'s Shape) -> &'s [Resolved]
-    ensures { trees (map resolved_data result.now) ≡ several_of_lem (form_data shape.now) }
-{
-    match shape {
-        Shape::Leaf(_) => &[],
-        Shape::Predicate(_, _) => &[],
-        Shape::Misuse(_, _) => &[],
-        Shape::Next(_) => &[],
-        Shape::Prefix(_, _) => &[],
-        Shape::Mod(_, _, _) => &[],
-        Shape::And(ts, _) => ts,
-        Shape::Or(ts, _) => ts,
+        Shape::Index(_, _, _) => None,
     }
 }

@@ -1,26 +1,35 @@
 //! Putting in bodies for uses and arguments for parameters, within room for nodes and for levels.
 
-ghost use Rattle.std.specs.Prelude.{◌≡◌, ◌+◌, ◌<◌, ◌≤◌, length, map, option_map, IfOk, OnOk, true};
+ghost use Rattle.std.specs.Prelude.{◌≡◌, ◌+◌, ◌<◌, ◌≤◌, [], length, map, option_map, IfOk, OnOk, true};
 ghost use Rattle.spectra_resolved.specs.Resolved.{tree, Form};
 ghost use Rattle.spectra_resolved.specs.Chained.{chained, trees};
 ghost use Rattle.spectra_resolved.specs.Views.{resolved_data, link_data, form_data};
-ghost use Rattle.spectra_elaboration.specs.Putting.{put_in as put_in_lem};
-ghost use Rattle.spectra_elaboration.specs.Levels.{within_limits};
-ghost use Rattle.spectra_elaboration.specs.Operands.{has_several};
-ghost use Rattle.spectra_elaboration.specs.Making.{Makes, MakesEach, MakesLinks, IsFlat, AreFlat, AreFlatLinks};
+ghost use Rattle.spectra_elaboration.specs.Putting.{with_bodies, put_in as put_in_lem};
+ghost use Rattle.spectra_copies.specs.Levels.{within_limits, within_room};
+ghost use Rattle.spectra_copies.specs.Links.{link_levels};
+ghost use Rattle.spectra_copies.specs.Copies.{written};
+ghost use Rattle.spectra_copies.specs.PartViews.{quantifier_data};
+ghost use Rattle.spectra_copies.specs.Operands.{has_several};
+ghost use Rattle.spectra_copies.specs.Making.{Makes, MakesEach, MakesLinks, IsFlat, AreFlat, AreFlatLinks};
 ghost use Rattle.spectra_elaboration.specs.DefinitionViews.{definitions_data};
-ghost use Rattle.spectra_elaboration.specs.Frames.{AreFrames, Grows, filled_at, form_at, each_at, link_at};
+ghost use Rattle.spectra_elaboration.specs.Frames.{AreFrames, filled_at, form_at, each_at};
 ghost use Rattle.spectra_elaboration.specs.Following.{front_data, IsFront, is_operator};
+ghost use Rattle.spectra_elaboration.specs.Rows.{piece_link, pieces_at, AreWithin, AreRows, rows_data};
 
-use crate::counted::Counted;
 use crate::definitions::Definitions;
 use crate::following::{Front, follow};
 use crate::frames::{By, Frame, line_frame};
-use crate::nodes::{
-    add_link, add_tree, chain_of, each_above, leaf_at, one_above, stop_chain, stop_operands,
+use crate::parts::quantifier_in;
+use crate::rows::{Piece, Rows, own_levels, row_levels, rows_of};
+use spectra_copies::counted::Counted;
+use spectra_copies::nodes::{
+    Operands, add_link, add_tree, chain_of, each_above, leaf_at, left_of, one_above,
+    quantifier_above, stop_chain, stop_operands, stop_quantifier,
 };
-use crate::parts::{one_of, several_of};
-use crate::refusal::Refusal;
+use spectra_copies::parts::{Quantifier, one_of, several_of};
+use spectra_copies::quantifiers::has_quantifier;
+use spectra_copies::refusal::Refusal;
+use spectra_copies::writing::write_out;
 use spectra_resolved::spot::{Mark, Spot};
 use spectra_resolved::tree::{Link, Resolved, Shape};
 use std::alloc::{AllocError, Global};
@@ -77,7 +86,7 @@ fn fill_front<'s>(
     }
 }
 
-// An expression with operators behind it, each of which is a level around the first operand.
+// An expression with operators behind it.
 #[cycle(putting)]
 fn fill_chain<'s>(
     by: &By<'s>,
@@ -95,46 +104,69 @@ fn fill_chain<'s>(
     ensures flat { IsFlat levels (filled_at (definitions_data by.now.definitions.now) frames.old.items frame (chained (resolved_data head.now) (map link_data links.now))) result }
     ensures frames { OnOk result (frames.new.items ≡ frames.old.items) }
 {
-    if levels <= links.len() {
+    let count = frames.len();
+    let rows = rows_of(by, frames, room, frame, head, links)?;
+    let made = fill_rows(by, frames, room, levels, &rows)?;
+    frames.truncate(count);
+    Ok(made)
+}
+
+// Operators behind what stands before them, each row of which is a level around that.
+#[cycle(putting)]
+fn fill_rows<'s>(
+    by: &By<'s>,
+    frames: &mut Vec<Frame<'s>>,
+    room: usize,
+    levels: usize,
+    rows: &Rows<'s>,
+) -> Result<Counted, Refusal>
+    requires framed { AreFrames frames.old.items }
+    requires rows { AreRows frames.old.items rows.now }
+    ensures made { Makes room (rows_data (definitions_data by.now.definitions.now) frames.old.items rows.now) result }
+    ensures flat { IsFlat levels (rows_data (definitions_data by.now.definitions.now) frames.old.items rows.now) result }
+    ensures frames { OnOk result (frames.new.items ≡ frames.old.items) }
+{
+    let above = row_levels(&rows.pieces);
+    if levels <= above {
         return Err(Refusal::Deep);
     }
-    let first = levels - links.len();
-    let own = fill(by, frames, frame, room, first, head)?;
+    let first = levels - above;
+    let own = fill_front(by, frames, room, first, rows.front)?;
     let left = room - own.nodes;
     let mut all = Vec::new(by.alloc);
-    match fill_links(by, frames, frame, left, first, links, &mut all) {
+    match fill_links(by, frames, left, first, &rows.pieces, &mut all) {
         Ok(nodes) => chain_of(by.alloc, room, own, all, nodes),
         Err(halt) => stop_chain(own, all, halt),
     }
 }
 
-// Operators with their second operands, the first of which has at most so many levels, and each later one one more: they are
-// added to others. It gives how many nodes they have together.
+// Operators with their second operands, the first of which has at most so many levels, and each behind the end of a row one
+// more: they are added to others. It gives how many nodes they have together.
 #[cycle(putting)]
 #[inline(never)]
 fn fill_links<'s>(
     by: &By<'s>,
     frames: &mut Vec<Frame<'s>>,
-    frame: usize,
     room: usize,
     first: usize,
-    links: &'s [Link],
+    pieces: &[Piece<'s>],
     all: &mut Vec<Link>,
 ) -> Result<usize, Refusal>
     requires framed { AreFrames frames.old.items }
-    requires within { frame < length frames.old.items }
-    requires small { first + length links.now ≤ 18446744073709551615 }
-    ensures made { MakesLinks room (map (link_at (definitions_data by.now.definitions.now) frames.old.items frame) (map link_data links.now)) all.old.items all.new.items result }
-    ensures flat { AreFlatLinks first (map (link_at (definitions_data by.now.definitions.now) frames.old.items frame) (map link_data links.now)) result }
+    requires within { AreWithin (length frames.old.items) pieces.now }
+    requires small { first + link_levels (map piece_link pieces.now) ≤ 18446744073709551615 }
+    ensures made { MakesLinks room (pieces_at (definitions_data by.now.definitions.now) frames.old.items pieces.now) all.old.items all.new.items result }
+    ensures flat { AreFlatLinks first (pieces_at (definitions_data by.now.definitions.now) frames.old.items pieces.now) result }
     ensures frames { OnOk result (frames.new.items ≡ frames.old.items) }
 {
     let mut left = room;
     let mut levels = first;
-    for link in links {
-        let second = fill(by, frames, frame, left, levels, &link.second)?;
-        let rest = add_link(all, left, &frames[frame].brought, link, second)?;
+    for place in 0..pieces.len() {
+        let piece = pieces[place];
+        let second = fill(by, frames, piece.frame, left, levels, &piece.link.second)?;
+        let rest = add_link(all, left, &frames[piece.frame].brought, piece.link, second)?;
         left = rest;
-        levels += 1;
+        levels += own_levels(pieces, place);
     }
     Ok(room - left)
 }
@@ -164,7 +196,49 @@ fn fill_shape<'s>(
             let brought = &frames[frame].brought;
             one_above(by.alloc, room, first, at, brought, shape, operand)
         }
-        None => fill_several(by, frames, frame, room, levels, first, at, shape),
+        None => match quantifier_in(shape) {
+            Some(quantifier) => {
+                fill_quantified(by, frames, frame, room, levels, first, at, &quantifier)
+            }
+            None => fill_several(by, frames, frame, room, levels, first, at, shape),
+        },
+    }
+}
+
+// A quantifier.
+#[cycle(putting)]
+#[inline(never)]
+fn fill_quantified<'s>(
+    by: &By<'s>,
+    frames: &mut Vec<Frame<'s>>,
+    frame: usize,
+    room: usize,
+    levels: usize,
+    first: Spot,
+    at: Mark,
+    quantifier: &Quantifier<'s>,
+) -> Result<Counted, Refusal>
+    requires framed { AreFrames frames.old.items }
+    requires within { frame < length frames.old.items }
+    ensures made { Makes room (form_at (definitions_data by.now.definitions.now) frames.old.items frame first at (quantifier_data quantifier.now)) result }
+    ensures flat { IsFlat (levels + 1) (form_at (definitions_data by.now.definitions.now) frames.old.items frame first at (quantifier_data quantifier.now)) result }
+    ensures frames { OnOk result (frames.new.items ≡ frames.old.items) }
+{
+    let inside = left_of(room, 0)?;
+    let low = fill(by, frames, frame, inside, levels, quantifier.low)?;
+    let behind_low = inside - low.nodes;
+    let high = fill(by, frames, frame, behind_low, levels, quantifier.high)?;
+    let left = behind_low - high.nodes;
+    let mut all = Vec::new(by.alloc);
+    match fill_operands(by, frames, frame, left, levels, quantifier.copies, &mut all) {
+        Ok(nodes) => {
+            let copies = Operands { all, nodes };
+            let extent = quantifier.extent;
+            quantifier_above(
+                by.alloc, room, first, at, quantifier, extent, low, high, copies,
+            )
+        }
+        Err(halt) => stop_quantifier(low, high, all, halt),
     }
 }
 
@@ -188,7 +262,7 @@ fn fill_several<'s>(
     ensures frames { OnOk result (frames.new.items ≡ frames.old.items) }
 {
     let ts = several_of(shape);
-    let mut all = Vec::new(by.alloc);
+    let mut all = Vec::with_capacity(by.alloc, ts.len())?;
     match fill_operands(by, frames, frame, room, levels, ts, &mut all) {
         Ok(nodes) => {
             let brought = &frames[frame].brought;
@@ -225,9 +299,40 @@ fn fill_operands<'s>(
     Ok(room - left)
 }
 
+// An expression of a line with bodies for names, where it has at most so many nodes and levels.
+fn fill_line<'s>(
+    alloc: Global,
+    definitions: &'s Definitions,
+    room: usize,
+    levels: usize,
+    t: &'s Resolved,
+) -> Result<Option<Resolved>, AllocError>
+    ensures { IfOk result (λ made. option_map resolved_data made ≡ within_limits room levels (with_bodies (definitions_data definitions.now) (resolved_data t.now))) }
+{
+    let by = By { alloc, definitions };
+    let mut frames = line_frame(&by)?;
+    match fill(&by, &mut frames, 0, room, levels, t) {
+        Ok(made) => Ok(Some(Box::into_inner(made.tree))),
+        Err(Refusal::Large) => Ok(None),
+        Err(Refusal::Deep) => Ok(None),
+        Err(Refusal::Memory) => Err(AllocError),
+    }
+}
+
+// An expression with each quantifier written out, where it has at most so many nodes then.
+fn write_line(alloc: Global, room: usize, t: Resolved) -> Result<Option<Resolved>, AllocError>
+    ensures { IfOk result (λ made. option_map resolved_data made ≡ within_room room (written [] [] (resolved_data t))) }
+{
+    match write_out(alloc, &[], room, &t)? {
+        Some(made) => Ok(Some(Box::into_inner(made.tree))),
+        None => Ok(None),
+    }
+}
+
 /// An expression of a line in which everything is put in, where it has at most so many nodes and levels: bodies for uses,
-/// arguments for parameters, and holes for what is faulty. All parts of a body stand at the name in the line that brings it. It
-/// looks no deeper, and at no argument that isn't read. The error is that memory is short.
+/// arguments for parameters, holes for what is faulty, and copies for quantifiers whose bounds have numbers. All parts of a body
+/// stand at the name in the line that brings it. It looks no deeper, and at no argument that isn't read. The error is that
+/// memory is short.
 pub fn put_in<'s>(
     alloc: Global,
     definitions: &'s Definitions,
@@ -237,12 +342,14 @@ pub fn put_in<'s>(
 ) -> Result<Option<Resolved>, AllocError>
     ensures { IfOk result (λ made. option_map resolved_data made ≡ within_limits room levels (put_in_lem (definitions_data definitions.now) (resolved_data t.now))) }
 {
-    let by = By { alloc, definitions };
-    let mut frames = line_frame(&by)?;
-    match fill(&by, &mut frames, 0, room, levels, t) {
-        Ok(made) => Ok(Some(Box::into_inner(made.tree))),
-        Err(Refusal::Large) => Ok(None),
-        Err(Refusal::Deep) => Ok(None),
-        Err(Refusal::Memory) => Err(AllocError),
+    match fill_line(alloc, definitions, room, levels, t)? {
+        Some(made) => {
+            if has_quantifier(&made) {
+                write_line(alloc, room, made)
+            } else {
+                Ok(Some(made))
+            }
+        }
+        None => Ok(None),
     }
 }

@@ -1,5 +1,5 @@
 -- Where reading stops at an operator that it didn't expect, an operand is awaited: one lemma for each form.
-use Rattle.std.proofs.Common.{◌≡◌, ℕ, zero, suc, Bool, true, false, cond, not, List, [], ◌∷◌, ◌++◌, length, Option, Some, None, Ok, Err, refl, sym, ap, subst, ◌∙◌, append_assoc}
+use Rattle.std.proofs.Common.{◌≡◌, ℕ, zero, suc, Bool, true, false, cond, not, List, [], ◌∷◌, ◌++◌, length, Option, Some, None, Ok, Err, ◌⊎◌, inl, inr, refl, sym, ap, subst, ◌∙◌, append_assoc}
 use Rattle.std.specs.Option.{option_map_or}
 use Rattle.spectra_exprs.specs.declared.fault.SyntaxFault.{SyntaxFault}
 use Rattle.spectra_exprs.specs.declared.fault.SyntaxFault.TheVariants as faults
@@ -16,7 +16,7 @@ use Rattle.spectra_exprs.proofs.ClassSets.{among, going, Apart, going_apart, sam
 
 -- the classes that end an operand
 abbrev pub operand_ends : List Class
-operand_ends = classes.True ∷ classes.False ∷ classes.Number ∷ classes.Name ∷ classes.Close ∷ []
+operand_ends = classes.True ∷ classes.False ∷ classes.Number ∷ classes.Name ∷ classes.Close ∷ classes.CloseBracket ∷ []
 
 -- whether an operand is awaited behind a token
 abbrev pub opens : Lexeme → Bool
@@ -35,6 +35,35 @@ awaits-append b (t ∷ u) v = awaits-append (opens t) u v
 pub awaits_anywhere : (b : Bool) (u : List Lexeme) → awaits false u ≡ true → awaits b u ≡ true
 awaits_anywhere b [] e = absurd (cc)
 awaits_anywhere b (t ∷ u) e = e
+
+-- the words of quantifiers
+abbrev pub quantifiers : List Class
+quantifiers = classes.ForAll ∷ classes.Exists ∷ []
+
+-- these tokens end with a quantifier's word and its variable, which is no operand
+pub record EndsVariable (used : List Lexeme) : Type 0 where
+  pub front : List Lexeme
+  pub word : Lexeme
+  pub variable : Lexeme
+  pub parts : used ≡ front ++ word ∷ variable ∷ []
+  pub is : among quantifiers (place_of word.class) ≡ true
+  pub named : same_class variable.class classes.Name ≡ true
+
+-- behind these tokens no operand is complete
+abbrev pub Waits : Bool → List Lexeme → Type 0
+Waits b used = (awaits b used ≡ true) ⊎ EndsVariable used
+
+variable_behind : (u v : List Lexeme) → EndsVariable v → EndsVariable (u ++ v)
+variable_behind u v e = record { front = u ++ e.front; word = e.word; variable = e.variable; parts = ap (λ (m : List Lexeme). u ++ m) e.parts ∙ sym (append_assoc u e.front (e.word ∷ e.variable ∷ [])); is = e.is; named = e.named }
+
+pub waits_behind : (b : Bool) (u v : List Lexeme) → Waits false v → Waits b (u ++ v)
+waits_behind b u v (inl e) = inl (awaits-append b u v ∙ awaits_anywhere (awaits b u) v e)
+waits_behind b u v (inr e) = inr (variable_behind u v e)
+
+-- behind a token behind which an operand is awaited
+pub waits_token : (b : Bool) (t : Lexeme) (v : List Lexeme) → opens t ≡ true → Waits true v → Waits b (t ∷ v)
+waits_token b t v waits (inl e) = inl (rw waits e)
+waits_token b t v waits (inr e) = inr (variable_behind (t ∷ []) v e)
 
 -- an operator is next
 abbrev pub OnOperator : List Lexeme → Type 0
@@ -59,7 +88,7 @@ pub record AwaitsAt (b : Bool) (ts : List Lexeme) (at : ℕ) : Type 0 where
   pub rest : List Lexeme
   pub front : ts ≡ used ++ rest
   pub place : IsNext at rest
-  pub operand : OnOperator rest → awaits b used ≡ true
+  pub operand : OnOperator rest → Waits b used
 
 -- the tokens that were used
 pub record Cut (ts rest : List Lexeme) : Type 0 where
@@ -85,11 +114,14 @@ unfolding first_number
 next_at [] at e = sym e
 next_at (t ∷ ts) at e = e
 
+pub first_place : {A : Type 0} (ts : List Lexeme) (at : ℕ) → ◌≡◌ {A = Read A} (Err (faults.Unexpected (first_number ts))) (Err (faults.Unexpected at)) → IsNext at ts
+first_place {A = A} ts at e =
+    let same : faults.Unexpected (first_number ts) ≡ faults.Unexpected at = err_is {A = A} (faults.Unexpected (first_number ts)) (faults.Unexpected at) e in
+    next_at ts at (number_is (faults.Unexpected at) (first_number ts) at (sym same) refl)
+
 -- the first token is refused
 pub stops_first : {A : Type 0} (b : Bool) (ts : List Lexeme) (at : ℕ) → (OnOperator ts → b ≡ true) → ◌≡◌ {A = Read A} (Err (faults.Unexpected (first_number ts))) (Err (faults.Unexpected at)) → AwaitsAt b ts at
-stops_first {A = A} b ts at on e =
-    let same : faults.Unexpected (first_number ts) ≡ faults.Unexpected at = err_is {A = A} (faults.Unexpected (first_number ts)) (faults.Unexpected at) e in
-    record { used = []; rest = ts; front = refl; place = next_at ts at (number_is (faults.Unexpected at) (first_number ts) at (sym same) refl); operand = on }
+stops_first {A = A} b ts at on e = record { used = []; rest = ts; front = refl; place = first_place {A = A} ts at e; operand = λ o. inl (on o) }
 
 pub awaits_gives : {A : Type 0} {test : List Lexeme → Bool} {b : Bool} (a : A) → Awaits test b (λ ts. Ok (a, ts))
 awaits_gives {A = A} a = record {
@@ -148,7 +180,7 @@ behind b ts more at p q =
       rest = q.rest;
       front = p.front ∙ ap (λ (m : List Lexeme). p.used ++ m) q.front ∙ sym (append_assoc p.used q.used q.rest);
       place = q.place;
-      operand = λ on. awaits-append b p.used q.used ∙ awaits_anywhere (awaits b p.used) q.used (q.operand on);
+      operand = λ on. waits_behind b p.used q.used (q.operand on);
     }
 
 module _ {A B : Type 0} {test : List Lexeme → Bool} {b : Bool} (R : Reader A) (S : A → Reader B) where
@@ -222,7 +254,7 @@ module _ {B : Type 0} {test : List Lexeme → Bool} {R : Reader Lexeme} {S : Lex
         rest = q.rest;
         front = front ∙ ap (λ (m : List Lexeme). t ∷ m) q.front;
         place = q.place;
-        operand = λ on. rw waits (q.operand on);
+        operand = λ on. waits_token b t q.used waits (q.operand on);
       }
 
   taken_cut : (r : Read Lexeme) (ts : List Lexeme) (y : B) (rest : List Lexeme) → R ts ≡ r → (r >>= S) ≡ Ok (y, rest) → Cut ts rest
@@ -249,6 +281,15 @@ module _ {B : Type 0} (class : Class) (apart : Apart (class ∷ []) operand_ends
 
   pub awaits_opening : {test : List Lexeme → Bool} → Awaits test true (λ ts. expect class ts >>= S)
   awaits_opening = record { goes = λ ts y rest e. taken_cut (takes_token class apart) second (expect class ts) ts y rest refl e; stops = λ ts at on e. refused_or (starts class ts) ts at refl e }
+
+-- a token that ends what no operator follows, and behind which an operand is awaited
+module _ {B : Type 0} (class : Class) (apart : Apart (class ∷ []) operand_ends) {S : Lexeme → Reader B} (second : (t : Lexeme) → Awaits anywhere true (S t)) where
+  marked_or : (c : Bool) (ts : List Lexeme) (at : ℕ) → quiet ts ≡ true → starts class ts ≡ c → (expect class ts >>= S) ≡ Err (faults.Unexpected at) → AwaitsAt false ts at
+  marked_or true ts at on is e = (awaits_taken (takes_token class apart) second).stops ts at is e
+  marked_or false ts at on is e = stops_first {A = B} false ts at (λ o. absurd (quiet_no_operator ts on o)) (sym (unstarted class S ts is) ∙ e)
+
+  pub awaits_mark : Awaits quiet false (λ ts. expect class ts >>= S)
+  awaits_mark = record { goes = λ ts y rest e. taken_cut (takes_token class apart) second (expect class ts) ts y rest refl e; stops = λ ts at on e. marked_or (starts class ts) ts at on refl e }
 
 -- ---- one of two
 
@@ -296,7 +337,7 @@ module _ {X A : Type 0} {test : List Lexeme → Bool} {b : Bool} {look : List Le
         rest = q.rest;
         front = k.front ∙ ap (λ (m : List Lexeme). k.token ∷ m) q.front;
         place = q.place;
-        operand = λ o. let waits = k.waits in rw waits (q.operand o);
+        operand = λ o. waits_token b k.token q.used k.waits (q.operand o);
       }
   look_stops None ts at on is e = s ts at on is e
 

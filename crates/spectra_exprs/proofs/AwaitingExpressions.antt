@@ -14,14 +14,15 @@ use Rattle.spectra_trees.specs.Lexemes.{Lexeme, name_of}
 use Rattle.spectra_exprs.specs.Read.{Reader, ◌>>=◌, starts, expect, all_of}
 use Rattle.spectra_exprs.specs.Operators.{sum_word}
 use Rattle.spectra_exprs.specs.OperatorReaders.{operator_at, prefix_at, starts_sum, starts_or, expect_or}
-use Rattle.spectra_exprs.specs.Expressions.{leaf, between, opened, Term, Chain, Inside, negative, number_of, literal, next_of, parentheses_of, call_of, read_of, named_of, prim_of, prefixed_of, operand_of, times_of, prod_of, plus_of, modulo, sum_of, side_of, compared_of, comparison_of, cmp_of, conjunct_of, conjunction_of, conj_of, disjunct_of, disjunction_of, disj_of, arrow_of, past_of, alone_of, expr_of, whole_of, bound_of, argument_of, some_arguments_of, arguments_of, inside}
+use Rattle.spectra_exprs.specs.Expressions.{leaf, between, opened, Term, Scope, Chain, Inside, negative, number_of, literal, next_of, parentheses_of, call_of, index_of, read_of, named_of, prim_of, prefixed_of, operand_of, times_of, prod_of, plus_of, modulo, sum_of, side_of, compared_of, comparison_of, cmp_of, conjunct_of, conjunction_of, conj_of, disjunct_of, disjunction_of, disj_of, arrow_of, past_of, alone_of, unquantified_of, for_all_of, exists_of, expr_of, whole_of, bound_of, subscript_of, scope_of, argument_of, some_arguments_of, arguments_of, inside}
 use Rattle.spectra_exprs.specs.Grammar.{Operator, Prefix}
 use Rattle.spectra_exprs.proofs.Soundness.{Got}
 use Rattle.spectra_exprs.proofs.SoundExpressions.{literal_same, named_same, prim_same, prefix_looks, operator_looks}
 use Rattle.spectra_exprs.proofs.ClassSets.{Apart, same_going}
 use Rattle.spectra_exprs.proofs.WholeExpressions.{b_prefix, prefix_some, set_of, operator_some}
+use Rattle.spectra_exprs.proofs.AwaitingVariables.{AwaitsScope, scope_deep, scope_map, scope_variable, awaits_quantifier}
 use Rattle.spectra_exprs.proofs.Closing.{awaits_close, closes_close, closes_then, closes_map, closes_steps, closes_deep}
-use Rattle.spectra_exprs.proofs.Awaiting.{operand_ends, anywhere, Awaits, Closes, Taken, Takes, awaits_gives, awaits_unexpected, awaits_deep, awaits_token, awaits_then, awaits_closed, awaits_closing, opens_apart, takes_token, awaits_taken, awaits_opening, awaits_same, awaits_if, Sees, AwaitsLook, awaits_look, awaits_look_only, awaits_steps, Cut}
+use Rattle.spectra_exprs.proofs.Awaiting.{operand_ends, anywhere, Awaits, Closes, Taken, Takes, awaits_gives, awaits_unexpected, awaits_deep, awaits_token, awaits_then, awaits_closed, awaits_closing, opens_apart, takes_token, awaits_taken, awaits_mark, awaits_opening, awaits_same, awaits_if, Sees, AwaitsLook, awaits_look, awaits_look_only, awaits_steps, Cut}
 
 -- a token behind which an operand is awaited, and what is read behind it
 awaits_after : {B : Type 0} {b : Bool} (class : Class) {S : Lexeme → Reader B} → Apart (class ∷ []) operand_ends → ((t : Lexeme) → Awaits anywhere true (S t)) → Awaits (starts class) b (λ ts. expect class ts >>= S)
@@ -107,15 +108,24 @@ pub record AwaitsInside (r : Inside) : Type 0 where
   pub closes : (t : Lexeme) → Closes anywhere (r.whole t)
   pub operand : (t : Lexeme) → Awaits anywhere true (r.operand t)
   pub arguments : (t : Lexeme) → Awaits anywhere true (r.arguments t)
+  pub subscript : (t : Lexeme) → Awaits anywhere true (r.subscript t)
+  pub scope : (t : Lexeme) → AwaitsScope (r.scope t)
 
 module _ (r : Inside) (s : AwaitsInside r) where
   awaits_call : (t u : Lexeme) → Awaits anywhere true (call_of r t u)
   unfolding call_of
   awaits_call t u = awaits_then (s.arguments u) (λ (es : List Expression). awaits_gives (leaf t (Form.Call (name_of t) (expressions es))))
 
+  awaits_index : (t u : Lexeme) → Awaits anywhere true (index_of r t u)
+  unfolding index_of
+  awaits_index t u = awaits_then (s.subscript u) (λ (e : Expression). awaits_gives (leaf t (Form.Index (name_of t) e)))
+
   awaits_named : (t : Lexeme) → Awaits anywhere false (named_of r t)
   unfolding read_of place_of
-  awaits_named t = awaits_same (named_same r t) (awaits_if (awaits_after classes.Open (record { checked = refl }) (awaits_call t)) (awaits_gives (leaf t (Form.Read (name_of t)))))
+  awaits_named t =
+      awaits_same (named_same r t)
+      (awaits_if (awaits_after classes.Open (record { checked = refl }) (awaits_call t))
+      (awaits_if (awaits_after classes.OpenBracket (record { checked = refl }) (awaits_index t)) (awaits_gives (leaf t (Form.Read (name_of t))))))
 
   awaits_whole_close : {B : Type 0} (t : Lexeme) (f : Expression → B) → Awaits anywhere true (λ ts. r.whole t ts >>= λ e rest. expect classes.Close rest >>= λ c rest. Ok (f e, rest))
   awaits_whole_close t f = awaits_closed (s.whole t) (s.closes t) (λ (e : Expression). awaits_closing classes.Close (λ (c : Lexeme). awaits_gives (f e)))
@@ -234,9 +244,21 @@ module _ (r : Inside) (s : AwaitsInside r) where
   awaits_alone a true = awaits_past a
   awaits_alone a false = awaits_gives a
 
+  awaits_unquantified : Awaits anywhere true (unquantified_of r)
+  unfolding unquantified_of
+  awaits_unquantified = awaits_then awaits_disj (λ (p : Term). awaits_look (sees_operator levels.Arrow) (awaits_arrow p.0) (awaits_alone p.0 p.1))
+
+  awaits_for_all : Awaits (starts classes.ForAll) true (for_all_of r)
+  unfolding for_all_of place_of
+  awaits_for_all = awaits_quantifier classes.ForAll (record { checked = refl }) (record { checked = refl }) (λ (t : Lexeme). scope_map (λ (x : Scope). leaf t (Form.ForAll x.name x.low x.high x.body)) (s.scope t))
+
+  awaits_exists : Awaits (starts classes.Exists) true (exists_of r)
+  unfolding exists_of place_of
+  awaits_exists = awaits_quantifier classes.Exists (record { checked = refl }) (record { checked = refl }) (λ (t : Lexeme). scope_map (λ (x : Scope). leaf t (Form.Exists x.name x.low x.high x.body)) (s.scope t))
+
   awaits_expr : Awaits anywhere true (expr_of r)
   unfolding expr_of
-  awaits_expr = awaits_then awaits_disj (λ (p : Term). awaits_look (sees_operator levels.Arrow) (awaits_arrow p.0) (awaits_alone p.0 p.1))
+  awaits_expr = awaits_if awaits_for_all (awaits_if awaits_exists awaits_unquantified)
 
   pub awaits_whole : Awaits anywhere true (whole_of r)
   unfolding whole_of
@@ -245,6 +267,18 @@ module _ (r : Inside) (s : AwaitsInside r) where
   pub closes_whole : Closes anywhere (whole_of r)
   unfolding whole_of
   closes_whole = closes_then (expr_of r) (λ (e : Expression). closes_close e)
+
+  pub awaits_subscript : Awaits anywhere true (subscript_of r)
+  unfolding subscript_of
+  awaits_subscript = awaits_closed awaits_bound closes_bound (λ (e : Expression). awaits_closing classes.CloseBracket (λ (c : Lexeme). awaits_gives e))
+
+  pub awaits_scope : AwaitsScope (scope_of r)
+  unfolding scope_of place_of
+  awaits_scope =
+      scope_variable classes.In (record { checked = refl }) (λ (n i : Lexeme).
+      awaits_closed awaits_bound closes_bound (λ (low : Expression). awaits_mark classes.UpTo (record { checked = refl }) (λ (u : Lexeme).
+      awaits_closed awaits_bound closes_bound (λ (high : Expression). awaits_mark classes.Colon (record { checked = refl }) (λ (c : Lexeme).
+      awaits_then awaits_whole (λ (e : Expression). awaits_gives (record { name = name_of n; low = low; high = high; body = e })))))))
 
   awaits_argument : (all : List Expression) → Awaits (starts classes.Comma) false (argument_of r all)
   unfolding argument_of place_of
@@ -266,10 +300,12 @@ module _ (r : Inside) (s : AwaitsInside r) where
 
 pub awaits_inside : (left : ℕ) → AwaitsInside (inside left)
 unfolding inside
-awaits_inside zero = record { whole = λ t. awaits_deep t.number; closes = λ t. closes_deep t.number; operand = λ t. awaits_deep t.number; arguments = λ t. awaits_deep t.number }
+awaits_inside zero = record { whole = λ t. awaits_deep t.number; closes = λ t. closes_deep t.number; operand = λ t. awaits_deep t.number; arguments = λ t. awaits_deep t.number; subscript = λ t. awaits_deep t.number; scope = λ t. scope_deep t.number }
 awaits_inside (suc left) = record {
   whole = λ t. awaits_whole (inside left) (awaits_inside left);
   closes = λ t. closes_whole (inside left) (awaits_inside left);
   operand = λ t. awaits_operand (inside left) (awaits_inside left);
   arguments = λ t. awaits_arguments (inside left) (awaits_inside left);
+  subscript = λ t. awaits_subscript (inside left) (awaits_inside left);
+  scope = λ t. awaits_scope (inside left) (awaits_inside left);
 }

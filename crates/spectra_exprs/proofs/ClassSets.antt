@@ -7,7 +7,7 @@ use Rattle.spectra_trees.specs.Classes.{place_of, same_class}
 use Rattle.spectra_trees.specs.Lexemes.{Lexeme}
 use Rattle.spectra_exprs.specs.Read.{starts}
 
-pub place_below : (c : Class) → place_of c < 61
+pub place_below : (c : Class) → place_of c < 64
 unfolding place_of
 place_below classes.Head = omega arith
 place_below classes.Import = omega arith
@@ -52,6 +52,9 @@ place_below classes.Plus = omega arith
 place_below classes.Minus = omega arith
 place_below classes.Star = omega arith
 place_below classes.Mod = omega arith
+place_below classes.ForAll = omega arith
+place_below classes.Exists = omega arith
+place_below classes.In = omega arith
 place_below classes.Then = omega arith
 place_below classes.Becomes = omega arith
 place_below classes.UpTo = omega arith
@@ -108,18 +111,18 @@ off false b h e = absurd (cc)
 
 -- two sets have no class in common
 pub record Apart (F C : List Class) : Type 0 where
-  pub checked : below 61 (apart F C) ≡ true
+  pub checked : below 64 (apart F C) ≡ true
 
 pub going_apart : (F C : List Class) → Apart F C → (ts : List Lexeme) → going F ts ≡ true → going C ts ≡ false
 going_apart F C h [] on = refl
-going_apart F C h (t ∷ ts) on = off (among F (place_of t.class)) (among C (place_of t.class)) (below_is 61 (apart F C) h.checked (place_of t.class) (place_below t.class)) on
+going_apart F C h (t ∷ ts) on = off (among F (place_of t.class)) (among C (place_of t.class)) (below_is 64 (apart F C) h.checked (place_of t.class) (place_below t.class)) on
 
 abbrev pub inside_of : List Class → List Class → ℕ → Bool
 inside_of C D k = not (among C k) || among D k
 
 -- each class of one set is in the other
 pub record Within (C D : List Class) : Type 0 where
-  pub checked : below 61 (inside_of C D) ≡ true
+  pub checked : below 64 (inside_of C D) ≡ true
 
 out : (a b : Bool) → not a || b ≡ true → b ≡ false → a ≡ false
 out true true h e = absurd (cc)
@@ -128,7 +131,7 @@ out false b h e = refl
 
 pub going_within : (C D : List Class) → Within C D → (ts : List Lexeme) → going D ts ≡ false → going C ts ≡ false
 going_within C D h [] e = refl
-going_within C D h (t ∷ ts) e = out (among C (place_of t.class)) (among D (place_of t.class)) (below_is 61 (inside_of C D) h.checked (place_of t.class) (place_below t.class)) e
+going_within C D h (t ∷ ts) e = out (among C (place_of t.class)) (among D (place_of t.class)) (below_is 64 (inside_of C D) h.checked (place_of t.class) (place_below t.class)) e
 
 or_false : (a : Bool) → a || false ≡ a
 or_false true = refl

@@ -40,6 +40,7 @@ pub record Pair : Type 0 where
   pub some : operator.number ≡ 0 → ⊥
   pub fresh : Fresh operator phrase
   pub says : same_class word.class classes.True ≡ true
+  pub named : word.number ≡ operator.number
 
 abbrev pub said : Pair → List Lexeme
 said p = p.phrase ++ p.operator ∷ []

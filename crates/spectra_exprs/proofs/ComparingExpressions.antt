@@ -1,18 +1,19 @@
 -- Reading an expression, or a bound, in a place of its own: a phrase that an operator follows, and `true` in its place.
-use Rattle.std.proofs.Common.{◌≡◌, ℕ, suc, ◌<◌, Bool, true, false, not, List, [], ◌∷◌, ◌++◌, length, Some, Ok, Err, refl, sym, ap, subst, ◌∙◌, append_assoc, append-nil, arith}
+use Rattle.std.proofs.Common.{◌≡◌, ℕ, suc, ◌<◌, Bool, true, false, not, nat_eq, List, [], ◌∷◌, ◌++◌, length, Some, Ok, Err, inl, inr, refl, sym, ap, subst, ◌∙◌, append_assoc, append-nil, arith}
 use Rattle.std.proofs.lemmas.List.{append_cancel_right}
+use Rattle.std.proofs.lemmas.Bool.Decides.{nat_tests}
 use Rattle.spectra_exprs.specs.declared.fault.SyntaxFault.{SyntaxFault}
 use Rattle.spectra_exprs.specs.declared.fault.SyntaxFault.TheVariants as faults
 use Rattle.spectra_trees.specs.declared.class.Class.{Class}
 use Rattle.spectra_trees.specs.declared.class.Class.TheVariants as classes
-use Rattle.spectra_trees.specs.Classes.{place_of}
+use Rattle.spectra_trees.specs.Classes.{place_of, same_class}
 use Rattle.spectra_trees.specs.Data.{Expression}
 use Rattle.spectra_trees.specs.Lexemes.{Lexeme}
 use Rattle.spectra_exprs.specs.Read.{Read, Reader, starts, all_of}
 use Rattle.spectra_exprs.specs.Operators.{is_operator}
 use Rattle.spectra_exprs.specs.Expressions.{Term, whole_of, bound_of, argument_of, some_arguments_of, arguments_of, inside}
 use Rattle.spectra_exprs.specs.Forms.{Gives, ◌▸◌}
-use Rattle.spectra_exprs.specs.Grammar.{ExprOf, Sum, Levels}
+use Rattle.spectra_exprs.specs.Grammar.{ExprOf, Sum, BoundOf, Levels}
 use Rattle.spectra_exprs.proofs.Soundness.{Sound}
 use Rattle.spectra_exprs.proofs.SoundExpressions.{sound_whole, sound_bound, sound_inside}
 use Rattle.spectra_exprs.proofs.ClassSets.{among, going, going_apart, same_going}
@@ -21,32 +22,19 @@ use Rattle.spectra_exprs.proofs.WholeExpressions.{c_expr, b_expr, no_operator}
 use Rattle.spectra_exprs.proofs.WholeLevels.{whole_inside, whole_whole, whole_bound}
 use Rattle.spectra_exprs.proofs.Stopping.{SameHead, Stable, starts_of_head}
 use Rattle.spectra_exprs.proofs.StoppingExpressions.{stable_whole, stable_bound, stable_inside, uses_argument}
-use Rattle.spectra_exprs.proofs.Opening.{IsNext}
-use Rattle.spectra_exprs.proofs.Awaiting.{operand_ends, opens, awaits, awaits-append, OnOperator, quiet, anywhere, Awaits, Closes}
+use Rattle.spectra_exprs.proofs.Opening.{IsNext, Full}
+use Rattle.spectra_exprs.proofs.OpeningExpressions.{full_whole, full_bound, full_inside}
+use Rattle.spectra_exprs.proofs.Awaiting.{operand_ends, quantifiers, opens, awaits, awaits-append, Waits, OnOperator, quiet, anywhere, Awaits, Closes}
 use Rattle.spectra_exprs.proofs.AwaitingExpressions.{awaits_whole, closes_whole, awaits_bound, closes_bound, awaits_inside}
-use Rattle.spectra_exprs.proofs.Shapes.{phrase_tokens, depth, goes_on_flat, Formed, formed_then, goes_gives}
-use Rattle.spectra_exprs.proofs.ShapesOfExpressions.{formed_expr, formed_sum, formed_inside}
-use Rattle.spectra_exprs.proofs.Comparing.{Fresh, Pair, said, instead, Compared, Tells, Blocks, blocks_then, blocks_off, blocks_after, off_class, tells_gives, tells_open, tells_after, tells_until, tells_if, tells_map}
+use Rattle.spectra_exprs.proofs.Shapes.{inner_tokens, phrase_tokens, openings, within_one, depth, depth_between, goes_on_flat, Formed}
+use Rattle.spectra_exprs.proofs.ShapesOfTokens.{same_depth, opened_depth}
+use Rattle.spectra_exprs.proofs.ShapesOfExpressions.{formed_expr, formed_bound, formed_inside}
+use Rattle.spectra_exprs.proofs.Comparing.{Fresh, Pair, said, instead, Compared, number_apart, Tells, Blocks, blocks_then, blocks_off, blocks_after, off_class, tells_gives, tells_open, tells_after, tells_until, tells_if, tells_map}
 use Rattle.spectra_exprs.proofs.ComparingSteps.{tells_steps}
+use Rattle.spectra_exprs.proofs.Splitting.{Split, split, fresh_at}
+use Rattle.spectra_exprs.proofs.ComparingVariables.{word_refused}
 
 -- ---- lists
-
--- one list is a front of the other
-pub data Split (u v w x : List Lexeme) : Type 0 where
-  short : (c : List Lexeme) → u ≡ w ++ c → x ≡ c ++ v → Split u v w x
-  long : (t : Lexeme) (c : List Lexeme) → w ≡ u ++ t ∷ c → v ≡ (t ∷ c) ++ x → Split u v w x
-
-split_more : (t : Lexeme) (u v w x : List Lexeme) → Split u v w x → Split (t ∷ u) v (t ∷ w) x
-split_more t u v w x (Split.short c e g) = Split.short c (ap (λ (m : List Lexeme). t ∷ m) e) g
-split_more t u v w x (Split.long s c e g) = Split.long s c (ap (λ (m : List Lexeme). t ∷ m) e) g
-
-pub split : (u v w x : List Lexeme) → u ++ v ≡ w ++ x → Split u v w x
-split u v [] x e = Split.short u refl (sym e)
-split [] v (t ∷ w) x e = Split.long t w refl e
-split (s ∷ u) v (t ∷ w) x e =
-    let first : s ≡ t = cc in
-    let rest : u ++ v ≡ w ++ x = cc in
-    subst (λ (y : Lexeme). Split (s ∷ u) v (y ∷ w) x) first (split_more s u v w x (split u v w x rest))
 
 -- the one token of that number
 pub record Last (t : Lexeme) (us used rest : List Lexeme) : Type 0 where
@@ -76,10 +64,6 @@ fresh_append : (t : Lexeme) (u v : List Lexeme) → Fresh t u → Fresh t v → 
 fresh_append t [] v a b = b
 fresh_append t (x ∷ u) v a b = (a.0, fresh_append t u v a.1 b)
 
-pub fresh_at : (t : Lexeme) (u : List Lexeme) (x : Lexeme) (v : List Lexeme) → Fresh t (u ++ x ∷ v) → x.number ≡ t.number → ⊥
-fresh_at t [] x v h = h.0
-fresh_at t (y ∷ u) x v h = fresh_at t u x v h.1
-
 -- ---- an operator
 
 on_or_off : (c : Class) (b : Bool) → among c_expr (place_of c) ≡ b → is_operator c ≡ true → among c_expr (place_of c) ≡ true
@@ -99,17 +83,51 @@ all_reached r x (Reaches.opens deep at e) = absurd deep
 
 -- ---- a place of its own
 
-module _ {A : Type 0} (p : Pair) (P : List Lexeme → A → Type 0) (R : Reader A) (stable : Stable R) (awaiting : Awaits anywhere true R) (closing : Closes anywhere R) (sound : Sound P R) (whole : Whole ⊥ c_expr P R) (formed : Formed P) where
-  -- it doesn't stop unexpectedly at the operator
-  expects : (front : List Lexeme) → Fresh p.operator front → R (front ++ said p) ≡ Err (faults.Unexpected p.operator.number) → ⊥
-  expects front fresh e =
+module _ {A : Type 0} (p : Pair) (P : List Lexeme → A → Type 0) (R : Reader A) (stable : Stable R) (awaiting : Awaits anywhere true R) (closing : Closes anywhere R) (sound : Sound P R) (whole : Whole ⊥ c_expr P R) (formed : Formed P) (Q : List Lexeme → A → Type 0) (full : Full Q R) (shaped : Formed Q) where
+  -- a phrase doesn't end with a quantifier's variable
+  not_last : (j : ℕ) (word variable : Lexeme) → among quantifiers (place_of word.class) ≡ true → same_class variable.class classes.Name ≡ true → depth j (word ∷ variable ∷ []) ≡ Some 0 → ⊥
+  unfolding place_of
+  not_last j word variable is named e =
+      let opens : depth j (word ∷ variable ∷ []) ≡ depth (suc j) (variable ∷ []) = opened_depth j word (variable ∷ []) (within_one quantifiers openings (record { checked = refl }) word is) in
+      let stays : depth (suc j) (variable ∷ []) ≡ Some (suc j) = same_depth (suc j) variable [] (within_one (classes.Name ∷ []) inner_tokens (record { checked = refl }) variable (same_going classes.Name variable [] named)) in
+      let same : Some (suc j) ≡ Some 0 = sym (opens ∙ stays) ∙ e in
+      absurd (cc)
+
+  -- where the phrase is a quantifier's variable
+  at_variable : (front u : List Lexeme) (word variable : Lexeme) → among quantifiers (place_of word.class) ≡ true → same_class variable.class classes.Name ≡ true → Fresh p.operator front → R (front ++ said p) ≡ Err (faults.Unexpected p.operator.number) → Split front p.phrase u (word ∷ variable ∷ [])
+      → R (front ++ instead p) ≡ Err (faults.Unexpected p.word.number)
+  at_variable front u word variable is named fresh e (Split.short [] parts g) = absurd (not_last 0 word variable is named (subst (λ (m : List Lexeme). depth 0 m ≡ Some 0) (sym g) p.flat))
+  at_variable front u word variable is named fresh e (Split.short (x ∷ []) parts g) =
+      let first : word ≡ x = cc in
+      let here : front ≡ u ++ word ∷ [] = parts ∙ ap (λ (y : Lexeme). u ++ y ∷ []) (sym first) in
+      let refused = word_refused p Q R stable full shaped u word is (subst (λ (m : List Lexeme). Fresh p.operator m) here fresh) (subst (λ (m : List Lexeme). R (m ++ said p) ≡ Err (faults.Unexpected p.operator.number)) here e) p.more in
+      ap (λ (m : List Lexeme). R (m ++ instead p)) here ∙ refused
+  at_variable front u word variable is named fresh e (Split.short (x ∷ y ∷ []) parts g) =
+      let none : [] ≡ p.phrase = cc in
+      absurd (no_phrase p.phrase none p.head p.tail p.parts)
+    where
+      no_phrase : (phrase : List Lexeme) → [] ≡ phrase → (t : Lexeme) (ts : List Lexeme) → phrase ≡ t ∷ ts → ⊥
+      no_phrase phrase none t ts parts = cc
+  at_variable front u word variable is named fresh e (Split.short (x ∷ y ∷ z ∷ c) parts g) = absurd (cc)
+  at_variable front u word variable is named fresh e (Split.long t c parts g) =
+      let b = depth_between 0 (t ∷ c) (word ∷ variable ∷ []) 0 (subst (λ (m : List Lexeme). depth 0 m ≡ Some 0) g p.flat) in
+      absurd (not_last b.middle word variable is named b.after)
+
+  waited : (front used : List Lexeme) → Fresh p.operator front → R (front ++ said p) ≡ Err (faults.Unexpected p.operator.number) → used ≡ front ++ p.phrase → Waits true used → R (front ++ instead p) ≡ Err (faults.Unexpected p.word.number)
+  waited front used fresh e all (inl w) =
+      let one : awaits true (front ++ p.phrase) ≡ true = subst (λ (u : List Lexeme). awaits true u ≡ true) all w in
+      let two : awaits true (front ++ p.phrase) ≡ false = awaits-append true front p.phrase ∙ p.ends (awaits true front) in
+      absurd (cc)
+  waited front used fresh e all (inr v) = at_variable front v.front v.word v.variable v.is v.named fresh e (split front p.phrase v.front (v.word ∷ v.variable ∷ []) (sym all ∙ v.parts))
+
+  -- it stops unexpectedly at the operator only where the phrase is a quantifier's variable, and then the word is refused
+  refused : (front : List Lexeme) → Fresh p.operator front → R (front ++ said p) ≡ Err (faults.Unexpected p.operator.number) → R (front ++ instead p) ≡ Err (faults.Unexpected p.word.number)
+  refused front fresh e =
       let q = awaiting.stops (front ++ said p) p.operator.number refl e in
       let parts : (front ++ p.phrase) ++ p.operator ∷ [] ≡ q.used ++ q.rest = append_assoc front p.phrase (p.operator ∷ []) ∙ q.front in
       let l = last_number p.operator (front ++ p.phrase) q.used q.rest p.some (fresh_append p.operator front p.phrase fresh p.fresh) parts q.place in
       let on : OnOperator q.rest = subst OnOperator (sym l.alone) p.is in
-      let one : awaits true (front ++ p.phrase) ≡ true = subst (λ (u : List Lexeme). awaits true u ≡ true) l.all (q.operand on) in
-      let two : awaits true (front ++ p.phrase) ≡ false = awaits-append true front p.phrase ∙ p.ends (awaits true front) in
-      absurd (cc)
+      waited front q.used fresh e l.all (q.operand on)
 
   shut : going c_expr (instead p) ≡ false
   unfolding place_of
@@ -164,8 +182,18 @@ module _ {A : Type 0} (p : Pair) (P : List Lexeme → A → Type 0) (R : Reader 
   by_split front used a rest (Split.short c e g) read derives again = in_front front used c a rest e g read derives again
   by_split front used a rest (Split.long x c e g) read derives again = beyond front used x c a rest e (split p.phrase (p.operator ∷ []) (x ∷ c) rest g) read derives
 
+  by_number : (b : Bool) (k : ℕ) (front : List Lexeme) → Fresh p.operator front → nat_eq k p.operator.number ≡ b → R (front ++ said p) ≡ Err (faults.Unexpected k) → Compared p phrase_tokens front (R (front ++ said p)) (R (front ++ instead p))
+  by_number true k front fresh is e = let same : k ≡ p.operator.number = grind (arith, nat_tests) in Compared.refuses (refused front fresh (e ∙ ap (λ (m : ℕ). Err (faults.Unexpected m)) same))
+  by_number false k front fresh is e = Compared.elsewhere (faults.Unexpected k) e (number_apart k p.operator.number (λ same. absurd (grind (arith, nat_tests))))
+
+  by_fault : (f : SyntaxFault) (front : List Lexeme) → Fresh p.operator front → R (front ++ said p) ≡ Err f → Compared p phrase_tokens front (R (front ++ said p)) (R (front ++ instead p))
+  by_fault (faults.Unexpected k) front fresh e = by_number (nat_eq k p.operator.number) k front fresh refl e
+  by_fault (faults.TooDeep k) front fresh e = Compared.elsewhere (faults.TooDeep k) e (λ same. cc)
+  by_fault (faults.Parentheses k) front fresh e = Compared.elsewhere (faults.Parentheses k) e (λ same. cc)
+  by_fault faults.Memory front fresh e = Compared.elsewhere faults.Memory e (λ same. cc)
+
   by_read : (r : Read A) (front : List Lexeme) → Fresh p.operator front → R (front ++ said p) ≡ r → Compared p phrase_tokens front (R (front ++ said p)) (R (front ++ instead p))
-  by_read (Err f) front fresh e = Compared.elsewhere f e (λ same. expects front fresh (e ∙ ap (λ (h : SyntaxFault). Err h) same))
+  by_read (Err f) front fresh e = by_fault f front fresh e
   by_read (Ok x) front fresh e =
       let k = stable.goes (front ++ said p) x.0 x.1 e in
       let g = sound.got (front ++ said p) x.0 x.1 e in
@@ -184,12 +212,12 @@ module _ (p : Pair) (n : ℕ) where
   pub tells_whole : Tells p phrase_tokens (whole_of (inside n))
   tells_whole =
       tells_place p (ExprOf (Levels n)) (whole_of (inside n)) (stable_whole (inside n) (stable_inside n)) (awaits_whole (inside n) (awaits_inside n)) (closes_whole (inside n) (awaits_inside n)) (sound_whole (Levels n) (inside n) (sound_inside n))
-      (whole_whole (Levels n) (inside n) (whole_inside n n (no_more n))) (formed_expr (Levels n) (formed_inside n))
+      (whole_whole (Levels n) (inside n) (whole_inside n n (no_more n))) (formed_expr (Levels n) (formed_inside n)) (ExprOf (Levels (suc n))) (full_whole (suc n) (inside n) (full_inside (suc n) n (omega arith))) (formed_expr (Levels (suc n)) (formed_inside (suc n)))
 
   pub tells_bound : Tells p phrase_tokens (bound_of (inside n))
   tells_bound =
       tells_place p (Sum (Levels n) ▸ λ t. Gives t.0) (bound_of (inside n)) (stable_bound (inside n) (stable_inside n)) (awaits_bound (inside n) (awaits_inside n)) (closes_bound (inside n) (awaits_inside n)) (sound_bound (Levels n) (inside n) (sound_inside n))
-      (whole_bound (Levels n) (inside n) (whole_inside n n (no_more n))) (formed_then (formed_sum (Levels n) (formed_inside n)) (λ (t : Term). goes_gives t.0))
+      (whole_bound (Levels n) (inside n) (whole_inside n n (no_more n))) (formed_bound (Levels n) (formed_inside n)) (BoundOf (Levels (suc n))) (full_bound (suc n) (inside n) (full_inside (suc n) n (omega arith))) (formed_bound (Levels (suc n)) (formed_inside (suc n)))
 
   tells_argument : (all : List Expression) → Tells p phrase_tokens (argument_of (inside n) all)
   unfolding argument_of place_of

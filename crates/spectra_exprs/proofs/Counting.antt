@@ -9,7 +9,7 @@ use Rattle.spectra_trees.specs.Lexemes.{Lexeme}
 use Rattle.spectra_exprs.specs.Read.{Read, Reader, ◌>>=◌, unexpected, first_number, expect, grow, all_of}
 use Rattle.spectra_exprs.specs.Operators.{is_operator}
 use Rattle.spectra_exprs.specs.OperatorReaders.{closed}
-use Rattle.spectra_exprs.specs.Nesting.{Opening, Nesting, sort_of, completed, nested, behind, levels_of}
+use Rattle.spectra_exprs.specs.Nesting.{Opening, Nesting, sort_of, completed, ended, nested, behind, levels_of}
 use Rattle.spectra_exprs.proofs.Soundness.{sound_token, ok_value}
 use Rattle.spectra_exprs.proofs.Stopping.{err_is, ok_no_err, err_no_ok}
 use Rattle.spectra_exprs.proofs.Opening.{IsNext, next_number}
@@ -69,6 +69,21 @@ pub record Exactly (plain : Bool) (stack : List Opening) (n : Nesting) : Type 0 
 -- this is open where an operand is complete
 pub record Ends (stack : List Opening) (n : Nesting) : Type 0 where
   pub is : completed n.stack ≡ completed stack
+
+-- this is open where an expression is complete
+pub record Shuts (stack : List Opening) (n : Nesting) : Type 0 where
+  pub is : ended n.stack ≡ ended stack
+
+-- an expression is complete where an operand is
+ended-completed : (stack : List Opening) → ended (completed stack) ≡ ended stack
+ended-completed [] = refl
+ended-completed (Opening.Prefix ∷ stack) = ended-completed stack
+ended-completed (Opening.Quantifier ∷ stack) = refl
+ended-completed (Opening.Level ∷ stack) = refl
+ended-completed (Opening.Plain ∷ stack) = refl
+
+pub shuts_ends : (stack : List Opening) (n : Nesting) → Ends stack n → Shuts stack n
+shuts_ends stack n e = record { is = sym (ended-completed n.stack) ∙ ap ended e.is ∙ ended-completed stack }
 
 -- ---- single forms
 

@@ -13,12 +13,12 @@ use Rattle.spectra_trees.specs.Lexemes.{Lexeme}
 use Rattle.spectra_exprs.specs.Read.{Reader, ◌>>=◌, starts, expect}
 use Rattle.spectra_exprs.specs.OperatorReaders.{operator_at, prefix_at, expect_or}
 use Rattle.spectra_exprs.specs.Grammar.{Operator, Prefix}
-use Rattle.spectra_exprs.specs.Nesting.{Opening, Nesting, TokenSort, sort_of, completed, without_last, stacked, plain_behind, nested, levels_of}
+use Rattle.spectra_exprs.specs.Nesting.{Opening, Nesting, TokenSort, sort_of, completed, ended, without_last, stacked, plain_behind, nested, levels_of}
 use Rattle.spectra_exprs.proofs.Soundness.{Got}
 use Rattle.spectra_exprs.proofs.SoundExpressions.{prefix_looks, operator_looks}
 use Rattle.spectra_exprs.proofs.ClassSets.{among}
 use Rattle.spectra_exprs.proofs.WholeExpressions.{b_prefix, prefix_some, set_of, operator_some}
-use Rattle.spectra_exprs.proofs.Counting.{Counts, Exactly, Ends, Opens, Seen, behind_step, behind_level, counts_after, counts_same, counts_from, counts_if, counts_look}
+use Rattle.spectra_exprs.proofs.Counting.{Counts, Exactly, Ends, Shuts, shuts_ends, Opens, Seen, behind_step, behind_level, counts_after, counts_same, counts_from, counts_if, counts_look}
 
 pub nested_same : (class : Class) (t : Lexeme) → same_class t.class class ≡ true → sort_of t.class ≡ sort_of class
 unfolding sort_of same_class
@@ -26,6 +26,9 @@ nested_same class t is = let place : place_of t.class ≡ place_of class = grind
 
 pub ends_exactly : (b : Bool) (stack : List Opening) (n : Nesting) → Exactly b stack n → Ends stack n
 ends_exactly b stack n e = record { is = ap (λ (m : Nesting). completed m.stack) e.is }
+
+pub shuts_exactly : (b : Bool) (stack : List Opening) (n : Nesting) → Exactly b stack n → Shuts stack n
+shuts_exactly b stack n e = shuts_ends stack n (ends_exactly b stack n e)
 
 -- ---- what a token leaves open
 
@@ -40,6 +43,15 @@ exactly_by stack more part b c few s p n e =
 ends_by : {k : ℕ} (stack more : List Opening) (part : TokenSort) (c : Bool) (left : List Opening → List Opening) → ((b : Bool) (s : List Opening) → stacked part b s ≡ left (completed s)) → ((b : Bool) → plain_behind part b ≡ c) → levels_of more ≤ k → left (completed stack) ≡ more → (n : Nesting)
     → Ends stack n → (levels_of (nested part n).stack ≤ k) × Exactly c more (nested part n)
 ends_by stack more part c left s p few here n e =
+    let same : (nested part n).stack ≡ more = s n.plain n.stack ∙ ap left e.is ∙ here in
+    let plain = p n.plain in
+    let size = ap levels_of same in
+    (omega (arith, size, few), record { is = rw (same, plain) refl })
+
+-- from this, where an expression is complete
+shuts_by : {k : ℕ} (stack more : List Opening) (part : TokenSort) (left : List Opening → List Opening) → ((b : Bool) (s : List Opening) → stacked part b s ≡ left (ended s)) → ((b : Bool) → plain_behind part b ≡ false) → levels_of more ≤ k → left (ended stack) ≡ more → (n : Nesting)
+    → Shuts stack n → (levels_of (nested part n).stack ≤ k) × Exactly false more (nested part n)
+shuts_by stack more part left s p few here n e =
     let same : (nested part n).stack ≡ more = s n.plain n.stack ∙ ap left e.is ∙ here in
     let plain = p n.plain in
     let size = ap levels_of same in
@@ -69,10 +81,26 @@ module _ {A : Type 0} {k : ℕ} {Q : Nesting → Type 0} (stack : List Opening) 
       (exactly_by stack (Opening.Plain ∷ stack) (sort_of class) true false few (ap (λ (p : TokenSort). stacked p true stack) part) (ap (λ (p : TokenSort). plain_behind p true) part))
 
   -- a bracket is closed
-  pub counts_close : (opening : Opening) → completed (opening ∷ stack) ≡ opening ∷ stack → (class : Class) → sort_of class ≡ TokenSort.Close → levels_of stack ≤ k → ((t : Lexeme) → Counts k (Exactly false stack) Q (S t)) → Counts k (Ends (opening ∷ stack)) Q (λ ts. expect class ts >>= S)
-  counts_close opening flat class part few =
+  pub counts_close : (opening : Opening) → ended (opening ∷ stack) ≡ opening ∷ stack → (class : Class) → sort_of class ≡ TokenSort.Close → levels_of stack ≤ k → ((t : Lexeme) → Counts k (Exactly false stack) Q (S t)) → Counts k (Shuts (opening ∷ stack)) Q (λ ts. expect class ts >>= S)
+  counts_close opening shut class part few =
       counts_step class (Exactly false stack)
-      (ends_by (opening ∷ stack) stack (sort_of class) false without_last (λ b s. ap (λ (p : TokenSort). stacked p b s) part) (λ b. ap (λ (p : TokenSort). plain_behind p b) part) few (ap without_last flat))
+      (shuts_by (opening ∷ stack) stack (sort_of class) without_last (λ b s. ap (λ (p : TokenSort). stacked p b s) part) (λ b. ap (λ (p : TokenSort). plain_behind p b) part) few (ap without_last shut))
+
+  -- a comma or a semicolon
+  pub counts_separator : ended stack ≡ stack → (class : Class) → sort_of class ≡ TokenSort.Separator → levels_of stack ≤ k → ((t : Lexeme) → Counts k (Exactly false stack) Q (S t)) → Counts k (Shuts stack) Q (λ ts. expect class ts >>= S)
+  counts_separator shut class part few =
+      counts_step class (Exactly false stack)
+      (shuts_by stack stack (sort_of class) (λ s. s) (λ b s. ap (λ (p : TokenSort). stacked p b s) part) (λ b. ap (λ (p : TokenSort). plain_behind p b) part) few shut)
+
+  -- the same in another place
+  pub counts_separated : (b : Bool) → ended stack ≡ stack → (class : Class) → sort_of class ≡ TokenSort.Separator → levels_of stack ≤ k → ((t : Lexeme) → Counts k (Exactly false stack) Q (S t)) → Counts k (Exactly b stack) Q (λ ts. expect class ts >>= S)
+  counts_separated b shut class part few second = counts_from (shuts_exactly b stack) (counts_separator shut class part few second)
+
+  -- the word of a quantifier
+  pub counts_quantifier : (class : Class) → nested (sort_of class) (record { stack = stack; plain = false }) ≡ record { stack = Opening.Quantifier ∷ stack; plain = false } → ((t : Lexeme) → Opens k t Opening.Quantifier stack Q (S t)) → Counts k (Exactly false stack) Q (λ ts. expect class ts >>= S)
+  counts_quantifier class opens second =
+      counts_after class (λ (t : Lexeme) (is : same_class t.class class ≡ true).
+      behind_level Opening.Quantifier stack refl (λ n e. ap (nested (sort_of t.class)) e.is ∙ ap (λ (p : TokenSort). nested p (record { stack = stack; plain = false })) (nested_same class t is) ∙ opens) (second t))
 
   -- a bracket that is a level
   pub counts_level : (class : Class) → nested (sort_of class) (record { stack = stack; plain = false }) ≡ record { stack = Opening.Level ∷ stack; plain = false } → ((t : Lexeme) → Opens k t Opening.Level stack Q (S t)) → Counts k (Exactly false stack) Q (λ ts. expect class ts >>= S)

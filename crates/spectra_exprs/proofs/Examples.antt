@@ -186,6 +186,18 @@ pub a_Next : Example classes.Next
 unfolding unicode_ident is_reserved same_class class_of word_class place_of
 a_Next = word_of classes.Next 110 (codes "ext") refl refl refl refl refl
 
+pub a_ForAll : Example classes.ForAll
+unfolding unicode_ident is_reserved same_class class_of word_class place_of
+a_ForAll = word_of classes.ForAll 102 (codes "orall") refl refl refl refl refl
+
+pub a_Exists : Example classes.Exists
+unfolding unicode_ident is_reserved same_class class_of word_class place_of
+a_Exists = word_of classes.Exists 101 (codes "xists") refl refl refl refl refl
+
+pub a_In : Example classes.In
+unfolding unicode_ident is_reserved same_class class_of word_class place_of
+a_In = word_of classes.In 105 (codes "n") refl refl refl refl refl
+
 pub a_Boolean : Example classes.Boolean
 unfolding unicode_ident is_reserved same_class class_of word_class place_of
 a_Boolean = word_of classes.Boolean 98 (codes "oolean") refl refl refl refl refl

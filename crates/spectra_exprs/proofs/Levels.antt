@@ -2,7 +2,7 @@
 use Rattle.std.proofs.Common.{◌≡◌, ℕ, zero, suc, ◌-◌, ◌<◌, Err, List, refl, ap, sym, arith}
 use Rattle.spectra_exprs.specs.declared.fault.SyntaxFault.TheVariants as faults
 use Rattle.spectra_trees.specs.Lexemes.{Lexeme}
-use Rattle.spectra_exprs.specs.Expressions.{inside, whole_of, operand_of, arguments_of}
+use Rattle.spectra_exprs.specs.Expressions.{inside, whole_of, operand_of, arguments_of, subscript_of, scope_of}
 
 pub whole_deep : (left : ℕ) (t : Lexeme) (ts : List Lexeme) → left ≡ 0 → (inside left).whole t ts ≡ Err (faults.TooDeep t.number)
 unfolding inside
@@ -36,3 +36,23 @@ pub arguments_open : (left : ℕ) (t : Lexeme) (ts : List Lexeme) → 0 < left �
 unfolding inside
 arguments_open zero t ts some = absurd (omega arith)
 arguments_open (suc left) t ts some = ap (λ (n : ℕ). arguments_of (inside n) ts) (sym (less left))
+
+pub subscript_deep : (left : ℕ) (t : Lexeme) (ts : List Lexeme) → left ≡ 0 → (inside left).subscript t ts ≡ Err (faults.TooDeep t.number)
+unfolding inside
+subscript_deep zero t ts e = refl
+subscript_deep (suc left) t ts e = absurd (omega arith)
+
+pub scope_deep : (left : ℕ) (t : Lexeme) (ts : List Lexeme) → left ≡ 0 → (inside left).scope t ts ≡ Err (faults.TooDeep t.number)
+unfolding inside
+scope_deep zero t ts e = refl
+scope_deep (suc left) t ts e = absurd (omega arith)
+
+pub subscript_open : (left : ℕ) (t : Lexeme) (ts : List Lexeme) → 0 < left → (inside left).subscript t ts ≡ subscript_of (inside (left - 1)) ts
+unfolding inside
+subscript_open zero t ts some = absurd (omega arith)
+subscript_open (suc left) t ts some = ap (λ (n : ℕ). subscript_of (inside n) ts) (sym (less left))
+
+pub scope_open : (left : ℕ) (t : Lexeme) (ts : List Lexeme) → 0 < left → (inside left).scope t ts ≡ scope_of (inside (left - 1)) ts
+unfolding inside
+scope_open zero t ts some = absurd (omega arith)
+scope_open (suc left) t ts some = ap (λ (n : ℕ). scope_of (inside n) ts) (sym (less left))

@@ -19,9 +19,13 @@ pub mod Counting
 pub mod CountingTokens
 pub mod CountingExpressions
 pub mod Closing
+pub mod AwaitingVariables
 pub mod AwaitingExpressions
 pub mod Shapes
+pub mod ShapesOfTokens
 pub mod ShapesOfExpressions
 pub mod Comparing
 pub mod ComparingSteps
+pub mod Splitting
+pub mod ComparingVariables
 pub mod ComparingExpressions

@@ -13,16 +13,16 @@ use Rattle.spectra_trees.specs.Lexemes.{Lexeme, name_of}
 use Rattle.spectra_exprs.specs.Read.{◌>>=◌, starts, all_of}
 use Rattle.spectra_exprs.specs.Operators.{prefix_word, sum_word}
 use Rattle.spectra_exprs.specs.OperatorReaders.{operator_at, prefix_at, starts_sum, starts_or, expect_or}
-use Rattle.spectra_exprs.specs.Expressions.{leaf, between, opened, Term, Chain, Inside, negative, number_of, literal, next_of, parentheses_of, call_of, read_of, named_of, prim_of, prefixed_of, operand_of, times_of, prod_of, plus_of, modulo, sum_of, side_of, compared_of, comparison_of, cmp_of, conjunct_of, conjunction_of, conj_of, disjunct_of, disjunction_of, disj_of, arrow_of, past_of, alone_of, expr_of, whole_of, bound_of, argument_of, some_arguments_of, arguments_of, inside}
+use Rattle.spectra_exprs.specs.Expressions.{leaf, between, opened, Term, Scope, Chain, Inside, negative, number_of, literal, next_of, parentheses_of, call_of, index_of, read_of, named_of, prim_of, prefixed_of, operand_of, times_of, prod_of, plus_of, modulo, sum_of, side_of, compared_of, comparison_of, cmp_of, conjunct_of, conjunction_of, conj_of, disjunct_of, disjunction_of, disj_of, arrow_of, past_of, alone_of, unquantified_of, for_all_of, exists_of, expr_of, whole_of, bound_of, subscript_of, scope_of, argument_of, some_arguments_of, arguments_of, inside}
 use Rattle.spectra_exprs.specs.Forms.{Gives, Token, ◌▸◌, ◌∣◌, Steps}
-use Rattle.spectra_exprs.specs.Grammar.{Operator, Prefix, OrSign, Deeper, Literal, Prim, Operand, Times, Prod, Plus, Modulo, Alone, Sum, Side, Cmp, Conjunct, Conj, Disjunct, Disj, ExprOf, Argument, Arguments, Levels}
+use Rattle.spectra_exprs.specs.Grammar.{Operator, Prefix, OrSign, Deeper, Literal, Prim, Operand, Times, Prod, Plus, Modulo, Alone, Sum, Side, Cmp, Conjunct, Conj, Disjunct, Disj, Unquantified, ExprOf, BoundOf, Subscript, ScopeOf, Argument, Arguments, Levels}
 use Rattle.spectra_exprs.specs.Phrases.{Phrase}
 use Rattle.spectra_exprs.proofs.Soundness.{grouped}
 use Rattle.spectra_exprs.proofs.SoundExpressions.{literal_same, named_same, prim_same, prefix_looks, operator_looks}
 use Rattle.spectra_exprs.proofs.StoppingExpressions.{prefix_look, operator_look}
 use Rattle.spectra_exprs.proofs.Opening.{Begun, FullAfter, Full, begun_first, full_wider, full_then, full_gives, full_same, full_of, full_right, full_unexpected, full_deep, full_token, full_behind, full_if, full_only, full_finished, full_if_left, full_then_same, begun_right, begun_left, begun_gives}
 use Rattle.spectra_exprs.proofs.OpeningSteps.{FullLook, never_before, full_look, full_look_only, full_steps, begun_steps}
-use Rattle.spectra_exprs.proofs.Examples.{a_And, a_Bar, a_Close, a_Comma, a_False, a_Minus, a_Mod, a_Name, a_Next, a_Not, a_Number, a_Open, a_Or, a_Plus, a_Star, a_True}
+use Rattle.spectra_exprs.proofs.Examples.{a_And, a_Bar, a_Close, a_CloseBracket, a_Colon, a_Comma, a_Exists, a_False, a_ForAll, a_In, a_Minus, a_Mod, a_Name, a_Next, a_Not, a_Number, a_Open, a_OpenBracket, a_Or, a_Plus, a_Star, a_True, a_UpTo}
 
 full_negative : (t : Lexeme) → Full (Token classes.Number ▸ λ n. Gives (expression t.at n.at (Form.Number true n.text))) (negative t)
 unfolding negative
@@ -87,11 +87,22 @@ begun_disj d =
     (λ a. (OrSign ▸ λ t. Conj d ▸ λ b. Steps (Disjunct d) (a.0 ∷ b.0 ∷ [], t.at ∷ []) ▸ λ all. Gives (expression (first_of a.0) t.at (Form.Or (expressions all.0) all.1), false)) ∣ Gives a)
     [] (begun_conj d) (λ a. begun_right (begun_gives a))
 
-pub begun_expr : (d : Deeper) → Begun (ExprOf d) []
-begun_expr d =
+begun_unquantified : (d : Deeper) → Begun (Unquantified d) []
+begun_unquantified d =
     begun_first (Disj d)
     (λ a. (Operator levels.Arrow ▸ λ o. Disj d ▸ λ b. Gives (between o.0 o.1 a.0 b.0)) ∣ Alone a (Operator levels.Past ▸ λ o. Prim d ▸ λ b. Gives (between o.0 o.1 a.0 b)) ∣ Gives a.0)
     [] (begun_disj d) (λ a. begun_right (begun_right (begun_gives a.0)))
+
+pub begun_expr : (d : Deeper) → Begun (ExprOf d) []
+begun_expr d = begun_right (begun_right (begun_unquantified d))
+
+begun_bound : (d : Deeper) → Begun (BoundOf d) []
+begun_bound d = begun_first (Sum d) (λ p. Gives p.0) [] (begun_sum d) (λ p. begun_gives p.0)
+
+begun_subscript : (d : Deeper) → Begun (Subscript d) []
+begun_subscript d =
+    begun_first (BoundOf d) (λ e. Token classes.CloseBracket ▸ λ c. Gives e) [] (begun_bound d)
+    (λ e. begun_first (Token classes.CloseBracket) (λ c. Gives e) [] (full_token classes.CloseBracket a_CloseBracket).whole (λ c. begun_gives e))
 
 begun_operand : (d : Deeper) → Begun (Operand d) []
 begun_operand d = begun_right (begun_prim d)
@@ -99,12 +110,35 @@ begun_operand d = begun_right (begun_prim d)
 begun_arguments : (d : Deeper) → Begun (Arguments d) []
 begun_arguments d = begun_left (begun_first (Token classes.Close) (λ t. Gives []) [] (full_token classes.Close a_Close).whole (λ t. begun_gives []))
 
+module _ (d : Deeper) (n : Lexeme) where
+  begun_body : (low high : Expression) → Begun (Token classes.Colon ▸ λ c. ExprOf d ▸ λ e. Gives {A = Scope} (record { name = name_of n; low = low; high = high; body = e })) []
+  begun_body low high =
+      begun_first (Token classes.Colon) (λ c. ExprOf d ▸ λ e. Gives (record { name = name_of n; low = low; high = high; body = e })) [] (full_token classes.Colon a_Colon).whole
+      (λ c. begun_first (ExprOf d) (λ e. Gives (record { name = name_of n; low = low; high = high; body = e })) [] (begun_expr d) (λ e. begun_gives (record { name = name_of n; low = low; high = high; body = e })))
+
+  begun_high : (low : Expression) → Begun (Token classes.UpTo ▸ λ u. BoundOf d ▸ λ high. Token classes.Colon ▸ λ c. ExprOf d ▸ λ e. Gives {A = Scope} (record { name = name_of n; low = low; high = high; body = e })) []
+  begun_high low =
+      begun_first (Token classes.UpTo) (λ u. BoundOf d ▸ λ high. Token classes.Colon ▸ λ c. ExprOf d ▸ λ e. Gives (record { name = name_of n; low = low; high = high; body = e })) [] (full_token classes.UpTo a_UpTo).whole
+      (λ u. begun_first (BoundOf d) (λ high. Token classes.Colon ▸ λ c. ExprOf d ▸ λ e. Gives (record { name = name_of n; low = low; high = high; body = e })) [] (begun_bound d) (λ high. begun_body low high))
+
+  begun_low : Begun (Token classes.In ▸ λ i. BoundOf d ▸ λ low. Token classes.UpTo ▸ λ u. BoundOf d ▸ λ high. Token classes.Colon ▸ λ c. ExprOf d ▸ λ e. Gives {A = Scope} (record { name = name_of n; low = low; high = high; body = e })) []
+  begun_low =
+      begun_first (Token classes.In) (λ i. BoundOf d ▸ λ low. Token classes.UpTo ▸ λ u. BoundOf d ▸ λ high. Token classes.Colon ▸ λ c. ExprOf d ▸ λ e. Gives (record { name = name_of n; low = low; high = high; body = e })) [] (full_token classes.In a_In).whole
+      (λ i. begun_first (BoundOf d) (λ low. Token classes.UpTo ▸ λ u. BoundOf d ▸ λ high. Token classes.Colon ▸ λ c. ExprOf d ▸ λ e. Gives (record { name = name_of n; low = low; high = high; body = e })) [] (begun_bound d) (λ low. begun_high low))
+
+begun_scope : (d : Deeper) → Begun (ScopeOf d) []
+begun_scope d =
+    begun_first (Token classes.Name) (λ n. Token classes.In ▸ λ i. BoundOf d ▸ λ low. Token classes.UpTo ▸ λ u. BoundOf d ▸ λ high. Token classes.Colon ▸ λ c. ExprOf d ▸ λ e. Gives (record { name = name_of n; low = low; high = high; body = e })) []
+    (full_token classes.Name a_Name).whole (begun_low d)
+
 -- ---- over what reads one level deeper
 
 pub record FullInside (d : Deeper) (r : Inside) : Type 0 where
   pub whole : (t : Lexeme) → FullAfter (Some t) d.Whole (r.whole t)
   pub operand : (t : Lexeme) → FullAfter (Some t) d.Next (r.operand t)
   pub arguments : (t : Lexeme) → FullAfter (Some t) d.Listed (r.arguments t)
+  pub subscript : (t : Lexeme) → FullAfter (Some t) d.Indexed (r.subscript t)
+  pub scope : (t : Lexeme) → FullAfter (Some t) d.Scoped (r.scope t)
 
 module _ (left : ℕ) (r : Inside) (s : FullInside (Levels left) r) where
   full_call : (t u : Lexeme) → FullAfter (Some u) ((Levels left).Listed ▸ λ es. Gives (leaf t (Form.Call (name_of t) (expressions es)))) (call_of r t u)
@@ -115,9 +149,17 @@ module _ (left : ℕ) (r : Inside) (s : FullInside (Levels left) r) where
   unfolding read_of
   full_read t = full_gives (leaf t (Form.Read (name_of t)))
 
+  full_index : (t u : Lexeme) → FullAfter (Some u) ((Levels left).Indexed ▸ λ e. Gives (leaf t (Form.Index (name_of t) e))) (index_of r t u)
+  unfolding index_of
+  full_index t u = full_then (s.subscript u) (λ (e : Expression). full_gives (leaf t (Form.Index (name_of t) e)))
+
   full_named : (t : Lexeme)
-      → Full ((Token classes.Open ▸ λ o. (Levels left).Listed ▸ λ es. Gives (leaf t (Form.Call (name_of t) (expressions es)))) ∣ Gives (leaf t (Form.Read (name_of t)))) (named_of r t)
-  full_named t = full_same (named_same r t) (full_if (starts classes.Open) (full_behind classes.Open a_Open (full_call t)) (full_read t))
+      → Full
+      ((Token classes.Open ▸ λ o. (Levels left).Listed ▸ λ es. Gives (leaf t (Form.Call (name_of t) (expressions es)))) ∣ (Token classes.OpenBracket ▸ λ o. (Levels left).Indexed ▸ λ e. Gives (leaf t (Form.Index (name_of t) e))) ∣ Gives (leaf t (Form.Read (name_of t))))
+      (named_of r t)
+  full_named t =
+      full_same (named_same r t)
+      (full_if (starts classes.Open) (full_behind classes.Open a_Open (full_call t)) (full_if (starts classes.OpenBracket) (full_behind classes.OpenBracket a_OpenBracket (full_index t)) (full_read t)))
 
   full_next : (t : Lexeme) → Full (Token classes.Open ▸ λ o. (Levels left).Whole ▸ λ e. Token classes.Close ▸ λ c. Gives (leaf t (Form.Next e))) (next_of r t)
   unfolding next_of
@@ -240,13 +282,36 @@ module _ (left : ℕ) (r : Inside) (s : FullInside (Levels left) r) where
   full_alone a true = full_if_left (λ used x m. record { alone = refl; then = m }) (full_past a)
   full_alone a false = full_right (full_gives a)
 
+  full_unquantified : Full (Unquantified (Levels left)) (unquantified_of r)
+  unfolding unquantified_of
+  full_unquantified = full_then full_disj (λ (p : Term). full_look (operator_full levels.Arrow) (full_arrow p.0) (full_alone p.0 p.1))
+
+  full_for_all : Full (Token classes.ForAll ▸ λ t. (Levels left).Scoped ▸ λ x. Gives (leaf t (Form.ForAll x.name x.low x.high x.body))) (for_all_of r)
+  unfolding for_all_of
+  full_for_all = full_behind classes.ForAll a_ForAll (λ (t : Lexeme). full_then (s.scope t) (λ (x : Scope). full_gives (leaf t (Form.ForAll x.name x.low x.high x.body))))
+
+  full_exists : Full (Token classes.Exists ▸ λ t. (Levels left).Scoped ▸ λ x. Gives (leaf t (Form.Exists x.name x.low x.high x.body))) (exists_of r)
+  unfolding exists_of
+  full_exists = full_behind classes.Exists a_Exists (λ (t : Lexeme). full_then (s.scope t) (λ (x : Scope). full_gives (leaf t (Form.Exists x.name x.low x.high x.body))))
+
   full_expr : Full (ExprOf (Levels left)) (expr_of r)
   unfolding expr_of
-  full_expr = full_then full_disj (λ (p : Term). full_look (operator_full levels.Arrow) (full_arrow p.0) (full_alone p.0 p.1))
+  full_expr = full_if (starts classes.ForAll) full_for_all (full_if (starts classes.Exists) full_exists full_unquantified)
 
   pub full_whole : Full (ExprOf (Levels left)) (whole_of r)
   unfolding whole_of
   full_whole = full_then_same (full_finished Phrase.Whole left (ExprOf (Levels left)) (λ e. e) (λ used e d. (e, d)) (λ used p. p) full_expr)
+
+  pub full_subscript : Full (Subscript (Levels left)) (subscript_of r)
+  unfolding subscript_of
+  full_subscript = full_then full_bound (λ (e : Expression). full_then (full_token classes.CloseBracket a_CloseBracket) (λ (c : Lexeme). full_gives e))
+
+  pub full_scope : Full (ScopeOf (Levels left)) (scope_of r)
+  unfolding scope_of
+  full_scope =
+      full_then (full_token classes.Name a_Name) (λ (n : Lexeme). full_then (full_token classes.In a_In) (λ (i : Lexeme). full_then full_bound (λ (low : Expression). full_then (full_token classes.UpTo a_UpTo) (λ (u : Lexeme).
+      full_then full_bound (λ (high : Expression). full_then (full_token classes.Colon a_Colon) (λ (c : Lexeme). full_then full_whole (λ (e : Expression).
+      full_gives (record { name = name_of n; low = low; high = high; body = e }))))))))
 
   full_argument : (all : List Expression) → Full (Argument (Levels left) all) (argument_of r all)
   unfolding argument_of
@@ -270,9 +335,13 @@ full_inside (suc more) zero lt = record {
   whole = λ t. full_deep t (begun_expr (Levels more));
   operand = λ t. full_deep t (begun_operand (Levels more));
   arguments = λ t. full_deep t (begun_arguments (Levels more));
+  subscript = λ t. full_deep t (begun_subscript (Levels more));
+  scope = λ t. full_deep t (begun_scope (Levels more));
 }
 full_inside (suc more) (suc left) lt = record {
   whole = λ t. full_wider (full_whole more (inside left) (full_inside more left (omega arith)));
   operand = λ t. full_wider (full_operand more (inside left) (full_inside more left (omega arith)));
   arguments = λ t. full_wider (full_arguments more (inside left) (full_inside more left (omega arith)));
+  subscript = λ t. full_wider (full_subscript more (inside left) (full_inside more left (omega arith)));
+  scope = λ t. full_wider (full_scope more (inside left) (full_inside more left (omega arith)));
 }

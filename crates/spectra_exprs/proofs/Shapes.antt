@@ -1,5 +1,6 @@
--- The tokens of an expression: the parentheses in them close what they open, and the last token ends an operand.
-use Rattle.std.proofs.Common.{◌≡◌, ℕ, zero, suc, Bool, true, false, cond, not, ◌||◌, nat_eq, List, [], ◌∷◌, ◌++◌, Option, Some, None, option_map, inl, inr, refl, sym, ap, subst, ◌∙◌}
+-- The tokens of an expression: what they open they close, a name is behind each quantifier's word, and the last token ends an
+-- operand.
+use Rattle.std.proofs.Common.{◌≡◌, ℕ, zero, suc, Bool, true, false, cond, not, ◌&&◌, ◌||◌, nat_eq, List, [], ◌∷◌, ◌++◌, Option, Some, None, option_map, inl, inr, refl, sym, ap, subst, ◌∙◌}
 use Rattle.std.specs.Option.{option_map_or}
 use Rattle.spectra_trees.specs.declared.class.Class.{Class}
 use Rattle.spectra_trees.specs.declared.class.Class.TheVariants as classes
@@ -8,9 +9,9 @@ use Rattle.spectra_trees.specs.Lexemes.{Lexeme}
 use Rattle.spectra_exprs.specs.Forms.{Gives, Token, ◌▸◌, ◌∣◌, Steps}
 use Rattle.spectra_exprs.proofs.ClassSets.{among, going, Apart, Within, going_apart, same_going}
 use Rattle.spectra_exprs.proofs.Completeness.{Begins, begins_wider}
-use Rattle.spectra_exprs.proofs.Awaiting.{operand_ends, opens, awaits, awaits-append}
+use Rattle.spectra_exprs.proofs.Awaiting.{quantifiers, awaits, awaits-append}
 
--- the classes of an expression's tokens, but for parentheses and commas
+-- the classes of an expression's tokens, but for those that open, close or separate
 abbrev pub inner_tokens : List Class
 inner_tokens =
     classes.Next ∷ classes.True ∷ classes.False ∷ classes.Name ∷ classes.Number ∷ classes.Not ∷ classes.Prev ∷ classes.Once ∷ classes.Historically
@@ -19,10 +20,17 @@ inner_tokens =
 
 -- the classes that stand in an expression at no depth
 abbrev pub phrase_tokens : List Class
-phrase_tokens = classes.Open ∷ inner_tokens
+phrase_tokens = classes.Open ∷ classes.OpenBracket ∷ classes.ForAll ∷ classes.Exists ∷ inner_tokens
 
-abbrev pub brackets : List Class
-brackets = classes.Open ∷ classes.Close ∷ classes.Comma ∷ []
+-- a quantifier's word opens what its colon closes
+abbrev pub openings : List Class
+openings = classes.Open ∷ classes.OpenBracket ∷ classes.ForAll ∷ classes.Exists ∷ []
+
+abbrev pub closings : List Class
+closings = classes.Close ∷ classes.CloseBracket ∷ classes.Colon ∷ []
+
+abbrev pub separators : List Class
+separators = classes.Comma ∷ classes.In ∷ classes.UpTo ∷ []
 
 pub within_one : (F G : List Class) → Within F G → (t : Lexeme) → going F (t ∷ []) ≡ true → going G (t ∷ []) ≡ true
 within_one F G within t on = (begins_wider within (begins_as F t on)).first (t ∷ []) t [] refl
@@ -30,7 +38,7 @@ within_one F G within t on = (begins_wider within (begins_as F t on)).first (t �
     begins_as : (F : List Class) (t : Lexeme) → going F (t ∷ []) ≡ true → Begins F (λ used (a : Lexeme). used ≡ t ∷ [])
     begins_as F t on = record { first = λ used a rest p. rw p on }
 
--- ---- how deep in parentheses
+-- ---- how deep in brackets
 
 abbrev pub outside : ℕ → Option ℕ
 outside zero = None
@@ -41,7 +49,7 @@ by_sort opening closing comma inner k = cond opening (Some (suc k)) (cond closin
 
 -- the depth behind a token, from that before it
 abbrev pub deeper : ℕ → Lexeme → Option ℕ
-deeper k t = by_sort (same_class t.class classes.Open) (same_class t.class classes.Close) (same_class t.class classes.Comma) (among inner_tokens (place_of t.class)) k
+deeper k t = by_sort (among openings (place_of t.class)) (among closings (place_of t.class)) (among separators (place_of t.class)) (among inner_tokens (place_of t.class)) k
 
 -- the depth behind tokens
 abbrev pub depth : ℕ → List Lexeme → Option ℕ
@@ -82,7 +90,7 @@ sort_deeper false false false false k m e = absurd (cc)
 deeper_by : (k : ℕ) (t : Lexeme) (ts : List Lexeme) (m : ℕ) (o : Option ℕ) → ((j : ℕ) → depth j ts ≡ Some m → depth (suc j) ts ≡ Some (suc m)) → deeper k t ≡ o → option_map_or (λ j. depth j ts) o None ≡ Some m → depth (suc k) (t ∷ ts) ≡ Some (suc m)
 deeper_by k t ts m (Some j) further is e =
     let more : deeper (suc k) t ≡ Some (suc j) =
-    sort_deeper (same_class t.class classes.Open) (same_class t.class classes.Close) (same_class t.class classes.Comma) (among inner_tokens (place_of t.class)) k j is in
+    sort_deeper (among openings (place_of t.class)) (among closings (place_of t.class)) (among separators (place_of t.class)) (among inner_tokens (place_of t.class)) k j is in
     ap (λ (o : Option ℕ). option_map_or (λ i. depth i ts) o None) more ∙ further j e
 deeper_by k t ts m None further is e = absurd (cc)
 
@@ -110,14 +118,22 @@ sort_within false false false true m e = refl
 sort_within false false false false m e = absurd (cc)
 
 first_within : (u : Lexeme) (q : List Lexeme) (last : ℕ) → depth 0 (u ∷ q) ≡ Some last → among phrase_tokens (place_of u.class) ≡ true
-unfolding same_class
 first_within u q last e = by (deeper 0 u) refl e
   where
+    one_of : (a b c d e : Bool) → (a || (b || (c || (d || false)))) || e ≡ true → a || (b || (c || (d || e))) ≡ true
+    one_of true b c d e h = refl
+    one_of false true c d e h = refl
+    one_of false false true d e h = refl
+    one_of false false false true e h = refl
+    one_of false false false false e h = h
+
     by : (o : Option ℕ) → deeper 0 u ≡ o → option_map_or (λ j. depth j q) o None ≡ Some last → among phrase_tokens (place_of u.class) ≡ true
-    by (Some m) is e = sort_within (same_class u.class classes.Open) (same_class u.class classes.Close) (same_class u.class classes.Comma) (among inner_tokens (place_of u.class)) m is
+    by (Some m) is e =
+        one_of (nat_eq (place_of u.class) (place_of classes.Open)) (nat_eq (place_of u.class) (place_of classes.OpenBracket)) (nat_eq (place_of u.class) (place_of classes.ForAll)) (nat_eq (place_of u.class) (place_of classes.Exists)) (among inner_tokens (place_of u.class))
+        (sort_within (among openings (place_of u.class)) (among closings (place_of u.class)) (among separators (place_of u.class)) (among inner_tokens (place_of u.class)) m is)
     by None is e = absurd (cc)
 
--- where a part ends what has closed all that it opened, what goes on behind it in what does so too stands in no parentheses
+-- where a part ends what has closed all that it opened, what goes on behind it in what does so too stands in no brackets
 pub goes_on_flat : (front part : List Lexeme) (u : Lexeme) (q : List Lexeme) → depth 0 (front ++ part) ≡ Some 0 → depth 0 (part ++ u ∷ q) ≡ Some 0 → among phrase_tokens (place_of u.class) ≡ true
 goes_on_flat front part u q one two =
     let x = depth_between 0 front part 0 one in
@@ -126,26 +142,46 @@ goes_on_flat front part u q one two =
     let none : y.middle ≡ 0 = raised_none x.middle y.middle same in
     first_within u q 0 (subst (λ (j : ℕ). depth j (u ∷ q) ≡ Some 0) none y.after)
 
+-- ---- behind the words of quantifiers
+
+-- whether a name stands behind each word of a quantifier, also where one stands before these tokens
+abbrev pub tidy : Bool → List Lexeme → Bool
+tidy b [] = not b
+tidy true (t ∷ ts) = same_class t.class classes.Name && tidy false ts
+tidy false (t ∷ ts) = tidy (among quantifiers (place_of t.class)) ts
+
+tidy_name : (n : Bool) (b c : Bool) → n && b ≡ true → (b ≡ true → c ≡ true) → n && c ≡ true
+tidy_name true b c e f = f e
+tidy_name false b c e f = e
+
+pub tidy_append : (b : Bool) (u v : List Lexeme) → tidy b u ≡ true → tidy false v ≡ true → tidy b (u ++ v) ≡ true
+tidy_append true [] v one two = absurd (cc)
+tidy_append false [] v one two = two
+tidy_append true (t ∷ u) v one two = tidy_name (same_class t.class classes.Name) (tidy false u) (tidy false (u ++ v)) one (λ e. tidy_append false u v e two)
+tidy_append false (t ∷ u) v one two = tidy_append (among quantifiers (place_of t.class)) u v one two
+
 -- ---- what is of the grammar
 
 -- it closes what it opens, and what is behind an operand still ends one
 pub record Goes {A : Type 0} (P : List Lexeme → A → Type 0) : Type 0 where
   pub level : (k : ℕ) (used : List Lexeme) (a : A) → P used a → depth k used ≡ Some k
   pub still : (used : List Lexeme) (a : A) → P used a → awaits false used ≡ false
+  pub named : (used : List Lexeme) (a : A) → P used a → tidy false used ≡ true
 
 -- it closes what it opens, and ends an operand
 pub record Formed {A : Type 0} (P : List Lexeme → A → Type 0) : Type 0 where
   pub level : (k : ℕ) (used : List Lexeme) (a : A) → P used a → depth k used ≡ Some k
   pub ends : (b : Bool) (used : List Lexeme) (a : A) → P used a → awaits b used ≡ false
+  pub named : (used : List Lexeme) (a : A) → P used a → tidy false used ≡ true
 
 pub goes_of : {A : Type 0} {P : List Lexeme → A → Type 0} → Formed P → Goes P
-goes_of f = record { level = f.level; still = λ used a p. f.ends false used a p }
+goes_of f = record { level = f.level; still = λ used a p. f.ends false used a p; named = f.named }
 
 pub goes_gives : {A : Type 0} (a : A) → Goes (Gives a)
-goes_gives a = record { level = λ k used b p. ap (depth k) p.nothing; still = λ used b p. ap (awaits false) p.nothing }
+goes_gives a = record { level = λ k used b p. ap (depth k) p.nothing; still = λ used b p. ap (awaits false) p.nothing; named = λ used b p. ap (tidy false) p.nothing }
 
 pub goes_or : {A : Type 0} {P Q : List Lexeme → A → Type 0} → Goes P → Goes Q → Goes (P ∣ Q)
-goes_or {A = A} {P = P} {Q = Q} p q = record { level = level; still = still }
+goes_or {A = A} {P = P} {Q = Q} p q = record { level = level; still = still; named = named }
   where
     level : (k : ℕ) (used : List Lexeme) (a : A) → (P ∣ Q) used a → depth k used ≡ Some k
     level k used a (inl h) = p.level k used a h
@@ -155,8 +191,12 @@ goes_or {A = A} {P = P} {Q = Q} p q = record { level = level; still = still }
     still used a (inl h) = p.still used a h
     still used a (inr h) = q.still used a h
 
+    named : (used : List Lexeme) (a : A) → (P ∣ Q) used a → tidy false used ≡ true
+    named used a (inl h) = p.named used a h
+    named used a (inr h) = q.named used a h
+
 pub formed_or : {A : Type 0} {P Q : List Lexeme → A → Type 0} → Formed P → Formed Q → Formed (P ∣ Q)
-formed_or {A = A} {P = P} {Q = Q} p q = record { level = level; ends = ends }
+formed_or {A = A} {P = P} {Q = Q} p q = record { level = level; ends = ends; named = named }
   where
     level : (k : ℕ) (used : List Lexeme) (a : A) → (P ∣ Q) used a → depth k used ≡ Some k
     level k used a (inl h) = p.level k used a h
@@ -166,26 +206,35 @@ formed_or {A = A} {P = P} {Q = Q} p q = record { level = level; ends = ends }
     ends b used a (inl h) = p.ends b used a h
     ends b used a (inr h) = q.ends b used a h
 
-both_level : (k : ℕ) (used u v : List Lexeme) → used ≡ u ++ v → depth k u ≡ Some k → depth k v ≡ Some k → depth k used ≡ Some k
+    named : (used : List Lexeme) (a : A) → (P ∣ Q) used a → tidy false used ≡ true
+    named used a (inl h) = p.named used a h
+    named used a (inr h) = q.named used a h
+
+pub both_level : (k : ℕ) (used u v : List Lexeme) → used ≡ u ++ v → depth k u ≡ Some k → depth k v ≡ Some k → depth k used ≡ Some k
 both_level k used u v parts one two = ap (depth k) parts ∙ depth-append k u v ∙ ap (λ (o : Option ℕ). option_map_or (λ j. depth j v) o None) one ∙ two
 
-both_ends : (b c : Bool) (used u v : List Lexeme) → used ≡ u ++ v → awaits b u ≡ c → awaits c v ≡ false → awaits b used ≡ false
+pub both_ends : (b c : Bool) (used u v : List Lexeme) → used ≡ u ++ v → awaits b u ≡ c → awaits c v ≡ false → awaits b used ≡ false
 both_ends b c used u v parts one two = ap (awaits b) parts ∙ awaits-append b u v ∙ ap (λ (x : Bool). awaits x v) one ∙ two
+
+pub both_named : (b : Bool) (used u v : List Lexeme) → used ≡ u ++ v → tidy b u ≡ true → tidy false v ≡ true → tidy b used ≡ true
+both_named b used u v parts one two = ap (tidy b) parts ∙ tidy_append b u v one two
 
 pub formed_then : {A B : Type 0} {P : List Lexeme → A → Type 0} {Q : A → List Lexeme → B → Type 0} → Formed P → ((a : A) → Goes (Q a)) → Formed (P ▸ Q)
 formed_then p q = record {
   level = λ k used b t. both_level k used t.front t.back t.parts (p.level k t.front t.value t.before) ((q t.value).level k t.back b t.after);
   ends = λ b used c t. both_ends b false used t.front t.back t.parts (p.ends b t.front t.value t.before) ((q t.value).still t.back c t.after);
+  named = λ used c t. both_named false used t.front t.back t.parts (p.named t.front t.value t.before) ((q t.value).named t.back c t.after);
 }
 
 pub goes_then : {A B : Type 0} {P : List Lexeme → A → Type 0} {Q : A → List Lexeme → B → Type 0} → Goes P → ((a : A) → Goes (Q a)) → Goes (P ▸ Q)
 goes_then p q = record {
   level = λ k used b t. both_level k used t.front t.back t.parts (p.level k t.front t.value t.before) ((q t.value).level k t.back b t.after);
   still = λ used c t. both_ends false false used t.front t.back t.parts (p.still t.front t.value t.before) ((q t.value).still t.back c t.after);
+  named = λ used c t. both_named false used t.front t.back t.parts (p.named t.front t.value t.before) ((q t.value).named t.back c t.after);
 }
 
 pub formed_nothing : {A : Type 0} → Formed {A = A} (λ used a. ⊥)
-formed_nothing = record { level = λ k used a p. absurd p; ends = λ b used a p. absurd p }
+formed_nothing = record { level = λ k used a p. absurd p; ends = λ b used a p. absurd p; named = λ used a p. absurd p }
 
 module _ {A : Type 0} {step : A → List Lexeme → A → Type 0} (each : (a : A) → Formed (step a)) where
   steps_level : (k : ℕ) (a : A) (used : List Lexeme) (b : A) → Steps step a used b → depth k used ≡ Some k
@@ -196,160 +245,9 @@ module _ {A : Type 0} {step : A → List Lexeme → A → Type 0} (each : (a : A
   steps_still a used b (Steps.done x) = refl
   steps_still a used b (Steps.one_more x front y back z here more) = both_ends false false (front ++ back) front back refl ((each x).ends false front y here) (steps_still y back z more)
 
+  steps_named : (a : A) (used : List Lexeme) (b : A) → Steps step a used b → tidy false used ≡ true
+  steps_named a used b (Steps.done x) = refl
+  steps_named a used b (Steps.one_more x front y back z here more) = both_named false (front ++ back) front back refl ((each x).named front y here) (steps_named y back z more)
+
   pub goes_steps : (a : A) → Goes (Steps step a)
-  goes_steps a = record { level = λ k used b s. steps_level k a used b s; still = λ used b s. steps_still a used b s }
-
--- ---- single tokens
-
-or_false : (a : Bool) → a || false ≡ false → a ≡ false
-or_false true e = e
-or_false false e = e
-
-no_class : (F : List Class) (D : Class) → Apart F (D ∷ []) → (t : Lexeme) → going F (t ∷ []) ≡ true → same_class t.class D ≡ false
-unfolding same_class
-no_class F D apart t on = or_false (nat_eq (place_of t.class) (place_of D)) (going_apart F (D ∷ []) apart (t ∷ []) on)
-
-pub same_depth : (k : ℕ) (t : Lexeme) (ts : List Lexeme) → among inner_tokens (place_of t.class) ≡ true → depth k (t ∷ ts) ≡ depth k ts
-unfolding place_of
-same_depth k t ts on =
-    let opening = no_class inner_tokens classes.Open (record { checked = refl }) t on in
-    let closing = no_class inner_tokens classes.Close (record { checked = refl }) t on in
-    let comma = no_class inner_tokens classes.Comma (record { checked = refl }) t on in
-    ap (λ (o : Option ℕ). option_map_or (λ j. depth j ts) o None) (sorted (same_class t.class classes.Open) (same_class t.class classes.Close) (same_class t.class classes.Comma) (among inner_tokens (place_of t.class)) opening closing comma on)
-  where
-    sorted : (a b c d : Bool) → a ≡ false → b ≡ false → c ≡ false → d ≡ true → by_sort a b c d k ≡ Some k
-    sorted a b c d e f g h = rw (e, f, g, h) refl
-
--- one token that stands between operands
-pub record Plain {A : Type 0} (P : List Lexeme → A → Type 0) : Type 0 where
-  pub token : (used : List Lexeme) (a : A) → P used a → (t : Lexeme) × (used ≡ t ∷ []) × (among inner_tokens (place_of t.class) ≡ true)
-
-pub plain_token : (class : Class) → Within (class ∷ []) inner_tokens → Plain (Token class)
-plain_token class within = record { token = λ used t p. (t, p.alone, within_one (class ∷ []) inner_tokens within t (same_going class t [] p.is)) }
-
-pub plain_or : {A : Type 0} {P Q : List Lexeme → A → Type 0} → Plain P → Plain Q → Plain (P ∣ Q)
-plain_or {A = A} {P = P} {Q = Q} p q = record { token = at }
-  where
-    at : (used : List Lexeme) (a : A) → (P ∣ Q) used a → (t : Lexeme) × (used ≡ t ∷ []) × (among inner_tokens (place_of t.class) ≡ true)
-    at used a (inl h) = p.token used a h
-    at used a (inr h) = q.token used a h
-
--- a token, and what ends an operand behind it
-pub formed_plain : {A B : Type 0} {P : List Lexeme → A → Type 0} {Q : A → List Lexeme → B → Type 0} → Plain P → ((a : A) → Formed (Q a)) → Formed (P ▸ Q)
-formed_plain {B = B} {P = P} {Q = Q} p q = record { level = λ k used b t. level k used b t; ends = λ b used c t. ends b used c t }
-  where
-    level : (k : ℕ) (used : List Lexeme) (b : B) → (P ▸ Q) used b → depth k used ≡ Some k
-    level k used b t =
-        let x = p.token t.front t.value t.before in
-        ap (depth k) (t.parts ∙ ap (λ (f : List Lexeme). f ++ t.back) x.1) ∙ same_depth k x.0 t.back x.2 ∙ (q t.value).level k t.back b t.after
-
-    ends : (b : Bool) (used : List Lexeme) (c : B) → (P ▸ Q) used c → awaits b used ≡ false
-    ends b used c t =
-        let x = p.token t.front t.value t.before in
-        ap (awaits b) (t.parts ∙ ap (λ (f : List Lexeme). f ++ t.back) x.1) ∙ (q t.value).ends (opens x.0) t.back c t.after
-
-ends_operand : (F : List Class) → Within F operand_ends → (t : Lexeme) → going F (t ∷ []) ≡ true → opens t ≡ false
-ends_operand F within t on = ap not (within_one F operand_ends within t on)
-
--- a token that is an operand
-pub formed_token : (class : Class) → Within (class ∷ []) inner_tokens → Within (class ∷ []) operand_ends → Formed (Token class)
-formed_token class within ends = record {
-  level = λ k used t p. ap (depth k) p.alone ∙ same_depth k t [] (within_one (class ∷ []) inner_tokens within t (same_going class t [] p.is));
-  ends = λ b used t p. ap (awaits b) p.alone ∙ ends_operand (class ∷ []) ends t (same_going class t [] p.is);
-}
-
--- ---- parentheses
-
-opened_depth : (k : ℕ) (t : Lexeme) (ts : List Lexeme) → same_class t.class classes.Open ≡ true → depth k (t ∷ ts) ≡ depth (suc k) ts
-opened_depth k t ts is = ap (λ (o : Option ℕ). option_map_or (λ j. depth j ts) o None) (ap (λ (b : Bool). by_sort b (same_class t.class classes.Close) (same_class t.class classes.Comma) (among inner_tokens (place_of t.class)) k) is)
-
-pub not_both : (C D : Class) → Apart (C ∷ []) (D ∷ []) → (t : Lexeme) → same_class t.class C ≡ true → same_class t.class D ≡ false
-not_both C D apart t is = no_class (C ∷ []) D apart t (same_going C t [] is)
-
-closed_depth : (k : ℕ) (t : Lexeme) (ts : List Lexeme) → same_class t.class classes.Close ≡ true → depth (suc k) (t ∷ ts) ≡ depth k ts
-unfolding place_of
-closed_depth k t ts is =
-    let opening = not_both classes.Close classes.Open (record { checked = refl }) t is in
-    ap (λ (o : Option ℕ). option_map_or (λ j. depth j ts) o None) (sorted (same_class t.class classes.Open) (same_class t.class classes.Close) opening is)
-  where
-    sorted : (a b : Bool) → a ≡ false → b ≡ true → by_sort a b (same_class t.class classes.Comma) (among inner_tokens (place_of t.class)) (suc k) ≡ Some k
-    sorted a b e f = rw (e, f) refl
-
-comma_depth : (k : ℕ) (t : Lexeme) (ts : List Lexeme) → same_class t.class classes.Comma ≡ true → depth (suc k) (t ∷ ts) ≡ depth (suc k) ts
-unfolding place_of
-comma_depth k t ts is =
-    let opening = not_both classes.Comma classes.Open (record { checked = refl }) t is in
-    let closing = not_both classes.Comma classes.Close (record { checked = refl }) t is in
-    ap (λ (o : Option ℕ). option_map_or (λ j. depth j ts) o None) (sorted (same_class t.class classes.Open) (same_class t.class classes.Close) (same_class t.class classes.Comma) opening closing is)
-  where
-    sorted : (a b c : Bool) → a ≡ false → b ≡ false → c ≡ true → by_sort a b c (among inner_tokens (place_of t.class)) (suc k) ≡ Some (suc k)
-    sorted a b c e f g = rw (e, f, g) refl
-
-close_ends : (t : Lexeme) → same_class t.class classes.Close ≡ true → opens t ≡ false
-unfolding place_of
-close_ends t is = ends_operand (classes.Close ∷ []) (record { checked = refl }) t (same_going classes.Close t [] is)
-
--- what stands in parentheses, up to the closing one
-pub record Listed {A : Type 0} (P : List Lexeme → A → Type 0) : Type 0 where
-  pub level : (k : ℕ) (used : List Lexeme) (a : A) → P used a → depth (suc k) used ≡ Some k
-  pub ends : (b : Bool) (used : List Lexeme) (a : A) → P used a → awaits b used ≡ false
-
--- a closing parenthesis
-pub listed_close : {B : Type 0} (f : Lexeme → B) → Listed (Token classes.Close ▸ λ c. Gives (f c))
-listed_close {B = B} f = record { level = level; ends = ends }
-  where
-    whole : (used : List Lexeme) (b : B) (t : (Token classes.Close ▸ λ c. Gives (f c)) used b) → used ≡ t.value ∷ []
-    whole used b t = t.parts ∙ rw (t.before.alone, t.after.nothing) refl
-
-    level : (k : ℕ) (used : List Lexeme) (b : B) → (Token classes.Close ▸ λ c. Gives (f c)) used b → depth (suc k) used ≡ Some k
-    level k used b t = ap (depth (suc k)) (whole used b t) ∙ closed_depth k t.value [] t.before.is
-
-    ends : (c : Bool) (used : List Lexeme) (b : B) → (Token classes.Close ▸ λ c. Gives (f c)) used b → awaits c used ≡ false
-    ends c used b t = ap (awaits c) (whole used b t) ∙ close_ends t.value t.before.is
-
-pub listed_then : {A B : Type 0} {P : List Lexeme → A → Type 0} {Q : A → List Lexeme → B → Type 0} → ((k : ℕ) (used : List Lexeme) (a : A) → P used a → depth (suc k) used ≡ Some (suc k)) → ((a : A) → Listed (Q a)) → Listed (P ▸ Q)
-listed_then p q = record {
-  level = λ k used b t.
-      ap (depth (suc k)) t.parts ∙ depth-append (suc k) t.front t.back ∙ ap (λ (o : Option ℕ). option_map_or (λ j. depth j t.back) o None) (p k t.front t.value t.before) ∙ (q t.value).level k t.back b t.after;
-  ends = λ b used c t. both_ends b (awaits b t.front) used t.front t.back t.parts refl ((q t.value).ends (awaits b t.front) t.back c t.after);
-}
-
-pub listed_after : {A B : Type 0} {P : List Lexeme → A → Type 0} {Q : A → List Lexeme → B → Type 0} → Listed P → ((a : A) → Goes (Q a)) → Listed (P ▸ Q)
-listed_after p q = record {
-  level = λ k used b t.
-      ap (depth (suc k)) t.parts ∙ depth-append (suc k) t.front t.back ∙ ap (λ (o : Option ℕ). option_map_or (λ j. depth j t.back) o None) (p.level k t.front t.value t.before) ∙ (q t.value).level k t.back b t.after;
-  ends = λ b used c t. both_ends b false used t.front t.back t.parts (p.ends b t.front t.value t.before) ((q t.value).still t.back c t.after);
-}
-
-pub listed_or : {A : Type 0} {P Q : List Lexeme → A → Type 0} → Listed P → Listed Q → Listed (P ∣ Q)
-listed_or {A = A} {P = P} {Q = Q} p q = record { level = level; ends = ends }
-  where
-    level : (k : ℕ) (used : List Lexeme) (a : A) → (P ∣ Q) used a → depth (suc k) used ≡ Some k
-    level k used a (inl h) = p.level k used a h
-    level k used a (inr h) = q.level k used a h
-
-    ends : (b : Bool) (used : List Lexeme) (a : A) → (P ∣ Q) used a → awaits b used ≡ false
-    ends b used a (inl h) = p.ends b used a h
-    ends b used a (inr h) = q.ends b used a h
-
-pub listed_nothing : {A : Type 0} → Listed {A = A} (λ used a. ⊥)
-listed_nothing = record { level = λ k used a p. absurd p; ends = λ b used a p. absurd p }
-
--- an opening parenthesis, and what stands up to the closing one
-pub formed_open : {A : Type 0} {Q : Lexeme → List Lexeme → A → Type 0} → ((o : Lexeme) → Listed (Q o)) → Formed (Token classes.Open ▸ Q)
-formed_open {A = A} {Q = Q} q = record { level = level; ends = ends }
-  where
-    level : (k : ℕ) (used : List Lexeme) (a : A) → (Token classes.Open ▸ Q) used a → depth k used ≡ Some k
-    level k used a t = ap (depth k) (t.parts ∙ ap (λ (f : List Lexeme). f ++ t.back) t.before.alone) ∙ opened_depth k t.value t.back t.before.is ∙ (q t.value).level k t.back a t.after
-
-    ends : (b : Bool) (used : List Lexeme) (a : A) → (Token classes.Open ▸ Q) used a → awaits b used ≡ false
-    ends b used a t = ap (awaits b) (t.parts ∙ ap (λ (f : List Lexeme). f ++ t.back) t.before.alone) ∙ (q t.value).ends (opens t.value) t.back a t.after
-
--- further arguments, each behind a comma, stay in the parentheses
-module _ {A : Type 0} {step : A → List Lexeme → A → Type 0} (each : (k : ℕ) (a : A) (used : List Lexeme) (b : A) → step a used b → depth (suc k) used ≡ Some (suc k)) where
-  pub listed_steps : (k : ℕ) (a : A) (used : List Lexeme) (b : A) → Steps step a used b → depth (suc k) used ≡ Some (suc k)
-  listed_steps k a used b (Steps.done x) = refl
-  listed_steps k a used b (Steps.one_more x front y back z here more) = both_level (suc k) (front ++ back) front back refl (each k x front y here) (listed_steps k y back z more)
-
-pub comma_level : {B : Type 0} {Q : Lexeme → List Lexeme → B → Type 0} → ((t : Lexeme) → Goes (Q t)) → (k : ℕ) (used : List Lexeme) (b : B) → (Token classes.Comma ▸ Q) used b → depth (suc k) used ≡ Some (suc k)
-comma_level q k used b t = ap (depth (suc k)) (t.parts ∙ ap (λ (f : List Lexeme). f ++ t.back) t.before.alone) ∙ comma_depth k t.value t.back t.before.is ∙ (q t.value).level (suc k) t.back b t.after
+  goes_steps a = record { level = λ k used b s. steps_level k a used b s; still = λ used b s. steps_still a used b s; named = λ used b s. steps_named a used b s }

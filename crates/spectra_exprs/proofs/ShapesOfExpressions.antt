@@ -1,5 +1,5 @@
 -- The tokens of an expression close what they open, and end an operand: one lemma for each production.
-use Rattle.std.proofs.Common.{◌≡◌, ℕ, zero, suc, true, false, List, [], ◌∷◌, ◌++◌, Some, refl}
+use Rattle.std.proofs.Common.{ℕ, zero, suc, true, false, List, [], ◌∷◌, ◌++◌, refl}
 use Rattle.spectra_exprs.specs.declared.operators.Level.{Level}
 use Rattle.spectra_exprs.specs.declared.operators.Level.TheVariants as levels
 use Rattle.spectra_trees.specs.declared.class.Class.TheVariants as classes
@@ -10,12 +10,13 @@ use Rattle.spectra_trees.specs.declared.tree.PrefixWord.{PrefixWord}
 use Rattle.spectra_trees.specs.Classes.{place_of}
 use Rattle.spectra_trees.specs.Data.{Expression, Form, expression, expressions, first_of}
 use Rattle.spectra_trees.specs.Lexemes.{Lexeme, name_of}
-use Rattle.spectra_exprs.specs.Expressions.{leaf, between, opened, Term, Chain}
+use Rattle.spectra_exprs.specs.Expressions.{leaf, between, opened, Term, Scope, Chain}
 use Rattle.spectra_exprs.specs.Forms.{Gives, Token, ◌▸◌}
-use Rattle.spectra_exprs.specs.Grammar.{Operator, Prefix, OrSign, Deeper, Literal, Prim, Prefixed, Operand, Times, Prod, Plus, Modulo, Alone, Sum, Side, Cmp, Conjunct, Conj, Disjunct, Disj, ExprOf, Argument, Arguments, Levels}
+use Rattle.spectra_exprs.specs.Grammar.{Operator, Prefix, OrSign, Deeper, Literal, Prim, Prefixed, Operand, Times, Prod, Plus, Modulo, Alone, Sum, Side, Cmp, Conjunct, Conj, Disjunct, Disj, Unquantified, ExprOf, BoundOf, Subscript, ScopeOf, Argument, Arguments, Levels}
 use Rattle.spectra_exprs.proofs.ClassSets.{Within}
 use Rattle.spectra_exprs.proofs.WholeExpressions.{b_prefix, prefix_some, set_of, operator_some}
-use Rattle.spectra_exprs.proofs.Shapes.{inner_tokens, depth, within_one, Goes, Formed, goes_of, goes_gives, goes_or, formed_or, formed_then, goes_then, formed_nothing, goes_steps, Plain, plain_token, plain_or, formed_plain, formed_token, Listed, listed_close, listed_then, listed_after, listed_or, listed_nothing, formed_open, listed_steps, comma_level}
+use Rattle.spectra_exprs.proofs.Shapes.{inner_tokens, within_one, Goes, Formed, goes_of, goes_gives, goes_or, formed_or, formed_then, goes_then, formed_nothing, goes_steps}
+use Rattle.spectra_exprs.proofs.ShapesOfTokens.{Plain, plain_token, plain_or, formed_plain, formed_token, Inner, inner_of, inner_separator, inner_then, inner_steps, Listed, listed_close, listed_colon, listed_then, listed_after, listed_or, listed_nothing, formed_open, Scoped, scoped_nothing, scoped_name, scoped_after, formed_quantifier}
 
 operators_inner : (level : Level) → Within (set_of level) inner_tokens
 unfolding place_of
@@ -45,7 +46,7 @@ formed_literal =
     (λ (n : Lexeme). goes_gives (expression m.at n.at (Form.Number true n.text)))))))
 
 goes_alone : {A : Type 0} {P : List Lexeme → A → Type 0} (p : Term) → Goes P → Goes (Alone p P)
-goes_alone p g = record { level = λ k used a h. g.level k used a h.then; still = λ used a h. g.still used a h.then }
+goes_alone p g = record { level = λ k used a h. g.level k used a h.then; still = λ used a h. g.still used a h.then; named = λ used a h. g.named used a h.then }
 
 -- ---- over what stands one level deeper
 
@@ -53,18 +54,23 @@ pub record FormedInside (d : Deeper) : Type 0 where
   pub whole : Formed d.Whole
   pub next : Formed d.Next
   pub listed : Listed d.Listed
+  pub indexed : Listed d.Indexed
+  pub scoped : Scoped d.Scoped
 
 module _ (d : Deeper) (s : FormedInside d) where
   whole_close : {B : Type 0} (f : Expression → Lexeme → B) → Listed (d.Whole ▸ λ e. Token classes.Close ▸ λ c. Gives (f e c))
-  whole_close f = listed_then (λ k used e p. s.whole.level (suc k) used e p) (λ (e : Expression). listed_close (f e))
+  unfolding place_of
+  whole_close f = listed_then (inner_of (goes_of s.whole)) (λ (e : Expression). listed_close classes.Close (record { checked = refl }) (record { checked = refl }) (f e))
 
   formed_prim : Formed (Prim d)
   unfolding place_of
   formed_prim =
       formed_or
-      (formed_then (formed_token classes.Name (record { checked = refl }) (record { checked = refl })) (λ (t : Lexeme). goes_or (goes_of (formed_open (λ (o : Lexeme). listed_after s.listed (λ (es : List Expression). goes_gives (leaf t (Form.Call (name_of t) (expressions es))))))) (goes_gives (leaf t (Form.Read (name_of t))))))
-      (formed_or (formed_plain (plain_token classes.Next (record { checked = refl })) (λ (t : Lexeme). formed_open (λ (o : Lexeme). whole_close (λ e c. leaf t (Form.Next e)))))
-      (formed_or (formed_open (λ (t : Lexeme). whole_close (λ e c. opened t e))) formed_literal))
+      (formed_then (formed_token classes.Name (record { checked = refl }) (record { checked = refl })) (λ (t : Lexeme). goes_or
+      (goes_of (formed_open classes.Open (record { checked = refl }) (record { checked = refl }) (λ (o : Lexeme). listed_after s.listed (λ (es : List Expression). goes_gives (leaf t (Form.Call (name_of t) (expressions es)))))))
+      (goes_or (goes_of (formed_open classes.OpenBracket (record { checked = refl }) (record { checked = refl }) (λ (o : Lexeme). listed_after s.indexed (λ (e : Expression). goes_gives (leaf t (Form.Index (name_of t) e)))))) (goes_gives (leaf t (Form.Read (name_of t)))))))
+      (formed_or (formed_plain (plain_token classes.Next (record { checked = refl })) (λ (t : Lexeme). formed_open classes.Open (record { checked = refl }) (record { checked = refl }) (λ (o : Lexeme). whole_close (λ e c. leaf t (Form.Next e)))))
+      (formed_or (formed_open classes.Open (record { checked = refl }) (record { checked = refl }) (λ (t : Lexeme). whole_close (λ e c. opened t e))) formed_literal))
 
   formed_prefixed : Formed (Prefixed d)
   formed_prefixed = formed_plain plain_prefix (λ (p : Lexeme × PrefixWord). formed_then s.next (λ (e : Expression). goes_gives (leaf p.0 (Form.Prefix p.1 e))))
@@ -119,24 +125,48 @@ module _ (d : Deeper) (s : FormedInside d) where
       (goes_of (formed_plain or_inner (λ (t : Lexeme). formed_then formed_conj (λ (b : Term). goes_then (goes_steps formed_disjunct (a.0 ∷ b.0 ∷ [], t.at ∷ []))
       (λ (all : Chain). goes_gives (expression (first_of a.0) t.at (Form.Or (expressions all.0) all.1), false)))))) (goes_gives a))
 
-  pub formed_expr : Formed (ExprOf d)
-  formed_expr =
+  formed_unquantified : Formed (Unquantified d)
+  formed_unquantified =
       formed_then formed_disj (λ (a : Term). goes_or
       (goes_of (formed_plain (plain_operator levels.Arrow) (λ (o : Place × BinaryWord). formed_then formed_disj (λ (b : Term). goes_gives (between o.0 o.1 a.0 b.0)))))
       (goes_or (goes_alone a (goes_of (formed_plain (plain_operator levels.Past) (λ (o : Place × BinaryWord). formed_then formed_prim (λ (b : Expression). goes_gives (between o.0 o.1 a.0 b)))))) (goes_gives a.0)))
 
-  argument_level : (k : ℕ) (all : List Expression) (used : List Lexeme) (b : List Expression) → Argument d all used b → depth (suc k) used ≡ Some (suc k)
-  argument_level k all used b p = comma_level (λ (t : Lexeme). goes_then (goes_of formed_expr) (λ (e : Expression). goes_gives (all ++ e ∷ []))) k used b p
+  pub formed_expr : Formed (ExprOf d)
+  unfolding place_of
+  formed_expr =
+      formed_or (formed_quantifier classes.ForAll (record { checked = refl }) (record { checked = refl }) (λ (t : Lexeme). scoped_after s.scoped (λ (x : Scope). goes_gives (leaf t (Form.ForAll x.name x.low x.high x.body)))))
+      (formed_or (formed_quantifier classes.Exists (record { checked = refl }) (record { checked = refl }) (λ (t : Lexeme). scoped_after s.scoped (λ (x : Scope). goes_gives (leaf t (Form.Exists x.name x.low x.high x.body))))) formed_unquantified)
+
+  pub formed_bound : Formed (BoundOf d)
+  formed_bound = formed_then formed_sum (λ (p : Term). goes_gives p.0)
+
+  pub indexed_subscript : Listed (Subscript d)
+  unfolding place_of
+  indexed_subscript = listed_then (inner_of (goes_of formed_bound)) (λ (e : Expression). listed_close classes.CloseBracket (record { checked = refl }) (record { checked = refl }) (λ (c : Lexeme). e))
+
+  pub scoped_scope : Scoped (ScopeOf d)
+  unfolding place_of
+  scoped_scope =
+      scoped_name (λ (n : Lexeme). listed_then (inner_separator classes.In (record { checked = refl })) (λ (i : Lexeme). listed_then (inner_of (goes_of formed_bound)) (λ (low : Expression).
+      listed_then (inner_separator classes.UpTo (record { checked = refl })) (λ (u : Lexeme). listed_then (inner_of (goes_of formed_bound)) (λ (high : Expression).
+      listed_colon (λ (c : Lexeme). formed_then formed_expr (λ (e : Expression). goes_gives (record { name = name_of n; low = low; high = high; body = e }))))))))
+
+  inner_argument : (all : List Expression) → Inner (Argument d all)
+  unfolding place_of
+  inner_argument all = inner_then (inner_separator classes.Comma (record { checked = refl })) (λ (t : Lexeme). inner_of (goes_then (goes_of formed_expr) (λ (e : Expression). goes_gives (all ++ e ∷ []))))
 
   pub listed_arguments : Listed (Arguments d)
+  unfolding place_of
   listed_arguments =
-      listed_or (listed_close (λ (t : Lexeme). []))
-      (listed_then (λ k used e p. formed_expr.level (suc k) used e p) (λ (e : Expression). listed_then (λ k used es p. listed_steps argument_level k (e ∷ []) used es p) (λ (es : List Expression). listed_close (λ (t : Lexeme). es))))
+      listed_or (listed_close classes.Close (record { checked = refl }) (record { checked = refl }) (λ (t : Lexeme). []))
+      (listed_then (inner_of (goes_of formed_expr)) (λ (e : Expression). listed_then (inner_steps inner_argument (e ∷ [])) (λ (es : List Expression). listed_close classes.Close (record { checked = refl }) (record { checked = refl }) (λ (t : Lexeme). es))))
 
 pub formed_inside : (left : ℕ) → FormedInside (Levels left)
-formed_inside zero = record { whole = formed_nothing; next = formed_nothing; listed = listed_nothing }
+formed_inside zero = record { whole = formed_nothing; next = formed_nothing; listed = listed_nothing; indexed = listed_nothing; scoped = scoped_nothing }
 formed_inside (suc left) = record {
   whole = formed_expr (Levels left) (formed_inside left);
   next = formed_operand (Levels left) (formed_inside left);
   listed = listed_arguments (Levels left) (formed_inside left);
+  indexed = indexed_subscript (Levels left) (formed_inside left);
+  scoped = scoped_scope (Levels left) (formed_inside left);
 }

@@ -14,9 +14,9 @@ use Rattle.spectra_trees.specs.Lexemes.{Lexeme, name_of}
 use Rattle.spectra_exprs.specs.Read.{Read, ◌>>=◌, unexpected, first_number, starts, expect, all_of}
 use Rattle.spectra_exprs.specs.Operators.{operator_word, prefix_word, is_operator}
 use Rattle.spectra_exprs.specs.OperatorReaders.{operator_at, prefix_at, starts_sum, starts_or, expect_or, closed}
-use Rattle.spectra_exprs.specs.Expressions.{leaf, between, opened, Term, Chain, Inside, negative, number_of, literal, next_of, parentheses_of, call_of, read_of, named_of, prim_of, prefixed_of, operand_of, times_of, prod_of, plus_of, modulo, sum_of, side_of, compared_of, comparison_of, cmp_of, conjunct_of, conjunction_of, conj_of, disjunct_of, disjunction_of, disj_of, arrow_of, past_of, alone_of, expr_of, whole_of, bound_of, argument_of, some_arguments_of, arguments_of, inside}
+use Rattle.spectra_exprs.specs.Expressions.{leaf, between, opened, Term, Scope, Chain, Inside, negative, number_of, literal, next_of, parentheses_of, call_of, index_of, read_of, named_of, prim_of, prefixed_of, operand_of, times_of, prod_of, plus_of, modulo, sum_of, side_of, compared_of, comparison_of, cmp_of, conjunct_of, conjunction_of, conj_of, disjunct_of, disjunction_of, disj_of, arrow_of, past_of, alone_of, unquantified_of, for_all_of, exists_of, expr_of, whole_of, bound_of, subscript_of, scope_of, argument_of, some_arguments_of, arguments_of, inside}
 use Rattle.spectra_exprs.specs.Forms.{Gives, Token, ◌▸◌, ◌∣◌, Steps}
-use Rattle.spectra_exprs.specs.Grammar.{Operator, Prefix, OrSign, Deeper, Literal, Prim, Operand, Times, Prod, Plus, Modulo, Alone, Sum, Side, Cmp, Conjunct, Conj, Disjunct, Disj, ExprOf, Argument, Arguments, Levels}
+use Rattle.spectra_exprs.specs.Grammar.{Operator, Prefix, OrSign, Deeper, Literal, Prim, Operand, Times, Prod, Plus, Modulo, Alone, Sum, Side, Cmp, Conjunct, Conj, Disjunct, Disj, Unquantified, ExprOf, BoundOf, Subscript, ScopeOf, Argument, Arguments, Levels}
 use Rattle.spectra_exprs.proofs.Soundness.{Got, Sound, sound_gives, sound_fault, sound_token, sound_then, sound_wider, sound_same, sound_right, sound_if, Looks, sound_look, sound_steps, branch_same, sound_unexpected, sound_both, sound_look_only, sound_then_same, grouped, sound_if_left, some_value, no_some}
 
 sound_negative : (t : Lexeme) → Sound (Token classes.Number ▸ λ n. Gives (expression t.at n.at (Form.Number true n.text))) (negative t)
@@ -110,11 +110,14 @@ pub record SoundInside (d : Deeper) (r : Inside) : Type 0 where
   pub whole : (t : Lexeme) → Sound d.Whole (r.whole t)
   pub operand : (t : Lexeme) → Sound d.Next (r.operand t)
   pub arguments : (t : Lexeme) → Sound d.Listed (r.arguments t)
+  pub subscript : (t : Lexeme) → Sound d.Indexed (r.subscript t)
+  pub scope : (t : Lexeme) → Sound d.Scoped (r.scope t)
 
-pub named_same : (r : Inside) (t : Lexeme) (ts : List Lexeme) → named_of r t ts ≡ cond (starts classes.Open ts) (expect classes.Open ts >>= λ u rest. call_of r t u rest) (read_of t ts)
+pub named_same : (r : Inside) (t : Lexeme) (ts : List Lexeme) → named_of r t ts
+    ≡ cond (starts classes.Open ts) (expect classes.Open ts >>= λ u rest. call_of r t u rest) (cond (starts classes.OpenBracket ts) (expect classes.OpenBracket ts >>= λ u rest. index_of r t u rest) (read_of t ts))
 unfolding named_of starts expect
 named_same r t [] = refl
-named_same r t (u ∷ ts) = branch_same (same_class u.class classes.Open) u ts _ (call_of r t) _ _ refl
+named_same r t (u ∷ ts) = branch_same (same_class u.class classes.Open) u ts _ (call_of r t) _ _ (branch_same (same_class u.class classes.OpenBracket) u ts _ (index_of r t) _ _ refl)
 
 pub prim_same : (r : Inside) (ts : List Lexeme) → prim_of r ts
     ≡ cond (starts classes.Name ts) (expect classes.Name ts >>= named_of r)
@@ -134,9 +137,16 @@ module _ (d : Deeper) (r : Inside) (s : SoundInside d r) where
   unfolding read_of
   sound_read t = sound_gives (leaf t (Form.Read (name_of t)))
 
+  sound_index : (t u : Lexeme) → Sound (d.Indexed ▸ λ e. Gives (leaf t (Form.Index (name_of t) e))) (index_of r t u)
+  unfolding index_of
+  sound_index t u = sound_then (s.subscript u) (λ (e : Expression). sound_gives (leaf t (Form.Index (name_of t) e)))
+
   sound_named : (t : Lexeme)
-      → Sound ((Token classes.Open ▸ λ o. d.Listed ▸ λ es. Gives (leaf t (Form.Call (name_of t) (expressions es)))) ∣ Gives (leaf t (Form.Read (name_of t)))) (named_of r t)
-  sound_named t = sound_same (named_same r t) (sound_if (starts classes.Open) (sound_then (sound_token classes.Open) (sound_call t)) (sound_read t))
+      → Sound ((Token classes.Open ▸ λ o. d.Listed ▸ λ es. Gives (leaf t (Form.Call (name_of t) (expressions es)))) ∣ (Token classes.OpenBracket ▸ λ o. d.Indexed ▸ λ e. Gives (leaf t (Form.Index (name_of t) e))) ∣ Gives (leaf t (Form.Read (name_of t))))
+      (named_of r t)
+  sound_named t =
+      sound_same (named_same r t)
+      (sound_if (starts classes.Open) (sound_then (sound_token classes.Open) (sound_call t)) (sound_if (starts classes.OpenBracket) (sound_then (sound_token classes.OpenBracket) (sound_index t)) (sound_read t)))
 
   sound_next : (t : Lexeme) → Sound (Token classes.Open ▸ λ o. d.Whole ▸ λ e. Token classes.Close ▸ λ c. Gives (leaf t (Form.Next e))) (next_of r t)
   unfolding next_of
@@ -254,13 +264,36 @@ module _ (d : Deeper) (r : Inside) (s : SoundInside d r) where
   sound_alone a true = sound_if_left (λ used x m. record { alone = refl; then = m }) (sound_past a)
   sound_alone a false = sound_right (sound_gives a)
 
+  sound_unquantified : Sound (Unquantified d) (unquantified_of r)
+  unfolding unquantified_of
+  sound_unquantified = sound_then sound_disj (λ (p : Term). sound_look (operator_looks levels.Arrow) (sound_arrow p.0) (sound_alone p.0 p.1))
+
+  sound_for_all : Sound (Token classes.ForAll ▸ λ t. d.Scoped ▸ λ s. Gives (leaf t (Form.ForAll s.name s.low s.high s.body))) (for_all_of r)
+  unfolding for_all_of
+  sound_for_all = sound_then (sound_token classes.ForAll) (λ (t : Lexeme). sound_then (s.scope t) (λ (x : Scope). sound_gives (leaf t (Form.ForAll x.name x.low x.high x.body))))
+
+  sound_exists : Sound (Token classes.Exists ▸ λ t. d.Scoped ▸ λ s. Gives (leaf t (Form.Exists s.name s.low s.high s.body))) (exists_of r)
+  unfolding exists_of
+  sound_exists = sound_then (sound_token classes.Exists) (λ (t : Lexeme). sound_then (s.scope t) (λ (x : Scope). sound_gives (leaf t (Form.Exists x.name x.low x.high x.body))))
+
   sound_expr : Sound (ExprOf d) (expr_of r)
   unfolding expr_of
-  sound_expr = sound_then sound_disj (λ (p : Term). sound_look (operator_looks levels.Arrow) (sound_arrow p.0) (sound_alone p.0 p.1))
+  sound_expr = sound_if (starts classes.ForAll) sound_for_all (sound_if (starts classes.Exists) sound_exists sound_unquantified)
 
   pub sound_whole : Sound (ExprOf d) (whole_of r)
   unfolding whole_of
   sound_whole = sound_then_same (sound_then sound_expr (λ (e : Expression). sound_closed e))
+
+  pub sound_subscript : Sound (Subscript d) (subscript_of r)
+  unfolding subscript_of
+  sound_subscript = sound_then sound_bound (λ (e : Expression). sound_then (sound_token classes.CloseBracket) (λ (c : Lexeme). sound_gives e))
+
+  pub sound_scope : Sound (ScopeOf d) (scope_of r)
+  unfolding scope_of
+  sound_scope =
+      sound_then (sound_token classes.Name) (λ (n : Lexeme). sound_then (sound_token classes.In) (λ (i : Lexeme). sound_then sound_bound (λ (low : Expression). sound_then (sound_token classes.UpTo) (λ (u : Lexeme).
+      sound_then sound_bound (λ (high : Expression). sound_then (sound_token classes.Colon) (λ (c : Lexeme). sound_then sound_whole (λ (e : Expression).
+      sound_gives (record { name = name_of n; low = low; high = high; body = e }))))))))
 
   sound_argument : (all : List Expression) → Sound (Argument d all) (argument_of r all)
   unfolding argument_of
@@ -282,9 +315,13 @@ sound_inside zero = record {
   whole = λ t. sound_fault _ (λ ts. faults.TooDeep t.number);
   operand = λ t. sound_fault _ (λ ts. faults.TooDeep t.number);
   arguments = λ t. sound_fault _ (λ ts. faults.TooDeep t.number);
+  subscript = λ t. sound_fault _ (λ ts. faults.TooDeep t.number);
+  scope = λ t. sound_fault _ (λ ts. faults.TooDeep t.number);
 }
 sound_inside (suc left) = record {
   whole = λ t. sound_whole (Levels left) (inside left) (sound_inside left);
   operand = λ t. sound_operand (Levels left) (inside left) (sound_inside left);
   arguments = λ t. sound_arguments (Levels left) (inside left) (sound_inside left);
+  subscript = λ t. sound_subscript (Levels left) (inside left) (sound_inside left);
+  scope = λ t. sound_scope (Levels left) (inside left) (sound_inside left);
 }

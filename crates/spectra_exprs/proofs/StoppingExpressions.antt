@@ -16,7 +16,7 @@ use Rattle.spectra_trees.specs.Lexemes.{Lexeme, name_of}
 use Rattle.spectra_exprs.specs.Read.{Read, ◌>>=◌, starts, expect, all_of}
 use Rattle.spectra_exprs.specs.Operators.{operator_word, prefix_word, is_operator}
 use Rattle.spectra_exprs.specs.OperatorReaders.{operator_at, prefix_at, starts_sum, starts_or, expect_or, closed}
-use Rattle.spectra_exprs.specs.Expressions.{leaf, between, opened, Term, Chain, Inside, negative, number_of, literal, next_of, parentheses_of, call_of, read_of, named_of, prim_of, prefixed_of, operand_of, times_of, prod_of, plus_of, modulo, sum_of, side_of, compared_of, comparison_of, cmp_of, conjunct_of, conjunction_of, conj_of, disjunct_of, disjunction_of, disj_of, arrow_of, past_of, alone_of, expr_of, whole_of, bound_of, argument_of, some_arguments_of, arguments_of, inside}
+use Rattle.spectra_exprs.specs.Expressions.{leaf, between, opened, Term, Scope, Chain, Inside, negative, number_of, literal, next_of, parentheses_of, call_of, index_of, read_of, named_of, prim_of, prefixed_of, operand_of, times_of, prod_of, plus_of, modulo, sum_of, side_of, compared_of, comparison_of, cmp_of, conjunct_of, conjunction_of, conj_of, disjunct_of, disjunction_of, disj_of, arrow_of, past_of, alone_of, unquantified_of, for_all_of, exists_of, expr_of, whole_of, bound_of, subscript_of, scope_of, argument_of, some_arguments_of, arguments_of, inside}
 use Rattle.spectra_exprs.proofs.Soundness.{ok_value, some_value, no_some}
 use Rattle.spectra_exprs.proofs.SoundExpressions.{literal_same, named_same, prim_same}
 use Rattle.spectra_exprs.proofs.ClassSets.{among, Apart, going_apart, starts_going}
@@ -174,15 +174,24 @@ pub record StableInside (r : Inside) : Type 0 where
   pub whole : (t : Lexeme) → StableAfter (Some t) (r.whole t)
   pub operand : (t : Lexeme) → StableAfter (Some t) (r.operand t)
   pub arguments : (t : Lexeme) → StableAfter (Some t) (r.arguments t)
+  pub subscript : (t : Lexeme) → StableAfter (Some t) (r.subscript t)
+  pub scope : (t : Lexeme) → StableAfter (Some t) (r.scope t)
 
 module _ (r : Inside) (s : StableInside r) where
   stable_call : (t u : Lexeme) → StableAfter (Some u) (call_of r t u)
   unfolding call_of
   stable_call t u = stable_then (s.arguments u) (λ (es : List Expression). stable_gives (leaf t (Form.Call (name_of t) (expressions es))))
 
+  stable_index : (t u : Lexeme) → StableAfter (Some u) (index_of r t u)
+  unfolding index_of
+  stable_index t u = stable_then (s.subscript u) (λ (e : Expression). stable_gives (leaf t (Form.Index (name_of t) e)))
+
   stable_named : (t : Lexeme) → Stable (named_of r t)
   unfolding read_of place_of
-  stable_named t = stable_same (named_same r t) (stable_if (starts_of_head classes.Open) (stable_behind classes.Open (record { checked = refl }) (stable_call t)) (stable_gives (leaf t (Form.Read (name_of t)))))
+  stable_named t =
+      stable_same (named_same r t)
+      (stable_if (starts_of_head classes.Open) (stable_behind classes.Open (record { checked = refl }) (stable_call t))
+      (stable_if (starts_of_head classes.OpenBracket) (stable_behind classes.OpenBracket (record { checked = refl }) (stable_index t)) (stable_gives (leaf t (Form.Read (name_of t))))))
 
   stable_whole_close : {B : Type 0} (t : Lexeme) (f : Expression → B) → StableAfter (Some t) (λ ts. r.whole t ts >>= λ e rest. expect classes.Close rest >>= λ c rest. Ok (f e, rest))
   unfolding place_of
@@ -326,13 +335,37 @@ module _ (r : Inside) (s : StableInside r) where
   stable_alone a true = stable_past a
   stable_alone a false = stable_gives a
 
+  stable_unquantified : Stable (unquantified_of r)
+  unfolding unquantified_of
+  stable_unquantified = stable_then stable_disj (λ (p : Term). stable_look (operator_look levels.Arrow) (stable_arrow p.0) (stable_alone p.0 p.1))
+
+  stable_for_all : Stable (for_all_of r)
+  unfolding for_all_of place_of
+  stable_for_all = stable_behind classes.ForAll (record { checked = refl }) (λ (t : Lexeme). stable_then (s.scope t) (λ (x : Scope). stable_gives (leaf t (Form.ForAll x.name x.low x.high x.body))))
+
+  stable_exists : Stable (exists_of r)
+  unfolding exists_of place_of
+  stable_exists = stable_behind classes.Exists (record { checked = refl }) (λ (t : Lexeme). stable_then (s.scope t) (λ (x : Scope). stable_gives (leaf t (Form.Exists x.name x.low x.high x.body))))
+
   stable_expr : Stable (expr_of r)
   unfolding expr_of
-  stable_expr = stable_then stable_disj (λ (p : Term). stable_look (operator_look levels.Arrow) (stable_arrow p.0) (stable_alone p.0 p.1))
+  stable_expr = stable_if (starts_of_head classes.ForAll) stable_for_all (stable_if (starts_of_head classes.Exists) stable_exists stable_unquantified)
 
   pub stable_whole : Stable (whole_of r)
   unfolding whole_of
   stable_whole = stable_then stable_expr (λ (e : Expression). stable_closed e)
+
+  pub stable_subscript : Stable (subscript_of r)
+  unfolding subscript_of place_of
+  stable_subscript = stable_then stable_bound (λ (e : Expression). stable_after classes.CloseBracket (record { checked = refl }) (λ (c : Lexeme). stable_gives e))
+
+  pub stable_scope : Stable (scope_of r)
+  unfolding scope_of place_of
+  stable_scope =
+      stable_after classes.Name (record { checked = refl }) (λ (n : Lexeme). stable_after classes.In (record { checked = refl }) (λ (i : Lexeme).
+      stable_then stable_bound (λ (low : Expression). stable_after classes.UpTo (record { checked = refl }) (λ (u : Lexeme).
+      stable_then stable_bound (λ (high : Expression). stable_after classes.Colon (record { checked = refl }) (λ (c : Lexeme).
+      stable_then stable_whole (λ (e : Expression). stable_gives (record { name = name_of n; low = low; high = high; body = e }))))))))
 
   argument_behind : (all : List Expression) (t : Lexeme) → Stable (λ ts. whole_of r ts >>= λ e rest. Ok (all ++ e ∷ [], rest))
   argument_behind all t = stable_then stable_whole (λ (e : Expression). stable_gives (all ++ e ∷ []))
@@ -357,9 +390,11 @@ module _ (r : Inside) (s : StableInside r) where
 
 pub stable_inside : (left : ℕ) → StableInside (inside left)
 unfolding inside
-stable_inside zero = record { whole = λ t. stable_deep t; operand = λ t. stable_deep t; arguments = λ t. stable_deep t }
+stable_inside zero = record { whole = λ t. stable_deep t; operand = λ t. stable_deep t; arguments = λ t. stable_deep t; subscript = λ t. stable_deep t; scope = λ t. stable_deep t }
 stable_inside (suc left) = record {
   whole = λ t. stable_wider (stable_whole (inside left) (stable_inside left));
   operand = λ t. stable_wider (stable_operand (inside left) (stable_inside left));
   arguments = λ t. stable_wider (stable_arguments (inside left) (stable_inside left));
+  subscript = λ t. stable_wider (stable_subscript (inside left) (stable_inside left));
+  scope = λ t. stable_wider (stable_scope (inside left) (stable_inside left));
 }

@@ -22,7 +22,7 @@ use Rattle.spectra_exprs.proofs.Completeness.{Reaches, Whole, Begins, whole_toke
 -- ---- what may go on, by levels
 
 abbrev pub c_prim : List Class
-c_prim = classes.Open ∷ []
+c_prim = classes.Open ∷ classes.OpenBracket ∷ []
 
 abbrev pub c_prod : List Class
 c_prod = classes.Star ∷ c_prim
@@ -66,8 +66,11 @@ b_prim = classes.Name ∷ classes.Next ∷ classes.Open ∷ b_literal
 abbrev pub b_prefix : List Class
 b_prefix = classes.Not ∷ classes.Prev ∷ classes.Once ∷ classes.Historically ∷ []
 
+abbrev pub b_plain : List Class
+b_plain = b_prefix ++ b_prim
+
 abbrev pub b_expr : List Class
-b_expr = b_prefix ++ b_prim
+b_expr = classes.ForAll ∷ classes.Exists ∷ b_plain
 
 -- ---- operators
 

@@ -12,13 +12,13 @@ use Rattle.spectra_trees.specs.Data.{Expression, Form, expression, expressions, 
 use Rattle.spectra_trees.specs.Lexemes.{Lexeme, name_of}
 use Rattle.spectra_exprs.specs.Read.{unexpected, starts, all_of}
 use Rattle.spectra_exprs.specs.OperatorReaders.{starts_sum, starts_or}
-use Rattle.spectra_exprs.specs.Expressions.{leaf, between, opened, Term, Chain, Inside, negative, number_of, literal, next_of, parentheses_of, call_of, read_of, named_of, prim_of, prefixed_of, operand_of, times_of, prod_of, plus_of, modulo, sum_of, side_of, compared_of, comparison_of, cmp_of, conjunct_of, conjunction_of, conj_of, disjunct_of, disjunction_of, disj_of, arrow_of, past_of, alone_of, expr_of, whole_of, bound_of, argument_of, some_arguments_of, arguments_of, inside}
+use Rattle.spectra_exprs.specs.Expressions.{leaf, between, opened, Term, Scope, Chain, Inside, negative, number_of, literal, next_of, parentheses_of, call_of, index_of, read_of, named_of, prim_of, prefixed_of, operand_of, times_of, prod_of, plus_of, modulo, sum_of, side_of, compared_of, comparison_of, cmp_of, conjunct_of, conjunction_of, conj_of, disjunct_of, disjunction_of, disj_of, arrow_of, past_of, alone_of, unquantified_of, for_all_of, exists_of, expr_of, whole_of, bound_of, subscript_of, scope_of, argument_of, some_arguments_of, arguments_of, inside}
 use Rattle.spectra_exprs.specs.Forms.{Gives, Token, ◌▸◌, ◌∣◌, Steps}
-use Rattle.spectra_exprs.specs.Grammar.{Operator, Prefix, OrSign, Deeper, Literal, Prim, Prefixed, Operand, Times, Prod, Plus, Modulo, Alone, Sum, Side, Cmp, Conjunct, Conj, Disjunct, Disj, ExprOf, Argument, Arguments, Levels}
+use Rattle.spectra_exprs.specs.Grammar.{Operator, Prefix, OrSign, Deeper, Literal, Prim, Prefixed, Operand, Times, Prod, Plus, Modulo, Alone, Sum, Side, Cmp, Conjunct, Conj, Disjunct, Disj, Unquantified, ExprOf, BoundOf, Subscript, ScopeOf, Argument, Arguments, Levels}
 use Rattle.spectra_exprs.proofs.SoundExpressions.{literal_same, named_same, prim_same}
 use Rattle.spectra_exprs.proofs.ClassSets.{starts_going}
 use Rattle.spectra_exprs.proofs.Completeness.{Whole, Begins, whole_gives, whole_then, follows_none, whole_calm, whole_same, whole_narrower, begins_token, begins_then, begins_wider, begins_or, follows_begins, follows_gives, follows_or, whole_if, whole_choice, whole_only, whole_look, whole_look_only, follows_steps, whole_steps, follows_then, begins_of, whole_after, whole_until, whole_map, whole_nothing, whole_deep}
-use Rattle.spectra_exprs.proofs.WholeExpressions.{c_prim, c_prod, op_sum, c_sum, op_relation, c_cmp, c_conj, op_or, c_disj, op_arrow, op_past, c_expr, b_literal, b_prim, b_prefix, b_expr, finds_prefix, begins_prefix, finds_operator, begins_operator, sum_going, or_going, whole_or_sign, begins_or_sign, whole_closed}
+use Rattle.spectra_exprs.proofs.WholeExpressions.{c_prim, c_prod, op_sum, c_sum, op_relation, c_cmp, c_conj, op_or, c_disj, op_arrow, op_past, c_expr, b_literal, b_prim, b_prefix, b_plain, b_expr, finds_prefix, begins_prefix, finds_operator, begins_operator, sum_going, or_going, whole_or_sign, begins_or_sign, whole_closed}
 
 whole_negative : {E : Type 0} → (t : Lexeme) → Whole E c_prim (Token classes.Number ▸ λ n. Gives (expression t.at n.at (Form.Number true n.text))) (negative t)
 unfolding negative
@@ -52,6 +52,8 @@ pub record WholeInside (E : Type 0) (d : Deeper) (r : Inside) : Type 0 where
   pub whole : (t : Lexeme) → Whole E c_expr d.Whole (r.whole t)
   pub operand : (t : Lexeme) → Whole E c_prim d.Next (r.operand t)
   pub arguments : (t : Lexeme) → Whole E [] d.Listed (r.arguments t)
+  pub subscript : (t : Lexeme) → Whole E [] d.Indexed (r.subscript t)
+  pub scope : (t : Lexeme) → Whole E c_expr d.Scoped (r.scope t)
 
 begins_alone : {A : Type 0} {F : List Class} {P : List Lexeme → A → Type 0} (p : Term) → Begins F P → Begins F (Alone p P)
 begins_alone p b = record { first = λ used a rest h. b.first used a rest h.then }
@@ -83,12 +85,19 @@ module _ {E : Type 0} (d : Deeper) (r : Inside) (s : WholeInside E d r) where
   unfolding read_of
   whole_read t = whole_gives c_prim (leaf t (Form.Read (name_of t)))
 
+  whole_index : (t u : Lexeme) → Whole E c_prim (d.Indexed ▸ λ e. Gives (leaf t (Form.Index (name_of t) e))) (index_of r t u)
+  unfolding index_of
+  whole_index t u = whole_then (s.subscript u) (λ (e : Expression). follows_none) (λ (e : Expression). whole_gives c_prim (leaf t (Form.Index (name_of t) e)))
+
   whole_named : (t : Lexeme)
-      → Whole E c_prim ((Token classes.Open ▸ λ o. d.Listed ▸ λ es. Gives (leaf t (Form.Call (name_of t) (expressions es)))) ∣ Gives (leaf t (Form.Read (name_of t)))) (named_of r t)
+      → Whole E c_prim
+      ((Token classes.Open ▸ λ o. d.Listed ▸ λ es. Gives (leaf t (Form.Call (name_of t) (expressions es)))) ∣ (Token classes.OpenBracket ▸ λ o. d.Indexed ▸ λ e. Gives (leaf t (Form.Index (name_of t) e))) ∣ Gives (leaf t (Form.Read (name_of t)))) (named_of r t)
   unfolding place_of
   whole_named t =
       whole_same (named_same r t)
-      (whole_choice classes.Open (begins_then (begins_token classes.Open)) (follows_gives (leaf t (Form.Read (name_of t))) (record { checked = refl })) (whole_after classes.Open (whole_call t)) (whole_read t))
+      (whole_choice classes.Open (begins_then (begins_token classes.Open))
+      (follows_or (follows_begins (classes.OpenBracket ∷ []) (record { checked = refl }) (begins_then (begins_token classes.OpenBracket))) (follows_gives (leaf t (Form.Read (name_of t))) (record { checked = refl }))) (whole_after classes.Open (whole_call t))
+      (whole_choice classes.OpenBracket (begins_then (begins_token classes.OpenBracket)) (follows_gives (leaf t (Form.Read (name_of t))) (record { checked = refl })) (whole_after classes.OpenBracket (whole_index t)) (whole_read t)))
 
   whole_next : (t : Lexeme) → Whole E c_prim (Token classes.Open ▸ λ o. d.Whole ▸ λ e. Token classes.Close ▸ λ c. Gives (leaf t (Form.Next e))) (next_of r t)
   unfolding next_of place_of
@@ -193,7 +202,7 @@ module _ {E : Type 0} (d : Deeper) (r : Inside) (s : WholeInside E d r) where
       whole_then whole_sum (λ (p : Term). follows_or (follows_begins op_relation (record { checked = refl }) (begins_then (begins_operator levels.Relation))) (follows_gives p (record { checked = refl })))
       (λ (p : Term). whole_look op_relation (finds_operator levels.Relation) (follows_gives p (record { checked = refl })) (whole_compared p.0) (whole_gives c_cmp p))
 
-  begins_cmp : Begins b_expr (Cmp d)
+  begins_cmp : Begins b_plain (Cmp d)
   unfolding place_of
   begins_cmp = begins_or (begins_wider (record { checked = refl }) (begins_then (begins_then begins_prefix))) (begins_wider (record { checked = refl }) (begins_then begins_sum))
 
@@ -267,23 +276,56 @@ module _ {E : Type 0} (d : Deeper) (r : Inside) (s : WholeInside E d r) where
   whole_alone a false =
       whole_narrower (Gives a) (never_alone (Operator levels.Past ▸ λ o. Prim d ▸ λ b. Gives (between o.0 o.1 a b)) (Gives a) a) (whole_gives c_expr a)
 
-  whole_expr : Whole E c_expr (ExprOf d) (expr_of r)
-  unfolding expr_of place_of
-  whole_expr =
+  whole_unquantified : Whole E c_expr (Unquantified d) (unquantified_of r)
+  unfolding unquantified_of place_of
+  whole_unquantified =
       whole_then whole_disj
       (λ (a : Term). follows_or (follows_begins op_arrow (record { checked = refl }) (begins_then (begins_operator levels.Arrow)))
       (follows_or (follows_begins op_past (record { checked = refl }) (begins_alone a (begins_then (begins_operator levels.Past)))) (follows_gives a.0 (record { checked = refl }))))
       (λ (a : Term). whole_look op_arrow (finds_operator levels.Arrow) (follows_or (follows_begins op_past (record { checked = refl }) (begins_alone a (begins_then (begins_operator levels.Past)))) (follows_gives a.0 (record { checked = refl })))
       (whole_arrow a.0) (whole_alone a.0 a.1))
 
+  begins_unquantified : Begins b_plain (Unquantified d)
+  begins_unquantified = begins_then (begins_then (begins_then begins_cmp))
+
+  begins_exists : Begins (classes.Exists ∷ b_plain) ((Token classes.Exists ▸ λ t. d.Scoped ▸ λ x. Gives (leaf t (Form.Exists x.name x.low x.high x.body))) ∣ Unquantified d)
+  unfolding place_of
+  begins_exists = begins_or (begins_of classes.Exists _ (record { checked = refl })) (begins_wider (record { checked = refl }) begins_unquantified)
+
   pub begins_expr : Begins b_expr (ExprOf d)
-  begins_expr = begins_then (begins_then (begins_then begins_cmp))
+  unfolding place_of
+  begins_expr = begins_or (begins_of classes.ForAll b_expr (record { checked = refl })) (begins_wider (record { checked = refl }) begins_exists)
+
+  whole_for_all : Whole E c_expr (Token classes.ForAll ▸ λ t. d.Scoped ▸ λ x. Gives (leaf t (Form.ForAll x.name x.low x.high x.body))) (for_all_of r)
+  unfolding for_all_of place_of
+  whole_for_all = whole_after classes.ForAll (λ (t : Lexeme). whole_map (λ (x : Scope). leaf t (Form.ForAll x.name x.low x.high x.body)) (record { checked = refl }) (s.scope t))
+
+  whole_exists : Whole E c_expr (Token classes.Exists ▸ λ t. d.Scoped ▸ λ x. Gives (leaf t (Form.Exists x.name x.low x.high x.body))) (exists_of r)
+  unfolding exists_of place_of
+  whole_exists = whole_after classes.Exists (λ (t : Lexeme). whole_map (λ (x : Scope). leaf t (Form.Exists x.name x.low x.high x.body)) (record { checked = refl }) (s.scope t))
+
+  whole_expr : Whole E c_expr (ExprOf d) (expr_of r)
+  unfolding expr_of place_of
+  whole_expr =
+      whole_choice classes.ForAll (begins_then (begins_token classes.ForAll)) (follows_begins (classes.Exists ∷ b_plain) (record { checked = refl }) begins_exists) whole_for_all
+      (whole_choice classes.Exists (begins_then (begins_token classes.Exists)) (follows_begins b_plain (record { checked = refl }) begins_unquantified) whole_exists whole_unquantified)
 
   pub whole_whole : Whole E c_expr (ExprOf d) (whole_of r)
   unfolding whole_of place_of
   whole_whole =
       whole_narrower (ExprOf d ▸ Gives) (with_gives {P = ExprOf d})
       (whole_then whole_expr (λ (e : Expression). follows_gives e (record { checked = refl })) (λ (e : Expression). whole_closed e))
+
+  pub whole_subscript : Whole E [] (Subscript d) (subscript_of r)
+  unfolding subscript_of place_of
+  whole_subscript = whole_until classes.CloseBracket (record { checked = refl }) whole_bound (λ (e : Expression) (c : Lexeme). whole_gives [] e)
+
+  pub whole_scope : Whole E c_expr (ScopeOf d) (scope_of r)
+  unfolding scope_of place_of
+  whole_scope =
+      whole_after classes.Name (λ (n : Lexeme). whole_after classes.In (λ (i : Lexeme). whole_until classes.UpTo (record { checked = refl }) whole_bound
+      (λ (low : Expression) (u : Lexeme). whole_until classes.Colon (record { checked = refl }) whole_bound
+      (λ (high : Expression) (c : Lexeme). whole_map (λ (e : Expression). record { name = name_of n; low = low; high = high; body = e }) (record { checked = refl }) whole_whole))))
 
   whole_argument : (all : List Expression) → Whole E c_expr (Argument d all) (argument_of r all)
   unfolding argument_of place_of
@@ -308,13 +350,15 @@ module _ {E : Type 0} (d : Deeper) (r : Inside) (s : WholeInside E d r) where
 -- the grammar may have more levels than are read
 pub whole_inside : {E : Type 0} (left n : ℕ) → (n < left → E) → WholeInside E (Levels left) (inside n)
 unfolding inside
-whole_inside zero n deep = record { whole = λ t. whole_nothing; operand = λ t. whole_nothing; arguments = λ t. whole_nothing }
+whole_inside zero n deep = record { whole = λ t. whole_nothing; operand = λ t. whole_nothing; arguments = λ t. whole_nothing; subscript = λ t. whole_nothing; scope = λ t. whole_nothing }
 whole_inside (suc left) zero deep =
     let more = deep (omega arith) in
     record {
       whole = λ t. whole_deep (ExprOf (Levels left)) t.number more;
       operand = λ t. whole_deep (Operand (Levels left)) t.number more;
       arguments = λ t. whole_deep (Arguments (Levels left)) t.number more;
+      subscript = λ t. whole_deep (Subscript (Levels left)) t.number more;
+      scope = λ t. whole_deep (ScopeOf (Levels left)) t.number more;
     }
 whole_inside (suc left) (suc n) deep =
     let d = whole_inside left n (λ less. deep (omega arith)) in
@@ -322,4 +366,6 @@ whole_inside (suc left) (suc n) deep =
       whole = λ t. whole_whole (Levels left) (inside n) d;
       operand = λ t. whole_operand (Levels left) (inside n) d;
       arguments = λ t. whole_arguments (Levels left) (inside n) d;
+      subscript = λ t. whole_subscript (Levels left) (inside n) d;
+      scope = λ t. whole_scope (Levels left) (inside n) d;
     }

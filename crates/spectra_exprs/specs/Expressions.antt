@@ -13,7 +13,7 @@ use Rattle.spectra_trees.specs.Data.{Expression, Form, expression, expressions, 
 use Rattle.spectra_trees.specs.Lexemes.{Lexeme, name_of}
 use Rattle.spectra_exprs.specs.Read.{Reader, ◌>>=◌, unexpected, starts, expect, all_of}
 use Rattle.spectra_exprs.specs.OperatorReaders.{operator_at, prefix_at, starts_sum, starts_or, expect_or, closed}
-pub use Rattle.spectra_exprs.specs.Forms.{leaf, between, opened, Term, Chain, levels_of_a_text}
+pub use Rattle.spectra_exprs.specs.Forms.{leaf, between, opened, Term, Scope, Chain, levels_of_a_text}
 
 -- ---- one level deeper
 
@@ -21,6 +21,8 @@ pub record Inside : Type 0 where
   pub whole : Lexeme → Reader Expression
   pub operand : Lexeme → Reader Expression
   pub arguments : Lexeme → Reader (List Expression)
+  pub subscript : Lexeme → Reader Expression
+  pub scope : Lexeme → Reader Scope
 
 -- no level is left
 abbrev pub deep : {A : Type 0} → Lexeme → Reader A
@@ -60,12 +62,18 @@ read_of t ts = Ok (leaf t (Form.Read (name_of t)), ts)
 unfoldable pub call_of : Inside → Lexeme → Lexeme → Reader Expression
 call_of d t u ts = d.arguments u ts >>= λ es rest. Ok (leaf t (Form.Call (name_of t) (expressions es)), rest)
 
--- [ "(" arguments ")" ] behind NAME
+-- sum "]" behind NAME "["
+unfoldable pub index_of : Inside → Lexeme → Lexeme → Reader Expression
+index_of d t u ts = d.subscript u ts >>= λ e rest. Ok (leaf t (Form.Index (name_of t) e), rest)
+
+-- [ "(" arguments ")" | "[" sum "]" ] behind NAME
 unfoldable pub named_of : Inside → Lexeme → Reader Expression
 named_of d t [] = read_of t []
-named_of d t (u ∷ ts) = if same_class u.class classes.Open then call_of d t u ts else read_of t (u ∷ ts)
+named_of d t (u ∷ ts) =
+    if same_class u.class classes.Open then call_of d t u ts else if same_class u.class classes.OpenBracket then index_of d t u ts else read_of t (u ∷ ts)
 
--- prim = "true" | "false" | [ "-" ] NUMBER | NAME | NAME "(" [ expr { "," expr } ] ")" | "next" "(" expr ")" | "(" expr ")"
+-- prim = "true" | "false" | [ "-" ] NUMBER | NAME | NAME "(" [ expr { "," expr } ] ")" | NAME "[" sum "]" | "next" "(" expr ")"
+-- | "(" expr ")"
 unfoldable pub prim_of : Inside → Reader Expression
 prim_of d [] = Err (faults.Unexpected 0)
 prim_of d (t ∷ ts) =
@@ -161,9 +169,22 @@ past_of d a ts = option_map_or (λ o. prim_of d o.1 >>= λ b rest. Ok (between o
 unfoldable pub alone_of : Inside → Expression → Bool → Reader Expression
 alone_of d a alone ts = if alone then past_of d a ts else Ok (a, ts)
 
+-- disj [ ( "->" | "implies" | "<->" | "iff" ) disj ] | prim ( "SINCE" | "S" | "TRIGGERED" | "T" ) prim
+unfoldable pub unquantified_of : Inside → Reader Expression
+unquantified_of d ts = disj_of d ts >>= λ p rest. option_map_or (λ o. arrow_of d p.0 o.0.0 o.0.1 o.1) (operator_at levels.Arrow rest) (alone_of d p.0 p.1 rest)
+
+-- "forall", and what follows it
+unfoldable pub for_all_of : Inside → Reader Expression
+for_all_of d ts = expect classes.ForAll ts >>= λ t rest. d.scope t rest >>= λ s rest. Ok (leaf t (Form.ForAll s.name s.low s.high s.body), rest)
+
+-- "exists", and what follows it
+unfoldable pub exists_of : Inside → Reader Expression
+exists_of d ts = expect classes.Exists ts >>= λ t rest. d.scope t rest >>= λ s rest. Ok (leaf t (Form.Exists s.name s.low s.high s.body), rest)
+
 -- expr = disj [ ( "->" | "implies" | "<->" | "iff" ) disj ] | prim ( "SINCE" | "S" | "TRIGGERED" | "T" ) prim
+-- | ( "forall" | "exists" ) NAME "in" sum ".." sum ":" expr
 unfoldable pub expr_of : Inside → Reader Expression
-expr_of d ts = disj_of d ts >>= λ p rest. option_map_or (λ o. arrow_of d p.0 o.0.0 o.0.1 o.1) (operator_at levels.Arrow rest) (alone_of d p.0 p.1 rest)
+expr_of d ts = if starts classes.ForAll ts then for_all_of d ts else if starts classes.Exists ts then exists_of d ts else unquantified_of d ts
 
 -- an expr that no operator follows
 unfoldable pub whole_of : Inside → Reader Expression
@@ -172,6 +193,17 @@ whole_of d ts = expr_of d ts >>= λ e rest. closed e rest
 -- a sum that no operator follows
 unfoldable pub bound_of : Inside → Reader Expression
 bound_of d ts = sum_of d ts >>= λ p rest. closed p.0 rest
+
+-- sum "]"
+unfoldable pub subscript_of : Inside → Reader Expression
+subscript_of d ts = bound_of d ts >>= λ e rest. expect classes.CloseBracket rest >>= λ c rest. Ok (e, rest)
+
+-- NAME "in" sum ".." sum ":" expr
+unfoldable pub scope_of : Inside → Reader Scope
+scope_of d ts =
+    expect classes.Name ts >>= λ n rest. expect classes.In rest >>= λ i rest. bound_of d rest >>= λ low rest. expect classes.UpTo rest
+    >>= λ u rest. bound_of d rest >>= λ high rest. expect classes.Colon rest >>= λ c rest. whole_of d rest
+    >>= λ e rest. Ok (record { name = name_of n; low = low; high = high; body = e }, rest)
 
 -- ---- arguments
 
@@ -191,5 +223,11 @@ arguments_of d ts = if starts classes.Close ts then (expect classes.Close ts >>=
 
 -- with so many levels that may still be opened
 unfoldable pub inside : ℕ → Inside
-inside zero = record { whole = deep; operand = deep; arguments = deep }
-inside (suc left) = record { whole = λ t. whole_of (inside left); operand = λ t. operand_of (inside left); arguments = λ t. arguments_of (inside left) }
+inside zero = record { whole = deep; operand = deep; arguments = deep; subscript = deep; scope = deep }
+inside (suc left) = record {
+  whole = λ t. whole_of (inside left);
+  operand = λ t. operand_of (inside left);
+  arguments = λ t. arguments_of (inside left);
+  subscript = λ t. subscript_of (inside left);
+  scope = λ t. scope_of (inside left);
+}

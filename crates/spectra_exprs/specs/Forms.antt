@@ -6,7 +6,7 @@ use Rattle.spectra_trees.specs.Classes.{same_class}
 use Rattle.spectra_trees.specs.Lexemes.{Lexeme}
 use Rattle.spectra_trees.specs.declared.tree.Place.{Place}
 use Rattle.spectra_trees.specs.declared.tree.BinaryWord.{BinaryWord}
-use Rattle.spectra_trees.specs.Data.{Expression, Form, expression, first_of}
+use Rattle.spectra_trees.specs.Data.{NameData, Expression, Form, expression, first_of}
 
 abbrev pub Grammar : Type 0 → Type 1
 Grammar A = List Lexeme → A → Type 0
@@ -60,6 +60,15 @@ opened t (expression first at form) = expression t.at at form
 -- an expression, and whether it is one prim alone
 abbrev pub Term : Type 0
 Term = Expression × Bool
+
+-- ---- quantifiers
+
+-- what follows a quantifier's word: its variable, its bounds, and what it says of each number
+pub record Scope : Type 0 where
+  pub name : NameData
+  pub low : Expression
+  pub high : Expression
+  pub body : Expression
 
 -- ---- conjunctions and disjunctions
 

@@ -1,5 +1,6 @@
 -- The grammar of expressions: one relation for each production. A number says how many levels of nesting may be opened
--- inside: each prefix before its operand, and each parenthesis of an expression, opens one.
+-- inside: each prefix before its operand, each parenthesis of an expression, the bracket of an index and the word of a
+-- quantifier opens one.
 use Rattle.std.specs.Prelude.{ℕ, ◌≡◌, zero, suc, true, false, List, [], ◌∷◌, ◌++◌, Some}
 use Rattle.spectra_exprs.specs.declared.operators.Level.{Level}
 use Rattle.spectra_exprs.specs.declared.operators.Level.TheVariants as levels
@@ -11,7 +12,7 @@ use Rattle.spectra_trees.specs.declared.tree.BinaryWord.TheVariants as binaries
 use Rattle.spectra_trees.specs.Data.{Expression, Form, expression, expressions, first_of}
 use Rattle.spectra_trees.specs.Lexemes.{Lexeme, name_of}
 use Rattle.spectra_exprs.specs.Operators.{operator_word, prefix_word}
-use Rattle.spectra_exprs.specs.Forms.{Grammar, Gives, Token, ◌▸◌, ◌∣◌, Steps, leaf, between, opened, Term, Chain}
+use Rattle.spectra_exprs.specs.Forms.{Grammar, Gives, Token, ◌▸◌, ◌∣◌, Steps, leaf, between, opened, Term, Scope, Chain}
 
 -- ---- operators
 
@@ -33,11 +34,13 @@ OrSign = Token classes.Bar ∣ Token classes.Or
 
 -- ---- one level deeper
 
--- an expr, what may follow a PREFIX, and [ expr { "," expr } ] ")"
+-- an expr, what may follow a PREFIX, [ expr { "," expr } ] ")", a sum and "]", and what follows a quantifier's word
 pub record Deeper : Type 1 where
   pub Whole : List Lexeme → Expression → Type 0
   pub Next : List Lexeme → Expression → Type 0
   pub Listed : List Lexeme → List Expression → Type 0
+  pub Indexed : List Lexeme → Expression → Type 0
+  pub Scoped : List Lexeme → Scope → Type 0
 
 -- ---- prim
 
@@ -49,10 +52,14 @@ Literal =
     ∣ (Token classes.Number ▸ λ t. Gives (leaf t (Form.Number false t.text)))
     ∣ (Token classes.Minus ▸ λ m. Token classes.Number ▸ λ n. Gives (expression m.at n.at (Form.Number true n.text)))
 
--- prim = "true" | "false" | [ "-" ] NUMBER | NAME | NAME "(" [ expr { "," expr } ] ")" | "next" "(" expr ")" | "(" expr ")"
+-- prim = "true" | "false" | [ "-" ] NUMBER | NAME | NAME "(" [ expr { "," expr } ] ")" | NAME "[" sum "]" | "next" "(" expr ")"
+-- | "(" expr ")"
 abbrev pub Prim : Deeper → Grammar Expression
 Prim d =
-    (Token classes.Name ▸ λ t. (Token classes.Open ▸ λ o. d.Listed ▸ λ es. Gives (leaf t (Form.Call (name_of t) (expressions es)))) ∣ Gives (leaf t (Form.Read (name_of t))))
+    (Token classes.Name ▸ λ t.
+    (Token classes.Open ▸ λ o. d.Listed ▸ λ es. Gives (leaf t (Form.Call (name_of t) (expressions es))))
+    ∣ (Token classes.OpenBracket ▸ λ o. d.Indexed ▸ λ e. Gives (leaf t (Form.Index (name_of t) e)))
+    ∣ Gives (leaf t (Form.Read (name_of t))))
     ∣ (Token classes.Next ▸ λ t. Token classes.Open ▸ λ o. d.Whole ▸ λ e. Token classes.Close ▸ λ c. Gives (leaf t (Form.Next e)))
     ∣ (Token classes.Open ▸ λ t. d.Whole ▸ λ e. Token classes.Close ▸ λ c. Gives (opened t e))
     ∣ Literal
@@ -94,6 +101,14 @@ pub record Alone {A : Type 0} (p : Term) (P : List Lexeme → A → Type 0) (use
 abbrev pub Sum : Deeper → Grammar Term
 Sum d = Prod d ▸ λ p. Alone p (Modulo p.0) ∣ Steps (Plus d) p
 
+-- a sum in a place of its own
+abbrev pub BoundOf : Deeper → Grammar Expression
+BoundOf d = Sum d ▸ λ p. Gives p.0
+
+-- sum "]"
+abbrev pub Subscript : Deeper → Grammar Expression
+Subscript d = BoundOf d ▸ λ e. Token classes.CloseBracket ▸ λ c. Gives e
+
 -- ---- comparisons
 
 -- sum | prefixed
@@ -130,13 +145,27 @@ Disj d =
 
 -- ---- expr
 
--- expr = disj [ ( "->" | "implies" | "<->" | "iff" ) disj ] | prim ( "SINCE" | "S" | "TRIGGERED" | "T" ) prim
-abbrev pub ExprOf : Deeper → Grammar Expression
-ExprOf d =
+-- disj [ ( "->" | "implies" | "<->" | "iff" ) disj ] | prim ( "SINCE" | "S" | "TRIGGERED" | "T" ) prim
+abbrev pub Unquantified : Deeper → Grammar Expression
+Unquantified d =
     Disj d ▸ λ a.
     (Operator levels.Arrow ▸ λ o. Disj d ▸ λ b. Gives (between o.0 o.1 a.0 b.0))
     ∣ Alone a (Operator levels.Past ▸ λ o. Prim d ▸ λ b. Gives (between o.0 o.1 a.0 b))
     ∣ Gives a.0
+
+-- expr = disj [ ( "->" | "implies" | "<->" | "iff" ) disj ] | prim ( "SINCE" | "S" | "TRIGGERED" | "T" ) prim
+-- | ( "forall" | "exists" ) NAME "in" sum ".." sum ":" expr
+abbrev pub ExprOf : Deeper → Grammar Expression
+ExprOf d =
+    (Token classes.ForAll ▸ λ t. d.Scoped ▸ λ s. Gives (leaf t (Form.ForAll s.name s.low s.high s.body)))
+    ∣ (Token classes.Exists ▸ λ t. d.Scoped ▸ λ s. Gives (leaf t (Form.Exists s.name s.low s.high s.body)))
+    ∣ Unquantified d
+
+-- NAME "in" sum ".." sum ":" expr
+abbrev pub ScopeOf : Deeper → Grammar Scope
+ScopeOf d =
+    Token classes.Name ▸ λ n. Token classes.In ▸ λ i. BoundOf d ▸ λ low. Token classes.UpTo ▸ λ u. BoundOf d ▸ λ high. Token classes.Colon ▸ λ c. ExprOf d ▸ λ e.
+    Gives (record { name = name_of n; low = low; high = high; body = e })
 
 -- ---- arguments
 
@@ -154,5 +183,11 @@ Nothing used a = ⊥
 
 -- with so many levels that may still be opened
 abbrev pub Levels : ℕ → Deeper
-Levels zero = record { Whole = Nothing; Next = Nothing; Listed = Nothing }
-Levels (suc left) = record { Whole = ExprOf (Levels left); Next = Operand (Levels left); Listed = Arguments (Levels left) }
+Levels zero = record { Whole = Nothing; Next = Nothing; Listed = Nothing; Indexed = Nothing; Scoped = Nothing }
+Levels (suc left) = record {
+  Whole = ExprOf (Levels left);
+  Next = Operand (Levels left);
+  Listed = Arguments (Levels left);
+  Indexed = Subscript (Levels left);
+  Scoped = ScopeOf (Levels left);
+}

@@ -5,13 +5,14 @@ ghost use Rattle.spectra_trees.specs.Views.{expr_data, lexemes_of};
 ghost use Rattle.spectra_exprs.specs.Read.{Gives, starts as starts_lem, all_of};
 ghost use Rattle.spectra_exprs.specs.OperatorReaders.{starts_or as starts_or_lem};
 ghost use Rattle.spectra_exprs.specs.ExprViews.{term_data, chain_data};
-ghost use Rattle.spectra_exprs.specs.Expressions.{inside, side_of, compared_of, comparison_of, cmp_of, conjunct_of, conjunction_of, conj_of, disjunct_of, disjunction_of, disj_of, arrow_of, past_of, alone_of, expr_of, whole_of};
+ghost use Rattle.spectra_exprs.specs.Expressions.{inside, side_of, compared_of, comparison_of, cmp_of, conjunct_of, conjunction_of, conj_of, disjunct_of, disjunction_of, disj_of, arrow_of, past_of, alone_of, unquantified_of, expr_of, whole_of};
 
 use crate::operands::{prefixed, prim};
 use crate::operators::{
     Level, Read, Tokens, begun, closed, expect, expect_or, starts, starts_or, take_operator,
     take_prefix,
 };
+use crate::quantifiers::{exists, for_all};
 use crate::sums::sum;
 use crate::terms::{Chain, Term, between, joined, pair, together, tree};
 use spectra_trees::class::Class;
@@ -247,18 +248,35 @@ pub fn alone<'t>(
     Ok((first.tree, tokens))
 }
 
-/// expr = disj [ ( "->" | "implies" | "<->" | "iff" ) disj ]
+/// disj [ ( "->" | "implies" | "<->" | "iff" ) disj ]
 /// | prim ( "SINCE" | "S" | "TRIGGERED" | "T" ) prim
 #[cycle(expr)]
-#[tactic(auto, unfolding(crate::specs::Expressions::expr_of))]
-pub fn expr<'t>(alloc: Global, tokens: Tokens<'t>, left: u32) -> Read<'t, Box<ExprTree>>
-    ensures read { Gives (λ x. (expr_data x.0.value, lexemes_of x.1.now)) result (expr_of (inside left) (lexemes_of tokens.now)) }
+#[tactic(auto, unfolding(crate::specs::Expressions::unquantified_of))]
+pub fn unquantified<'t>(alloc: Global, tokens: Tokens<'t>, left: u32) -> Read<'t, Box<ExprTree>>
+    ensures read { Gives (λ x. (expr_data x.0.value, lexemes_of x.1.now)) result (unquantified_of (inside left) (lexemes_of tokens.now)) }
 {
     let (first, rest) = disj(alloc, tokens, left)?;
     match take_operator(rest, Level::Arrow) {
         Some((at, word, after)) => arrow(alloc, first.tree, at, word, after, left),
         None => alone(alloc, first, rest, left),
     }
+}
+
+/// expr = disj [ ( "->" | "implies" | "<->" | "iff" ) disj ]
+/// | prim ( "SINCE" | "S" | "TRIGGERED" | "T" ) prim
+/// | ( "forall" | "exists" ) NAME "in" sum ".." sum ":" expr
+#[cycle(expr)]
+#[tactic(auto, unfolding(crate::specs::Expressions::expr_of))]
+pub fn expr<'t>(alloc: Global, tokens: Tokens<'t>, left: u32) -> Read<'t, Box<ExprTree>>
+    ensures read { Gives (λ x. (expr_data x.0.value, lexemes_of x.1.now)) result (expr_of (inside left) (lexemes_of tokens.now)) }
+{
+    if starts(tokens, Class::ForAll) {
+        return for_all(alloc, tokens, left);
+    }
+    if starts(tokens, Class::Exists) {
+        return exists(alloc, tokens, left);
+    }
+    unquantified(alloc, tokens, left)
 }
 
 /// expr, which no operator may follow.

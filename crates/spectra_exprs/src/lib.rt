@@ -12,5 +12,6 @@ pub mod fault;
 pub mod formulas;
 pub mod operands;
 pub mod operators;
+pub mod quantifiers;
 pub mod sums;
 pub mod terms;

@@ -5,12 +5,14 @@
 ghost use Rattle.std.specs.Prelude.{◌<◌, map};
 ghost use Rattle.spectra_trees.specs.Views.{expr_data, lexeme_of, lexemes_of};
 ghost use Rattle.spectra_exprs.specs.Read.{Gives, starts as starts_lem, all_of};
-ghost use Rattle.spectra_exprs.specs.Expressions.{read_of, inside, next_of, parentheses_of, call_of, named_of, prim_of, prefixed_of, operand_of, argument_of, some_arguments_of, arguments_of};
+ghost use Rattle.spectra_exprs.specs.ExprViews.{scope_data};
+ghost use Rattle.spectra_exprs.specs.Expressions.{read_of, inside, index_of, next_of, parentheses_of, call_of, named_of, prim_of, prefixed_of, operand_of, argument_of, some_arguments_of, arguments_of};
 
 use crate::fault::SyntaxFault;
 use crate::formulas::formula;
 use crate::operators::{Read, Tokens, begun, expect, starts, take_prefix};
-use crate::terms::{leaf, literal, opened, read};
+use crate::quantifiers::{scope, subscript};
+use crate::terms::{Scope, leaf, literal, opened, read};
 use spectra_trees::class::Class;
 use spectra_trees::lexeme::{Spelled, is, name};
 use spectra_trees::tree::{ExprForm, ExprTree, PrefixWord};
@@ -62,6 +64,38 @@ pub fn deeper_arguments<'t>(
         return Err(SyntaxFault::TooDeep(token.number));
     }
     arguments(alloc, tokens, left - 1)
+}
+
+/// What stands in an index, that its bracket opens a level for.
+#[cycle(expr)]
+pub fn deeper_subscript<'t>(
+    alloc: Global,
+    token: &Spelled<'t>,
+    tokens: Tokens<'t>,
+    left: u32,
+) -> Read<'t, Box<ExprTree>>
+    ensures read { Gives (λ x. (expr_data x.0.value, lexemes_of x.1.now)) result ((inside left).subscript (lexeme_of token.now) (lexemes_of tokens.now)) }
+{
+    if left == 0 {
+        return Err(SyntaxFault::TooDeep(token.number));
+    }
+    subscript(alloc, tokens, left - 1)
+}
+
+/// What follows a quantifier's word, that the word opens a level for.
+#[cycle(expr)]
+pub fn deeper_scope<'t>(
+    alloc: Global,
+    token: &Spelled<'t>,
+    tokens: Tokens<'t>,
+    left: u32,
+) -> Read<'t, Scope>
+    ensures read { Gives (λ x. (scope_data x.0, lexemes_of x.1.now)) result ((inside left).scope (lexeme_of token.now) (lexemes_of tokens.now)) }
+{
+    if left == 0 {
+        return Err(SyntaxFault::TooDeep(token.number));
+    }
+    scope(alloc, tokens, left - 1)
 }
 
 /// "(" expr ")" behind the word `next`.
@@ -116,7 +150,25 @@ pub fn call<'t>(
     Ok((Box::new(alloc, call)?, rest))
 }
 
-/// [ "(" [ expr { "," expr } ] ")" ] behind NAME.
+/// "[" sum "]" behind a name.
+#[cycle(expr)]
+#[tactic(auto, unfolding(crate::specs::Expressions::index_of))]
+pub fn index<'t>(
+    alloc: Global,
+    token: &Spelled<'t>,
+    opening: &Spelled<'t>,
+    tokens: Tokens<'t>,
+    left: u32,
+) -> Read<'t, Box<ExprTree>>
+    ensures read { Gives (λ x. (expr_data x.0.value, lexemes_of x.1.now)) result (index_of (inside left) (lexeme_of token.now) (lexeme_of opening.now) (lexemes_of tokens.now)) }
+{
+    let (inner, rest) = deeper_subscript(alloc, opening, tokens, left)?;
+    let name = name(alloc, token)?;
+    let index = leaf(token, ExprForm::Index(name, inner));
+    Ok((Box::new(alloc, index)?, rest))
+}
+
+/// [ "(" [ expr { "," expr } ] ")" | "[" sum "]" ] behind NAME.
 #[cycle(expr)]
 #[tactic(auto, unfolding(crate::specs::Expressions::named_of, crate::specs::Expressions::read_of))]
 pub fn named<'t>(
@@ -129,12 +181,13 @@ pub fn named<'t>(
 {
     match tokens.split_first() {
         Some((open, rest)) if is(open, Class::Open) => call(alloc, token, open, rest, left),
+        Some((open, rest)) if is(open, Class::OpenBracket) => index(alloc, token, open, rest, left),
         _ => read(alloc, token, tokens),
     }
 }
 
 /// prim = "true" | "false" | [ "-" ] NUMBER | NAME | NAME "(" [ expr { "," expr } ] ")"
-/// | "next" "(" expr ")" | "(" expr ")"
+/// | NAME "[" sum "]" | "next" "(" expr ")" | "(" expr ")"
 #[cycle(expr)]
 #[tactic(auto, unfolding(crate::specs::Expressions::prim_of))]
 pub fn prim<'t>(alloc: Global, tokens: Tokens<'t>, left: u32) -> Read<'t, Box<ExprTree>>

@@ -95,11 +95,19 @@ pub fn sum<'t>(alloc: Global, tokens: Tokens<'t>, left: u32) -> Read<'t, Term>
 }
 
 /// sum, which no operator may follow.
+#[cycle(expr)]
 #[tactic(auto, unfolding(crate::specs::Expressions::bound_of))]
+pub fn limit<'t>(alloc: Global, tokens: Tokens<'t>, left: u32) -> Read<'t, Box<ExprTree>>
+    ensures read { Gives (λ x. (expr_data x.0.value, lexemes_of x.1.now)) result (bound_of (inside left) (lexemes_of tokens.now)) }
+{
+    let (operand, rest) = sum(alloc, tokens, left)?;
+    closed(operand.tree, rest)
+}
+
+/// The same, out of its box.
 pub fn bound<'t>(alloc: Global, tokens: Tokens<'t>, left: u32) -> Read<'t, ExprTree>
     ensures read { Gives (λ x. (expr_data x.0, lexemes_of x.1.now)) result (bound_of (inside left) (lexemes_of tokens.now)) }
 {
-    let (operand, rest) = sum(alloc, tokens, left)?;
-    let (tree, rest) = closed(operand.tree, rest)?;
+    let (tree, rest) = limit(alloc, tokens, left)?;
     Ok((Box::into_inner(tree), rest))
 }

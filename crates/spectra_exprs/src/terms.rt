@@ -11,7 +11,7 @@ use crate::fault::SyntaxFault;
 use crate::operators::{Read, Tokens, expect};
 use spectra_trees::class::Class;
 use spectra_trees::lexeme::{Spelled, is, name};
-use spectra_trees::tree::{BinaryWord, ExprForm, ExprTree, Place};
+use spectra_trees::tree::{BinaryWord, ExprForm, ExprTree, Name, Place};
 use std::alloc::Global;
 
 /// A tree by its parts.
@@ -137,6 +137,15 @@ pub fn read<'t>(alloc: Global, token: &Spelled<'t>, tokens: Tokens<'t>) -> Read<
     let name = name(alloc, token)?;
     let read = leaf(token, ExprForm::Read(name));
     Ok((Box::new(alloc, read)?, tokens))
+}
+
+/// What follows a quantifier's word: its variable, its bounds, and what it says of each number.
+#[derive(Drop)]
+pub struct Scope {
+    pub name: Name,
+    pub low: Box<ExprTree>,
+    pub high: Box<ExprTree>,
+    pub body: Box<ExprTree>,
 }
 
 /// The operands of a conjunction or a disjunction so far, and the places of its operators.

@@ -7,14 +7,14 @@ use Rattle.spectra_resolved.specs.declared.tree.Leaf.{Leaf}
 use Rattle.spectra_resolved.specs.declared.tree.Leaf.TheVariants as leaf
 use Rattle.spectra_resolved.specs.Resolved.{ResolvedTree, tree, Form, ResolvedTrees}
 use Rattle.spectra_judge.specs.Findings.{fault_if}
-use Rattle.spectra_judge.specs.Kinds.{Kind, Anything, is_truth, can_equal}
+use Rattle.spectra_judge.specs.Kinds.{Kind, Anything, is_truth, is_whole, is_outside, can_equal}
 use Rattle.spectra_judge.specs.Operators.{is_past, is_past_prefix}
 use Rattle.spectra_judge.specs.declared.standing.Bans.{Bans}
 use Rattle.spectra_judge.specs.Standings.{bans_of, is_wanted}
 use Rattle.spectra_judge.specs.declared.around.Around.{Around}
-use Rattle.spectra_judge.specs.Around.{nothing_open, under_next, within, next_faults, shifted}
+use Rattle.spectra_judge.specs.Around.{nothing_open, under_next, in_bound, within, in_bounds, next_faults, shifted, variable_faults}
 use Rattle.spectra_judge.specs.Known.{Known, Setting, is_system, wanted}
-use Rattle.spectra_judge.specs.Judged.{kind_of, first_of, wrong, binary_faults, remainder_faults, operator_faults, leaf_faults, faults, form_faults, operand_faults, argument_faults}
+use Rattle.spectra_judge.specs.Judged.{kind_of, first_of, wrong, binary_faults, remainder_faults, operator_faults, leaf_faults, index_faults, is_wrong, faults, form_faults, operand_faults, bound_faults, copy_faults, argument_faults}
 use Rattle.spectra_holes.specs.Holed.{is_some_fault, own_bans, is_faulty, is_anything, is_lost, hole_for, part_holed, form_holed, each_holed, arguments_holed}
 use Rattle.spectra_holes.specs.HoleViews.{is_meant, form_meant, each_meant, arguments_meant}
 use Rattle.spectra_holes.specs.Laws.{HoledStays}
@@ -36,29 +36,41 @@ module _ (known : Known) (bans : Bans) where
   nothing_shifted number (Some next) at = refl
   nothing_shifted number None at = refl
 
-  leaf_fewer : (l : Leaf) (next : Option Mark) (at : Mark) → leaf_faults s next at l ≡ [] → leaf_faults lifted next at l ≡ []
-  leaf_fewer (leaf.Variable k) next at none =
-      let own = is_system known k in
-      let parts = empty_parts (fault_if bans.variable 9 at.spot) (fault_if (bans.system && own) 13 at.spot ++ shifted (bans.shifted_system && own) 12 next at) none in
-      let more = empty_parts (fault_if (bans.system && own) 13 at.spot) (shifted (bans.shifted_system && own) 12 next at) parts.1 in
-      both_empty (fault_if bans.variable 9 at.spot) (fault_if (bans.system && own) 13 at.spot ++ shifted false 12 next at) parts.0
-      (both_empty (fault_if (bans.system && own) 13 at.spot) (shifted false 12 next at) more.0 (nothing_shifted 12 next at))
-  leaf_fewer (leaf.Parameter k) next at none =
-      let parts = empty_parts (fault_if (bans.variable || bans.parameter) 9 at.spot) (shifted bans.shifted_parameter 10 next at) none in
-      both_empty (fault_if (bans.variable || bans.parameter) 9 at.spot) (shifted false 10 next at) parts.0 (nothing_shifted 10 next at)
-  leaf_fewer (leaf.Truth b) next at none = none
-  leaf_fewer (leaf.Number z) next at none = none
-  leaf_fewer (leaf.EnumName n) next at none = none
-  leaf_fewer (leaf.Own k) next at none = none
-  leaf_fewer (leaf.Define k) next at none = none
-  leaf_fewer (leaf.Hole h) next at none = none
+  -- a variable that is read
+  variable_fewer : (o : Around) (at : Mark) (own : Bool) → variable_faults bans o at own ≡ [] → variable_faults lifted.bans o at own ≡ []
+  variable_fewer o at own none =
+      let first = fault_if bans.variable 9 at.spot in
+      let second = fault_if (bans.system && own) 13 at.spot in
+      let third = shifted (bans.shifted_system && own) 12 o.next at in
+      let fewer = shifted false 12 o.next at in
+      let last = in_bounds true 9 o at in
+      let parts = empty_parts first (second ++ (third ++ last)) none in
+      let more = empty_parts second (third ++ last) parts.1 in
+      let rest = empty_parts third last more.1 in
+      both_empty first (second ++ (fewer ++ last)) parts.0 (both_empty second (fewer ++ last) more.0 (both_empty fewer last (nothing_shifted 12 o.next at) rest.1))
+
+  leaf_fewer : (l : Leaf) (o : Around) (at : Mark) → leaf_faults s o at l ≡ [] → leaf_faults lifted o at l ≡ []
+  leaf_fewer (leaf.Variable k) o at none = variable_fewer o at (is_system known k) none
+  leaf_fewer (leaf.Parameter k) o at none =
+      let first = fault_if (bans.variable || bans.parameter) 9 at.spot in
+      let last = in_bounds bans.bound_parameter 9 o at in
+      let parts = empty_parts first (shifted bans.shifted_parameter 10 o.next at ++ last) none in
+      let more = empty_parts (shifted bans.shifted_parameter 10 o.next at) last parts.1 in
+      both_empty first (shifted false 10 o.next at ++ last) parts.0 (both_empty (shifted false 10 o.next at) last (nothing_shifted 10 o.next at) more.1)
+  leaf_fewer (leaf.Truth b) o at none = none
+  leaf_fewer (leaf.Number z) o at none = none
+  leaf_fewer (leaf.EnumName n) o at none = none
+  leaf_fewer (leaf.Own k) o at none = none
+  leaf_fewer (leaf.Define k) o at none = none
+  leaf_fewer (leaf.Bound p) o at none = none
+  leaf_fewer (leaf.Hole h) o at none = none
 
   mutual
     fewer : (t : ResolvedTree) (o : Around) → faults s o t ≡ [] → faults lifted o t ≡ []
     fewer (tree first at form) o none = form_fewer form o at none
 
     form_fewer : (form : Form) (o : Around) (at : Mark) → form_faults s o at form ≡ [] → form_faults lifted o at form ≡ []
-    form_fewer (Form.LeafOf l) o at none = leaf_fewer l o.next at none
+    form_fewer (Form.LeafOf l) o at none = leaf_fewer l o at none
     form_fewer (Form.PredicateOf k ts) o at none = arguments_fewer ts o (wanted known (Some k)) none
     form_fewer (Form.MisuseOf m ts) o at none = absurd (not_empty _ _ none)
     form_fewer (Form.Next t) o at none =
@@ -86,6 +98,37 @@ module _ (known : Known) (bans : Bans) where
         both_empty (faults lifted o t) last (fewer t o parts.0) parts.1
     form_fewer (Form.And ts operators) o at none = operands_fewer ts o at.spot (at.spot ∷ operators) none
     form_fewer (Form.Or ts operators) o at none = operands_fewer ts o at.spot (at.spot ∷ operators) none
+    form_fewer (Form.Index first n t) o at none =
+        let k = kind_of known t in
+        let own = is_system known first in
+        let last = wrong (is_whole k) (first_of t) ++ fault_if (is_outside n k) 25 at.spot in
+        let parts = empty_parts (faults s o t) (variable_faults bans o at own ++ last) none in
+        let more = empty_parts (variable_faults bans o at own) last parts.1 in
+        both_empty (faults lifted o t) (variable_faults lifted.bans o at own ++ last) (fewer t o parts.0)
+        (both_empty (variable_faults lifted.bans o at own) last (variable_fewer o at own more.0) more.1)
+    form_fewer (Form.Quantified word variable extent low high ts) o at none =
+        let own = fault_if (is_wrong extent) 14 at.spot in
+        let parts = empty_parts (bound_faults s o at low high) (own ++ copy_faults s o ts) none in
+        let more = empty_parts own (copy_faults s o ts) parts.1 in
+        let inner = in_bound at o in
+        let low_last = wrong (is_whole (kind_of known low)) (first_of low) in
+        let high_last = wrong (is_whole (kind_of known high)) (first_of high) in
+        let bounds = empty_parts (faults s inner low ++ low_last) (faults s inner high ++ high_last) parts.0 in
+        let low_parts = empty_parts (faults s inner low) low_last bounds.0 in
+        let high_parts = empty_parts (faults s inner high) high_last bounds.1 in
+        both_empty (bound_faults lifted o at low high) (own ++ copy_faults lifted o ts)
+        (both_empty (faults lifted inner low ++ low_last) (faults lifted inner high ++ high_last)
+        (both_empty (faults lifted inner low) low_last (fewer low inner low_parts.0) low_parts.1)
+        (both_empty (faults lifted inner high) high_last (fewer high inner high_parts.0) high_parts.1))
+        (both_empty own (copy_faults lifted o ts) more.0 (copies_fewer ts o more.1))
+
+    copies_fewer : (ts : ResolvedTrees) (o : Around) → copy_faults s o ts ≡ [] → copy_faults lifted o ts ≡ []
+    copies_fewer ResolvedTrees.none o none = refl
+    copies_fewer (ResolvedTrees.one_more t ts) o none =
+        let own = wrong (is_truth (kind_of known t)) (first_of t) in
+        let parts = empty_parts (faults s o t) (own ++ copy_faults s o ts) none in
+        let more = empty_parts own (copy_faults s o ts) parts.1 in
+        both_empty (faults lifted o t) (own ++ copy_faults lifted o ts) (fewer t o parts.0) (both_empty own (copy_faults lifted o ts) more.0 (copies_fewer ts o more.1))
 
     operands_fewer : (ts : ResolvedTrees) (o : Around) (at : Spot) (operators : List Spot) → operand_faults s o at operators ts ≡ [] → operand_faults lifted o at operators ts ≡ []
     operands_fewer ResolvedTrees.none o at operators none = refl
@@ -151,6 +194,31 @@ module _ (known : Known) (bans : Bans) where
         ap (λ u. Form.Mod u number_at n) (part_stays t o meant parts.0)
     form_stays (Form.And ts operators) o at meant none = ap (λ us. Form.And us operators) (each_stays ts o at.spot (at.spot ∷ operators) meant none)
     form_stays (Form.Or ts operators) o at meant none = ap (λ us. Form.Or us operators) (each_stays ts o at.spot (at.spot ∷ operators) meant none)
+    form_stays (Form.Index first n t) o at meant none =
+        let parts = empty_parts (faults s o t) (index_faults s o at first n (kind_of known t) (first_of t)) none in
+        ap (Form.Index first n) (part_stays t o meant parts.0)
+    form_stays (Form.Quantified word variable extent low high ts) o at meant none =
+        let own = fault_if (is_wrong extent) 14 at.spot in
+        let parts = empty_parts (bound_faults s o at low high) (own ++ copy_faults s o ts) none in
+        let more = empty_parts own (copy_faults s o ts) parts.1 in
+        let inner = in_bound at o in
+        let low_last = wrong (is_whole (kind_of known low)) (first_of low) in
+        let high_last = wrong (is_whole (kind_of known high)) (first_of high) in
+        let bounds = empty_parts (faults s inner low ++ low_last) (faults s inner high ++ high_last) parts.0 in
+        let low_parts = empty_parts (faults s inner low) low_last bounds.0 in
+        let high_parts = empty_parts (faults s inner high) high_last bounds.1 in
+        let means = and_parts _ _ meant in
+        let behind = and_parts _ _ means.1 in
+        (λ i. Form.Quantified word variable extent (part_stays low inner means.0 low_parts.0 i) (part_stays high inner behind.0 high_parts.0 i) (copies_stay ts o behind.1 more.1 i))
+
+    copies_stay : (ts : ResolvedTrees) (o : Around) → each_meant known ts ≡ true → copy_faults s o ts ≡ [] → each_holed s o ts ≡ ts
+    copies_stay ResolvedTrees.none o meant none = refl
+    copies_stay (ResolvedTrees.one_more t ts) o meant none =
+        let own = wrong (is_truth (kind_of known t)) (first_of t) in
+        let parts = empty_parts (faults s o t) (own ++ copy_faults s o ts) none in
+        let more = empty_parts own (copy_faults s o ts) parts.1 in
+        let means = and_parts _ _ meant in
+        (λ i. ResolvedTrees.one_more (part_stays t o means.0 parts.0 i) (copies_stay ts o means.1 more.1 i))
 
     each_stays : (ts : ResolvedTrees) (o : Around) (at : Spot) (operators : List Spot) → each_meant known ts ≡ true → operand_faults s o at operators ts ≡ [] → each_holed s o ts ≡ ts
     each_stays ResolvedTrees.none o at operators meant none = refl

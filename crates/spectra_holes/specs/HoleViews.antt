@@ -31,6 +31,8 @@ abbrev mutual
   form_meant known (Form.Mod t number_at n) = is_meant known t
   form_meant known (Form.And ts operators) = each_meant known ts
   form_meant known (Form.Or ts operators) = each_meant known ts
+  form_meant known (Form.Index first n t) = is_meant known t
+  form_meant known (Form.Quantified word variable extent low high ts) = is_meant known low && (is_meant known high && each_meant known ts)
 
   pub each_meant : Known → ResolvedTrees → Bool
   each_meant known ResolvedTrees.none = true

@@ -12,7 +12,7 @@ use Rattle.spectra_judge.specs.Operators.{is_past, is_past_prefix}
 use Rattle.spectra_judge.specs.declared.standing.Bans.{Bans}
 use Rattle.spectra_judge.specs.Standings.{bans_of}
 use Rattle.spectra_judge.specs.declared.around.Around.{Around}
-use Rattle.spectra_judge.specs.Around.{nothing_open, under_next, within}
+use Rattle.spectra_judge.specs.Around.{nothing_open, under_next, in_bound, within}
 use Rattle.spectra_judge.specs.Known.{Known, Setting, wanted}
 use Rattle.spectra_judge.specs.Judged.{kind_of, first_of, faults}
 
@@ -61,6 +61,9 @@ abbrev mutual
   form_holed s o at (Form.Mod t number_at n) = Form.Mod (part_holed s o t) number_at n
   form_holed s o at (Form.And ts operators) = Form.And (each_holed s o ts) operators
   form_holed s o at (Form.Or ts operators) = Form.Or (each_holed s o ts) operators
+  form_holed s o at (Form.Index first n t) = Form.Index first n (part_holed s o t)
+  form_holed s o at (Form.Quantified word variable extent low high ts) =
+      Form.Quantified word variable extent (part_holed s (in_bound at o) low) (part_holed s (in_bound at o) high) (each_holed s o ts)
 
   pub each_holed : Setting → Around → ResolvedTrees → ResolvedTrees
   each_holed s o ResolvedTrees.none = ResolvedTrees.none

@@ -10,7 +10,7 @@ ghost use Rattle.spectra_holes.specs.HoleViews.{argument_holed, links_holed};
 ghost use Rattle.spectra_judge.specs.OpenedViews.{opened_at};
 ghost use Rattle.spectra_judge.specs.Chains.{opened as opened_lem};
 
-use spectra_judge::around::{Around, nothing_open, under_next, within};
+use spectra_judge::around::{Around, in_bound, nothing_open, under_next, within};
 use spectra_judge::chains::{Opened, first_of, opened_in};
 use spectra_judge::kind::{Kind, can_equal};
 use spectra_judge::known::{Known, Setting};
@@ -162,6 +162,16 @@ fn hole_shape(
         Shape::Or(ts, operators) => {
             let operands = hole_each(holing, around, ts)?;
             Ok(Shape::Or(operands, copy_spots(holing.alloc, operators)?))
+        }
+        Shape::Index(array, count, t) => {
+            Ok(Shape::Index(*array, *count, hole_boxed(holing, around, t)?))
+        }
+        Shape::Quantified(word, variable, extent, low, high, copies) => {
+            let inner = in_bound(at, around);
+            let low = hole_boxed(holing, inner, low)?;
+            let high = hole_boxed(holing, inner, high)?;
+            let copies = hole_each(holing, around, copies)?;
+            Ok(Shape::Quantified(*word, *variable, *extent, low, high, copies))
         }
     }
 }

@@ -7,7 +7,7 @@ use Rattle.spectra_resolved.specs.declared.findings.Finding.{Finding}
 use Rattle.spectra_resolved.specs.Findings.{with_faults}
 use Rattle.spectra_resolved.specs.Spaces.{Entry, declared, and_name, clash, clashes_after, clashes, no_names}
 use Rattle.spectra_resolved.specs.SpaceViews.{Told, with_entry, with_entries}
-use Rattle.spectra_resolved.proofs.Naming.{or-none}
+use Rattle.spectra_resolved.proofs.Entered.{or-none}
 use Rattle.spectra_resolved.proofs.First.{with_faults_append}
 
 pub with_entries_append : (t : Told) (ds es : List Entry) → with_entries t (ds ++ es) ≡ with_entries (with_entries t ds) es

@@ -1,13 +1,13 @@
 -- What an item declares and says with each name resolved, and the names that mean nothing in it.
 use Rattle.spectra_trees.specs.Faults.{Arity, Unknown, number_of}
-use Rattle.std.specs.Prelude.{ℕ, suc, ◌==◌, false, if◌then◌else◌, List, [], ◌∷◌, ◌++◌, Option, Some, None, length, map, flat_map, option_map}
+use Rattle.std.specs.Prelude.{ℕ, suc, ◌==◌, false, if◌then◌else◌, List, [], ◌∷◌, ◌++◌, Option, Some, None, length, map, flat_map, option_map, is_some}
 use Rattle.spec_model.specs.declared.value.Owner.{Owner}
 use Rattle.spec_model.specs.declared.value.Owner.TheVariants as owners
 use Rattle.spec_model.specs.declared.spec.Role.TheVariants as roles
 use Rattle.spectra_trees.specs.declared.tree.Place.{Place}
 use Rattle.spectra_trees.specs.declared.tree.OwnerWord.{OwnerWord}
 use Rattle.spectra_trees.specs.declared.tree.OwnerWord.TheVariants as words
-use Rattle.spectra_trees.specs.Data.{NameData, Expression, TypeData, PartData, PartShape, PredicateData, PatternData, BodyData, LineData, ItemData}
+use Rattle.spectra_trees.specs.Data.{NameData, Expression, TypeData, PartData, PartShape, PredicateData, PatternData, BodyData, LineData, LengthData, ItemData}
 use Rattle.spectra_resolved.specs.declared.spot.Spot.{Spot}
 use Rattle.spectra_resolved.specs.declared.tree.Leaf.{Leaf}
 use Rattle.spectra_resolved.specs.declared.tree.Leaf.TheVariants as leaves
@@ -25,6 +25,7 @@ use Rattle.spectra_resolved.specs.Spaces.{Entry, declared, no_names, clashes, is
 use Rattle.spectra_resolved.specs.Resolving.{resolved, misuses}
 use Rattle.spectra_resolved.specs.Regexes.{resolved_regex, regex_misuses}
 use Rattle.spectra_items.specs.Types.{type_of, type_faults}
+use Rattle.spectra_items.specs.Lengths.{count_of, length_faults}
 use Rattle.spectra_resolved.specs.Texts.{ResolvedType, ResolvedVariable, ResolvedAlias, ResolvedDefinition, ResolvedPatternLine, ResolvedPattern, ResolvedBody, ResolvedLine}
 
 -- all values are seen where nothing is declared around a name
@@ -38,13 +39,14 @@ owner_of words.Env = owners.Env
 owner_of words.Sys = owners.Sys
 owner_of words.Aux = owners.Sys
 
-abbrev pub variable_of : Names → Looking → (file : ℕ) → NameData → Owner → TypeData → ResolvedVariable
-variable_of s look file name owner t = record { name = mentioned file name; owner = owner; domain = type_of s look file t }
+abbrev pub variable_of : Names → Looking → (file : ℕ) → NameData → Owner → TypeData → Option LengthData → ResolvedVariable
+variable_of s look file name owner t length =
+    record { name = mentioned file name; owner = owner; domain = type_of s look file t; array = is_some length; count = count_of length }
 
 -- a monitor is a variable of the system
 abbrev pub variables_in : Names → (file : ℕ) → ItemData → List ResolvedVariable
-variables_in s file (ItemData.Variable x) = variable_of s (at_large s) file x.name (owner_of x.owner) x.domain ∷ []
-variables_in s file (ItemData.Monitor m) = variable_of s (at_large s) file m.name owners.Sys m.domain ∷ []
+variables_in s file (ItemData.Variable x) = variable_of s (at_large s) file x.name (owner_of x.owner) x.domain x.length ∷ []
+variables_in s file (ItemData.Monitor m) = variable_of s (at_large s) file m.name owners.Sys m.domain None ∷ []
 variables_in s file _ = []
 
 abbrev pub alias_of : Names → Looking → (file : ℕ) → NameData → TypeData → ResolvedAlias
@@ -222,7 +224,7 @@ monitor_faults look file p = flat_map body_faults (monitor_bodies look file p.fo
 
 -- the names that mean nothing in an item, and those that stand twice in it
 abbrev pub faults_in : Names → (file : ℕ) → ItemData → List Finding
-faults_in s file (ItemData.Variable x) = type_faults s (at_large s) file x.domain
+faults_in s file (ItemData.Variable x) = type_faults s (at_large s) file x.domain ++ length_faults file x.length
 faults_in s file (ItemData.Alias t) = type_faults s (at_large s) file t.body
 faults_in s file (ItemData.Define d) = flat_map (define_faults (at_large s) file) d.bodies
 faults_in s file (ItemData.Predicate p) = predicate_faults s (at_large s) file p

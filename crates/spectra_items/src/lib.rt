@@ -8,6 +8,7 @@
 #![tactic(auto)]
 
 pub mod definitions;
+pub mod lengths;
 pub mod lines;
 pub mod patterns;
 mod spaces;

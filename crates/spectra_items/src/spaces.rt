@@ -72,6 +72,7 @@ pub fn resolver_inside<'s, 't>(
         scope,
         around,
         sight,
+        quantified: &[],
     };
     Resolver { alloc, look, file }
 }

@@ -28,8 +28,8 @@ chain_kind_is known t (l ∷ ls) = chain_kind_is known (joined t l) ls
 -- ---- what is open
 
 -- each of what is open, by itself
-pub opened_is : (o : Around) (ls : List LinkData) → opened o ls ≡ record { next = o.next; past = o.past || has_past ls; brought = outer_or o.brought (brought_in ls) }
-opened_is o [] = λ i. record { next = o.next; past = sym (or-false o.past) i; brought = sym (outer_or-none o.brought) i }
+pub opened_is : (o : Around) (ls : List LinkData) → opened o ls ≡ record { next = o.next; past = o.past || has_past ls; brought = outer_or o.brought (brought_in ls); bound = o.bound }
+opened_is o [] = λ i. record { next = o.next; past = sym (or-false o.past) i; brought = sym (outer_or-none o.brought) i; bound = o.bound }
   where
     or-false : (b : Bool) → (b || false) ≡ b
     or-false true = refl
@@ -52,10 +52,10 @@ opened_is o (l ∷ ls) = ap (within (is_past l.word) l.at) (opened_is o ls) ∙ 
     none-more (Some at) = refl
     none-more None = refl
 
-    by : (past : Bool) → within past l.at (record { next = o.next; past = o.past || has_past ls; brought = outer_or o.brought (brought_in ls) })
-        ≡ record { next = o.next; past = o.past || (past || has_past ls); brought = outer_or o.brought (first_brought (brought_in ls) (past && l.at.brought) l.at.spot) }
-    by true = λ i. record { next = o.next; past = or-true o.past i; brought = one-more o.brought (brought_in ls) l.at.brought i }
-    by false = λ i. record { next = o.next; past = o.past || has_past ls; brought = outer_or o.brought (none-more (brought_in ls) i) }
+    by : (past : Bool) → within past l.at (record { next = o.next; past = o.past || has_past ls; brought = outer_or o.brought (brought_in ls); bound = o.bound })
+        ≡ record { next = o.next; past = o.past || (past || has_past ls); brought = outer_or o.brought (first_brought (brought_in ls) (past && l.at.brought) l.at.spot); bound = o.bound }
+    by true = λ i. record { next = o.next; past = or-true o.past i; brought = one-more o.brought (brought_in ls) l.at.brought i; bound = o.bound }
+    by false = λ i. record { next = o.next; past = o.past || has_past ls; brought = outer_or o.brought (none-more (brought_in ls) i); bound = o.bound }
 
 pub next_stays : (o : Around) (ls : List LinkData) → (opened o ls).next ≡ o.next
 next_stays o ls = ap (λ (a : Around). a.next) (opened_is o ls)
@@ -150,4 +150,4 @@ module _ (ls : List Link) (last : ℕ) (some : 0 < last) (within_list : last ≤
 -- all that is open
 pub opened_by : (ls : List LinkData) (w : Opened) (place : ℕ) → has_past ls ≡ nat_lt place w.past → brought_in ls ≡ (if nat_lt place w.bringing.until then w.bringing.first else None)
     → (o : Around) → opened o ls ≡ opened_at w o place
-opened_by ls w place past brought o = opened_is o ls ∙ (λ i. record { next = o.next; past = o.past || past i; brought = outer_or o.brought (brought i) })
+opened_by ls w place past brought o = opened_is o ls ∙ (λ i. record { next = o.next; past = o.past || past i; brought = outer_or o.brought (brought i); bound = o.bound })

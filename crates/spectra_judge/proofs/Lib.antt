@@ -6,11 +6,5 @@ pub mod Chained
 pub mod Leftover
 pub mod Empty
 pub mod Spans
-pub mod KindsFit
-pub mod Nesting
-pub mod Typed
 pub mod Least
 pub mod Found
-pub mod Lines
-pub mod Banned
-pub mod Bans

@@ -23,7 +23,7 @@ meeting outer inner said = if outer.brought then outer.spot else (if inner.broug
 -- ---- what is open
 
 abbrev pub nothing_open : Around
-nothing_open = record { next = None; past = false; brought = None }
+nothing_open = record { next = None; past = false; brought = None; bound = None }
 
 -- the outer one of two that are open
 abbrev pub outer_of : Option Mark → Mark → Mark
@@ -32,7 +32,11 @@ outer_of None at = at
 
 -- what is open in the operand of a `next`
 abbrev pub under_next : Mark → Around → Around
-under_next at o = record { next = Some (outer_of o.next at); past = o.past; brought = o.brought }
+under_next at o = record o { next = Some (outer_of o.next at) }
+
+-- what is open in the bounds of a quantifier
+abbrev pub in_bound : Mark → Around → Around
+in_bound at o = record o { bound = Some (outer_of o.bound at) }
 
 -- the outermost of the past operators that bodies bring, with one more inside that one brings or doesn't
 abbrev pub first_brought : Option Spot → (here : Bool) → Spot → Option Spot
@@ -42,7 +46,7 @@ first_brought None false at = None
 
 -- what is open in the operands of an operator, which speaks of the past or not
 abbrev pub within : (past : Bool) → Mark → Around → Around
-within true at o = record { next = o.next; past = true; brought = first_brought o.brought at.brought at.spot }
+within true at o = record o { past = true; brought = first_brought o.brought at.brought at.spot }
 within false at o = o
 
 -- ---- faults
@@ -56,9 +60,17 @@ in_next None at = []
 abbrev pub in_past : Around → Spot → List Finding
 in_past o at = fault_if o.past (number_of NextNested) (unwrap_or o.brought at)
 
+-- a part in the bounds of a quantifier, where it may not be
+abbrev pub in_bounds : (banned : Bool) → ℕ → Around → Mark → List Finding
+in_bounds banned number o at = bounded o.bound
+  where
+    bounded : Option Mark → List Finding
+    bounded (Some outer) = fault_if banned number (meeting outer at at)
+    bounded None = []
+
 -- a `next`, and a past operator
 abbrev pub next_faults : Bans → Around → Mark → List Finding
-next_faults bans o at = fault_if bans.next (number_of NextHere) at.spot ++ (in_next o.next at ++ in_past o at.spot)
+next_faults bans o at = fault_if bans.next (number_of NextHere) at.spot ++ (in_next o.next at ++ (in_past o at.spot ++ in_bounds true (number_of NextHere) o at))
 
 abbrev pub past_faults : Bans → (next : Option Mark) → Mark → List Finding
 past_faults bans next at = fault_if bans.past (number_of WrongType) at.spot ++ in_next next at
@@ -69,14 +81,17 @@ shifted banned number (Some next) at = fault_if banned number (meeting next at n
 shifted banned number None at = []
 
 -- a variable, of the system or not
-abbrev pub variable_faults : Bans → (next : Option Mark) → Mark → (system : Bool) → List Finding
-variable_faults bans next at system =
+abbrev pub variable_faults : Bans → Around → Mark → (system : Bool) → List Finding
+variable_faults bans o at system =
     fault_if bans.variable (number_of WrongType) at.spot
-    ++ (fault_if (bans.system && system) (number_of SystemInInitial) at.spot ++ shifted (bans.shifted_system && system) (number_of NextOfSystem) next at)
+    ++ (fault_if (bans.system && system) (number_of SystemInInitial) at.spot
+    ++ (shifted (bans.shifted_system && system) (number_of NextOfSystem) o.next at ++ in_bounds true (number_of WrongType) o at))
 
 -- a parameter of a pattern, and one of its own variables
-abbrev pub parameter_faults : Bans → (next : Option Mark) → Mark → List Finding
-parameter_faults bans next at = fault_if (bans.variable || bans.parameter) (number_of WrongType) at.spot ++ shifted bans.shifted_parameter (number_of NextHere) next at
+abbrev pub parameter_faults : Bans → Around → Mark → List Finding
+parameter_faults bans o at =
+    fault_if (bans.variable || bans.parameter) (number_of WrongType) at.spot
+    ++ (shifted bans.shifted_parameter (number_of NextHere) o.next at ++ in_bounds bans.bound_parameter (number_of WrongType) o at)
 
-abbrev pub own_faults : Bans → Spot → List Finding
-own_faults bans at = fault_if bans.variable (number_of WrongType) at
+abbrev pub own_faults : Bans → Around → Mark → List Finding
+own_faults bans o at = fault_if bans.variable (number_of WrongType) at.spot ++ in_bounds true (number_of WrongType) o at

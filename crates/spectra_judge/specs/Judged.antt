@@ -1,10 +1,12 @@
 -- The kind of an expression, and its faults.
-use Rattle.spectra_trees.specs.Faults.{WideInt, WrongType, number_of}
-use Rattle.std.specs.Prelude.{ℤ, pos, int_le, Bool, not, if◌then◌else◌, List, [], ◌∷◌, ◌++◌, Option, Some, None, get_or, drop}
+use Rattle.spectra_trees.specs.Faults.{OutOfBounds, WideInt, WrongType, number_of}
+use Rattle.std.specs.Prelude.{ℕ, ℤ, pos, int_le, Bool, true, false, not, if◌then◌else◌, List, [], ◌∷◌, ◌++◌, Option, Some, None, get_or, drop}
 use Rattle.spectra_trees.specs.declared.tree.BinaryWord.{BinaryWord}
 use Rattle.spectra_resolved.specs.declared.spot.Spot.{Spot}
 use Rattle.spectra_resolved.specs.declared.spot.Mark.{Mark}
 use Rattle.spectra_resolved.specs.declared.stand.Stand.{Stand}
+use Rattle.spectra_resolved.specs.declared.tree.Extent.{Extent}
+use Rattle.spectra_resolved.specs.declared.tree.Extent.TheVariants as extents
 use Rattle.spectra_resolved.specs.declared.tree.Leaf.{Leaf}
 use Rattle.spectra_resolved.specs.declared.tree.Leaf.TheVariants as leaf
 use Rattle.spectra_resolved.specs.declared.tree.Hole.{Hole}
@@ -16,10 +18,10 @@ use Rattle.spectra_resolved.specs.declared.findings.Finding.{Finding}
 use Rattle.spectra_resolved.specs.Findings.{fault}
 use Rattle.spectra_resolved.specs.Resolving.{fault_of}
 use Rattle.spectra_judge.specs.Findings.{fault_if}
-use Rattle.spectra_judge.specs.Kinds.{Kind, Truth, Whole, OneName, Anything, is_truth, is_whole, is_wide, can_equal, reduced}
+use Rattle.spectra_judge.specs.Kinds.{Kind, Truth, Whole, SomeWhole, OneName, Anything, is_truth, is_whole, is_wide, is_outside, can_equal, reduced}
 use Rattle.spectra_judge.specs.Operators.{takes, gives, is_past, is_past_prefix}
 use Rattle.spectra_judge.specs.Standings.{bans_of, is_wanted}
-use Rattle.spectra_judge.specs.Around.{Around, nothing_open, under_next, within, next_faults, past_faults, variable_faults, parameter_faults, own_faults}
+use Rattle.spectra_judge.specs.Around.{Around, nothing_open, under_next, in_bound, within, next_faults, past_faults, variable_faults, parameter_faults, own_faults}
 use Rattle.spectra_judge.specs.Known.{Known, Setting, is_system, wanted}
 
 -- ---- kinds
@@ -36,6 +38,7 @@ leaf_kind known (leaf.Variable k) = get_or known.variables k Anything
 leaf_kind known (leaf.Parameter k) = get_or known.parameters k Anything
 leaf_kind known (leaf.Own k) = get_or known.own k Anything
 leaf_kind known (leaf.Define k) = get_or known.defines k Anything
+leaf_kind known (leaf.Bound at) = SomeWhole
 leaf_kind known (leaf.Hole h) = hole_kind h
 
 abbrev pub misuse_kind : Misuse → Kind
@@ -57,6 +60,8 @@ abbrev mutual
   form_kind known (Form.Mod t number_at n) = reduced n
   form_kind known (Form.And ts operators) = Truth
   form_kind known (Form.Or ts operators) = Truth
+  form_kind known (Form.Index first n t) = get_or known.variables first Anything
+  form_kind known (Form.Quantified word variable extent low high ts) = Truth
 
 -- ---- the faults of one part
 
@@ -79,20 +84,32 @@ remainder_faults k operator number_at n = wrong (is_whole k) operator ++ (fault_
 abbrev pub operator_faults : Setting → (past : Bool) → (next : Option Mark) → Mark → List Finding
 operator_faults s past next at = if past then past_faults s.bans next at else []
 
-abbrev pub leaf_faults : Setting → (next : Option Mark) → Mark → Leaf → List Finding
-leaf_faults s next at (leaf.Number z) = wide (Whole z z) at.spot
-leaf_faults s next at (leaf.Variable k) = variable_faults s.bans next at (is_system s.known k)
-leaf_faults s next at (leaf.Parameter k) = parameter_faults s.bans next at
-leaf_faults s next at (leaf.Own k) = own_faults s.bans at.spot
-leaf_faults s next at _ = []
+abbrev pub leaf_faults : Setting → Around → Mark → Leaf → List Finding
+leaf_faults s o at (leaf.Number z) = wide (Whole z z) at.spot
+leaf_faults s o at (leaf.Variable k) = variable_faults s.bans o at (is_system s.known k)
+leaf_faults s o at (leaf.Parameter k) = parameter_faults s.bans o at
+leaf_faults s o at (leaf.Own k) = own_faults s.bans o at
+leaf_faults s o at _ = []
 
 -- A misused name is a fault at the name. One behind which there may be no parentheses is read all the same.
-abbrev pub called_faults : Setting → (next : Option Mark) → Mark → Misuse → List Finding
-called_faults s next at (misuse.Called l) = leaf_faults s next at l
-called_faults s next at _ = []
+abbrev pub called_faults : Setting → Around → Mark → Misuse → List Finding
+called_faults s o at (misuse.Called l) = leaf_faults s o at l
+called_faults s o at _ = []
 
-abbrev pub misuse_faults : Setting → (next : Option Mark) → Mark → Misuse → List Finding
-misuse_faults s next at m = fault (fault_of m) at.spot ∷ called_faults s next at m
+abbrev pub misuse_faults : Setting → Around → Mark → Misuse → List Finding
+misuse_faults s o at m = fault (fault_of m) at.spot ∷ called_faults s o at m
+
+-- An index of this kind, with its first token, behind the name of an array of so many elements, the first of which has this
+-- number: the array is read, the index is a whole number, and it is one of an element.
+abbrev pub index_faults : Setting → Around → Mark → (array count : ℕ) → Kind → (first : Spot) → List Finding
+index_faults s o at array n k first =
+    variable_faults s.bans o at (is_system s.known array) ++ (wrong (is_whole k) first ++ fault_if (is_outside n k) (number_of OutOfBounds) at.spot)
+
+-- bounds that have numbers, but no range of them
+abbrev pub is_wrong : Extent → Bool
+is_wrong extents.Open = false
+is_wrong extents.Wrong = true
+is_wrong extents.Right = false
 
 -- ---- the faults of an expression
 
@@ -104,9 +121,9 @@ abbrev mutual
   faults s o (tree first at form) = form_faults s o at form
 
   pub form_faults : Setting → Around → Mark → Form → List Finding
-  form_faults s o at (Form.LeafOf l) = leaf_faults s o.next at l
+  form_faults s o at (Form.LeafOf l) = leaf_faults s o at l
   form_faults s o at (Form.PredicateOf k ts) = argument_faults s o (wanted s.known (Some k)) ts
-  form_faults s o at (Form.MisuseOf m ts) = misuse_faults s o.next at m ++ argument_faults s o (wanted s.known None) ts
+  form_faults s o at (Form.MisuseOf m ts) = misuse_faults s o at m ++ argument_faults s o (wanted s.known None) ts
   form_faults s o at (Form.Next t) = next_faults s.bans o at ++ faults s (under_next at o) t
   form_faults s o at (Form.Prefix word t) =
       operator_faults s (is_past_prefix word) o.next at ++ (faults s (within (is_past_prefix word) at o) t ++ wrong (is_truth (kind_of s.known t)) at.spot)
@@ -116,6 +133,11 @@ abbrev mutual
   form_faults s o at (Form.Mod t number_at n) = faults s o t ++ remainder_faults (kind_of s.known t) at.spot number_at n
   form_faults s o at (Form.And ts operators) = operand_faults s o at.spot (at.spot ∷ operators) ts
   form_faults s o at (Form.Or ts operators) = operand_faults s o at.spot (at.spot ∷ operators) ts
+  form_faults s o at (Form.Index first n t) = faults s o t ++ index_faults s o at first n (kind_of s.known t) (first_of t)
+  form_faults s o at (Form.Quantified word variable extent low high ts) =
+      ((faults s (in_bound at o) low ++ wrong (is_whole (kind_of s.known low)) (first_of low))
+      ++ (faults s (in_bound at o) high ++ wrong (is_whole (kind_of s.known high)) (first_of high)))
+      ++ (fault_if (is_wrong extent) (number_of WideInt) at.spot ++ copy_faults s o ts)
 
   -- Operands of a conjunction or disjunction, each with the operator before it, and the first one with the operator behind it.
   pub operand_faults : Setting → Around → (at : Spot) → (operators : List Spot) → ResolvedTrees → List Finding
@@ -123,11 +145,22 @@ abbrev mutual
   operand_faults s o at operators (ResolvedTrees.one_more t ts) =
       faults s o t ++ (wrong (is_truth (kind_of s.known t)) (get_or operators 0 at) ++ operand_faults s o at (drop 1 operators) ts)
 
+  -- the copies of a quantifier's body, each a truth value
+  pub copy_faults : Setting → Around → ResolvedTrees → List Finding
+  copy_faults s o ResolvedTrees.none = []
+  copy_faults s o (ResolvedTrees.one_more t ts) = faults s o t ++ (wrong (is_truth (kind_of s.known t)) (first_of t) ++ copy_faults s o ts)
+
   -- arguments for parameters of these kinds
   pub argument_faults : Setting → Around → (kinds : List Kind) → ResolvedTrees → List Finding
   argument_faults s o kinds ResolvedTrees.none = []
   argument_faults s o kinds (ResolvedTrees.one_more t ts) =
       faults s o t ++ (wrong (can_equal (get_or kinds 0 Anything) (kind_of s.known t)) (first_of t) ++ argument_faults s o (drop 1 kinds) ts)
+
+-- those of both bounds of a quantifier, which are whole numbers
+abbrev pub bound_faults : Setting → Around → Mark → (low high : ResolvedTree) → List Finding
+bound_faults s o at low high =
+    (faults s (in_bound at o) low ++ wrong (is_whole (kind_of s.known low)) (first_of low))
+    ++ (faults s (in_bound at o) high ++ wrong (is_whole (kind_of s.known high)) (first_of high))
 
 -- every fault of an expression where it stands
 abbrev pub faults_of : Known → Stand → ResolvedTree → List Finding

@@ -1,5 +1,5 @@
 -- What an expression gives: its kind, and the span of a whole-number expression.
-use Rattle.std.specs.Prelude.{ℕ, ◌^◌, ◌==◌, ℤ, pos, neg_ℤ, ◌+ℤ◌, ◌-ℤ◌, ◌*ℤ◌, int_lt, Bool, true, false, not, ◌||◌, if◌then◌else◌, List}
+use Rattle.std.specs.Prelude.{ℕ, suc, ◌^◌, ◌==◌, ℤ, pos, neg_ℤ, ◌+ℤ◌, ◌-ℤ◌, ◌*ℤ◌, int_lt, int_le, Bool, true, false, not, ◌||◌, if◌then◌else◌, List}
 use Rattle.std.specs.List.{list_any}
 use Rattle.std.specs.Int.{int_min, int_max, saturate_signed, w64}
 use Rattle.spec_model.specs.Values.{same_names}
@@ -52,6 +52,12 @@ is_far z = int_lt z (neg_ℤ (pos (10 ^ 12))) || int_lt (pos (10 ^ 12)) z
 abbrev pub is_wide : Kind → Bool
 is_wide (Whole low high) = is_far low || (is_far high || not (int_lt (high -ℤ low) (pos 4096)))
 is_wide _ = false
+
+-- A span that isn't within the numbers of so many elements. Of a span that isn't known, and of an array whose length isn't,
+-- nothing is said.
+abbrev pub is_outside : ℕ → Kind → Bool
+is_outside (suc n) (Whole low high) = int_lt low (pos 0) || not (int_le high (pos n))
+is_outside _ _ = false
 
 -- the least interval with all sums, differences and products of the ends
 abbrev pub added : Kind → Kind → Kind

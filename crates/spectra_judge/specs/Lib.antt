@@ -9,6 +9,5 @@ pub mod Known
 pub mod Judged
 pub mod Chains
 pub mod OpenedViews
-pub mod Erased
 pub mod PutIn
 pub mod Laws

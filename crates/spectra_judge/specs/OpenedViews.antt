@@ -15,4 +15,5 @@ opened_at w around place =
       next = around.next;
       past = around.past || nat_lt place w.past;
       brought = outer_or around.brought (if nat_lt place w.bringing.until then w.bringing.first else None);
+      bound = around.bound;
     }

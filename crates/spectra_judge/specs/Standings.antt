@@ -6,7 +6,7 @@ use Rattle.spectra_judge.specs.Kinds.{Kind, is_truth, is_whole}
 pub use Rattle.spectra_judge.specs.declared.standing.Bans.{Bans}
 
 abbrev pub no_bans : Bans
-no_bans = record { next = false; past = false; variable = false; parameter = false; system = false; shifted_system = false; shifted_parameter = false }
+no_bans = record { next = false; past = false; variable = false; parameter = false; system = false; shifted_system = false; shifted_parameter = false; bound_parameter = false }
 
 -- what may not stand there
 abbrev pub bans_of : Stand → Bans
@@ -18,9 +18,9 @@ bans_of stand.Recurring = record no_bans { next = true }
 bans_of stand.Bound = record no_bans { next = true; variable = true }
 bans_of stand.Atom = record no_bans { next = true }
 bans_of stand.Argument = record no_bans { next = true }
-bans_of stand.PatternInitial = record no_bans { next = true; past = true; parameter = true }
-bans_of stand.PatternSafety = record no_bans { past = true; shifted_parameter = true }
-bans_of stand.PatternRecurring = record no_bans { next = true; past = true }
+bans_of stand.PatternInitial = record no_bans { next = true; past = true; parameter = true; bound_parameter = true }
+bans_of stand.PatternSafety = record no_bans { past = true; shifted_parameter = true; bound_parameter = true }
+bans_of stand.PatternRecurring = record no_bans { next = true; past = true; bound_parameter = true }
 bans_of stand.Define = no_bans
 bans_of stand.Predicate = no_bans
 

@@ -1,17 +1,18 @@
 //! What is open around a part of an expression, and where a fault of two parts stands.
 
 ghost use Rattle.std.specs.Prelude.{◌≡◌};
-ghost use Rattle.spectra_judge.specs.Around.{comes_before as comes_before_lem, meeting as meeting_lem, nothing_open as nothing_open_lem, outer_of as outer_of_lem, under_next as under_next_lem, first_brought as first_brought_lem, within as within_lem};
+ghost use Rattle.spectra_judge.specs.Around.{comes_before as comes_before_lem, meeting as meeting_lem, nothing_open as nothing_open_lem, outer_of as outer_of_lem, in_bound as in_bound_lem, under_next as under_next_lem, first_brought as first_brought_lem, within as within_lem};
 
 use spectra_resolved::spot::{Mark, Spot};
 
 /// What is open around a part: the outermost `next`, whether there is a past operator, and the place of the outermost one of
-/// those that bodies bring.
+/// those that bodies bring; and the outermost quantifier in whose bounds it stands.
 #[derive(Clone, Copy)]
 pub struct Around {
     pub next: Option<Mark>,
     pub past: bool,
     pub brought: Option<Spot>,
+    pub bound: Option<Mark>,
 }
 
 /// Whether a place comes before another.
@@ -48,6 +49,7 @@ pub fn nothing_open() -> Around
         next: None,
         past: false,
         brought: None,
+        bound: None,
     }
 }
 
@@ -62,6 +64,7 @@ fn outer_of(outer: Option<Mark>, at: Mark) -> Mark
 }
 
 /// What is open in the operand of a `next`.
+#[inline(never)]
 pub fn under_next(at: Mark, around: Around) -> Around
     ensures { result ≡ under_next_lem at around }
 {
@@ -69,6 +72,19 @@ pub fn under_next(at: Mark, around: Around) -> Around
         next: Some(outer_of(around.next, at)),
         past: around.past,
         brought: around.brought,
+        bound: around.bound,
+    }
+}
+
+/// What is open in the bounds of a quantifier.
+pub fn in_bound(at: Mark, around: Around) -> Around
+    ensures { result ≡ in_bound_lem at around }
+{
+    Around {
+        next: around.next,
+        past: around.past,
+        brought: around.brought,
+        bound: Some(outer_of(around.bound, at)),
     }
 }
 
@@ -83,6 +99,7 @@ fn first_brought(outer: Option<Spot>, at: Mark) -> Option<Spot>
 }
 
 /// What is open in the operands of an operator, which speaks of the past or not.
+#[inline(never)]
 pub fn within(past: bool, at: Mark, around: Around) -> Around
     ensures { result ≡ within_lem past at around }
 {
@@ -91,6 +108,7 @@ pub fn within(past: bool, at: Mark, around: Around) -> Around
             next: around.next,
             past: true,
             brought: first_brought(around.brought, at),
+            bound: around.bound,
         }
     } else {
         around

@@ -54,6 +54,7 @@ impl Opened {
             next: around.next,
             past: around.past || place < self.past,
             brought: self.brought_at(around.brought, place),
+            bound: around.bound,
         }
     }
 }

@@ -1,9 +1,9 @@
 //! What an expression gives: its kind, and the span of a whole-number expression.
 
-ghost use Rattle.std.specs.Prelude.{◌≡◌, ◌<◌, ◌==◌};
+ghost use Rattle.std.specs.Prelude.{◌≡◌, ◌<◌, ◌==◌, not, pos, int_lt};
 ghost use Rattle.std.specs.List.{list_any};
 ghost use Rattle.spec_model.specs.Typing.{same_names as same_names_lem};
-ghost use Rattle.spectra_judge.specs.Kinds.{Whole, is_truth as is_truth_lem, is_whole as is_whole_lem, can_equal as can_equal_lem, is_far as is_far_lem, is_wide as is_wide_lem, added, subtracted, least_of, greatest_of, multiplied, reduced as reduced_lem};
+ghost use Rattle.spectra_judge.specs.Kinds.{Whole, is_truth as is_truth_lem, is_whole as is_whole_lem, can_equal as can_equal_lem, is_far as is_far_lem, is_wide as is_wide_lem, is_outside as is_outside_lem, added, subtracted, least_of, greatest_of, multiplied, reduced as reduced_lem};
 ghost use Rattle.spectra_judge.specs.KindViews.{kind_data};
 
 /// Truth values; whole numbers from a least to a greatest one; whole numbers whose span isn't known; names of a list; one
@@ -97,6 +97,25 @@ pub fn is_wide(kind: Kind<'_>) -> bool
 {
     match kind {
         Kind::Whole(low, high) => is_far(low) || is_far(high) || high - low >= 4096,
+        Kind::Truth | Kind::SomeWhole | Kind::NameOf(_) | Kind::OneName(_) | Kind::Anything =>
+            false,
+    }
+}
+
+// Whether a number is past those of so many elements.
+fn is_past_end(end: i64, count: usize) -> bool
+    ensures { result ≡ (not (int_lt end (pos count))) }
+{
+    end >= 0 && end.unsigned_abs() as usize >= count
+}
+
+/// Whether a span isn't within the numbers of so many elements. Of a span that isn't known, and of an array whose length isn't,
+/// nothing is said.
+pub fn is_outside(count: usize, kind: Kind<'_>) -> bool
+    ensures { result ≡ is_outside_lem count (kind_data kind.entry) }
+{
+    match kind {
+        Kind::Whole(low, high) => { count > 0 && (low < 0 || is_past_end(high, count)) }
         Kind::Truth | Kind::SomeWhole | Kind::NameOf(_) | Kind::OneName(_) | Kind::Anything =>
             false,
     }

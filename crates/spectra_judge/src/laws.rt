@@ -1,28 +1,8 @@
-//! Laws over the definitions alone. These functions do nothing: their contracts are the laws.
+//! A law over the definitions alone. This function does nothing: its contract is the law.
 
-ghost use Rattle.spectra_judge.specs.Laws.{FirstIsLeast, LineIsTyped, PatternIsTyped, LineKeepsBans, PatternKeepsBans};
+ghost use Rattle.spectra_judge.specs.Laws.{FirstIsLeast};
 
 /// The first of several faults is one of them that no other one comes before, and there is none exactly where there are none.
 pub fn first_is_least()
     ensures { FirstIsLeast }
-{}
-
-/// An expression of a line in which everything is put in, and that has no fault where it stands, has a typed formula.
-pub fn line_is_typed()
-    ensures { LineIsTyped }
-{}
-
-/// So has an expression of a pattern's line.
-pub fn pattern_is_typed()
-    ensures { PatternIsTyped }
-{}
-
-/// Nothing that is banned where a line's expression stands is in its formula.
-pub fn line_keeps_bans()
-    ensures { LineKeepsBans }
-{}
-
-/// So it is with an expression of a pattern's line.
-pub fn pattern_keeps_bans()
-    ensures { PatternKeepsBans }
 {}

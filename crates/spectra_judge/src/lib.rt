@@ -14,6 +14,7 @@ pub mod chains;
 pub mod findings;
 pub mod judging;
 pub mod kind;
+pub mod kinding;
 pub mod known;
 pub mod laws;
 mod leaves;

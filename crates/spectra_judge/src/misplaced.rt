@@ -4,7 +4,7 @@ ghost use Rattle.std.specs.Prelude.{◌≡◌};
 ghost use Rattle.spectra_resolved.specs.Findings.{with_faults};
 ghost use Rattle.spectra_resolved.specs.Reports.{found_in};
 ghost use Rattle.spectra_judge.specs.KindViews.{setting_data};
-ghost use Rattle.spectra_judge.specs.Around.{in_next, in_past, next_faults, past_faults, shifted, variable_faults, parameter_faults, own_faults};
+ghost use Rattle.spectra_judge.specs.Around.{in_next, in_past, in_bounds, next_faults, past_faults, shifted, variable_faults, parameter_faults, own_faults};
 ghost use Rattle.spectra_judge.specs.Judged.{operator_faults};
 
 use crate::around::{Around, meeting};
@@ -34,6 +34,16 @@ fn report_in_past(findings: &mut Findings, around: Around, at: Spot)
     report_if(findings, around.past, NEXT_NESTED, first);
 }
 
+// Reports a part in the bounds of a quantifier, where it may not be.
+fn report_in_bounds(findings: &mut Findings, banned: bool, number: u8, around: Around, at: Mark)
+    ensures { found_in findings.new ≡ with_faults (found_in findings.old) (in_bounds banned number around at) }
+{
+    match around.bound {
+        Some(outer) => report_if(findings, banned, number, meeting(outer, at, at)),
+        None => {}
+    }
+}
+
 #[tactic(auto, using(spectra_resolved::proofs::First::with_faults_append))]
 /// Reports what is wrong with a `next`, its operand apart.
 #[inline(never)]
@@ -43,6 +53,7 @@ pub fn report_next(findings: &mut Findings, setting: &Setting<'_, '_>, around: A
     report_if(findings, setting.bans.next, NEXT_HERE, at.spot);
     report_in_next(findings, around.next, at);
     report_in_past(findings, around, at.spot);
+    report_in_bounds(findings, true, NEXT_HERE, around, at);
 }
 
 #[tactic(auto, using(spectra_resolved::proofs::First::with_faults_append))]
@@ -89,24 +100,27 @@ fn report_shifted(findings: &mut Findings, banned: bool, number: u8, next: Optio
 pub fn report_variable(
     findings: &mut Findings,
     setting: &Setting<'_, '_>,
-    next: Option<Mark>,
+    around: Around,
     at: Mark,
     system: bool,
 )
-    ensures { found_in findings.new ≡ with_faults (found_in findings.old) (variable_faults setting.now.bans next at system) }
+    ensures { found_in findings.new ≡ with_faults (found_in findings.old) (variable_faults setting.now.bans around at system) }
 {
     let bans = setting.bans;
     report_if(findings, bans.variable, WRONG_TYPE, at.spot);
     report_if(findings, bans.system && system, SYSTEM_IN_INITIAL, at.spot);
     let banned = bans.shifted_system && system;
-    report_shifted(findings, banned, NEXT_OF_SYSTEM, next, at);
+    report_shifted(findings, banned, NEXT_OF_SYSTEM, around.next, at);
+    report_in_bounds(findings, true, WRONG_TYPE, around, at);
 }
 
+#[tactic(auto, using(spectra_resolved::proofs::First::with_faults_append))]
 /// Reports a pattern's own variable that may not be read.
-pub fn report_own(findings: &mut Findings, setting: &Setting<'_, '_>, at: Spot)
-    ensures { found_in findings.new ≡ with_faults (found_in findings.old) (own_faults setting.now.bans at) }
+pub fn report_own(findings: &mut Findings, setting: &Setting<'_, '_>, around: Around, at: Mark)
+    ensures { found_in findings.new ≡ with_faults (found_in findings.old) (own_faults setting.now.bans around at) }
 {
-    report_if(findings, setting.bans.variable, WRONG_TYPE, at);
+    report_if(findings, setting.bans.variable, WRONG_TYPE, at.spot);
+    report_in_bounds(findings, true, WRONG_TYPE, around, at);
 }
 
 #[tactic(auto, using(spectra_resolved::proofs::First::with_faults_append))]
@@ -114,10 +128,10 @@ pub fn report_own(findings: &mut Findings, setting: &Setting<'_, '_>, at: Spot)
 pub fn report_parameter(
     findings: &mut Findings,
     setting: &Setting<'_, '_>,
-    next: Option<Mark>,
+    around: Around,
     at: Mark,
 )
-    ensures { found_in findings.new ≡ with_faults (found_in findings.old) (parameter_faults setting.now.bans next at) }
+    ensures { found_in findings.new ≡ with_faults (found_in findings.old) (parameter_faults setting.now.bans around at) }
 {
     let bans = setting.bans;
     report_if(
@@ -126,5 +140,6 @@ pub fn report_parameter(
         WRONG_TYPE,
         at.spot,
     );
-    report_shifted(findings, bans.shifted_parameter, NEXT_HERE, next, at);
+    report_shifted(findings, bans.shifted_parameter, NEXT_HERE, around.next, at);
+    report_in_bounds(findings, bans.bound_parameter, WRONG_TYPE, around, at);
 }

@@ -7,7 +7,8 @@ ghost use Rattle.spectra_judge.specs.Standings.{no_bans as no_bans_lem, bans_of 
 use crate::kind::{Kind, is_truth, is_whole};
 use spectra_resolved::stand::Stand;
 
-/// What may not stand in an expression. The last two speak of what is read under a `next`.
+/// What may not stand in an expression. Of the last three, two speak of what is read under a `next`, and one of a parameter in
+/// the bounds of a quantifier.
 #[derive(Clone, Copy)]
 pub struct Bans {
     pub next: bool,
@@ -17,6 +18,7 @@ pub struct Bans {
     pub system: bool,
     pub shifted_system: bool,
     pub shifted_parameter: bool,
+    pub bound_parameter: bool,
 }
 
 // Nothing is banned.
@@ -31,6 +33,7 @@ fn no_bans() -> Bans
         system: false,
         shifted_system: false,
         shifted_parameter: false,
+        bound_parameter: false,
     }
 }
 
@@ -58,14 +61,17 @@ pub fn bans_of(stand: Stand) -> Bans
             bans.next = true;
             bans.past = true;
             bans.parameter = true;
+            bans.bound_parameter = true;
         }
         Stand::PatternSafety => {
             bans.past = true;
             bans.shifted_parameter = true;
+            bans.bound_parameter = true;
         }
         Stand::PatternRecurring => {
             bans.next = true;
             bans.past = true;
+            bans.bound_parameter = true;
         }
         Stand::Define => {}
         Stand::Predicate => {}

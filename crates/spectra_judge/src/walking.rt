@@ -6,27 +6,31 @@ ghost use Rattle.spectra_resolved.specs.Chained.{chained, trees};
 ghost use Rattle.spectra_resolved.specs.Views.{resolved_data, link_data, form_data};
 ghost use Rattle.spectra_resolved.specs.Findings.{with_faults};
 ghost use Rattle.spectra_resolved.specs.Reports.{found_in};
-ghost use Rattle.spectra_judge.specs.Kinds.{Truth, is_truth as is_truth_lem, can_equal as can_equal_lem, reduced as reduced_lem};
+ghost use Rattle.spectra_judge.specs.Kinds.{Truth, is_truth as is_truth_lem, is_whole as is_whole_lem, can_equal as can_equal_lem, reduced as reduced_lem};
 ghost use Rattle.spectra_judge.specs.KindViews.{kind_data, setting_data};
 ghost use Rattle.spectra_judge.specs.Operators.{gives as gives_lem};
 ghost use Rattle.spectra_judge.specs.Known.{wanted};
-ghost use Rattle.spectra_judge.specs.Judged.{kind_of, form_kind, wrong, first_of as first_of_lem, faults, form_faults, operand_faults, argument_faults};
+ghost use Rattle.spectra_judge.specs.Findings.{fault_if};
+ghost use Rattle.spectra_judge.specs.Around.{in_bound as in_bound_lem};
+ghost use Rattle.spectra_judge.specs.Judged.{kind_of, form_kind, wrong, first_of as first_of_lem, faults, form_faults, is_wrong as is_wrong_lem, operand_faults, bound_faults, copy_faults, argument_faults};
 ghost use Rattle.spectra_judge.specs.OpenedViews.{opened_at};
 ghost use Rattle.spectra_judge.specs.Chains.{opened as opened_lem, link_faults, chain_kind, chain_faults};
 
-use crate::around::{Around, under_next, within};
+use crate::around::{Around, in_bound, under_next, within};
 use crate::chains::{Opened, first_of, opened_in, operator_at};
-use crate::kind::{Kind, can_equal, is_truth, reduced};
-use crate::known::Setting;
+use crate::findings::report_if;
+use crate::kind::{Kind, can_equal, is_truth, is_whole, reduced};
+use crate::known::{Setting, kind_at};
 use crate::leaves::{
-    leaf_kind, misuse_kind, report_binary, report_leaf, report_misuse, report_remainder,
-    report_wrong,
+    is_wrong, leaf_kind, misuse_kind, report_binary, report_index, report_leaf, report_misuse,
+    report_remainder, report_wrong,
 };
 use crate::misplaced::{report_next, report_operator};
 use crate::operators::{gives, is_past, is_past_prefix};
 use spectra_resolved::findings::Findings;
 use spectra_resolved::spot::{Mark, Spot};
-use spectra_resolved::tree::{Link, Resolved, Shape};
+use spectra_resolved::tree::{Extent, Link, Resolved, Shape};
+use spectra_trees::faults::WIDE_INT;
 use spectra_trees::tree::PrefixWord;
 
 /// The kind of an expression, whose faults are reported.
@@ -61,7 +65,7 @@ fn walk_shape<'a>(
 {
     match shape {
         Shape::Leaf(leaf) => {
-            report_leaf(findings, setting, around.next, at, *leaf);
+            report_leaf(findings, setting, around, at, *leaf);
             leaf_kind(&setting.known, *leaf)
         }
         Shape::Predicate(number, ts) => {
@@ -69,7 +73,7 @@ fn walk_shape<'a>(
             Kind::Truth
         }
         Shape::Misuse(misuse, ts) => {
-            report_misuse(findings, setting, around.next, at, *misuse);
+            report_misuse(findings, setting, around, at, *misuse);
             walk_arguments(findings, setting, around, None, ts);
             misuse_kind(*misuse)
         }
@@ -87,6 +91,12 @@ fn walk_shape<'a>(
         Shape::Or(ts, operators) => walk_operands(
             findings, setting, around, at.spot, ts, operators,
         ),
+        Shape::Index(array, count, t) => {
+            walk_index(findings, setting, around, at, *array, *count, t)
+        }
+        Shape::Quantified(_, _, extent, low, high, copies) => {
+            walk_quantified(findings, setting, around, at, *extent, low, high, copies)
+        }
     }
 }
 
@@ -132,6 +142,123 @@ fn walk_remainder<'a>(
     let kind = walk(findings, setting, around, t);
     report_remainder(findings, kind, at.spot, number_at, n);
     reduced(n)
+}
+
+#[tactic(auto, using(spectra_resolved::proofs::First::with_faults_append))]
+// The kind of an array's element.
+#[cycle(walking)]
+#[inline(never)]
+fn walk_index<'a>(
+    findings: &mut Findings,
+    setting: &Setting<'_, 'a>,
+    around: Around,
+    at: Mark,
+    array: usize,
+    count: usize,
+    t: &Resolved,
+) -> Kind<'a>
+    ensures kind { kind_data result ≡ form_kind (setting_data setting.now).known (Form.Index array count (resolved_data t.now)) }
+    ensures found { found_in findings.new ≡ with_faults (found_in findings.old) (form_faults (setting_data setting.now) around at (Form.Index array count (resolved_data t.now))) }
+{
+    let kind = walk(findings, setting, around, t);
+    report_index(
+        findings,
+        setting,
+        around,
+        at,
+        array,
+        count,
+        kind,
+        first_of(t),
+    );
+    kind_at(setting.known.variables, array)
+}
+
+#[tactic(auto, using(spectra_resolved::proofs::First::with_faults_append))]
+// A bound of a quantifier that stands at a place.
+#[cycle(walking)]
+#[inline(never)]
+fn walk_bound(
+    findings: &mut Findings,
+    setting: &Setting<'_, '_>,
+    around: Around,
+    at: Mark,
+    t: &Resolved,
+)
+    ensures { found_in findings.new ≡ with_faults (found_in findings.old) (faults (setting_data setting.now) (in_bound_lem at around) (resolved_data t.now)
+        ++ wrong (is_whole_lem (kind_of (setting_data setting.now).known (resolved_data t.now))) (first_of_lem (resolved_data t.now))) }
+{
+    let kind = walk(findings, setting, in_bound(at, around), t);
+    report_wrong(findings, is_whole(kind), first_of(t));
+}
+
+#[tactic(auto, using(spectra_resolved::proofs::First::with_faults_append))]
+// Both bounds of a quantifier.
+#[cycle(walking)]
+#[inline(never)]
+fn walk_bounds(
+    findings: &mut Findings,
+    setting: &Setting<'_, '_>,
+    around: Around,
+    at: Mark,
+    low: &Resolved,
+    high: &Resolved,
+)
+    ensures { found_in findings.new ≡ with_faults (found_in findings.old) (bound_faults (setting_data setting.now) around at (resolved_data low.now) (resolved_data high.now)) }
+{
+    walk_bound(findings, setting, around, at, low);
+    walk_bound(findings, setting, around, at, high);
+}
+
+#[tactic(auto, using(spectra_resolved::proofs::First::with_faults_append))]
+// The kind of a quantifier.
+#[cycle(walking)]
+#[inline(never)]
+fn walk_quantified<'a>(
+    findings: &mut Findings,
+    setting: &Setting<'_, 'a>,
+    around: Around,
+    at: Mark,
+    extent: Extent,
+    low: &Resolved,
+    high: &Resolved,
+    copies: &[Resolved],
+) -> Kind<'a>
+    ensures kind { kind_data result ≡ Truth }
+    ensures found { found_in findings.new ≡ with_faults (found_in findings.old) (bound_faults (setting_data setting.now) around at (resolved_data low.now) (resolved_data high.now)
+        ++ (fault_if (is_wrong_lem extent) WIDE_INT at.spot ++ copy_faults (setting_data setting.now) around (trees (map resolved_data copies.now)))) }
+{
+    walk_bounds(findings, setting, around, at, low, high);
+    report_if(findings, is_wrong(extent), WIDE_INT, at.spot);
+    walk_copies(findings, setting, around, copies);
+    Kind::Truth
+}
+
+// The copies of a quantifier's body.
+#[cycle(walking)]
+#[inline(never)]
+fn walk_copies(
+    findings: &mut Findings,
+    setting: &Setting<'_, '_>,
+    around: Around,
+    copies: &[Resolved],
+)
+    ensures { found_in findings.new ≡ with_faults (found_in findings.old) (copy_faults (setting_data setting.now) around (trees (map resolved_data copies.now))) }
+{
+    for t in copies {
+        walk_copy(findings, setting, around, t);
+    }
+}
+
+#[tactic(auto, using(spectra_resolved::proofs::First::with_faults_append))]
+// One of them.
+#[cycle(walking)]
+fn walk_copy(findings: &mut Findings, setting: &Setting<'_, '_>, around: Around, t: &Resolved)
+    ensures { found_in findings.new ≡ with_faults (found_in findings.old) (faults (setting_data setting.now) around (resolved_data t.now)
+        ++ wrong (is_truth_lem (kind_of (setting_data setting.now).known (resolved_data t.now))) (first_of_lem (resolved_data t.now))) }
+{
+    let kind = walk(findings, setting, around, t);
+    report_wrong(findings, is_truth(kind), first_of(t));
 }
 
 // The kind of a chain of operators behind their first operand.

@@ -17,13 +17,13 @@ pub const SIGNS: [&str; 27] = [
 pub const RESERVED: [&[&str]; 17] = [
     &[],
     &["G", "Y", "O", "H", "S", "T"],
-    &["GF", "or"],
+    &["GF", "or", "in"],
     &[
         "env", "sys", "aux", "Int", "var", "asm", "gar", "ini", "alw", "not", "and", "iff", "mod",
     ],
     &["spec", "type", "trig", "next", "true", "PREV", "ONCE"],
     &["trans", "alwEv", "false", "SINCE"],
-    &["module", "import", "define", "always"],
+    &["module", "import", "define", "always", "forall", "exists"],
     &["boolean", "pattern", "monitor", "implies"],
     &[],
     &["predicate", "guarantee", "initially", "TRIGGERED"],

@@ -1,6 +1,7 @@
--- The expressions of lines: what is left of them in loops, and the nodes of several.
-use Rattle.std.proofs.Common.{◌≡◌, ℕ, ◌+◌, ◌<◌, List, [], ◌∷◌, ◌++◌, length, map, drop, get_or, refl, sym, ap, ◌∙◌, append_assoc, arith}
+-- The expressions of lines: what is left of them in loops, and whether they fit with everything put in.
+use Rattle.std.proofs.Common.{◌≡◌, ℕ, ◌+◌, ◌<◌, Bool, true, ◌&&◌, List, [], ◌∷◌, ◌++◌, length, map, drop, get_or, refl, sym, ap, ◌∙◌, append_assoc}
 use Rattle.std.specs.Borrow.{Bor}
+use Rattle.std.proofs.lemmas.List.Folds.{list_all-append}
 use Rattle.spectra_resolved.specs.declared.tree.Resolved.{Resolved}
 use Rattle.spectra_resolved.specs.declared.tree.Regex.{Regex}
 use Rattle.spectra_resolved.specs.declared.tree.Times.{Times}
@@ -8,9 +9,8 @@ use Rattle.spectra_resolved.specs.Resolved.{ResolvedTree, ResolvedRegex, Repetit
 use Rattle.spectra_resolved.specs.Chained.{regexes, repeated}
 use Rattle.spectra_resolved.specs.Views.{resolved_data, regex_data}
 use Rattle.spectra_judge.proofs.Lists.{mapped_left}
-use Rattle.spectra_elaboration.specs.Nodes.{tree_nodes}
 use Rattle.spectra_lines.specs.Contents.{brackets_in, brackets_of_each, Facts, regex_put, each_regex_put}
-use Rattle.spectra_lines.specs.Limits.{nodes_of}
+use Rattle.spectra_lines.specs.Limits.{fits, all_fit}
 use Rattle.spectra_lines.specs.Views.{trees_data}
 
 -- ---- regular expressions
@@ -30,14 +30,7 @@ brackets_left old rs k r below is =
     append_assoc old (brackets_in (regex_data r)) (brackets_of_each (regexes (map regex_data (drop (k + 1) rs))))
     ∙ sym (ap (λ xs. old ++ brackets_of_each (regexes xs)) (mapped_left regex_data rs k r below is))
 
--- ---- nodes
-
-pub nodes_append : (ts us : List ResolvedTree) → nodes_of (ts ++ us) ≡ nodes_of ts + nodes_of us
-nodes_append [] us = omega arith
-nodes_append (t ∷ ts) us = let rest = nodes_append ts us in omega (arith, rest)
-
-pub one_node : (t : ResolvedTree) → nodes_of (t ∷ []) ≡ tree_nodes t
-one_node t = omega arith
+-- ---- lists
 
 -- several regular expressions as a list
 abbrev pub regex_list : ResolvedRegexes → List ResolvedRegex
@@ -65,10 +58,21 @@ put_more f old rs k r made below is put =
     ∙ append_assoc old (regex_put f (regex_data r) ∷ []) (regex_list (each_regex_put f (regexes (map regex_data (drop (k + 1) rs)))))
     ∙ ap (λ xs. old ++ regex_list (each_regex_put f (regexes xs))) (sym (mapped_left regex_data rs k r below is))
 
--- what is left needs room for the next one and for what is left behind it
-pub nodes_more : (f : Facts) (rs : List Regex) (k : ℕ) (r : Regex) → k < length rs → r ≡ get_or rs k r →
-    nodes_of (brackets_of_each (each_regex_put f (regexes (map regex_data (drop k rs)))))
-    ≡ nodes_of (brackets_in (regex_put f (regex_data r))) + nodes_of (brackets_of_each (each_regex_put f (regexes (map regex_data (drop (k + 1) rs)))))
-nodes_more f rs k r below is =
-    ap (λ xs. nodes_of (brackets_of_each (each_regex_put f (regexes xs)))) (mapped_left regex_data rs k r below is)
-    ∙ nodes_append (brackets_in (regex_put f (regex_data r))) (brackets_of_each (each_regex_put f (regexes (map regex_data (drop (k + 1) rs)))))
+-- ---- what is put in fits
+
+and_first : (a b : Bool) → a ≡ true → b ≡ (a && b)
+and_first a b e = λ i. sym e i && b
+
+-- what is left fits where the next one does, and what is left behind it
+regexes_fit : (f : Facts) (rs : List Regex) (k : ℕ) (r : Regex) → k < length rs → r ≡ get_or rs k r →
+    all_fit (brackets_of_each (each_regex_put f (regexes (map regex_data (drop k rs)))))
+    ≡ (all_fit (brackets_in (regex_put f (regex_data r))) && all_fit (brackets_of_each (each_regex_put f (regexes (map regex_data (drop (k + 1) rs))))))
+regexes_fit f rs k r below is =
+    ap (λ xs. all_fit (brackets_of_each (each_regex_put f (regexes xs)))) (mapped_left regex_data rs k r below is)
+    ∙ list_all-append fits (brackets_in (regex_put f (regex_data r))) (brackets_of_each (each_regex_put f (regexes (map regex_data (drop (k + 1) rs)))))
+
+pub regex_fits_too : (f : Facts) (rs : List Regex) (k : ℕ) (r : Regex) → k < length rs → r ≡ get_or rs k r → all_fit (brackets_in (regex_put f (regex_data r))) ≡ true →
+    all_fit (brackets_of_each (each_regex_put f (regexes (map regex_data (drop (k + 1) rs))))) ≡ all_fit (brackets_of_each (each_regex_put f (regexes (map regex_data (drop k rs)))))
+regex_fits_too f rs k r below is fit =
+    and_first (all_fit (brackets_in (regex_put f (regex_data r)))) (all_fit (brackets_of_each (each_regex_put f (regexes (map regex_data (drop (k + 1) rs)))))) fit
+    ∙ sym (regexes_fit f rs k r below is)

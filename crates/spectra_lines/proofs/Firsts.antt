@@ -10,6 +10,7 @@ use Rattle.spectra_resolved.specs.Resolved.{ResolvedRegex}
 use Rattle.spectra_patterns.specs.Patterns.{is_empty}
 use Rattle.spectra_patterns.specs.Triggers.{trigger_of, is_right}
 use Rattle.spectra_patterns.specs.TriggerParts.{meant_by}
+use Rattle.spectra_judge.specs.Known.{Known}
 use Rattle.spectra_judge.proofs.Found.{no_faults}
 
 pub none_empty : (fs : List Finding) (first : Option Finding) → first ≡ first_of_faults fs → is_none first ≡ is_empty fs
@@ -25,14 +26,14 @@ none_seen (Some f) true is = absurd (false≢true (sym is))
 none_seen (Some f) false is = refl
 
 -- a trigger is right where one is made
-pub right_is : (cause effect : ResolvedRegex) (made : Option Trigger) → option_map trigger_data made ≡ meant_by cause effect → is_some made ≡ is_right cause effect
-right_is cause effect (Some t) is = by (is_right cause effect) is
+pub right_is : (known : Known) (cause effect : ResolvedRegex) (made : Option Trigger) → option_map trigger_data made ≡ meant_by known cause effect → is_some made ≡ is_right known cause effect
+right_is known cause effect (Some t) is = by (is_right known cause effect) is
   where
-    by : (b : Bool) → Some (trigger_data t) ≡ (if b then Some (trigger_of cause effect) else None) → true ≡ b
+    by : (b : Bool) → Some (trigger_data t) ≡ (if b then Some (trigger_of known cause effect) else None) → true ≡ b
     by true e = refl
     by false e = absurd (cc)
-right_is cause effect None is = by (is_right cause effect) is
+right_is known cause effect None is = by (is_right known cause effect) is
   where
-    by : (b : Bool) → None ≡ (if b then Some (trigger_of cause effect) else None) → false ≡ b
+    by : (b : Bool) → None ≡ (if b then Some (trigger_of known cause effect) else None) → false ≡ b
     by true e = absurd (cc)
     by false e = refl

@@ -7,4 +7,5 @@ pub mod Stated
 pub mod Faultless
 pub mod Firsts
 pub mod Sized
-pub mod PutTrees
+pub mod Puts
+pub mod PatternParts

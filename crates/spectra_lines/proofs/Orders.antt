@@ -2,37 +2,39 @@
 use Rattle.std.proofs.Common.{◌≡◌, ℕ, zero, suc, ◌+◌, ◌-◌, ◌≤◌, arith, length-drop, List, [], ◌∷◌, ◌++◌, length, map, take, drop, refl, sym, ap, ◌∙◌, append_assoc}
 use Rattle.std.proofs.lemmas.List.{drop-drop}
 use Rattle.spectra_resolved.specs.Texts.{ResolvedLine}
+use Rattle.spectra_lines.specs.Contents.{Facts}
 use Rattle.spectra_lines.specs.Parts.{TypedPattern, TextPart, LinePart, PatternPart, leading, in_text_order}
 use Rattle.spectra_lines.specs.SoundParts.{AreSound}
 use Rattle.spectra_lines.specs.Steps.{ArePartsSound}
 
 -- ---- sound patterns are sound parts
 
-sound_map : (ps : List TypedPattern) → AreSound ps → ArePartsSound (map PatternPart ps)
-sound_map [] s = tt
-sound_map (p ∷ ps) s = (s.0, sound_map ps s.1)
+module _ (f : Facts) where
+  sound_map : (ps : List TypedPattern) → AreSound f ps → ArePartsSound f (map PatternPart ps)
+  sound_map [] s = tt
+  sound_map (p ∷ ps) s = (s.0, sound_map ps s.1)
 
-sound_append : (xs ys : List TextPart) → ArePartsSound xs → ArePartsSound ys → ArePartsSound (xs ++ ys)
-sound_append [] ys s r = r
-sound_append (x ∷ xs) ys s r = (s.0, sound_append xs ys s.1 r)
+  sound_append : (xs ys : List TextPart) → ArePartsSound f xs → ArePartsSound f ys → ArePartsSound f (xs ++ ys)
+  sound_append [] ys s r = r
+  sound_append (x ∷ xs) ys s r = (s.0, sound_append xs ys s.1 r)
 
-sound_take : (n : ℕ) (ps : List TypedPattern) → AreSound ps → AreSound (take n ps)
-sound_take zero [] s = tt
-sound_take zero (p ∷ ps) s = tt
-sound_take (suc n) [] s = tt
-sound_take (suc n) (p ∷ ps) s = (s.0, sound_take n ps s.1)
+  sound_take : (n : ℕ) (ps : List TypedPattern) → AreSound f ps → AreSound f (take n ps)
+  sound_take zero [] s = tt
+  sound_take zero (p ∷ ps) s = tt
+  sound_take (suc n) [] s = tt
+  sound_take (suc n) (p ∷ ps) s = (s.0, sound_take n ps s.1)
 
-sound_drop : (n : ℕ) (ps : List TypedPattern) → AreSound ps → AreSound (drop n ps)
-sound_drop zero [] s = tt
-sound_drop zero (p ∷ ps) s = s
-sound_drop (suc n) [] s = tt
-sound_drop (suc n) (p ∷ ps) s = sound_drop n ps s.1
+  sound_drop : (n : ℕ) (ps : List TypedPattern) → AreSound f ps → AreSound f (drop n ps)
+  sound_drop zero [] s = tt
+  sound_drop zero (p ∷ ps) s = s
+  sound_drop (suc n) [] s = tt
+  sound_drop (suc n) (p ∷ ps) s = sound_drop n ps s.1
 
-pub parts_sound : (ps : List TypedPattern) (ls : List ResolvedLine) → AreSound ps → ArePartsSound (in_text_order ps ls)
-parts_sound ps [] s = sound_map ps s
-parts_sound ps (l ∷ ls) s =
-    let n = leading l.at ps in
-    sound_append (map PatternPart (take n ps)) (LinePart l ∷ in_text_order (drop n ps) ls) (sound_map (take n ps) (sound_take n ps s)) (tt, parts_sound (drop n ps) ls (sound_drop n ps s))
+  pub parts_sound : (ps : List TypedPattern) (ls : List ResolvedLine) → AreSound f ps → ArePartsSound f (in_text_order ps ls)
+  parts_sound ps [] s = sound_map ps s
+  parts_sound ps (l ∷ ls) s =
+      let n = leading l.at ps in
+      sound_append (map PatternPart (take n ps)) (LinePart l ∷ in_text_order (drop n ps) ls) (sound_map (take n ps) (sound_take n ps s)) (tt, parts_sound (drop n ps) ls (sound_drop n ps s))
 
 -- ---- one more line
 

@@ -26,5 +26,5 @@ module _ (f : Facts) where
       ∙ ap (λ ps. with_faults old (through f (part_faults f) room ps)) (sym is)
       ∙ before
 
-pub first_sound : (p : TextPart) (left rest : List TextPart) → left ≡ p ∷ rest → ArePartsSound left → IsSoundPart p × ArePartsSound rest
-first_sound p left rest is sound = subst ArePartsSound is sound
+  pub first_sound : (p : TextPart) (left rest : List TextPart) → left ≡ p ∷ rest → ArePartsSound f left → IsSoundPart f p × ArePartsSound f rest
+  first_sound p left rest is sound = subst (ArePartsSound f) is sound

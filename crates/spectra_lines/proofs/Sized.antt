@@ -31,12 +31,12 @@ module _ (at : Spot) (faults : ResolvedLine → List Finding) where
 abbrev pub faults_as : Facts → ResolvedLine → (made : ResolvedLine) → List Finding
 faults_as f l m =
     trees_faults f.known (line_stand l) (trees_in m.body)
-    ++ (if is_empty (as_written f l) && is_empty (trees_faults f.known (line_stand l) (trees_in m.body)) then whole_faults m.body else [])
+    ++ (if is_empty (as_written f l) && is_empty (trees_faults f.known (line_stand l) (trees_in m.body)) then whole_faults f.known m.body else [])
 
 -- what is found as it is written, of its own, and then by its size are its faults
 pub all_found : (f : Facts) (room : Option ℕ) (l : ResolvedLine) (old written own found : Option Finding) → written ≡ with_faults old (as_written f l) → own ≡ with_faults written (own_faults l.body)
-    → found ≡ with_faults own (fault_if (is_too_large room (put_trees f l)) (number_of TooLarge) l.at ++ (if is_small room (put_trees f l) then put_faults f l else []))
+    → found ≡ with_faults own (fault_if (is_too_large f.known 0 room (put_trees f l)) (number_of TooLarge) l.at ++ (if is_small f.known 0 room (put_trees f l) then put_faults f l else []))
     → found ≡ with_faults old (line_faults f room l)
 all_found f room l old written own found first next is =
-    let rest = fault_if (is_too_large room (put_trees f l)) (number_of TooLarge) l.at ++ (if is_small room (put_trees f l) then put_faults f l else []) in
+    let rest = fault_if (is_too_large f.known 0 room (put_trees f l)) (number_of TooLarge) l.at ++ (if is_small f.known 0 room (put_trees f l) then put_faults f l else []) in
     is ∙ ap (λ o. with_faults o rest) (next ∙ ap (λ o. with_faults o (own_faults l.body)) first) ∙ sym (three_lists old (as_written f l) (own_faults l.body) rest)

@@ -4,10 +4,11 @@ use Rattle.spec_model.specs.Moves.{is_assumption}
 use Rattle.spectra_resolved.specs.declared.stand.Stand.{Stand}
 use Rattle.spectra_resolved.specs.declared.stand.Stand.TheVariants as stand
 use Rattle.spectra_resolved.specs.Resolved.{ResolvedTree, ResolvedRegex, Atom, Sequence, Choice, Repetition, ResolvedRegexes}
-use Rattle.spectra_resolved.specs.Texts.{ResolvedBody, Initial, Safety, Recurring, Trigger, Pattern, ResolvedLine}
+use Rattle.spectra_resolved.specs.Texts.{ResolvedBody, Initial, Safety, Recurring, Trigger, Pattern, ResolvedLine, ResolvedPatternLine, ResolvedPattern}
 use Rattle.spectra_judge.specs.Known.{Known}
 use Rattle.spectra_holes.specs.Holed.{holed}
 use Rattle.spectra_elaboration.specs.Putting.{Bodies, put_in}
+use Rattle.spectra_patterns.specs.Patterns.{with_lines}
 
 -- ---- expressions
 
@@ -82,3 +83,12 @@ body_put f asm (Pattern at used arguments) = Pattern at used (map (tree_put f st
 -- the line with everything put in
 abbrev pub line_put : Facts → ResolvedLine → ResolvedLine
 line_put f l = record l { body = body_put f (is_asm l) l.body }
+
+-- a pattern's line with everything put in
+abbrev pub pattern_line_put : Facts → ResolvedPatternLine → ResolvedPatternLine
+pattern_line_put f (ResolvedPatternLine.Initial at t) = ResolvedPatternLine.Initial at (put_in f.bodies t)
+pattern_line_put f (ResolvedPatternLine.Safety at t) = ResolvedPatternLine.Safety at (put_in f.bodies t)
+pattern_line_put f (ResolvedPatternLine.Recurring at t) = ResolvedPatternLine.Recurring at (put_in f.bodies t)
+
+abbrev pub pattern_put : Facts → ResolvedPattern → ResolvedPattern
+pattern_put f p = with_lines p (map (pattern_line_put f) p.lines)

@@ -1,5 +1,7 @@
 pub mod Contents
 pub mod Limits
+pub mod Rooms
+pub mod Putting
 pub mod Lines
 pub mod Parts
 pub mod SoundParts

@@ -39,13 +39,13 @@ abbrev pub as_put : Facts → ResolvedLine → List Finding
 as_put f l = trees_faults f.known (line_stand l) (put_trees f l)
 
 -- a trigger as a whole
-abbrev pub whole_faults : ResolvedBody → List Finding
-whole_faults (Trigger at cause effect) = trigger_faults at cause effect
-whole_faults _ = []
+abbrev pub whole_faults : Known → ResolvedBody → List Finding
+whole_faults known (Trigger at cause effect) = trigger_faults known at cause effect
+whole_faults known _ = []
 
 -- it is looked at where no expression has a fault in either text
 abbrev pub put_faults : Facts → ResolvedLine → List Finding
-put_faults f l = as_put f l ++ (if is_empty (as_written f l) && is_empty (as_put f l) then whole_faults (line_put f l).body else [])
+put_faults f l = as_put f l ++ (if is_empty (as_written f l) && is_empty (as_put f l) then whole_faults f.known (line_put f l).body else [])
 
 -- ---- all
 
@@ -54,4 +54,4 @@ abbrev pub line_faults : Facts → Option ℕ → ResolvedLine → List Finding
 line_faults f room l =
     as_written f l
     ++ (own_faults l.body
-    ++ (fault_if (is_too_large room (put_trees f l)) (number_of TooLarge) l.at ++ (if is_small room (put_trees f l) then put_faults f l else [])))
+    ++ (fault_if (is_too_large f.known 0 room (put_trees f l)) (number_of TooLarge) l.at ++ (if is_small f.known 0 room (put_trees f l) then put_faults f l else [])))

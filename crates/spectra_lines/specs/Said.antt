@@ -18,19 +18,19 @@ abbrev pub small_lines : Facts → List TypedPattern → List ResolvedLine → L
 small_lines f ps ls = parts_lines f all_room (in_text_order ps ls)
 
 -- what is too large isn't looked at for past operators: its own fault stands at the same place
-abbrev pub tables_faults : List ResolvedLine → List Finding
-tables_faults ls = hidden_faults (triggers ls) [] (map (λ (l : ResolvedLine). l.item) ls) (statements ls)
+abbrev pub tables_faults : Facts → List ResolvedLine → List Finding
+tables_faults f ls = hidden_faults (triggers f.known ls) [] (map (λ (l : ResolvedLine). l.item) ls) (statements f.known ls)
 
 -- every fault of lines and patterns
 abbrev pub lines_faults : Facts → List TypedPattern → List ResolvedLine → List Finding
-lines_faults f ps ls = parts_faults f all_room (in_text_order ps ls) ++ tables_faults (small_lines f ps ls)
+lines_faults f ps ls = parts_faults f all_room (in_text_order ps ls) ++ tables_faults f (small_lines f ps ls)
 
 -- what they mean; where no line is too large, these are all lines
 abbrev pub lines_meant : Facts → List TypedPattern → List ResolvedLine → List Statement
-lines_meant f ps ls = statements (small_lines f ps ls)
+lines_meant f ps ls = statements f.known (small_lines f ps ls)
 
 abbrev pub triggers_meant : Facts → List TypedPattern → List ResolvedLine → List TriggerData
-triggers_meant f ps ls = triggers (small_lines f ps ls)
+triggers_meant f ps ls = triggers f.known (small_lines f ps ls)
 
 abbrev pub patterns_meant : Facts → List TypedPattern → List ResolvedLine → List PatternData
 patterns_meant f ps ls = parts_patterns f all_room (in_text_order ps ls)

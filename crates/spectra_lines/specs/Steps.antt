@@ -11,13 +11,13 @@ use Rattle.spectra_lines.specs.SoundParts.{IsSoundTyped}
 pub record ReadsPart (f : Facts) (p : TextPart) (old new : Read) : Type 0 where
   pub room : new.room ≡ part_room f old.room p
   pub lines : map line_data new.lines.items ≡ map line_data old.lines.items ++ part_lines f old.room p
-  pub patterns : map model_pattern new.patterns.items ≡ map model_pattern old.patterns.items ++ part_patterns old.room p
+  pub patterns : map model_pattern new.patterns.items ≡ map model_pattern old.patterns.items ++ part_patterns f old.room p
 
 -- the patterns that are said to be sound are so
-abbrev pub IsSoundPart : TextPart → Type 0
-IsSoundPart (LinePart l) = Unit {0}
-IsSoundPart (PatternPart p) = IsSoundTyped p
+abbrev pub IsSoundPart : Facts → TextPart → Type 0
+IsSoundPart f (LinePart l) = Unit {0}
+IsSoundPart f (PatternPart p) = IsSoundTyped f p
 
-abbrev pub ArePartsSound : List TextPart → Type 0
-ArePartsSound [] = Unit {0}
-ArePartsSound (p ∷ ps) = IsSoundPart p × ArePartsSound ps
+abbrev pub ArePartsSound : Facts → List TextPart → Type 0
+ArePartsSound f [] = Unit {0}
+ArePartsSound f (p ∷ ps) = IsSoundPart f p × ArePartsSound f ps

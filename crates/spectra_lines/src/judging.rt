@@ -46,20 +46,30 @@ pub fn report_own(findings: &mut Findings, body: &Body)
 }
 
 // Whether a trigger is right as a whole. The error is that memory is short.
-fn is_right(alloc: Global, cause: &Regex, effect: &Regex) -> Result<bool, AllocError>
-    ensures { IfOk result (λ right. right ≡ is_right_lem (regex_data cause.now) (regex_data effect.now)) }
+fn is_right(
+    alloc: Global,
+    known: &Known<'_, '_>,
+    cause: &Regex,
+    effect: &Regex,
+) -> Result<bool, AllocError>
+    ensures { IfOk result (λ right. right ≡ is_right_lem (known_data known.now) (regex_data cause.now) (regex_data effect.now)) }
 {
-    let made = trigger(alloc, cause, effect)?;
+    let made = trigger(alloc, known, cause, effect)?;
     Ok(made.is_some())
 }
 
 /// Reports a trigger that isn't right as a whole. The error is that memory is short.
-pub fn report_whole(alloc: Global, findings: &mut Findings, body: &Body) -> Result<(), AllocError>
-    ensures { OnOk result (found_in findings.new ≡ with_faults (found_in findings.old) (whole_faults (body_data body.now))) }
+pub fn report_whole(
+    alloc: Global,
+    findings: &mut Findings,
+    known: &Known<'_, '_>,
+    body: &Body,
+) -> Result<(), AllocError>
+    ensures { OnOk result (found_in findings.new ≡ with_faults (found_in findings.old) (whole_faults (known_data known.now) (body_data body.now))) }
 {
     match body {
         Body::Trigger(at, cause, effect) => {
-            let right = is_right(alloc, cause, effect)?;
+            let right = is_right(alloc, known, cause, effect)?;
             report_if(findings, !right, TRIGGER_WIDE, *at);
         }
         Body::Initial(_) => {}

@@ -11,7 +11,6 @@ mod judging;
 pub mod laws;
 mod lines;
 mod meaning;
-mod nodes;
 pub mod order;
 mod putting;
 mod reading;

@@ -7,7 +7,7 @@ ghost use Rattle.spectra_resolved.specs.TextViews.{body_data, line_data};
 ghost use Rattle.spectra_judge.specs.KindViews.{known_data};
 ghost use Rattle.spectra_patterns.specs.Patterns.{is_empty};
 ghost use Rattle.spectra_lines.specs.Contents.{trees_in, line_put};
-ghost use Rattle.spectra_lines.specs.Limits.{nodes_of, room_behind, is_small};
+ghost use Rattle.spectra_lines.specs.Limits.{room_behind, is_small};
 ghost use Rattle.spectra_lines.specs.Lines.{trees_faults, put_trees, whole_faults, line_faults};
 ghost use Rattle.spectra_lines.specs.Views.{facts_data};
 
@@ -28,15 +28,16 @@ use std::alloc::{AllocError, Global};
 fn report_if_whole(
     alloc: Global,
     findings: &mut Findings,
+    known: &Known<'_, '_>,
     whole: bool,
     body: &Body,
 ) -> Result<(), AllocError>
-    ensures { OnOk result (found_in findings.new ≡ with_faults (found_in findings.old) (if whole then whole_faults (body_data body.now) else [])) }
+    ensures { OnOk result (found_in findings.new ≡ with_faults (found_in findings.old) (if whole then whole_faults (known_data known.now) (body_data body.now) else [])) }
 {
     if !whole {
         return Ok(());
     }
-    report_whole(alloc, findings, body)
+    report_whole(alloc, findings, known, body)
 }
 
 // The first fault of expressions with everything put in.
@@ -71,12 +72,12 @@ fn report_put(
 ) -> Result<(), AllocError>
     ensures { OnOk result (found_in findings.new ≡ with_faults (found_in findings.old)
         (trees_faults (known_data known.now) stand (trees_in (body_data body.now))
-        ++ (if sound && is_empty (trees_faults (known_data known.now) stand (trees_in (body_data body.now))) then whole_faults (body_data body.now) else []))) }
+        ++ (if sound && is_empty (trees_faults (known_data known.now) stand (trees_in (body_data body.now))) then whole_faults (known_data known.now) (body_data body.now) else []))) }
 {
     let first = first_put(alloc, known, stand, body)?;
     report_first(findings, first);
     let whole = is_sound(sound, first);
-    report_if_whole(alloc, findings, whole, body)
+    report_if_whole(alloc, findings, known, whole, body)
 }
 
 /// Reports every fault of a line, by the room that is left for its nodes, and gives the line with everything put in, unless it
@@ -85,13 +86,13 @@ pub fn read_line<'t>(
     alloc: Global,
     findings: &mut Findings,
     facts: &Facts<'_, '_>,
-    room: &mut Option<usize>,
+    room: &mut Option<u32>,
     line: &Line<'t>,
 ) -> Result<Option<Line<'t>>, AllocError>
     ensures found { OnOk result (found_in findings.new ≡ with_faults (found_in findings.old) (line_faults (facts_data facts.now) room.old (line_data line.now))) }
-    ensures room { OnOk result (room.new ≡ room_behind room.old (nodes_of (put_trees (facts_data facts.now) (line_data line.now)))) }
+    ensures room { OnOk result (room.new ≡ room_behind (facts_data facts.now).known 0 room.old (put_trees (facts_data facts.now) (line_data line.now))) }
     ensures made { IfOk result (λ made. option_map line_data made
-        ≡ (if is_small room.old (put_trees (facts_data facts.now) (line_data line.now)) then Some (line_put (facts_data facts.now) (line_data line.now)) else None)) }
+        ≡ (if is_small (facts_data facts.now).known 0 room.old (put_trees (facts_data facts.now) (line_data line.now)) then Some (line_put (facts_data facts.now) (line_data line.now)) else None)) }
 {
     let stand = stand_in(is_assumption(line.role), &line.body);
     let trees = trees_of(alloc, &line.body)?;

@@ -4,13 +4,15 @@ ghost use Rattle.std.specs.Prelude.{◌≡◌, ◌++◌, ◌∷◌, [], suc, ℕ
 ghost use Rattle.spec_model.specs.Views.{formula, content_data, line_data as model_line, trigger_data};
 ghost use Rattle.spectra_resolved.specs.Views.{resolved_data};
 ghost use Rattle.spectra_resolved.specs.TextViews.{body_data, line_data};
-ghost use Rattle.spectra_judge.specs.Erased.{erased};
+ghost use Rattle.spectra_judge.specs.KindViews.{known_data};
+ghost use Rattle.spectra_cases.specs.Formulas.{formula_of};
 ghost use Rattle.spectra_lines.specs.Meanings.{pattern_number as pattern_number_lem, triggers_in, content_of, statement_of, statements as statements_lem, triggers as triggers_lem};
 
 use spec_model::expr::Expr;
 use spec_model::spec;
 use spec_model::spec::Trigger;
-use spectra_elaboration::erasing::erase;
+use spectra_cases::making::{Making, formula as formula_made};
+use spectra_judge::known::Known;
 use spectra_patterns::triggers::trigger_of;
 use spectra_resolved::text::{Body, Line, PatternUse};
 use spectra_resolved::tree::Resolved;
@@ -45,38 +47,45 @@ fn pattern_number(used: PatternUse) -> usize
 }
 
 // The formulas of a pattern's arguments.
-fn formulas(alloc: Global, ts: &[Resolved]) -> Result<Vec<Expr>, AllocError>
-    ensures { IfOk result (λ es. map formula es.items ≡ map (erased 0) (map resolved_data ts.now)) }
+fn formulas(by: &Making<'_, '_>, ts: &[Resolved]) -> Result<Vec<Expr>, AllocError>
+    ensures { IfOk result (λ es. map formula es.items ≡ map (formula_of (known_data by.now.known) by.now.params) (map resolved_data ts.now)) }
 {
-    let mut es = Vec::new(alloc);
+    let mut es = Vec::new(by.alloc);
     for t in ts {
-        es.push(erase(alloc, 0, t)?)?;
+        es.push(formula_made(by, t)?)?;
     }
     Ok(es)
 }
 
 // What a line says, where so many triggers stand before it.
-fn content(alloc: Global, triggers: usize, body: &Body) -> Result<spec::Body, AllocError>
-    ensures { IfOk result (λ made. content_data made ≡ content_of triggers (body_data body.now)) }
+fn content(by: &Making<'_, '_>, triggers: usize, body: &Body) -> Result<spec::Body, AllocError>
+    requires line { by.now.params ≡ 0 }
+    ensures { IfOk result (λ made. content_data made ≡ content_of (known_data by.now.known) triggers (body_data body.now)) }
 {
     match body {
-        Body::Initial(t) => Ok(spec::Body::Initial(erase(alloc, 0, t)?)),
-        Body::Safety(t) => Ok(spec::Body::Safety(erase(alloc, 0, t)?)),
-        Body::Recurring(t) => Ok(spec::Body::Recurring(erase(alloc, 0, t)?)),
+        Body::Initial(t) => Ok(spec::Body::Initial(formula_made(by, t)?)),
+        Body::Safety(t) => Ok(spec::Body::Safety(formula_made(by, t)?)),
+        Body::Recurring(t) => Ok(spec::Body::Recurring(formula_made(by, t)?)),
         Body::Trigger(_, _, _) => Ok(spec::Body::Trigger(small(triggers)?)),
         Body::Pattern(_, used, arguments) => {
             let number = small(pattern_number(*used))?;
-            Ok(spec::Body::Pattern(number, formulas(alloc, arguments)?))
+            Ok(spec::Body::Pattern(number, formulas(by, arguments)?))
         }
     }
 }
 
 // Puts the trigger that a line is behind others.
-fn add_trigger(alloc: Global, triggers: &mut Vec<Trigger>, body: &Body) -> Result<(), AllocError>
-    ensures { OnOk result (map trigger_data triggers.new.items ≡ map trigger_data triggers.old.items ++ triggers_in (body_data body.now)) }
+fn add_trigger(
+    by: &Making<'_, '_>,
+    triggers: &mut Vec<Trigger>,
+    body: &Body,
+) -> Result<(), AllocError>
+    ensures { OnOk result (map trigger_data triggers.new.items ≡ map trigger_data triggers.old.items ++ triggers_in (known_data by.now.known) (body_data body.now)) }
 {
     match body {
-        Body::Trigger(_, cause, effect) => triggers.push(trigger_of(alloc, cause, effect)?)?,
+        Body::Trigger(_, cause, effect) => triggers.push(trigger_of(
+            by.alloc, &by.known, cause, effect,
+        )?)?,
         Body::Initial(_) => {}
         Body::Safety(_) => {}
         Body::Recurring(_) => {}
@@ -96,37 +105,51 @@ fn named(alloc: Global, name: Option<&str>) -> Result<Option<String>, AllocError
 }
 
 // Puts the statement that a line means behind others.
-fn add_statement(alloc: Global, stated: &mut Stated, line: &Line<'_>) -> Result<(), AllocError>
+fn add_statement(
+    by: &Making<'_, '_>,
+    stated: &mut Stated,
+    line: &Line<'_>,
+) -> Result<(), AllocError>
+    requires line { by.now.params ≡ 0 }
     ensures lines { OnOk result (map model_line stated.new.lines.items
-        ≡ map model_line stated.old.lines.items ++ statement_of (suc (length stated.old.lines.items)) (length stated.old.triggers.items) (line_data line.now) ∷ []) }
-    ensures triggers { OnOk result (map trigger_data stated.new.triggers.items ≡ map trigger_data stated.old.triggers.items ++ triggers_in (line_data line.now).body) }
+        ≡ map model_line stated.old.lines.items ++ statement_of (known_data by.now.known) (suc (length stated.old.lines.items)) (length stated.old.triggers.items) (line_data line.now) ∷ []) }
+    ensures triggers { OnOk result (map trigger_data stated.new.triggers.items ≡ map trigger_data stated.old.triggers.items ++ triggers_in (known_data by.now.known) (line_data line.now).body) }
 {
     let number = small(stated.lines.len())?;
     if number == u32::MAX {
         return Err(AllocError);
     }
-    let body = content(alloc, stated.triggers.len(), &line.body)?;
-    let name = named(alloc, line.name)?;
+    let body = content(by, stated.triggers.len(), &line.body)?;
+    let name = named(by.alloc, line.name)?;
     stated.lines.push(spec::Line {
         number: number + 1,
         name,
         role: line.role,
         body,
     })?;
-    add_trigger(alloc, &mut stated.triggers, &line.body)
+    add_trigger(by, &mut stated.triggers, &line.body)
 }
 
 /// The statements that lines mean, numbered from 1, and the triggers among them. The error is that memory is short.
-pub fn statements(alloc: Global, lines: &[Line<'_>]) -> Result<Stated, AllocError>
-    ensures lines { IfOk result (λ stated. map model_line stated.lines.items ≡ statements_lem (map line_data lines.now)) }
-    ensures triggers { IfOk result (λ stated. map trigger_data stated.triggers.items ≡ triggers_lem (map line_data lines.now)) }
+pub fn statements(
+    alloc: Global,
+    known: &Known<'_, '_>,
+    lines: &[Line<'_>],
+) -> Result<Stated, AllocError>
+    ensures lines { IfOk result (λ stated. map model_line stated.lines.items ≡ statements_lem (known_data known.now) (map line_data lines.now)) }
+    ensures triggers { IfOk result (λ stated. map trigger_data stated.triggers.items ≡ triggers_lem (known_data known.now) (map line_data lines.now)) }
 {
+    let by = Making {
+        alloc,
+        known: *known,
+        params: 0,
+    };
     let mut stated = Stated {
         lines: Vec::new(alloc),
         triggers: Vec::new(alloc),
     };
     for line in lines {
-        add_statement(alloc, &mut stated, line)?;
+        add_statement(&by, &mut stated, line)?;
     }
     Ok(stated)
 }

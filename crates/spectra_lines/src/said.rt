@@ -51,7 +51,7 @@ pub fn read_lines(
     patterns: &[Typed<'_, '_, '_>],
     lines: &[Line<'_>],
 ) -> Result<Said, AllocError>
-    requires sound { AreSound (map typed_data patterns.now) }
+    requires sound { AreSound (facts_data facts.now) (map typed_data patterns.now) }
     ensures found { OnOk result (found_in findings.new ≡ with_faults (found_in findings.old) (lines_faults (facts_data facts.now) (map typed_data patterns.now) (map line_data lines.now))) }
     ensures lines { IfOk result (λ said. map model_line said.lines.items ≡ lines_meant (facts_data facts.now) (map typed_data patterns.now) (map line_data lines.now)) }
     ensures triggers { IfOk result (λ said. map trigger_data said.triggers.items ≡ triggers_meant (facts_data facts.now) (map typed_data patterns.now) (map line_data lines.now)) }
@@ -59,7 +59,7 @@ pub fn read_lines(
 {
     let parts = in_text_order(alloc, patterns, lines)?;
     let read = read_parts(alloc, findings, facts, &parts)?;
-    let stated = statements(alloc, &read.lines)?;
+    let stated = statements(alloc, &facts.known, &read.lines)?;
     let places = places_of(alloc, &read.lines)?;
     report_hidden(alloc, findings, &places, &stated.triggers, &stated.lines)?;
     Ok(Said {

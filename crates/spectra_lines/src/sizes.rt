@@ -1,79 +1,45 @@
-//! How large the expressions of a line are with everything put in.
+//! The room that is left behind formulas.
 
-ghost use Rattle.std.specs.Prelude.{◌≡◌, ◌∷◌, [], Some, map, IfOk};
+ghost use Rattle.std.specs.Prelude.{◌≡◌, Option, Some, IfOk};
 ghost use Rattle.spectra_resolved.specs.Views.{resolved_data};
-ghost use Rattle.spectra_elaboration.specs.Nodes.{tree_nodes};
-ghost use Rattle.spectra_lines.specs.Contents.{tree_put};
-ghost use Rattle.spectra_lines.specs.Limits.{nodes_of, room_behind, is_small};
-ghost use Rattle.spectra_lines.specs.Views.{facts_data, trees_data};
+ghost use Rattle.spectra_judge.specs.KindViews.{known_data};
+ghost use Rattle.spectra_cases.specs.SizeViews.{size_data};
+ghost use Rattle.spectra_lines.specs.Rooms.{behind_size, behind_formulas};
+ghost use Rattle.spectra_lines.specs.Views.{trees_data};
 
-use crate::facts::Facts;
-use crate::nodes::behind;
-use crate::trees::MOST_LEVELS;
-use spectra_elaboration::counting::behind_put;
-use spectra_elaboration::putting::put_in;
-use spectra_holes::holing::holed;
-use spectra_resolved::stand::Stand;
+use spectra_cases::sizes::{Size, size_of};
+use spectra_judge::known::Known;
 use spectra_resolved::tree::Resolved;
-use std::alloc::{AllocError, Global};
+use std::alloc::AllocError;
 
-/// The room that is left behind expressions, where there is room for their nodes, and whether there is and none of them has too
-/// many levels.
-#[derive(Clone, Copy)]
-pub struct Size {
-    pub left: Option<usize>,
-    pub small: bool,
-}
+// The most levels of a formula.
+const MOST_LEVELS: u64 = 512;
 
-// The size of an expression. One of too many levels, or of too many nodes, isn't made.
-fn size_of_tree(
-    alloc: Global,
-    facts: &Facts<'_, '_>,
-    room: usize,
-    stand: Stand,
-    t: &Resolved,
-) -> Result<Size, AllocError>
-    ensures left { IfOk result (λ size. size.left ≡ room_behind (Some room) (tree_nodes (tree_put (facts_data facts.now) stand (resolved_data t.now)))) }
-    ensures small { IfOk result (λ size. size.small ≡ is_small (Some room) (tree_put (facts_data facts.now) stand (resolved_data t.now) ∷ [])) }
+/// The room that is left behind a formula of a size, where there is room for its nodes and it hasn't too many levels.
+pub fn behind(room: u32, size: Size) -> Option<u32>
+    ensures { result ≡ behind_size room (size_data size) }
 {
-    let written = holed(alloc, &facts.known, stand, t)?;
-    match put_in(alloc, facts.definitions, room, MOST_LEVELS, &written)? {
-        Some(made) => Ok(Size {
-            left: behind(Some(room), &made),
-            small: true,
-        }),
-        None => Ok(Size {
-            left: behind_put(alloc, facts.definitions, room, &written)?,
-            small: false,
-        }),
+    if size.levels > MOST_LEVELS || size.nodes > u64::from(room) {
+        return None;
     }
+    Some(room - size.nodes as u32)
 }
 
-/// The size of expressions that stand somewhere, by the room that is left for nodes. The error is that memory is short.
-pub fn size_of_trees(
-    alloc: Global,
-    facts: &Facts<'_, '_>,
-    room: usize,
-    stand: Stand,
+/// The room that is left behind the formulas of expressions of a line, where there is so much and none has too many levels. The
+/// error is that of `size_of`.
+pub fn behind_trees(
+    known: &Known<'_, '_>,
+    room: u32,
     trees: &[&Resolved],
-) -> Result<Size, AllocError>
-    ensures left { IfOk result (λ size. size.left ≡ room_behind (Some room) (nodes_of (map (tree_put (facts_data facts.now) stand) (trees_data trees.now)))) }
-    ensures small { IfOk result (λ size. size.small ≡ is_small (Some room) (map (tree_put (facts_data facts.now) stand) (trees_data trees.now))) }
+) -> Result<Option<u32>, AllocError>
+    ensures { IfOk result (λ left. left ≡ behind_formulas (known_data known.now) (Some room) (trees_data trees.now)) }
 {
     let mut left = room;
-    let mut small = true;
     for t in trees {
-        let size = size_of_tree(alloc, facts, left, stand, t)?;
-        match size.left {
+        match behind(left, size_of(known, t)?) {
             Some(rest) => left = rest,
-            None => return Ok(size),
-        }
-        if !size.small {
-            small = false;
+            None => return Ok(None),
         }
     }
-    Ok(Size {
-        left: Some(left),
-        small,
-    })
+    Ok(Some(left))
 }

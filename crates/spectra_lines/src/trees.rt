@@ -1,16 +1,14 @@
 //! The expressions of a line, and where they stand.
 
-ghost use Rattle.std.specs.Prelude.{◌≡◌, ◌++◌, ◌∷◌, [], map, nat_le, IfOk, OnOk};
+ghost use Rattle.std.specs.Prelude.{◌≡◌, ◌++◌, ◌∷◌, [], map, IfOk, OnOk};
 ghost use Rattle.spec_model.specs.Moves.{is_assumption as is_assumption_lem};
 ghost use Rattle.spectra_resolved.specs.Chained.{regexes};
 ghost use Rattle.spectra_resolved.specs.Views.{resolved_data, regex_data};
 ghost use Rattle.spectra_resolved.specs.TextViews.{body_data};
 ghost use Rattle.spectra_lines.specs.Contents.{brackets_in, brackets_of_each, trees_in, initial_stand as initial_stand_lem, safety_stand as safety_stand_lem, stand_in as stand_in_lem};
-ghost use Rattle.spectra_lines.specs.Limits.{are_flat as are_flat_lem};
 ghost use Rattle.spectra_lines.specs.Views.{trees_data};
 
 use spec_model::spec::Role;
-use spectra_elaboration::levels::is_flat;
 use spectra_resolved::stand::Stand;
 use spectra_resolved::text::Body;
 use spectra_resolved::tree::{Regex, Resolved};
@@ -78,23 +76,6 @@ pub fn trees_of<'t>(alloc: Global, body: &'t Body) -> Result<Vec<&'t Resolved>, 
         Body::Pattern(_, _, arguments) => add_trees(&mut trees, arguments)?,
     }
     Ok(trees)
-}
-
-// ---- levels
-
-/// The most levels of an expression.
-pub const MOST_LEVELS: usize = 512;
-
-/// Whether none of several expressions has too many levels.
-pub fn are_flat(trees: &[&Resolved]) -> bool
-    ensures { result ≡ are_flat_lem (trees_data trees.now) }
-{
-    for t in trees {
-        if !is_flat(MOST_LEVELS, t) {
-            return false;
-        }
-    }
-    true
 }
 
 // ---- where they stand

@@ -30,7 +30,8 @@ use Rattle.spectra_judge.proofs.Empty.{empty_parts, no_fault}
 use Rattle.spectra_judge.proofs.Spans.{IsNear}
 use Rattle.spectra_uses.specs.Uses.{all_uses}
 use Rattle.spectra_bounds.specs.ByUses.{is_on_cycle, made_to_depth}
-use Rattle.spectra_bounds.specs.Numbers.{capped_number, both, joined_number, remainder_number, leaf_number, number_in, form_number, Constants, known_constants, is_faulty, sound_number, Constant, no_constant, each_of, constant_with, constant_of, constants}
+use Rattle.spectra_copies.specs.Numbers.{capped_number, both, joined_number, remainder_number, leaf_number, number_in, form_number}
+use Rattle.spectra_bounds.specs.Numbers.{Constants, known_constants, is_faulty, sound_number, Constant, no_constant, each_of, constant_with, constant_of, constants}
 use Rattle.spectra_meant.proofs.Within.{IsWithin, sum_within, difference_within, product_within, remainder_within, within_near}
 
 pub record HasSpan (z : ℤ) (k : Kind) : Type 0 where
@@ -89,16 +90,17 @@ abbrev pub AreSpanned : Constants → Type 0
 AreSpanned c = (k : ℕ) (z : ℤ) → get_or c.numbers k None ≡ Some z → HasSpan z (get_or c.kinds k Anything)
 
 module _ (c : Constants) (spanned : AreSpanned c) (s : Setting) (known : s.known ≡ known_constants c.kinds) where
-  leaf_has : (next : Option Mark) (at : Mark) (l : Leaf) (z : ℤ) → leaf_faults s next at l ≡ [] → leaf_number c.numbers l ≡ Some z → HasSpan z (leaf_kind (known_constants c.kinds) l)
-  leaf_has next at (leaf.Number n) z none is =
+  leaf_has : (o : Around) (at : Mark) (l : Leaf) (z : ℤ) → leaf_faults s o at l ≡ [] → leaf_number c.numbers l ≡ Some z → HasSpan z (leaf_kind (known_constants c.kinds) l)
+  leaf_has o at (leaf.Number n) z none is =
       capped_has n z (Whole n n) (record { low = n; high = n; is = refl; from_low = omega (arith, ints); to_high = omega (arith, ints) }) (no_fault (is_wide (Whole n n)) 14 at.spot none) is
-  leaf_has next at (leaf.Define k) z none is = spanned k z is
-  leaf_has next at (leaf.Truth b) z none is = absurd (none_some is)
-  leaf_has next at (leaf.EnumName k) z none is = absurd (none_some is)
-  leaf_has next at (leaf.Variable k) z none is = absurd (none_some is)
-  leaf_has next at (leaf.Parameter k) z none is = absurd (none_some is)
-  leaf_has next at (leaf.Own k) z none is = absurd (none_some is)
-  leaf_has next at (leaf.Hole k) z none is = absurd (none_some is)
+  leaf_has o at (leaf.Define k) z none is = spanned k z is
+  leaf_has o at (leaf.Truth b) z none is = absurd (none_some is)
+  leaf_has o at (leaf.EnumName k) z none is = absurd (none_some is)
+  leaf_has o at (leaf.Variable k) z none is = absurd (none_some is)
+  leaf_has o at (leaf.Parameter k) z none is = absurd (none_some is)
+  leaf_has o at (leaf.Own k) z none is = absurd (none_some is)
+  leaf_has o at (leaf.Bound k) z none is = absurd (none_some is)
+  leaf_has o at (leaf.Hole k) z none is = absurd (none_some is)
 
   not_wide : (k j : Kind) (at : Spot) → k ≡ j → wide k at ≡ [] → is_wide j ≡ false
   not_wide k j at same none = ap is_wide (sym same) ∙ no_fault (is_wide k) 14 at none
@@ -108,7 +110,7 @@ module _ (c : Constants) (spanned : AreSpanned c) (s : Setting) (known : s.known
     has o (tree first at form) z none is = form_has o at form z none is
 
     form_has : (o : Around) (at : Mark) (form : Form) (z : ℤ) → form_faults s o at form ≡ [] → form_number c.numbers form ≡ Some z → HasSpan z (form_kind (known_constants c.kinds) form)
-    form_has o at (Form.LeafOf l) z none is = leaf_has o.next at l z none is
+    form_has o at (Form.LeafOf l) z none is = leaf_has o at l z none is
     form_has o at (Form.Binary word a b) z none is =
         let inner = within (is_past word) at o in
         let first = empty_parts (faults s inner a) _ none in
@@ -129,6 +131,8 @@ module _ (c : Constants) (spanned : AreSpanned c) (s : Setting) (known : s.known
     form_has o at (Form.Prefix word t) z none is = absurd (none_some is)
     form_has o at (Form.And ts operators) z none is = absurd (none_some is)
     form_has o at (Form.Or ts operators) z none is = absurd (none_some is)
+    form_has o at (Form.Index first n t) z none is = absurd (none_some is)
+    form_has o at (Form.Quantified word variable extent low high ts) z none is = absurd (none_some is)
 
 still_some : (f : Finding) (fs : List Finding) → is_some (with_faults (Some f) fs) ≡ true
 still_some f [] = refl

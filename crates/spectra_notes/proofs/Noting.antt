@@ -62,6 +62,10 @@ module _ (text : ResolvedText) where
         → get_or (noted text).holes k true ≡ (if is_on_cycle (all_uses text.definitions) k then no_meaning else note_of (known_inside text (noted text).defines d) d).hole
     hole_is k d there = hole_there (notes text) k ∙ ap (λ (n : Note). n.hole) (made-at uses_of no_meaning make make-same text.definitions order ordered k d there)
 
+    pub kind_is : (k : ℕ) (d : ResolvedDefinition) → slice_get text.definitions k ≡ Some d
+        → get_or (noted text).defines k Anything ≡ (if is_on_cycle (all_uses text.definitions) k then no_meaning else note_of (known_inside text (noted text).defines d) d).kind
+    kind_is k d there = kind_there (notes text) k ∙ ap (λ (n : Note). n.kind) (made-at uses_of no_meaning make make-same text.definitions order ordered k d there)
+
     -- what is found of a definition where what stands before it is known
     note_there : (place k : ℕ) (d : ResolvedDefinition) (kinds : List Kind) → HasMade Anything (noted text).defines order place kinds → slice_get order place ≡ Some k → slice_get text.definitions k ≡ Some d
         → (if is_on_cycle (all_uses text.definitions) k then no_meaning else note_of (known_inside text kinds d) d) ≡ get_or (notes text) k no_meaning

@@ -1,5 +1,5 @@
 -- What the types in a text stand for, and what is known of the names in its expressions.
-use Rattle.std.specs.Prelude.{Bool, true, false, List, map}
+use Rattle.std.specs.Prelude.{Bool, true, false, List, map, flat_map, replicate}
 use Rattle.spec_model.specs.declared.value.Owner.{Owner}
 use Rattle.spec_model.specs.declared.value.Owner.TheVariants as owners
 use Rattle.spectra_resolved.specs.Texts.{ResolvedType, ResolvedVariable, ResolvedDefinition, ResolvedText}
@@ -28,8 +28,8 @@ abbrev pub type_kinds : ResolvedText → TypeKinds
 type_kinds text =
     record {
       constants = constants text.definitions;
-      variables = map (λ (v : ResolvedVariable). kind_in text v.domain) text.variables;
-      system = map (λ (v : ResolvedVariable). is_of_system v.owner) text.variables;
+      variables = flat_map (λ (v : ResolvedVariable). replicate v.count (kind_in text v.domain)) text.variables;
+      system = flat_map (λ (v : ResolvedVariable). replicate v.count (is_of_system v.owner)) text.variables;
       predicates = map (λ (d : ResolvedDefinition). map (kind_in text) d.params) text.definitions;
     }
 

@@ -1,6 +1,6 @@
 //! What the types in a text stand for.
 
-ghost use Rattle.std.specs.Prelude.{◌≡◌, map, length, IfOk};
+ghost use Rattle.std.specs.Prelude.{◌≡◌, map, length, IfOk, ◌++◌, flat_map, replicate, OnOk};
 ghost use Rattle.spectra_uses.specs.Cycles.{AreOnCycle};
 ghost use Rattle.spectra_uses.specs.Orders.{IsOrderOf};
 ghost use Rattle.spectra_resolved.specs.Texts.{ResolvedVariable, ResolvedDefinition};
@@ -47,8 +47,27 @@ pub fn kinds_of<'a>(
     Ok(kinds)
 }
 
-#[tactic(auto, using(spectra_resolved::proofs::Mapped::pushed))]
-// What the variables' types stand for.
+// Puts a kind behind others, for each of so many elements.
+fn add_kinds<'a>(all: &mut Vec<Kind<'a>>, kind: Kind<'a>, count: usize) -> Result<(), AllocError>
+    ensures { OnOk result (map kind_data all.new.items ≡ map kind_data all.old.items ++ replicate count (kind_data kind.entry)) }
+{
+    for _element in 0..count {
+        all.push(kind)?;
+    }
+    Ok(())
+}
+
+// Puts a mark behind others, for each of so many elements.
+fn add_marks(all: &mut Vec<bool>, mark: bool, count: usize) -> Result<(), AllocError>
+    ensures { OnOk result (all.new.items ≡ all.old.items ++ replicate count mark) }
+{
+    for _element in 0..count {
+        all.push(mark)?;
+    }
+    Ok(())
+}
+
+// What the variables' types stand for, one for each element of an array.
 fn variable_kinds<'a>(
     alloc: Global,
     constants: &Constants<'_>,
@@ -56,11 +75,12 @@ fn variable_kinds<'a>(
     variables: &'a [Variable<'_>],
 ) -> Result<Vec<Kind<'a>>, AllocError>
     ensures { IfOk result (λ kinds. map kind_data kinds.items
-        ≡ map (λ (v : ResolvedVariable). type_kind_lem (constants_data constants.now) (map alias_data types.now) v.domain) (map variable_data variables.now)) }
+        ≡ flat_map (λ (v : ResolvedVariable). replicate v.count (type_kind_lem (constants_data constants.now) (map alias_data types.now) v.domain)) (map variable_data variables.now)) }
 {
     let mut kinds = Vec::new(alloc);
     for variable in variables {
-        kinds.push(type_kind(constants, types, &variable.domain))?;
+        let kind = type_kind(constants, types, &variable.domain);
+        add_kinds(&mut kinds, kind, variable.count)?;
     }
     Ok(kinds)
 }
@@ -77,11 +97,11 @@ fn is_of_system(owner: Owner) -> bool
 
 // Which variables are the system's.
 fn system(alloc: Global, variables: &[Variable<'_>]) -> Result<Vec<bool>, AllocError>
-    ensures { IfOk result (λ all. all.items ≡ map (λ (v : ResolvedVariable). is_of_system_lem v.owner) (map variable_data variables.now)) }
+    ensures { IfOk result (λ all. all.items ≡ flat_map (λ (v : ResolvedVariable). replicate v.count (is_of_system_lem v.owner)) (map variable_data variables.now)) }
 {
     let mut all = Vec::new(alloc);
     for variable in variables {
-        all.push(is_of_system(variable.owner))?;
+        add_marks(&mut all, is_of_system(variable.owner), variable.count)?;
     }
     Ok(all)
 }

@@ -1,14 +1,14 @@
 -- Reading a declaration: a phrase that an operator follows, and the word `true` in its place.
-use Rattle.std.proofs.Common.{◌≡◌, suc, true, false, not, ◌||◌, List, [], ◌∷◌, ◌++◌, refl, ap}
+use Rattle.std.proofs.Common.{◌≡◌, suc, true, false, not, ◌||◌, List, [], ◌∷◌, ◌++◌, refl, ap, Option, Some, None}
 use Rattle.spectra_trees.specs.declared.class.Class.TheVariants as classes
 use Rattle.spectra_trees.specs.declared.tree.Place.{Place}
 use Rattle.spectra_trees.specs.declared.tree.OwnerWord.{OwnerWord}
 use Rattle.spectra_trees.specs.Classes.{place_of}
-use Rattle.spectra_trees.specs.Data.{NameData, Expression, TypeData, TypeShape, PartData, PartShape, ItemData}
+use Rattle.spectra_trees.specs.Data.{NameData, Expression, TypeData, TypeShape, PartData, PartShape, LengthData, ItemData}
 use Rattle.spectra_trees.specs.Lexemes.{Lexeme, name_of}
 use Rattle.spectra_exprs.specs.Read.{starts, all_of}
 use Rattle.spectra_exprs.specs.Expressions.{inside, bound_of}
-use Rattle.spectra_parser.specs.Items.{formula, name_after, names, name_type, range_type, named_type, type_of, vardecl, typedecl, definition, definition_after, define, parameter, parameter_after, some_parameters, parameters, predicate, own, part_formula, part_shape, part_line, pitem, mitem, pitem_after, mitem_after, inside_braces, pitems, mitems, name_parameters, pattern, monitor}
+use Rattle.spectra_parser.specs.Items.{formula, name_after, names, name_type, range_type, named_type, type_of, some_length, length_of, vardecl, typedecl, definition, definition_after, define, parameter, parameter_after, some_parameters, parameters, predicate, own, part_formula, part_shape, part_line, pitem, mitem, pitem_after, mitem_after, inside_braces, pitems, mitems, name_parameters, pattern, monitor}
 use Rattle.spectra_exprs.proofs.ClassSets.{among}
 use Rattle.spectra_exprs.proofs.WholeExpressions.{b_expr}
 use Rattle.spectra_exprs.proofs.Stopping.{starts_of_head, or_tests_of_head}
@@ -107,11 +107,17 @@ module _ (p : Pair) where
 
   -- ---- declarations
 
+  tells_length : Tells p [] length_of
+  unfolding length_of some_length place_of
+  tells_length =
+      tells_if p classes.OpenBracket (record { checked = refl }) (tells_after p classes.OpenBracket (record { checked = refl }) (λ (o : Lexeme). tells_after p classes.Number (record { checked = refl })
+      (λ (m : Lexeme). tells_after p classes.CloseBracket (record { checked = refl }) (λ (c : Lexeme). tells_gives p (Some (record { bracket = o.at; digits = m.text })))))) (tells_gives p None)
+
   pub tells_vardecl : (at : Place) (owner : OwnerWord) → Tells p [] (vardecl at owner)
   unfolding vardecl place_of
   tells_vardecl at owner =
-      tells_then p tells_type (λ (d : TypeData). tells_after p classes.Name (record { checked = refl }) (λ (m : Lexeme). tells_after p classes.Semicolon (record { checked = refl })
-      (λ (s : Lexeme). tells_gives p (ItemData.Variable (record { at = at; owner = owner; domain = d; name = name_of m })))))
+      tells_then p tells_type (λ (d : TypeData). tells_then p tells_length (λ (l : Option LengthData). tells_after p classes.Name (record { checked = refl }) (λ (m : Lexeme). tells_after p classes.Semicolon (record { checked = refl })
+      (λ (s : Lexeme). tells_gives p (ItemData.Variable (record { at = at; owner = owner; domain = d; length = l; name = name_of m }))))))
 
   pub tells_typedecl : (at : Place) → Tells p [] (typedecl at)
   unfolding typedecl place_of

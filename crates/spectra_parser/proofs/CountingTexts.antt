@@ -16,8 +16,8 @@ use Rattle.spectra_exprs.specs.Nesting.{Opening, Nesting, TokenSort, sort_of, ne
 use Rattle.spectra_exprs.proofs.Soundness.{Got}
 use Rattle.spectra_exprs.proofs.WholeExpressions.{keys, lookup_some}
 use Rattle.spectra_exprs.proofs.Opening.{IsNext}
-use Rattle.spectra_exprs.proofs.Counting.{AtMost, behind-append, at_most_append, Counts, Exactly, Ends, Seen, Stopped, counts_gives, counts_unexpected, counts_same, counts_from, counts_to, counts_then, counts_if, counts_steps, behind_step, counts_look}
-use Rattle.spectra_exprs.proofs.CountingTokens.{nested_same, ends_exactly, counts_name, counts_plain, other_step, head_step, counts_other, counts_mark, counts_head, counts_colon, All, part_among, IsOther}
+use Rattle.spectra_exprs.proofs.Counting.{AtMost, behind-append, at_most_append, Counts, Exactly, Shuts, Seen, Stopped, counts_gives, counts_unexpected, counts_same, counts_from, counts_to, counts_then, counts_if, counts_steps, behind_step, counts_look}
+use Rattle.spectra_exprs.proofs.CountingTokens.{nested_same, ends_exactly, shuts_exactly, counts_name, counts_plain, other_step, head_step, counts_separator, counts_separated, counts_mark, counts_head, counts_colon, All, part_among, IsOther}
 use Rattle.spectra_exprs.proofs.CountingExpressions.{counts_inside, counts_arguments}
 use Rattle.spectra_regexes.specs.Regexes.{inside_regex}
 use Rattle.spectra_regexes.proofs.CountingRegexes.{counts_inside_regex, counts_regex}
@@ -47,51 +47,51 @@ few = omega arith
 counts_use : (m : Lexeme) → Counts n (Exactly true []) Closed (use_behind m)
 unfolding use_behind sort_of same_class place_of
 counts_use m =
-    counts_plain [] classes.Open refl few (λ (o : Lexeme). counts_then (counts_arguments n (inside n) (counts_inside n) n Opening.Plain [] refl size few) (λ (es : List Expression). counts_gives (BodyData.Call (name_of m) es)))
+    counts_plain [] classes.Open refl few (λ (o : Lexeme). counts_then (counts_arguments n (inside n) (counts_inside n) n Opening.Plain [] refl refl size few) (λ (es : List Expression). counts_gives (BodyData.Call (name_of m) es)))
 
 counts_pattern_use : Counts n (Exactly true []) Closed pattern_use
 unfolding pattern_use sort_of same_class place_of
 counts_pattern_use = counts_name [] true classes.Name refl few counts_use
 
-counts_body_at : (body : Expression → BodyData) (t : Lexeme) → Counts n Closed (Ends []) (body_at body t)
+counts_body_at : (body : Expression → BodyData) (t : Lexeme) → Counts n Closed (Shuts []) (body_at body t)
 unfolding body_formula
-counts_body_at body t = counts_then (counts_formula [] refl size) (λ (e : Expression). counts_gives (body e))
+counts_body_at body t = counts_then (counts_formula [] refl refl size) (λ (e : Expression). counts_gives (body e))
 
-counts_trigger : (t : Lexeme) → Counts n Closed (Ends []) (trigger_at t)
+counts_trigger : (t : Lexeme) → Counts n Closed (Shuts []) (trigger_at t)
 unfolding trigger sort_of same_class place_of
 counts_trigger t =
-    counts_then (counts_regex n (inside_regex n) (counts_inside_regex n) n [] refl size) (λ (cause : RegexData). counts_mark [] refl few classes.Then false refl (λ (u : Lexeme).
-    counts_then (counts_regex n (inside_regex n) (counts_inside_regex n) n [] refl size) (λ (effect : RegexData). counts_from (ends_exactly false []) (counts_gives (BodyData.Trigger t.at cause effect)))))
+    counts_then (counts_regex n (inside_regex n) (counts_inside_regex n) n [] refl refl size) (λ (cause : RegexData). counts_mark [] refl few classes.Then false refl (λ (u : Lexeme).
+    counts_then (counts_regex n (inside_regex n) (counts_inside_regex n) n [] refl refl size) (λ (effect : RegexData). counts_from (shuts_exactly false []) (counts_gives (BodyData.Trigger t.at cause effect)))))
 
-counts_body : Counts n (Exactly true []) (Ends []) body_of
+counts_body : Counts n (Exactly true []) (Shuts []) body_of
 unfolding sort_of same_class place_of
 counts_body =
     counts_same body_same
     (counts_if (counts_mark [] refl few classes.Ini true refl (counts_body_at BodyData.Initial))
     (counts_if (counts_mark [] refl few classes.Alw true refl (counts_body_at BodyData.Always))
     (counts_if (counts_mark [] refl few classes.AlwEv true refl (counts_body_at BodyData.Recurring))
-    (counts_if (counts_mark [] refl few classes.Trig true refl counts_trigger) (counts_to (ends_exactly false []) counts_pattern_use) (starts classes.Trig)) (starts classes.AlwEv)) (starts classes.Alw)) (starts classes.Ini))
+    (counts_if (counts_mark [] refl few classes.Trig true refl counts_trigger) (counts_to (shuts_exactly false []) counts_pattern_use) (starts classes.Trig)) (starts classes.AlwEv)) (starts classes.Alw)) (starts classes.Ini))
 
-counts_labelled : (m : Lexeme) → Counts n (Exactly true []) (Ends []) (labelled m)
+counts_labelled : (m : Lexeme) → Counts n (Exactly true []) (Shuts []) (labelled m)
 unfolding labelled sort_of same_class place_of
 counts_labelled m = counts_colon [] refl few classes.Colon true refl (λ (c : Lexeme). counts_then counts_body (λ (b : BodyData). counts_gives (Some (name_of m), b)))
 
-counts_unlabelled : (m : Lexeme) → Counts n (Exactly true []) (Ends []) (unlabelled m)
+counts_unlabelled : (m : Lexeme) → Counts n (Exactly true []) (Shuts []) (unlabelled m)
 unfolding unlabelled
-counts_unlabelled m = counts_then (counts_use m) (λ (b : BodyData). counts_from (ends_exactly false []) (counts_gives (None, b)))
+counts_unlabelled m = counts_then (counts_use m) (λ (b : BodyData). counts_from (shuts_exactly false []) (counts_gives (None, b)))
 
-counts_named : Counts n (Exactly true []) (Ends []) named
+counts_named : Counts n (Exactly true []) (Shuts []) named
 unfolding named sort_of same_class place_of
 counts_named = counts_name [] true classes.Name refl few (λ (m : Lexeme). counts_if (counts_labelled m) (counts_unlabelled m) (starts classes.Colon))
 
-counts_said : Counts n (Exactly true []) (Ends []) said
+counts_said : Counts n (Exactly true []) (Shuts []) said
 unfolding said
 counts_said = counts_if counts_named (counts_then counts_body (λ (b : BodyData). counts_gives (None, b))) (starts classes.Name)
 
 counts_line : (at : Place) (role : Role) → Counts n (Exactly true []) Closed (line at role)
 unfolding line sort_of same_class place_of
 counts_line at role =
-    counts_then counts_said (λ (b : Said). counts_other [] refl few classes.Semicolon refl (λ (s : Lexeme). counts_gives (ItemData.Statement (record { at = at; role = role; name = b.0; body = b.1 }))))
+    counts_then counts_said (λ (b : Said). counts_separator [] refl classes.Semicolon refl few (λ (s : Lexeme). counts_gives (ItemData.Statement (record { at = at; role = role; name = b.0; body = b.1 }))))
 
 -- ---- items
 
@@ -99,11 +99,11 @@ counts_declaration : Counts n Closed Closed declaration
 unfolding sort_of same_class place_of
 counts_declaration =
     counts_same declaration_same
-    (counts_if (counts_mark [] refl few classes.TypeWord false refl (λ (t : Lexeme). counts_typedecl [] refl size t.at))
-    (counts_if (counts_mark [] refl few classes.Define false refl (λ (t : Lexeme). counts_define [] refl size t.at))
-    (counts_if (counts_head [] refl few classes.Predicate refl (λ (t : Lexeme). counts_predicate [] refl size t.at))
-    (counts_if (counts_head [] refl few classes.Pattern refl (λ (t : Lexeme). counts_pattern [] refl size t.at))
-    (counts_if (counts_mark [] refl few classes.Monitor false refl (λ (t : Lexeme). counts_monitor [] refl size t.at)) counts_unexpected (starts classes.Monitor)) (starts classes.Pattern)) (starts classes.Predicate)) (starts classes.Define)) (starts classes.TypeWord))
+    (counts_if (counts_mark [] refl few classes.TypeWord false refl (λ (t : Lexeme). counts_typedecl [] refl refl size t.at))
+    (counts_if (counts_mark [] refl few classes.Define false refl (λ (t : Lexeme). counts_define [] refl refl size t.at))
+    (counts_if (counts_head [] refl few classes.Predicate refl (λ (t : Lexeme). counts_predicate [] refl refl size t.at))
+    (counts_if (counts_head [] refl few classes.Pattern refl (λ (t : Lexeme). counts_pattern [] refl refl size t.at))
+    (counts_if (counts_mark [] refl few classes.Monitor false refl (λ (t : Lexeme). counts_monitor [] refl refl size t.at)) counts_unexpected (starts classes.Monitor)) (starts classes.Pattern)) (starts classes.Predicate)) (starts classes.Define)) (starts classes.TypeWord))
 
 abbrev IsHead : TokenSort → Type 0
 IsHead part = part ≡ TokenSort.Head
@@ -131,7 +131,7 @@ role_seen ts x rest e = at (role_looks.found ts x rest e)
 counts_item : Counts n Closed Closed item_of
 counts_item =
     counts_same item_same
-    (counts_look owner_seen (λ (o : Lexeme × OwnerWord) (t : Lexeme) (is : sort_of t.class ≡ TokenSort.Other). behind_step (λ m e. other_step [] refl few (sort_of t.class) is m (ends_exactly false [] m e)) (counts_vardecl [] refl size o.0.at o.1))
+    (counts_look owner_seen (λ (o : Lexeme × OwnerWord) (t : Lexeme) (is : sort_of t.class ≡ TokenSort.Other). behind_step (λ m e. other_step [] refl few (sort_of t.class) is m (ends_exactly false [] m e)) (counts_vardecl [] refl refl size o.0.at o.1))
     (counts_look role_seen (λ (o : Lexeme × Role) (t : Lexeme) (is : sort_of t.class ≡ TokenSort.Head). behind_step (λ m e. head_step [] refl few (sort_of t.class) is m (ends_exactly false [] m e)) (counts_line o.0.at o.1)) counts_declaration))
 
 counts_item_after : (all : List ItemData) → Counts n Closed Closed (item_after all)
@@ -142,7 +142,7 @@ counts_item_after all = counts_then counts_item (λ (i : ItemData). counts_gives
 
 counts_semicolon : (all : List NameData) → Counts n Closed Closed (semicolon all)
 unfolding semicolon sort_of same_class place_of
-counts_semicolon all = counts_if (counts_mark [] refl few classes.Semicolon false refl (λ (s : Lexeme). counts_gives all)) (counts_gives all) (starts classes.Semicolon)
+counts_semicolon all = counts_if (counts_separated [] false refl classes.Semicolon refl few (λ (s : Lexeme). counts_gives all)) (counts_gives all) (starts classes.Semicolon)
 
 counts_import_after : (all : List NameData) → Counts n Closed Closed (import_after all)
 unfolding import_after sort_of same_class place_of

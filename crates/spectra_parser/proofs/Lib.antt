@@ -25,3 +25,7 @@ pub mod NamedTokens
 pub mod SpelledTokens
 mod ShapedRegexes
 pub mod ShapedTexts
+mod Kept
+mod KeptExpressions
+mod KeptItems
+mod RisingTokens

@@ -2,12 +2,12 @@
 use Rattle.std.proofs.Common.{◌≡◌, ℕ, ◌+◌, ◌<◌, Bool, true, false, List, [], ◌∷◌, ◌++◌, length, Some, Err, inl, inr, refl, sym, ap, subst, ◌∙◌, append_assoc, append-nil, arith, length-append}
 use Rattle.spectra_exprs.specs.declared.fault.SyntaxFault.TheVariants as faults
 use Rattle.spectra_trees.specs.declared.class.Class.TheVariants as classes
-use Rattle.spectra_trees.specs.Classes.{place_of}
+use Rattle.spectra_trees.specs.Classes.{place_of, same_class}
 use Rattle.spectra_trees.specs.Data.{Form, TreeData}
 use Rattle.spectra_trees.specs.Lexemes.{Lexeme}
 use Rattle.spectra_exprs.specs.Expressions.{leaf}
 use Rattle.spectra_exprs.specs.Forms.{Gives, Token, ◌▸◌, Steps}
-use Rattle.spectra_exprs.specs.Grammar.{Deeper, Prim, Prod, Sum, Cmp, Conj, Disj, ExprOf, Levels}
+use Rattle.spectra_exprs.specs.Grammar.{Deeper, Prim, Prod, Sum, Cmp, Conj, Disj, Unquantified, Levels}
 use Rattle.spectra_exprs.specs.Phrases.{Phrase, ArePhrase}
 use Rattle.spectra_exprs.proofs.ClassSets.{among, going}
 use Rattle.spectra_exprs.proofs.Completeness.{Reaches}
@@ -32,31 +32,31 @@ use Rattle.spectra_parser.proofs.ComparingTexts.{tells_text}
 behind_nothing : {A B : Type 0} {P : List Lexeme → A → Type 0} {Q : A → List Lexeme → B → Type 0} (used : List Lexeme) (a : A) (b : B) → P used a → Q a [] b → (P ▸ Q) used b
 behind_nothing used a b p q = record { front = used; value = a; back = []; parts = sym (append-nil used); before = p; after = q }
 
-module _ (d : Deeper) where
-  true_prim : Prim d (a_True.token ∷ []) (leaf a_True.token Form.True)
-  true_prim = inr (inr (inr (inl (behind_nothing {P = Token classes.True} {Q = λ t. Gives (leaf t Form.True)} (a_True.token ∷ []) a_True.token (leaf a_True.token Form.True) (record { alone = refl; is = a_True.is }) (record { nothing = refl; same = refl })))))
+module _ (d : Deeper) (word : Lexeme) (is : same_class word.class classes.True ≡ true) where
+  true_prim : Prim d (word ∷ []) (leaf word Form.True)
+  true_prim = inr (inr (inr (inl (behind_nothing {P = Token classes.True} {Q = λ t. Gives (leaf t Form.True)} (word ∷ []) word (leaf word Form.True) (record { alone = refl; is = is }) (record { nothing = refl; same = refl })))))
 
-  true_prod : Prod d (a_True.token ∷ []) (leaf a_True.token Form.True, true)
-  true_prod = record { front = a_True.token ∷ []; value = leaf a_True.token Form.True; back = []; parts = refl; before = true_prim; after = Steps.done (leaf a_True.token Form.True, true) }
+  true_prod : Prod d (word ∷ []) (leaf word Form.True, true)
+  true_prod = record { front = word ∷ []; value = leaf word Form.True; back = []; parts = refl; before = true_prim; after = Steps.done (leaf word Form.True, true) }
 
-  true_sum : Sum d (a_True.token ∷ []) (leaf a_True.token Form.True, true)
-  true_sum = record { front = a_True.token ∷ []; value = (leaf a_True.token Form.True, true); back = []; parts = refl; before = true_prod; after = inr (Steps.done (leaf a_True.token Form.True, true)) }
+  true_sum : Sum d (word ∷ []) (leaf word Form.True, true)
+  true_sum = record { front = word ∷ []; value = (leaf word Form.True, true); back = []; parts = refl; before = true_prod; after = inr (Steps.done (leaf word Form.True, true)) }
 
-  true_cmp : Cmp d (a_True.token ∷ []) (leaf a_True.token Form.True, true)
-  true_cmp = inr (record { front = a_True.token ∷ []; value = (leaf a_True.token Form.True, true); back = []; parts = refl; before = true_sum; after = inr (record { nothing = refl; same = refl }) })
+  true_cmp : Cmp d (word ∷ []) (leaf word Form.True, true)
+  true_cmp = inr (record { front = word ∷ []; value = (leaf word Form.True, true); back = []; parts = refl; before = true_sum; after = inr (record { nothing = refl; same = refl }) })
 
-  true_conj : Conj d (a_True.token ∷ []) (leaf a_True.token Form.True, true)
-  true_conj = record { front = a_True.token ∷ []; value = (leaf a_True.token Form.True, true); back = []; parts = refl; before = true_cmp; after = inr (record { nothing = refl; same = refl }) }
+  true_conj : Conj d (word ∷ []) (leaf word Form.True, true)
+  true_conj = record { front = word ∷ []; value = (leaf word Form.True, true); back = []; parts = refl; before = true_cmp; after = inr (record { nothing = refl; same = refl }) }
 
-  true_disj : Disj d (a_True.token ∷ []) (leaf a_True.token Form.True, true)
-  true_disj = record { front = a_True.token ∷ []; value = (leaf a_True.token Form.True, true); back = []; parts = refl; before = true_conj; after = inr (record { nothing = refl; same = refl }) }
+  true_disj : Disj d (word ∷ []) (leaf word Form.True, true)
+  true_disj = record { front = word ∷ []; value = (leaf word Form.True, true); back = []; parts = refl; before = true_conj; after = inr (record { nothing = refl; same = refl }) }
 
-  true_expr : ExprOf d (a_True.token ∷ []) (leaf a_True.token Form.True)
-  true_expr = record { front = a_True.token ∷ []; value = (leaf a_True.token Form.True, true); back = []; parts = refl; before = true_disj; after = inr (inr (record { nothing = refl; same = refl })) }
+  true_expr : Unquantified d (word ∷ []) (leaf word Form.True)
+  true_expr = record { front = word ∷ []; value = (leaf word Form.True, true); back = []; parts = refl; before = true_disj; after = inr (inr (record { nothing = refl; same = refl })) }
 
-true_phrase : (sort : Phrase) (left : ℕ) → ArePhrase sort left (a_True.token ∷ [])
-true_phrase Phrase.Whole left = (leaf a_True.token Form.True, true_expr (Levels left))
-true_phrase Phrase.Bound left = ((leaf a_True.token Form.True, true), true_sum (Levels left))
+true_phrase : (word : Lexeme) → same_class word.class classes.True ≡ true → (sort : Phrase) (left : ℕ) → ArePhrase sort left (word ∷ [])
+true_phrase word is Phrase.Whole left = (leaf word Form.True, inr (inr (true_expr (Levels left) word is)))
+true_phrase word is Phrase.Bound left = ((leaf word Form.True, true), true_sum (Levels left) word is)
 
 -- ---- what is known of a phrase
 
@@ -127,12 +127,13 @@ no_phrase_behind ts at w read b =
     let first = first_of_phrase b.phrase (phrase_starts b.sort b.left b.phrase [] b.whole) in
     let some : 0 < length b.phrase = subst (λ (us : List Lexeme). 0 < length us) (sym first.parts) (omega arith) in
     let fresh = less_fresh 0 (b.front ++ b.phrase) b.operator b.rest numbered in
-    let begun = b.any (a_True.token ∷ []) (true_phrase b.sort b.left) in
+    let word : Lexeme = record { class = a_True.token.class; text = a_True.token.text; at = a_True.token.at; number = b.operator.number } in
+    let begun = b.any (word ∷ []) (true_phrase word a_True.is b.sort b.left) in
     let long = length-append b.front b.phrase in
     let p : Pair = record {
       phrase = b.phrase;
       operator = b.operator;
-      word = a_True.token;
+      word = word;
       more = begun.1.more;
       head = first.head;
       tail = first.tail;
@@ -144,13 +145,14 @@ no_phrase_behind ts at w read b =
       some = λ none. absurd (omega (arith, here, none, some, long));
       fresh = fresh_behind b.operator b.front b.phrase fresh;
       says = a_True.is;
+      named = refl;
     } in
     let stops : to_first_end (b.front ++ said p) ≡ Err (faults.Unexpected p.operator.number) =
     ap to_first_end (sym (append_assoc b.front b.phrase (b.operator ∷ [])) ∙ ap (λ (us : List Lexeme). us ++ b.operator ∷ []) (sym same.0) ∙ ap (λ (t : Lexeme). q.used ++ t ∷ []) (sym same.1))
     ∙ q.again [] ∙ ap (λ (k : ℕ). Err (faults.Unexpected k)) (sym number) in
     let text = begun.1.grammar in
-    let us : List Lexeme = (b.front ++ a_True.token ∷ []) ++ begun.1.more in
+    let us : List Lexeme = (b.front ++ word ∷ []) ++ begun.1.more in
     let reaches : Reaches (Unit {0}) (to_first_end us) (begun.1.tree, text.end ∷ []) = to_end_reaches us (begun.1.tree, text.end ∷ []) (text_reaches begun.0 (λ less. tt) us begun.1.tree text) in
     let instead_reaches : Reaches (Unit {0}) (to_first_end (b.front ++ instead p)) (begun.1.tree, text.end ∷ []) =
-    subst (λ (m : List Lexeme). Reaches (Unit {0}) (to_first_end m) (begun.1.tree, text.end ∷ [])) (append_assoc b.front (a_True.token ∷ []) begun.1.more) reaches in
+    subst (λ (m : List Lexeme). Reaches (Unit {0}) (to_first_end m) (begun.1.tree, text.end ∷ [])) (append_assoc b.front (word ∷ []) begun.1.more) reaches in
     never_both p b.front (begun.1.tree, text.end ∷ []) stops instead_reaches ((tells_text p).tells b.front (fresh_front b.operator b.front b.phrase fresh))

@@ -1,20 +1,20 @@
 -- Where reading a declaration, a pattern or a monitor stops, what was used begins one.
-use Rattle.std.proofs.Common.{◌≡◌, ℕ, Bool, true, false, cond, ◌||◌, List, [], ◌∷◌, ◌++◌, append-nil, append_assoc, Err, ◌⊎◌, inl, inr, refl, sym, ap, subst, ◌∙◌}
+use Rattle.std.proofs.Common.{◌≡◌, ℕ, Bool, true, false, cond, ◌||◌, List, [], ◌∷◌, ◌++◌, append-nil, append_assoc, Err, ◌⊎◌, inl, inr, refl, sym, ap, subst, ◌∙◌, Option, Some, None}
 use Rattle.spectra_exprs.specs.declared.fault.SyntaxFault.TheVariants as faults
 use Rattle.spectra_trees.specs.declared.class.Class.TheVariants as classes
 use Rattle.spectra_trees.specs.declared.tree.Place.{Place}
 use Rattle.spectra_trees.specs.declared.tree.OwnerWord.{OwnerWord}
 use Rattle.spectra_trees.specs.Classes.{place_of}
-use Rattle.spectra_trees.specs.Data.{NameData, Expression, TypeData, PartData, PartShape, ItemData}
+use Rattle.spectra_trees.specs.Data.{NameData, Expression, TypeData, PartData, PartShape, LengthData, ItemData}
 use Rattle.spectra_trees.specs.Lexemes.{Lexeme, name_of}
 use Rattle.spectra_exprs.specs.Read.{Read, unexpected, starts}
-use Rattle.spectra_parser.specs.Items.{vardecl, typedecl, definition, definition_after, define, parameter, parameter_after, some_parameters, parameters, predicate, own, part_formula, part_shape, part_line, pitem, mitem, pitem_after, mitem_after, inside_braces, pitems, mitems, name_parameters, pattern, monitor}
+use Rattle.spectra_parser.specs.Items.{some_length, length_of, vardecl, typedecl, definition, definition_after, define, parameter, parameter_after, some_parameters, parameters, predicate, own, part_formula, part_shape, part_line, pitem, mitem, pitem_after, mitem_after, inside_braces, pitems, mitems, name_parameters, pattern, monitor}
 use Rattle.spectra_exprs.specs.Forms.{Gives, Token, ◌▸◌, Steps}
 use Rattle.spectra_exprs.specs.Grammar.{ExprOf, Sum, Levels}
-use Rattle.spectra_parser.specs.ItemGrammar.{TypeIn, VardeclIn, TypedeclIn, DefinitionIn, DefinitionAfter, DefineIn, ParameterIn, ParameterAfter, ParametersIn, PredicateIn, ShapeIn, LineIn, PitemIn, MitemIn, PitemAfter, MitemAfter, NameParameters, PatternIn, MonitorIn}
+use Rattle.spectra_parser.specs.ItemGrammar.{TypeIn, SomeLength, LengthOf, VardeclIn, TypedeclIn, DefinitionIn, DefinitionAfter, DefineIn, ParameterIn, ParameterAfter, ParametersIn, PredicateIn, ShapeIn, LineIn, PitemIn, MitemIn, PitemAfter, MitemAfter, NameParameters, PatternIn, MonitorIn}
 use Rattle.spectra_exprs.proofs.Opening.{Begun, EndsWhole, IsBehind, OpensAt, opens_as, spelled_append, Full, opens_here, full_then, full_gives, full_same, full_token, full_if, full_only, full_unexpected}
 use Rattle.spectra_exprs.proofs.OpeningSteps.{full_steps}
-use Rattle.spectra_exprs.proofs.Examples.{a_Alw, a_AlwEv, a_Becomes, a_Close, a_CloseBrace, a_Colon, a_Comma, a_Equal, a_Ini, a_Name, a_Open, a_OpenBrace, a_Semicolon, a_Var}
+use Rattle.spectra_exprs.proofs.Examples.{a_Alw, a_AlwEv, a_Becomes, a_Close, a_CloseBrace, a_CloseBracket, a_Colon, a_Comma, a_Equal, a_Ini, a_Name, a_Number, a_Open, a_OpenBrace, a_OpenBracket, a_Semicolon, a_Var}
 use Rattle.spectra_exprs.proofs.Stopping.{err_is}
 use Rattle.spectra_exprs.proofs.ClassSets.{going, going_apart, starts_going}
 use Rattle.spectra_exprs.proofs.Completeness.{Begins, begins_wider}
@@ -29,11 +29,21 @@ use Rattle.spectra_parser.proofs.OpeningItems.{wide, full_formula, full_names, f
 
 -- ---- declarations
 
+full_some_length : Full SomeLength some_length
+unfolding some_length
+full_some_length =
+    full_then (full_token classes.OpenBracket a_OpenBracket) (λ (o : Lexeme). full_then (full_token classes.Number a_Number) (λ (m : Lexeme). full_then (full_token classes.CloseBracket a_CloseBracket)
+    (λ (c : Lexeme). full_gives (Some (record { bracket = o.at; digits = m.text })))))
+
+full_length : Full LengthOf length_of
+unfolding length_of
+full_length = full_if (starts classes.OpenBracket) full_some_length (full_gives None)
+
 pub full_vardecl : (at : Place) (owner : OwnerWord) → Full (VardeclIn wide at owner) (vardecl at owner)
 unfolding vardecl
 full_vardecl at owner =
-    full_then full_type (λ (d : TypeData). full_then (full_token classes.Name a_Name) (λ (m : Lexeme). full_then (full_token classes.Semicolon a_Semicolon)
-    (λ (s : Lexeme). full_gives (ItemData.Variable (record { at = at; owner = owner; domain = d; name = name_of m })))))
+    full_then full_type (λ (d : TypeData). full_then full_length (λ (l : Option LengthData). full_then (full_token classes.Name a_Name) (λ (m : Lexeme). full_then (full_token classes.Semicolon a_Semicolon)
+    (λ (s : Lexeme). full_gives (ItemData.Variable (record { at = at; owner = owner; domain = d; length = l; name = name_of m }))))))
 
 pub full_typedecl : (at : Place) → Full (TypedeclIn wide at) (typedecl at)
 unfolding typedecl

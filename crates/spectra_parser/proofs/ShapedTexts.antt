@@ -19,7 +19,7 @@ use Rattle.spectra_trees.specs.Data.{NameData, TypeData, TypeShape, PartData, Pa
 use Rattle.spectra_trees.specs.Lexemes.{Lexeme, name_of, lexemes_from, lexemes}
 use Rattle.spectra_exprs.specs.Forms.{Grammar, Gives, Token, ◌▸◌, ◌∣◌, Steps, done, one_more}
 use Rattle.spectra_exprs.proofs.ClassSets.{Apart}
-use Rattle.spectra_exprs.proofs.Shapes.{not_both}
+use Rattle.spectra_exprs.proofs.ShapesOfTokens.{not_both}
 use Rattle.spectra_exprs.specs.Expressions.{levels_of_a_text}
 use Rattle.spectra_parser.specs.Items.{role_word, imported, Said}
 use Rattle.spectra_parser.specs.ItemGrammar.{Names, NameAfter, TypeIn, Owner, RoleOf, VardeclIn, TypedeclIn, DefineIn, ParameterIn, ParameterAfter, ParametersIn, PredicateIn, ShapeIn, OwnIn, LineIn, PitemIn, MitemIn, PitemAfter, MitemAfter, PatternIn, MonitorIn, UseIn, BodyIn, SaidIn, LineOf, ItemIn, ItemAfter, ImportAfter, TextIn, Text}
@@ -29,6 +29,7 @@ use Rattle.spectra_parser.proofs.NamedTokens.{AreNamed, named_parts, Makes, make
 use Rattle.spectra_parser.proofs.SpelledTokens.{named_tokens}
 use Rattle.spectra_parser.proofs.ShapedRegexes.{HasChoices, makes_side}
 use Rattle.spectra_parser.proofs.TokenCount.{count}
+use Rattle.spectra_parser.proofs.KeptItems.{quantifiers_rise}
 
 -- ---- types
 
@@ -71,9 +72,9 @@ module _ (left : ℕ) where
 
   makes_vardecl : (at : Place) (owner : OwnerWord) → Makes (VardeclIn left at owner) IsShapedItem
   makes_vardecl at owner =
-      makes_then Shaped IsShapedItem _ _ makes_type (λ d is. makes_name IsShapedItem _ (λ n by. makes_behind IsShapedItem _ _
-      (λ s. makes_gives IsShapedItem (ItemData.Variable (record { at = at; owner = owner; domain = d; name = name_of n }))
-      (of_one_type _ d refl is refl (All-cons IsSpelled (name_of n) [] by (All-nil IsSpelled))))))
+      makes_then Shaped IsShapedItem _ _ makes_type (λ d is. makes_behind IsShapedItem _ _ (λ l. makes_name IsShapedItem _ (λ n by. makes_behind IsShapedItem _ _
+      (λ s. makes_gives IsShapedItem (ItemData.Variable (record { at = at; owner = owner; domain = d; length = l; name = name_of n }))
+      (of_one_type _ d refl is refl (All-cons IsSpelled (name_of n) [] by (All-nil IsSpelled)))))))
 
   makes_typedecl : (at : Place) → Makes (TypedeclIn left at) IsShapedItem
   makes_typedecl at =
@@ -314,4 +315,5 @@ shaped_text text tokens tree lexed is =
     record {
       items = makes_text levels_of_a_text is.used tree named is.derives;
       few_imports = omega (arith, fewer_than_tokens levels_of_a_text (lexemes text tokens) tree is, tokens_and_lexemes text 0 tokens, count text tokens lexed, lexed.short);
+      quantified = quantifiers_rise text tokens tree lexed is;
     }

@@ -1,28 +1,38 @@
 -- What is read as a declaration, a pattern or a monitor is one of the grammar.
-use Rattle.std.proofs.Common.{◌≡◌, ℕ, Bool, true, false, cond, ◌||◌, List, [], ◌∷◌, ◌++◌, Ok, Err, ◌⊎◌, inl, inr, refl, sym, ap, subst, ◌∙◌}
+use Rattle.std.proofs.Common.{◌≡◌, ℕ, Bool, true, false, cond, ◌||◌, List, [], ◌∷◌, ◌++◌, Ok, Err, ◌⊎◌, inl, inr, refl, sym, ap, subst, ◌∙◌, Option, Some, None}
 use Rattle.spectra_exprs.specs.declared.fault.SyntaxFault.TheVariants as faults
 use Rattle.spectra_trees.specs.declared.class.Class.{Class}
 use Rattle.spectra_trees.specs.declared.class.Class.TheVariants as classes
 use Rattle.spectra_trees.specs.declared.tree.Place.{Place}
 use Rattle.spectra_trees.specs.declared.tree.OwnerWord.{OwnerWord}
 use Rattle.spectra_trees.specs.Classes.{same_class}
-use Rattle.spectra_trees.specs.Data.{NameData, Expression, TypeData, PartData, PartShape, ItemData}
+use Rattle.spectra_trees.specs.Data.{NameData, Expression, TypeData, PartData, PartShape, LengthData, ItemData}
 use Rattle.spectra_trees.specs.Lexemes.{Lexeme, name_of}
 use Rattle.spectra_exprs.specs.Read.{Read, Reader, ◌>>=◌, unexpected, first_number, starts, expect}
-use Rattle.spectra_parser.specs.Items.{vardecl, typedecl, definition, definition_after, define, parameter, parameter_after, some_parameters, parameters, predicate, own, part_formula, part_shape, part_line, pitem, mitem, pitem_after, mitem_after, inside_braces, pitems, mitems, name_parameters, pattern, monitor}
+use Rattle.spectra_parser.specs.Items.{some_length, length_of, vardecl, typedecl, definition, definition_after, define, parameter, parameter_after, some_parameters, parameters, predicate, own, part_formula, part_shape, part_line, pitem, mitem, pitem_after, mitem_after, inside_braces, pitems, mitems, name_parameters, pattern, monitor}
 use Rattle.spectra_exprs.specs.Forms.{Gives, Token, ◌▸◌, Steps}
 use Rattle.spectra_exprs.specs.Grammar.{ExprOf, Levels}
-use Rattle.spectra_parser.specs.ItemGrammar.{TypeIn, VardeclIn, TypedeclIn, DefinitionIn, DefinitionAfter, DefineIn, ParameterIn, ParameterAfter, ParametersIn, PredicateIn, ShapeIn, LineIn, PitemIn, MitemIn, PitemAfter, MitemAfter, NameParameters, PatternIn, MonitorIn}
+use Rattle.spectra_parser.specs.ItemGrammar.{TypeIn, SomeLength, LengthOf, VardeclIn, TypedeclIn, DefinitionIn, DefinitionAfter, DefineIn, ParameterIn, ParameterAfter, ParametersIn, PredicateIn, ShapeIn, LineIn, PitemIn, MitemIn, PitemAfter, MitemAfter, NameParameters, PatternIn, MonitorIn}
 use Rattle.spectra_exprs.proofs.Soundness.{Got, Sound, sound_gives, sound_fault, sound_token, sound_then, sound_same, sound_if, sound_steps, branch_same, sound_unexpected, sound_both}
 use Rattle.spectra_parser.proofs.SoundItems.{n, sound_formula, sound_names, sound_type}
 
 -- ---- declarations
 
+sound_some_length : Sound SomeLength some_length
+unfolding some_length
+sound_some_length =
+    sound_then (sound_token classes.OpenBracket) (λ (o : Lexeme). sound_then (sound_token classes.Number) (λ (m : Lexeme). sound_then (sound_token classes.CloseBracket)
+    (λ (c : Lexeme). sound_gives (Some (record { bracket = o.at; digits = m.text })))))
+
+sound_length : Sound LengthOf length_of
+unfolding length_of
+sound_length = sound_if (starts classes.OpenBracket) sound_some_length (sound_gives None)
+
 pub sound_vardecl : (at : Place) (owner : OwnerWord) → Sound (VardeclIn n at owner) (vardecl at owner)
 unfolding vardecl
 sound_vardecl at owner =
-    sound_then sound_type (λ (d : TypeData). sound_then (sound_token classes.Name) (λ (m : Lexeme). sound_then (sound_token classes.Semicolon)
-    (λ (s : Lexeme). sound_gives (ItemData.Variable (record { at = at; owner = owner; domain = d; name = name_of m })))))
+    sound_then sound_type (λ (d : TypeData). sound_then sound_length (λ (l : Option LengthData). sound_then (sound_token classes.Name) (λ (m : Lexeme). sound_then (sound_token classes.Semicolon)
+    (λ (s : Lexeme). sound_gives (ItemData.Variable (record { at = at; owner = owner; domain = d; length = l; name = name_of m }))))))
 
 pub sound_typedecl : (at : Place) → Sound (TypedeclIn n at) (typedecl at)
 unfolding typedecl

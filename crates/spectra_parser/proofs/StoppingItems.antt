@@ -1,15 +1,15 @@
 -- Where reading a declaration stops depends on the tokens up to there alone.
-use Rattle.std.proofs.Common.{◌≡◌, ◌<◌, ◌||◌, List, [], ◌∷◌, ◌++◌, length, Ok, refl}
+use Rattle.std.proofs.Common.{◌≡◌, ◌<◌, ◌||◌, List, [], ◌∷◌, ◌++◌, length, Ok, refl, Option, Some, None}
 use Rattle.spectra_exprs.specs.declared.fault.SyntaxFault.TheVariants as faults
 use Rattle.spectra_trees.specs.declared.class.Class.TheVariants as classes
 use Rattle.spectra_trees.specs.declared.tree.Place.{Place}
 use Rattle.spectra_trees.specs.declared.tree.OwnerWord.{OwnerWord}
 use Rattle.spectra_trees.specs.Classes.{place_of}
-use Rattle.spectra_trees.specs.Data.{NameData, Expression, TypeData, TypeShape, PartData, PartShape, ItemData}
+use Rattle.spectra_trees.specs.Data.{NameData, Expression, TypeData, TypeShape, PartData, PartShape, LengthData, ItemData}
 use Rattle.spectra_trees.specs.Lexemes.{Lexeme, name_of}
 use Rattle.spectra_exprs.specs.Read.{◌>>=◌, starts, expect}
 use Rattle.spectra_exprs.specs.Expressions.{inside, bound_of}
-use Rattle.spectra_parser.specs.Items.{formula, name_after, names, name_type, range_type, named_type, type_of, vardecl, typedecl, definition, definition_after, define, parameter, parameter_after, some_parameters, parameters, predicate, own, part_formula, part_shape, part_line, pitem, mitem, pitem_after, mitem_after, inside_braces, pitems, mitems, name_parameters, pattern, monitor}
+use Rattle.spectra_parser.specs.Items.{formula, name_after, names, name_type, range_type, named_type, type_of, some_length, length_of, vardecl, typedecl, definition, definition_after, define, parameter, parameter_after, some_parameters, parameters, predicate, own, part_formula, part_shape, part_line, pitem, mitem, pitem_after, mitem_after, inside_braces, pitems, mitems, name_parameters, pattern, monitor}
 use Rattle.spectra_exprs.proofs.Stopping.{Stable, stable_then, stable_gives, stable_same, stable_unexpected, OfHead, starts_of_head, not_of_head, or_tests_of_head, stable_if, stable_told, err_no_ok}
 use Rattle.spectra_exprs.proofs.StoppingSteps.{Uses, uses_token, uses_then, uses_if, uses_same, uses_unexpected, stable_steps}
 use Rattle.spectra_exprs.proofs.StoppingExpressions.{stable_after, stable_inside, stable_whole, stable_bound}
@@ -65,11 +65,17 @@ stable_type =
 
 -- ---- declarations
 
+stable_length : Stable length_of
+unfolding length_of some_length place_of
+stable_length =
+    stable_if (starts_of_head classes.OpenBracket) (stable_after classes.OpenBracket (record { checked = refl }) (λ (o : Lexeme). stable_after classes.Number (record { checked = refl })
+    (λ (m : Lexeme). stable_after classes.CloseBracket (record { checked = refl }) (λ (c : Lexeme). stable_gives (Some (record { bracket = o.at; digits = m.text })))))) (stable_gives None)
+
 pub stable_vardecl : (at : Place) (owner : OwnerWord) → Stable (vardecl at owner)
 unfolding vardecl place_of
 stable_vardecl at owner =
-    stable_then stable_type (λ (d : TypeData). stable_after classes.Name (record { checked = refl }) (λ (m : Lexeme). stable_after classes.Semicolon (record { checked = refl })
-    (λ (s : Lexeme). stable_gives (ItemData.Variable (record { at = at; owner = owner; domain = d; name = name_of m })))))
+    stable_then stable_type (λ (d : TypeData). stable_then stable_length (λ (l : Option LengthData). stable_after classes.Name (record { checked = refl }) (λ (m : Lexeme). stable_after classes.Semicolon (record { checked = refl })
+    (λ (s : Lexeme). stable_gives (ItemData.Variable (record { at = at; owner = owner; domain = d; length = l; name = name_of m }))))))
 
 pub stable_typedecl : (at : Place) → Stable (typedecl at)
 unfolding typedecl place_of

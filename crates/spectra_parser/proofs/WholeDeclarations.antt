@@ -1,21 +1,21 @@
 -- What is a declaration, a pattern or a monitor of the grammar is read.
-use Rattle.std.proofs.Common.{◌≡◌, ℕ, ◌<◌, Bool, true, false, ◌||◌, append_assoc, List, [], ◌∷◌, ◌++◌, Ok, ◌⊎◌, inl, inr, refl, ◌∙◌}
+use Rattle.std.proofs.Common.{◌≡◌, ℕ, ◌<◌, Bool, true, false, ◌||◌, append_assoc, List, [], ◌∷◌, ◌++◌, Ok, ◌⊎◌, inl, inr, refl, ◌∙◌, Option, Some, None}
 use Rattle.spectra_trees.specs.declared.class.Class.{Class}
 use Rattle.spectra_trees.specs.declared.class.Class.TheVariants as classes
 use Rattle.spectra_trees.specs.declared.tree.Place.{Place}
 use Rattle.spectra_trees.specs.declared.tree.OwnerWord.{OwnerWord}
 use Rattle.spectra_trees.specs.Classes.{place_of, same_class}
-use Rattle.spectra_trees.specs.Data.{NameData, Expression, TypeData, PartData, PartShape, ItemData}
+use Rattle.spectra_trees.specs.Data.{NameData, Expression, TypeData, PartData, PartShape, LengthData, ItemData}
 use Rattle.spectra_trees.specs.Lexemes.{Lexeme, name_of}
 use Rattle.spectra_exprs.specs.Read.{Reader, ◌>>=◌, unexpected, starts, expect, all_of}
-use Rattle.spectra_parser.specs.Items.{vardecl, typedecl, definition, definition_after, define, parameter, parameter_after, some_parameters, parameters, predicate, own, part_formula, part_shape, part_line, pitem, mitem, pitem_after, mitem_after, inside_braces, pitems, mitems, name_parameters, pattern, monitor}
+use Rattle.spectra_parser.specs.Items.{some_length, length_of, vardecl, typedecl, definition, definition_after, define, parameter, parameter_after, some_parameters, parameters, predicate, own, part_formula, part_shape, part_line, pitem, mitem, pitem_after, mitem_after, inside_braces, pitems, mitems, name_parameters, pattern, monitor}
 use Rattle.spectra_exprs.specs.Forms.{Gives, Token, ◌▸◌, Steps}
 use Rattle.spectra_exprs.specs.Grammar.{ExprOf, Levels}
-use Rattle.spectra_parser.specs.ItemGrammar.{TypeIn, VardeclIn, TypedeclIn, DefinitionIn, DefinitionAfter, DefineIn, ParameterIn, ParameterAfter, ParametersIn, PredicateIn, ShapeIn, LineIn, PitemIn, MitemIn, PitemAfter, MitemAfter, NameParameters, PatternIn, MonitorIn}
+use Rattle.spectra_parser.specs.ItemGrammar.{TypeIn, SomeLength, LengthOf, VardeclIn, TypedeclIn, DefinitionIn, DefinitionAfter, DefineIn, ParameterIn, ParameterAfter, ParametersIn, PredicateIn, ShapeIn, LineIn, PitemIn, MitemIn, PitemAfter, MitemAfter, NameParameters, PatternIn, MonitorIn}
 use Rattle.spectra_parser.proofs.SoundItems.{n}
 use Rattle.spectra_parser.proofs.SoundDeclarations.{own_at, shape_at, shape_same, line_part, pitem_same}
 use Rattle.spectra_exprs.proofs.ClassSets.{going, starts_going}
-use Rattle.spectra_exprs.proofs.Completeness.{Reaches, reaches_then, Whole, Begins, whole_gives, whole_then, follows_none, whole_same, begins_token, begins_then, begins_wider, begins_or, follows_begins, whole_choice, whole_only, whole_steps, begins_of, whole_after, whole_until, whole_map, steps_at}
+use Rattle.spectra_exprs.proofs.Completeness.{Reaches, reaches_then, Whole, Begins, whole_gives, whole_then, follows_none, whole_same, begins_token, begins_then, begins_wider, begins_or, follows_begins, follows_gives, whole_choice, whole_only, whole_steps, begins_of, whole_after, whole_until, whole_map, steps_at}
 use Rattle.spectra_exprs.proofs.WholeExpressions.{c_expr}
 use Rattle.spectra_parser.proofs.WholeItems.{whole_formula, whole_names, b_type, begins_type, whole_type}
 use Rattle.spectra_exprs.proofs.ClassSets.{going_apart}
@@ -67,11 +67,18 @@ whole_name_parameters =
 
 -- the grammar may have more levels than are read
 module _ {E : Type 0} (left : ℕ) (deep : n < left → E) where
+  whole_length : Whole E (classes.OpenBracket ∷ []) LengthOf length_of
+  unfolding length_of some_length place_of
+  whole_length =
+      whole_choice classes.OpenBracket (begins_then (begins_token classes.OpenBracket)) (follows_gives None (record { checked = refl }))
+      (whole_after classes.OpenBracket (λ (o : Lexeme). whole_after classes.Number (λ (m : Lexeme). whole_after classes.CloseBracket (λ (c : Lexeme). whole_gives _ (Some (record { bracket = o.at; digits = m.text }))))))
+      (whole_gives (classes.OpenBracket ∷ []) None)
+
   pub whole_vardecl : (at : Place) (owner : OwnerWord) → Whole E [] (VardeclIn left at owner) (vardecl at owner)
   unfolding vardecl place_of
   whole_vardecl at owner =
-      whole_until classes.Name (record { checked = refl }) (whole_type left deep) (λ (d : TypeData) (m : Lexeme). whole_after classes.Semicolon
-      (λ (s : Lexeme). whole_gives [] (ItemData.Variable (record { at = at; owner = owner; domain = d; name = name_of m }))))
+      whole_then (whole_type left deep) (λ (d : TypeData). follows_none) (λ (d : TypeData). whole_until classes.Name (record { checked = refl }) whole_length (λ (l : Option LengthData) (m : Lexeme). whole_after classes.Semicolon
+      (λ (s : Lexeme). whole_gives [] (ItemData.Variable (record { at = at; owner = owner; domain = d; length = l; name = name_of m })))))
 
   pub whole_typedecl : (at : Place) → Whole E [] (TypedeclIn left at) (typedecl at)
   unfolding typedecl place_of

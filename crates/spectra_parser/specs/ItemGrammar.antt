@@ -5,7 +5,7 @@ use Rattle.spectra_trees.specs.declared.class.Class.TheVariants as classes
 use Rattle.spectra_trees.specs.declared.tree.Place.{Place}
 use Rattle.spectra_trees.specs.declared.tree.OwnerWord.{OwnerWord}
 use Rattle.spectra_trees.specs.Classes.{same_class}
-use Rattle.spectra_trees.specs.Data.{NameData, Expression, TypeData, TypeShape, PartData, PartShape, BodyData, ItemData, TreeData}
+use Rattle.spectra_trees.specs.Data.{NameData, Expression, TypeData, TypeShape, PartData, PartShape, BodyData, LengthData, ItemData, TreeData}
 use Rattle.spectra_trees.specs.Lexemes.{Lexeme, name_of}
 use Rattle.spectra_exprs.specs.Forms.{Grammar, Gives, Token, ◌▸◌, ◌∣◌, Steps}
 use Rattle.spectra_exprs.specs.Grammar.{ExprOf, Sum, Arguments, Levels}
@@ -78,10 +78,19 @@ pub record RoleOf (used : List Lexeme) (o : Lexeme × Role) : Type 0 where
   pub alone : used ≡ o.0 ∷ []
   pub word : role_word o.0.class ≡ Some o.1
 
--- type NAME ";"
+-- "[" NUMBER "]"
+abbrev pub SomeLength : Grammar (Option LengthData)
+SomeLength = Token classes.OpenBracket ▸ λ o. Token classes.Number ▸ λ n. Token classes.CloseBracket ▸ λ c. Gives (Some (record { bracket = o.at; digits = n.text }))
+
+-- [ "[" NUMBER "]" ]
+abbrev pub LengthOf : Grammar (Option LengthData)
+LengthOf = SomeLength ∣ Gives None
+
+-- type [ "[" NUMBER "]" ] NAME ";"
 abbrev pub VardeclIn : ℕ → Place → OwnerWord → Grammar ItemData
 VardeclIn left at owner =
-    TypeIn left ▸ λ d. Token classes.Name ▸ λ n. Token classes.Semicolon ▸ λ s. Gives (ItemData.Variable (record { at = at; owner = owner; domain = d; name = name_of n }))
+    TypeIn left ▸ λ d. LengthOf ▸ λ l. Token classes.Name ▸ λ n. Token classes.Semicolon ▸ λ s.
+    Gives (ItemData.Variable (record { at = at; owner = owner; domain = d; length = l; name = name_of n }))
 
 -- typedecl = "type" NAME "=" type ";", behind its first word
 abbrev pub TypedeclIn : ℕ → Place → Grammar ItemData

@@ -1,5 +1,5 @@
 -- Reading items and whole texts.
-use Rattle.std.specs.Prelude.{◌||◌, not, Bool, false, List, [], ◌∷◌, ◌++◌, Some, None, Ok, Err, if◌then◌else◌}
+use Rattle.std.specs.Prelude.{◌||◌, not, Bool, false, List, [], ◌∷◌, ◌++◌, Option, Some, None, Ok, Err, if◌then◌else◌}
 use Rattle.std.specs.Option.{option_map_or}
 use Rattle.spec_model.specs.declared.spec.Role.{Role}
 use Rattle.spectra_exprs.specs.declared.fault.SyntaxFault.TheVariants as faults
@@ -7,7 +7,7 @@ use Rattle.spectra_trees.specs.declared.class.Class.TheVariants as classes
 use Rattle.spectra_trees.specs.declared.tree.Place.{Place}
 use Rattle.spectra_trees.specs.declared.tree.OwnerWord.{OwnerWord}
 use Rattle.spectra_trees.specs.Classes.{same_class}
-use Rattle.spectra_trees.specs.Data.{NameData, Expression, TypeData, TypeShape, PartData, PartShape, BodyData, ItemData, TreeData}
+use Rattle.spectra_trees.specs.Data.{NameData, Expression, TypeData, TypeShape, PartData, PartShape, BodyData, LengthData, ItemData, TreeData}
 use Rattle.spectra_trees.specs.Lexemes.{Lexeme, name_of}
 use Rattle.spectra_exprs.specs.Read.{Reader, ◌>>=◌, unexpected, starts, expect, all_of}
 use Rattle.spectra_exprs.specs.Expressions.{inside, whole_of, bound_of, arguments_of}
@@ -54,11 +54,20 @@ type_of (t ∷ ts) =
 
 -- ---- declarations, each behind its first word
 
--- vardecl = ( "env" | "sys" | "aux" ) type NAME ";"
+-- "[" NUMBER "]"
+unfoldable pub some_length : Reader (Option LengthData)
+some_length ts =
+    expect classes.OpenBracket ts >>= λ o rest. expect classes.Number rest >>= λ n rest. expect classes.CloseBracket rest >>= λ c rest. Ok (Some (record { bracket = o.at; digits = n.text }), rest)
+
+-- [ "[" NUMBER "]" ]
+unfoldable pub length_of : Reader (Option LengthData)
+length_of ts = if starts classes.OpenBracket ts then some_length ts else Ok (None, ts)
+
+-- vardecl = ( "env" | "sys" | "aux" ) type [ "[" NUMBER "]" ] NAME ";"
 unfoldable pub vardecl : Place → OwnerWord → Reader ItemData
 vardecl at owner ts =
-    type_of ts >>= λ d rest. expect classes.Name rest >>= λ n rest. expect classes.Semicolon rest
-    >>= λ s rest. Ok (ItemData.Variable (record { at = at; owner = owner; domain = d; name = name_of n }), rest)
+    type_of ts >>= λ d rest. length_of rest >>= λ l rest. expect classes.Name rest >>= λ n rest. expect classes.Semicolon rest
+    >>= λ s rest. Ok (ItemData.Variable (record { at = at; owner = owner; domain = d; length = l; name = name_of n }), rest)
 
 -- typedecl = "type" NAME "=" type ";"
 unfoldable pub typedecl : Place → Reader ItemData

@@ -4,3 +4,4 @@ pub mod ItemGrammar
 pub mod Texts
 pub mod Wholes
 pub mod Shapes
+pub mod Quantifiers

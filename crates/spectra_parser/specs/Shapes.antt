@@ -4,6 +4,7 @@ use Rattle.std.specs.List.{list_all}
 use Rattle.spec_model.specs.declared.spec.Role.{Role}
 use Rattle.spec_model.specs.declared.spec.Role.TheVariants as roles
 use Rattle.spec_model.specs.Names.{IsName}
+use Rattle.spectra_parser.specs.Quantifiers.{AreRising, tree_quantified}
 use Rattle.spectra_trees.specs.Data.{NameData, TypeData, TypeShape, RegexData, Regexes, PartData, PartShape, BodyData, ItemData, TreeData}
 
 -- ---- types
@@ -85,7 +86,8 @@ pub record IsShapedItem (i : ItemData) : Type 0 where
   pub lines : has_shaped_lines i ≡ true
   pub variables : All IsSpelled (variable_names i)
 
--- its items are so, and it imports no more files than a text has bytes
+-- its items are so, it imports no more files than a text has bytes, and the variables of its quantifiers stand at rising places
 pub record IsShaped (tree : TreeData) : Type 0 where
   pub items : All IsShapedItem tree.items
   pub few_imports : length tree.imports ≤ 1_048_576
+  pub quantified : AreRising (tree_quantified tree)

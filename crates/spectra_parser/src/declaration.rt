@@ -1,10 +1,10 @@
 //! Declarations of variables, types, defines and predicates: one function for each production.
 
-ghost use Rattle.std.specs.Prelude.{◌<◌, map};
-ghost use Rattle.spectra_trees.specs.Views.{item_data, lexemes_of};
+ghost use Rattle.std.specs.Prelude.{◌<◌, map, option_map};
+ghost use Rattle.spectra_trees.specs.Views.{item_data, length_data, lexemes_of};
 ghost use Rattle.spectra_exprs.specs.Read.{Gives, starts as starts_lem, all_of};
 ghost use Rattle.spectra_parser.specs.ItemViews.{body_pair, parameter_pair};
-ghost use Rattle.spectra_parser.specs.Items.{define as define_lem, definition as definition_lem, definition_after as definition_after_lem, parameter as parameter_lem, parameter_after as parameter_after_lem, parameters as parameters_lem, predicate as predicate_lem, some_parameters as some_parameters_lem, typedecl as typedecl_lem, vardecl as vardecl_lem};
+ghost use Rattle.spectra_parser.specs.Items.{define as define_lem, definition as definition_lem, definition_after as definition_after_lem, length_of, some_length as some_length_lem, parameter as parameter_lem, parameter_after as parameter_after_lem, parameters as parameters_lem, predicate as predicate_lem, some_parameters as some_parameters_lem, typedecl as typedecl_lem, vardecl as vardecl_lem};
 
 use crate::limits::LEVELS;
 use crate::types::type_tree;
@@ -13,16 +13,42 @@ use spectra_exprs::operators::{Read, Tokens, begun, expect, starts};
 use spectra_trees::class::Class;
 use spectra_trees::lexeme::name;
 use spectra_trees::tree::{
-    DefineItem, ExprTree, Item, Name, OwnerWord, Place, PredicateItem, TypeItem, TypeTree, VarItem,
+    DefineItem, ExprTree, Item, Length, Name, OwnerWord, Place, PredicateItem, TypeItem, TypeTree,
+    VarItem,
 };
 use std::alloc::Global;
 
-/// vardecl = ( "env" | "sys" | "aux" ) type NAME ";", behind its first word.
+/// "[" NUMBER "]"
+#[tactic(auto, unfolding(crate::specs::Items::some_length))]
+fn some_length<'t>(alloc: Global, tokens: Tokens<'t>) -> Read<'t, Option<Length>>
+    ensures read { Gives (λ x. (option_map length_data x.0, lexemes_of x.1.now)) result (some_length_lem (lexemes_of tokens.now)) }
+{
+    let (open, rest) = expect(tokens, Class::OpenBracket)?;
+    let (number, rest) = expect(rest, Class::Number)?;
+    let (_, rest) = expect(rest, Class::CloseBracket)?;
+    let digits = String::from_str(alloc, number.text)?;
+    let bracket = open.at;
+    Ok((Some(Length { bracket, digits }), rest))
+}
+
+/// [ "[" NUMBER "]" ]
+#[tactic(auto, unfolding(crate::specs::Items::length_of))]
+fn length<'t>(alloc: Global, tokens: Tokens<'t>) -> Read<'t, Option<Length>>
+    ensures read { Gives (λ x. (option_map length_data x.0, lexemes_of x.1.now)) result (length_of (lexemes_of tokens.now)) }
+{
+    if starts(tokens, Class::OpenBracket) {
+        return some_length(alloc, tokens);
+    }
+    Ok((None, tokens))
+}
+
+/// vardecl = ( "env" | "sys" | "aux" ) type [ "[" NUMBER "]" ] NAME ";", behind its first word.
 #[tactic(auto, unfolding(crate::specs::Items::vardecl))]
 pub fn vardecl<'t>(alloc: Global, at: Place, owner: OwnerWord, tokens: Tokens<'t>) -> Read<'t, Item>
     ensures read { Gives (λ x. (item_data x.0, lexemes_of x.1.now)) result (vardecl_lem at owner (lexemes_of tokens.now)) }
 {
     let (domain, rest) = type_tree(alloc, tokens)?;
+    let (length, rest) = length(alloc, rest)?;
     let (token, rest) = expect(rest, Class::Name)?;
     let (_, rest) = expect(rest, Class::Semicolon)?;
     let name = name(alloc, token)?;
@@ -30,6 +56,7 @@ pub fn vardecl<'t>(alloc: Global, at: Place, owner: OwnerWord, tokens: Tokens<'t
         at,
         owner,
         domain,
+        length,
         name,
     };
     Ok((Item::Variable(item), rest))

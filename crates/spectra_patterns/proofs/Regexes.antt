@@ -1,5 +1,5 @@
 -- Regular expressions: their parts, and triggers without faults, which are well typed.
-use Rattle.std.proofs.Common.{if◌then◌else◌, ◌≡◌, ◌≤◌, ◌<◌, ◌+◌, drop, get_or, ℕ, ℤ, pos, negsuc, nat_abs, Bool, true, false, ◌&&◌, nat_le, List, [], ◌∷◌, Option, Some, None, length, map, option_map, refl, sym, ap, subst, ◌∙◌, arith}
+use Rattle.std.proofs.Common.{if◌then◌else◌, ◌≡◌, ◌≤◌, ◌<◌, ◌+◌, drop, get_or, ℕ, ℤ, pos, negsuc, nat_abs, Bool, true, false, ◌&&◌, nat_le, List, [], ◌∷◌, sum, Option, Some, None, length, map, option_map, refl, sym, ap, subst, ◌∙◌, arith}
 use Rattle.std.specs.Prelude.{int_le}
 use Rattle.std.specs.List.{list_all}
 use Rattle.std.proofs.lemmas.Bool.{false≢true, and_parts, and_from, not_from_false}
@@ -14,7 +14,7 @@ use Rattle.spec_model.specs.Syntax.{Regular, Regulars, TriggerData, Specificatio
 use Rattle.spec_model.specs.Sizes.{atoms_of, atoms_of_all}
 use Rattle.spec_model.specs.TriggerStates.{written, brackets, trigger_atoms, trigger_states}
 use Rattle.spec_model.specs.WellTyped as typed
-use Rattle.spec_model.specs.WellTyped.{positions_in, repeats_well, each_repeats_well, is_typed, is_typed_state, is_typed_side, is_typed_trigger, scope_of_specification}
+use Rattle.spec_model.specs.WellTyped.{positions_in, repeats_well, each_repeats_well, is_typed_state, is_typed_side, scope_of_specification}
 use Rattle.trigger_dfa.specs.Narrow.{IsNarrow}
 use Rattle.trigger_dfa.proofs.TypedTriggers.{size-positions}
 use Rattle.trigger_dfa.proofs.PositionCounts.{size-written}
@@ -27,16 +27,17 @@ use Rattle.spectra_resolved.specs.Chained.{regexes, repeated}
 use Rattle.spectra_resolved.specs.Views.{regex_data}
 use Rattle.spectra_judge.specs.Known.{Known}
 use Rattle.spectra_judge.specs.Judged.{faults_of}
-use Rattle.spectra_judge.specs.Erased.{erased, has_room}
-use Rattle.spectra_judge.specs.PutIn.{is_put_in, in_line, domain_kind}
+use Rattle.spectra_judge.specs.PutIn.{is_put_in, in_line, domain_kind, has_room}
 use Rattle.spectra_resolved.specs.Findings.{with_faults}
 use Rattle.spectra_resolved.proofs.First.{with_faults_append}
 use Rattle.spectra_judge.proofs.Empty.{empty_parts}
 use Rattle.spectra_judge.proofs.Lists.{mapped_left}
-use Rattle.spectra_judge.proofs.Lines.{line_is_typed}
-use Rattle.spectra_judge.proofs.Bans.{line_keeps_bans}
+use Rattle.spectra_cases.specs.Formulas.{formula_of}
+use Rattle.spectra_cases.specs.Laws.{IsWrittenOut, AreAlike}
+use Rattle.spectra_cases.proofs.Lines.{line_is_typed}
+use Rattle.spectra_cases.proofs.Bans.{line_keeps_bans}
 use Rattle.spectra_patterns.specs.Triggers.{is_count, count_of, are_counts, counts_well, each_counts_well, regular_of, regulars_of, trigger_of, is_narrow}
-use Rattle.spectra_patterns.specs.TriggerParts.{atom_faults, each_atom_faults, regex_put_in, each_regex_put_in, with_repeats}
+use Rattle.spectra_patterns.specs.TriggerParts.{atom_faults, each_atom_faults, regex_put_in, each_regex_put_in, RegexIsWrittenOut, EachIsWrittenOut, with_repeats}
 use Rattle.spectra_patterns.specs.Laws.{TriggerIsTyped, has_choices, each_has_choices, has_some, IsFaultless}
 
 -- ---- parts
@@ -60,9 +61,9 @@ pub faults_repeated : (known : Known) (r : ResolvedRegex) (ts : List Times) → 
 faults_repeated known r [] = refl
 faults_repeated known r (t ∷ ts) = faults_repeated known (Repetition r t) ts
 
-pub regular_repeated : (r : ResolvedRegex) (ts : List Times) → regular_of (repeated r ts) ≡ with_repeats (regular_of r) ts
-regular_repeated r [] = refl
-regular_repeated r (t ∷ ts) = regular_repeated (Repetition r t) ts
+pub regular_repeated : (known : Known) (r : ResolvedRegex) (ts : List Times) → regular_of known (repeated r ts) ≡ with_repeats (regular_of known r) ts
+regular_repeated known r [] = refl
+regular_repeated known r (t ∷ ts) = regular_repeated known (Repetition r t) ts
 
 -- ---- limits
 
@@ -121,29 +122,30 @@ repeat_well r least (Some most) is well =
     let two = and_parts (is_count most) (int_le least most) one.1 in
     and_from _ _ (ordered least most one.0 two.0 two.1) (and_from _ _ (few most two.0) well)
 
-some_is : (rs : ResolvedRegexes) → has_some rs ≡ typed.has_some (regulars_of rs)
-some_is ResolvedRegexes.none = refl
-some_is (ResolvedRegexes.one_more r rs) = refl
+some_is : (known : Known) (rs : ResolvedRegexes) → has_some rs ≡ typed.has_some (regulars_of known rs)
+some_is known ResolvedRegexes.none = refl
+some_is known (ResolvedRegexes.one_more r rs) = refl
 
-mutual
-  well : (r : ResolvedRegex) → has_choices r ≡ true → counts_well r ≡ true → repeats_well (regular_of r) ≡ true
-  well (Atom t) some counts = refl
-  well (Sequence rs) some counts = each_well rs some counts
-  well (Choice rs) some counts =
-      let parts = and_parts (has_some rs) (each_has_choices rs) some in and_from _ _ (sym (some_is rs) ∙ parts.0) (each_well rs parts.1 counts)
-  well (Repetition r times) some counts =
-      let parts = and_parts (are_counts times.least times.most) (counts_well r) counts in repeat_well (regular_of r) times.least times.most parts.0 (well r some parts.1)
+module _ (known : Known) where
+  mutual
+    well : (r : ResolvedRegex) → has_choices r ≡ true → counts_well r ≡ true → repeats_well (regular_of known r) ≡ true
+    well (Atom t) some counts = refl
+    well (Sequence rs) some counts = each_well rs some counts
+    well (Choice rs) some counts =
+        let parts = and_parts (has_some rs) (each_has_choices rs) some in and_from _ _ (sym (some_is known rs) ∙ parts.0) (each_well rs parts.1 counts)
+    well (Repetition r times) some counts =
+        let parts = and_parts (are_counts times.least times.most) (counts_well r) counts in repeat_well (regular_of known r) times.least times.most parts.0 (well r some parts.1)
 
-  each_well : (rs : ResolvedRegexes) → each_has_choices rs ≡ true → each_counts_well rs ≡ true → each_repeats_well (regulars_of rs) ≡ true
-  each_well ResolvedRegexes.none some counts = refl
-  each_well (ResolvedRegexes.one_more r rs) some counts =
-      let choices = and_parts (has_choices r) (each_has_choices rs) some in
-      let parts = and_parts (counts_well r) (each_counts_well rs) counts in
-      and_from _ _ (well r choices.0 parts.0) (each_well rs choices.1 parts.1)
+    each_well : (rs : ResolvedRegexes) → each_has_choices rs ≡ true → each_counts_well rs ≡ true → each_repeats_well (regulars_of known rs) ≡ true
+    each_well ResolvedRegexes.none some counts = refl
+    each_well (ResolvedRegexes.one_more r rs) some counts =
+        let choices = and_parts (has_choices r) (each_has_choices rs) some in
+        let parts = and_parts (counts_well r) (each_counts_well rs) counts in
+        and_from _ _ (well r choices.0 parts.0) (each_well rs choices.1 parts.1)
 
 -- ---- brackets of the specification
 
-module _ (s : Specification) (known : Known) (same : known.variables ≡ map (λ v. domain_kind v.domain) s.variables) (room : list_all has_room known.variables ≡ true) where
+module _ (s : Specification) (counts : List ℕ) (known : Known) (size : sum counts ≡ length s.variables) (few_variables : length s.variables ≤ 1024) (alike : AreAlike counts known) (same : known.variables ≡ map (λ v. domain_kind v.domain) s.variables) (room : list_all has_room known.variables ≡ true) where
   abbrev names : ℕ
   names = length s.names
 
@@ -154,46 +156,45 @@ module _ (s : Specification) (known : Known) (same : known.variables ≡ map (λ
   map-twice [] = refl
   map-twice (v ∷ vs) = ap (λ ks. domain_kind v.domain ∷ ks) (map-twice vs)
 
-  atom_typed : (t : ResolvedTree) → is_put_in (in_line names (length s.variables)) t ≡ true → faults_of known stand.Atom t ≡ [] → is_typed_state (scope_of_specification s) names (erased 0 t) ≡ true
-  atom_typed t put none =
-      let long : length s.variables ≡ length domains = sym (length-map s.variables (λ v. v.domain)) in
-      let here = subst (λ n. is_put_in (in_line names n) t ≡ true) long put in
-      and_from _ _ (line_is_typed known names domains stand.Atom t (same ∙ map-twice s.variables) room refl here none)
-      (not_from_false (has_next (erased 0 t)) ((line_keeps_bans known names (length s.variables) stand.Atom t put none).next refl))
+  atom_typed : (t : ResolvedTree) → is_put_in (in_line names counts) t ≡ true → IsWrittenOut t → faults_of known stand.Atom t ≡ [] → is_typed_state (scope_of_specification s) names (formula_of known 0 t) ≡ true
+  atom_typed t put out none =
+      let long = length-map s.variables (λ v. v.domain) in
+      and_from _ _ (line_is_typed known names counts domains stand.Atom t (size ∙ sym long) (subst (λ n. n ≤ 1024) (sym long) few_variables) alike (same ∙ map-twice s.variables) room refl put out none)
+      (not_from_false (has_next (formula_of known 0 t)) ((line_keeps_bans known names counts stand.Atom t alike put none).next refl))
 
   mutual
-    atoms_typed : (r : ResolvedRegex) → regex_put_in (in_line names (length s.variables)) r ≡ true → atom_faults known r ≡ []
-        → list_all (is_typed_state (scope_of_specification s) names) (atoms_of (regular_of r)) ≡ true
-    atoms_typed (Atom t) put none = and_from _ _ (atom_typed t put none) refl
-    atoms_typed (Sequence rs) put none = all_atoms_typed rs put none
-    atoms_typed (Choice rs) put none = all_atoms_typed rs put none
-    atoms_typed (Repetition r times) put none = atoms_typed r put none
+    atoms_typed : (r : ResolvedRegex) → regex_put_in (in_line names counts) r ≡ true → RegexIsWrittenOut r → atom_faults known r ≡ []
+        → list_all (is_typed_state (scope_of_specification s) names) (atoms_of (regular_of known r)) ≡ true
+    atoms_typed (Atom t) put out none = and_from _ _ (atom_typed t put out none) refl
+    atoms_typed (Sequence rs) put out none = all_atoms_typed rs put out none
+    atoms_typed (Choice rs) put out none = all_atoms_typed rs put out none
+    atoms_typed (Repetition r times) put out none = atoms_typed r put out none
 
-    all_atoms_typed : (rs : ResolvedRegexes) → each_regex_put_in (in_line names (length s.variables)) rs ≡ true → each_atom_faults known rs ≡ []
-        → list_all (is_typed_state (scope_of_specification s) names) (atoms_of_all (regulars_of rs)) ≡ true
-    all_atoms_typed ResolvedRegexes.none put none = refl
-    all_atoms_typed (ResolvedRegexes.one_more r rs) put none =
-        let puts = and_parts (regex_put_in (in_line names (length s.variables)) r) (each_regex_put_in (in_line names (length s.variables)) rs) put in
+    all_atoms_typed : (rs : ResolvedRegexes) → each_regex_put_in (in_line names counts) rs ≡ true → EachIsWrittenOut rs → each_atom_faults known rs ≡ []
+        → list_all (is_typed_state (scope_of_specification s) names) (atoms_of_all (regulars_of known rs)) ≡ true
+    all_atoms_typed ResolvedRegexes.none put out none = refl
+    all_atoms_typed (ResolvedRegexes.one_more r rs) put out none =
+        let puts = and_parts (regex_put_in (in_line names counts) r) (each_regex_put_in (in_line names counts) rs) put in
         let nones = empty_parts (atom_faults known r) (each_atom_faults known rs) none in
-        list_all-append (is_typed_state (scope_of_specification s) names) (atoms_of (regular_of r)) (atoms_of_all (regulars_of rs))
-        ∙ and_from _ _ (atoms_typed r puts.0 nones.0) (all_atoms_typed rs puts.1 nones.1)
+        list_all-append (is_typed_state (scope_of_specification s) names) (atoms_of (regular_of known r)) (atoms_of_all (regulars_of known rs))
+        ∙ and_from _ _ (atoms_typed r puts.0 out.0 nones.0) (all_atoms_typed rs puts.1 out.1 nones.1)
 
   -- one side
-  side_typed : (r : ResolvedRegex) → IsFaultless s known r → counts_well r ≡ true → nat_le (length (brackets (written (regular_of r)))) 64 ≡ true → is_typed_side s (regular_of r) ≡ true
+  side_typed : (r : ResolvedRegex) → IsFaultless s counts known r → counts_well r ≡ true → nat_le (length (brackets (written (regular_of known r)))) 64 ≡ true → is_typed_side s (regular_of known r) ≡ true
   side_typed r is counts few =
-      let repeats = well r is.choices counts in
-      let positions : length (brackets (written (regular_of r))) ≡ positions_in (regular_of r) = sym (size-written (regular_of r)) ∙ size-positions (regular_of r) repeats in
-      and_from _ _ repeats (and_from _ _ (subst (λ n. nat_le n 64 ≡ true) positions few) (atoms_typed r is.put_in is.faultless))
+      let repeats = well known r is.choices counts in
+      let positions : length (brackets (written (regular_of known r))) ≡ positions_in (regular_of known r) = sym (size-written (regular_of known r)) ∙ size-positions (regular_of known r) repeats in
+      and_from _ _ repeats (and_from _ _ (subst (λ n. nat_le n 64 ≡ true) positions few) (atoms_typed r is.put_in is.out is.faultless))
 
 pub trigger_typed : TriggerIsTyped
-trigger_typed s known cause effect same room is is' right =
-    let t = trigger_of cause effect in
-    let counts = and_parts (counts_well cause) (counts_well effect && is_narrow t) right in
-    let counts' = and_parts (counts_well effect) (is_narrow t) counts.1 in
-    let one = and_parts (nat_le (length (trigger_atoms t)) 8) _ counts'.1 in
+trigger_typed s counts known cause effect size few_variables alike same room is is' right =
+    let t = trigger_of known cause effect in
+    let cause_counts = and_parts (counts_well cause) (counts_well effect && is_narrow t) right in
+    let effect_counts = and_parts (counts_well effect) (is_narrow t) cause_counts.1 in
+    let one = and_parts (nat_le (length (trigger_atoms t)) 8) _ effect_counts.1 in
     let two = and_parts (nat_le (length (brackets (written t.cause))) 64) _ one.1 in
     let three = and_parts (nat_le (length (brackets (written t.effect))) 64) (nat_le (trigger_states t) 256) two.1 in
-    and_from _ _ (side_typed s known same room cause is counts.0 two.0) (and_from _ _ (side_typed s known same room effect is' counts'.0 three.0) (and_from _ _ one.0 three.1))
+    and_from _ _ (side_typed s counts known size few_variables alike same room cause is cause_counts.0 two.0) (and_from _ _ (side_typed s counts known size few_variables alike same room effect is' effect_counts.0 three.0) (and_from _ _ one.0 three.1))
 
 -- what is found in one of several expressions and what is left
 pub atoms_left : (known : Known) (rs : List Regex) (k : ℕ) (r : Regex) → k < length rs → r ≡ get_or rs k r → (found : Option Finding)

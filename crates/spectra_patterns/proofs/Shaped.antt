@@ -1,9 +1,10 @@
 -- A sound pattern whose lines have no fault has its shape, and one without any fault is well typed.
 use Rattle.std.proofs.Common.{◌≡◌, ℕ, ◌<◌, Bool, true, false, not, ◌&&◌, ◌==◌, nat_le, if◌then◌else◌, List, [], ◌∷◌, ◌++◌, length, map, flat_map, Option, Some, None, option_map, option_to_list, refl, sym, ap, subst, ◌∙◌, arith}
-use Rattle.std.specs.List.{list_all}
+use Rattle.std.specs.List.{All, list_all}
 use Rattle.std.proofs.lemmas.Bool.{false≢true, and_parts, and_from, not_from_false}
 use Rattle.std.proofs.lemmas.Bool.Decides.{nat_tests}
 use Rattle.std.proofs.lemmas.List.{length-map}
+use Rattle.std.proofs.lemmas.List.Elements.{All-head, All-tail}
 use Rattle.spec_model.specs.Values.{Enumeration}
 use Rattle.spec_model.specs.Moves.{has_next}
 use Rattle.spec_model.specs.Syntax.{Formula, PatternData}
@@ -15,7 +16,6 @@ use Rattle.spectra_resolved.specs.declared.findings.Finding.{Finding}
 use Rattle.spectra_resolved.specs.Findings.{fault}
 use Rattle.spectra_resolved.specs.declared.stand.Stand.{Stand}
 use Rattle.spectra_resolved.specs.declared.stand.Stand.TheVariants as stand
-use Rattle.spectra_resolved.specs.declared.tree.Leaf.{Leaf}
 use Rattle.spectra_resolved.specs.Resolved.{ResolvedTree}
 use Rattle.spectra_resolved.specs.Texts.{ResolvedPatternLine, Initial, Safety, Recurring, ResolvedPattern}
 use Rattle.spectra_judge.specs.Kinds.{Kind, Truth, Whole, SomeWhole, NameOf, OneName, Anything}
@@ -24,12 +24,12 @@ use Rattle.spectra_judge.specs.Wanting.{wants_truth}
 use Rattle.spectra_judge.specs.Around.{nothing_open}
 use Rattle.spectra_judge.specs.Known.{Known, Setting}
 use Rattle.spectra_judge.specs.Judged.{kind_of, wrong, first_of, faults, faults_of}
-use Rattle.spectra_judge.specs.Erased.{erased, has_room}
-use Rattle.spectra_judge.specs.PutIn.{is_put_in, in_pattern, domain_kind}
-use Rattle.spectra_judge.specs.Laws.{KeepsPatternBans}
+use Rattle.spectra_judge.specs.PutIn.{Parts, is_put_in, in_pattern, domain_kind, has_room}
 use Rattle.spectra_judge.proofs.Empty.{empty_parts, not_empty}
-use Rattle.spectra_judge.proofs.Lines.{pattern_is_typed}
-use Rattle.spectra_judge.proofs.Bans.{pattern_keeps_bans}
+use Rattle.spectra_cases.specs.Formulas.{formula_of}
+use Rattle.spectra_cases.specs.Laws.{IsWrittenOut, KeepsPatternBans}
+use Rattle.spectra_cases.proofs.Lines.{pattern_is_typed}
+use Rattle.spectra_cases.proofs.Bans.{pattern_keeps_bans}
 use Rattle.spectra_patterns.specs.Patterns.{pattern_known, line_tree, line_faults, lines_faults, domain_of, first_in, step_in, goals_in, pattern_of, table_fault, table_faults, is_empty, pattern_faults}
 use Rattle.spectra_patterns.specs.SoundPatterns.{is_type_kind, IsSound}
 use Rattle.spectra_patterns.specs.Laws.{PatternIsTyped}
@@ -84,69 +84,77 @@ module _ (own : List Kind) (p : ResolvedPattern) (names : ℕ) (types : list_all
   abbrev known : Known
   known = pattern_known p.params own
 
-  abbrev good : Leaf → Bool
+  abbrev good : Parts
   good = in_pattern names p.params (length own)
 
   abbrev meaning : PatternData
   meaning = pattern_of own p
 
+  -- everything is put in and written out
+  abbrev IsPut : ResolvedTree → Type 0
+  IsPut t = (is_put_in good t ≡ true) × IsWrittenOut t
+
   long : length own ≡ length (map domain_of own)
   long = sym (length-map own domain_of)
 
-  typed : (at : Stand) (t : ResolvedTree) → wants_truth at ≡ true → is_put_in good t ≡ true → faults_of known at t ≡ [] → is_typed (scope_of_pattern meaning) names (erased p.params t) ≡ true
+  typed : (at : Stand) (t : ResolvedTree) → wants_truth at ≡ true → IsPut t → faults_of known at t ≡ [] → is_typed (scope_of_pattern meaning) names (formula_of known p.params t) ≡ true
   typed at t wants put none =
-      pattern_is_typed known names p.params (map domain_of own) at t refl (domains_back names own types) (all_room own few) wants (subst (λ n. is_put_in (in_pattern names p.params n) t ≡ true) long put) none
+      pattern_is_typed known names p.params (map domain_of own) at t refl (domains_back names own types) (all_room own few) wants (subst (λ n. is_put_in (in_pattern names p.params n) t ≡ true) long put.0) put.1 none
 
-  keeps : (at : Stand) (t : ResolvedTree) → is_put_in good t ≡ true → faults_of known at t ≡ [] → KeepsPatternBans p.params (bans_of at) (erased p.params t)
-  keeps at t put none = pattern_keeps_bans known names p.params (length own) at t put none
+  keeps : (at : Stand) (t : ResolvedTree) → IsPut t → faults_of known at t ≡ [] → KeepsPatternBans p.params (bans_of at) (formula_of known p.params t)
+  keeps at t put none = pattern_keeps_bans known names p.params (length own) at t put.0 none
 
-  line : (at : Stand) (t : ResolvedTree) → wants_truth at ≡ true → (bans_of at).past ≡ true → is_put_in good t ≡ true → faults_of known at t ≡ [] → is_pattern_line meaning names (erased p.params t) ≡ true
+  line : (at : Stand) (t : ResolvedTree) → wants_truth at ≡ true → (bans_of at).past ≡ true → IsPut t → faults_of known at t ≡ [] → is_pattern_line meaning names (formula_of known p.params t) ≡ true
   line at t wants past put none =
       let in_stand : Setting = record { known = known; bans = bans_of at } in
       let parts = empty_parts (faults in_stand nothing_open t) (wrong (is_wanted at (kind_of known t)) (first_of t)) none in
-      and_from _ _ (typed at t wants put none) (zero_is (past_trees (erased p.params t)) (no_past in_stand p.params good past t nothing_open put parts.0))
+      and_from _ _ (typed at t wants put none) (zero_is (past_trees (formula_of known p.params t)) (no_past in_stand p.params past t nothing_open parts.0))
 
-  first_line : (t : ResolvedTree) → is_put_in good t ≡ true → faults_of known stand.PatternInitial t ≡ [] → is_first_line meaning names (erased p.params t) ≡ true
+  first_line : (t : ResolvedTree) → IsPut t → faults_of known stand.PatternInitial t ≡ [] → is_first_line meaning names (formula_of known p.params t) ≡ true
   first_line t put none =
       let ban = keeps stand.PatternInitial t put none in
       and_from _ _ (line stand.PatternInitial t refl refl put none)
-      (and_from _ _ (not_from_false (has_next (erased p.params t)) (ban.next refl)) (not_from_false (reads_some (is_parameter meaning) (erased p.params t)) (ban.parameter refl)))
+      (and_from _ _ (not_from_false (has_next (formula_of known p.params t)) (ban.next refl)) (not_from_false (reads_some (is_parameter meaning) (formula_of known p.params t)) (ban.parameter refl)))
 
-  step_line : (t : ResolvedTree) → is_put_in good t ≡ true → faults_of known stand.PatternSafety t ≡ [] → is_step_line meaning names (erased p.params t) ≡ true
+  step_line : (t : ResolvedTree) → IsPut t → faults_of known stand.PatternSafety t ≡ [] → is_step_line meaning names (formula_of known p.params t) ≡ true
   step_line t put none =
       let ban = keeps stand.PatternSafety t put none in
-      and_from _ _ (line stand.PatternSafety t refl refl put none) (not_from_false (shifts_some (is_parameter meaning) (erased p.params t)) (ban.shifted refl))
+      and_from _ _ (line stand.PatternSafety t refl refl put none) (not_from_false (shifts_some (is_parameter meaning) (formula_of known p.params t)) (ban.shifted refl))
 
-  goal_line : (t : ResolvedTree) → is_put_in good t ≡ true → faults_of known stand.PatternRecurring t ≡ [] → is_goal_line meaning names (erased p.params t) ≡ true
+  goal_line : (t : ResolvedTree) → IsPut t → faults_of known stand.PatternRecurring t ≡ [] → is_goal_line meaning names (formula_of known p.params t) ≡ true
   goal_line t put none =
-      let ban = keeps stand.PatternRecurring t put none in and_from _ _ (line stand.PatternRecurring t refl refl put none) (not_from_false (has_next (erased p.params t)) (ban.next refl))
+      let ban = keeps stand.PatternRecurring t put none in and_from _ _ (line stand.PatternRecurring t refl refl put none) (not_from_false (has_next (formula_of known p.params t)) (ban.next refl))
 
   abbrev AllPut : List ResolvedPatternLine → Type 0
-  AllPut ls = list_all (λ l. is_put_in good (line_tree l)) ls ≡ true
+  AllPut ls = (list_all (λ l. is_put_in good (line_tree l)) ls ≡ true) × All (λ l. IsWrittenOut (line_tree l)) ls
+
+  abbrev Out : ResolvedPatternLine → Type 0
+  Out l = IsWrittenOut (line_tree l)
 
   abbrev NoFault : List ResolvedPatternLine → Type 0
   NoFault ls = flat_map (line_faults known) ls ≡ []
 
   rest : (l : ResolvedPatternLine) (ls : List ResolvedPatternLine) → AllPut (l ∷ ls) → NoFault (l ∷ ls)
-      → ((is_put_in good (line_tree l) ≡ true) × (line_faults known l ≡ [])) × (AllPut ls × NoFault ls)
+      → (IsPut (line_tree l) × (line_faults known l ≡ [])) × (AllPut ls × NoFault ls)
   rest l ls put none =
-      let puts = and_parts (is_put_in good (line_tree l)) (list_all (λ l. is_put_in good (line_tree l)) ls) put in
+      let puts = and_parts (is_put_in good (line_tree l)) (list_all (λ l. is_put_in good (line_tree l)) ls) put.0 in
       let nones = empty_parts (line_faults known l) (flat_map (line_faults known) ls) none in
-      ((puts.0, nones.0), (puts.1, nones.1))
+      let outs = put.1 in
+      (((puts.0, All-head Out l ls outs), nones.0), ((puts.1, All-tail Out l ls outs), nones.1))
 
-  all_first : (ls : List ResolvedPatternLine) → AllPut ls → NoFault ls → list_all (is_first_line meaning names) (flat_map (first_in p.params) ls) ≡ true
+  all_first : (ls : List ResolvedPatternLine) → AllPut ls → NoFault ls → list_all (is_first_line meaning names) (flat_map (first_in known p.params) ls) ≡ true
   all_first [] put none = refl
   all_first (Initial at t ∷ ls) put none = let r = rest (Initial at t) ls put none in and_from _ _ (first_line t r.0.0 r.0.1) (all_first ls r.1.0 r.1.1)
   all_first (Safety at t ∷ ls) put none = let r = rest (Safety at t) ls put none in all_first ls r.1.0 r.1.1
   all_first (Recurring at t ∷ ls) put none = let r = rest (Recurring at t) ls put none in all_first ls r.1.0 r.1.1
 
-  all_step : (ls : List ResolvedPatternLine) → AllPut ls → NoFault ls → list_all (is_step_line meaning names) (flat_map (step_in p.params) ls) ≡ true
+  all_step : (ls : List ResolvedPatternLine) → AllPut ls → NoFault ls → list_all (is_step_line meaning names) (flat_map (step_in known p.params) ls) ≡ true
   all_step [] put none = refl
   all_step (Initial at t ∷ ls) put none = let r = rest (Initial at t) ls put none in all_step ls r.1.0 r.1.1
   all_step (Safety at t ∷ ls) put none = let r = rest (Safety at t) ls put none in and_from _ _ (step_line t r.0.0 r.0.1) (all_step ls r.1.0 r.1.1)
   all_step (Recurring at t ∷ ls) put none = let r = rest (Recurring at t) ls put none in all_step ls r.1.0 r.1.1
 
-  all_goals : (ls : List ResolvedPatternLine) → AllPut ls → NoFault ls → list_all (is_goal_line meaning names) (flat_map (goals_in p.params) ls) ≡ true
+  all_goals : (ls : List ResolvedPatternLine) → AllPut ls → NoFault ls → list_all (is_goal_line meaning names) (flat_map (goals_in known p.params) ls) ≡ true
   all_goals [] put none = refl
   all_goals (Initial at t ∷ ls) put none = let r = rest (Initial at t) ls put none in all_goals ls r.1.0 r.1.1
   all_goals (Safety at t ∷ ls) put none = let r = rest (Safety at t) ls put none in all_goals ls r.1.0 r.1.1
@@ -157,9 +165,9 @@ shaped own p sound none =
     record {
       names = sound.names;
       domains = domains_typed sound.names own sound.types;
-      first = all_first own p sound.names sound.types sound.few p.lines sound.lines none;
-      step = all_step own p sound.names sound.types sound.few p.lines sound.lines none;
-      goals = all_goals own p sound.names sound.types sound.few p.lines sound.lines none;
+      first = all_first own p sound.names sound.types sound.few p.lines (sound.lines, sound.out) none;
+      step = all_step own p sound.names sound.types sound.few p.lines (sound.lines, sound.out) none;
+      goals = all_goals own p sound.names sound.types sound.few p.lines (sound.lines, sound.out) none;
     }
 
 -- ---- the whole
@@ -205,9 +213,9 @@ pattern_typed own p sound none =
     and_from _ _ narrow.0
     (and_from _ _ (domains_typed sound.names own sound.types)
     (and_from _ _ narrow.1
-    (and_from _ _ (all_first own p sound.names sound.types sound.few p.lines sound.lines lines)
-    (and_from _ _ (all_step own p sound.names sound.types sound.few p.lines sound.lines lines)
-    (and_from _ _ (all_goals own p sound.names sound.types sound.few p.lines sound.lines lines) right.1)))))
+    (and_from _ _ (all_first own p sound.names sound.types sound.few p.lines (sound.lines, sound.out) lines)
+    (and_from _ _ (all_step own p sound.names sound.types sound.few p.lines (sound.lines, sound.out) lines)
+    (and_from _ _ (all_goals own p sound.names sound.types sound.few p.lines (sound.lines, sound.out) lines) right.1)))))
 
 -- ---- what it means
 

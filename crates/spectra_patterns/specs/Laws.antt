@@ -1,5 +1,5 @@
 -- Laws over the definitions alone, each of which the function of its name in src/laws.rt proves.
-use Rattle.std.specs.Prelude.{◌≡◌, ℕ, ℤ, Bool, true, false, ◌&&◌, List, [], Some, length, map}
+use Rattle.std.specs.Prelude.{◌≡◌, ◌≤◌, ℕ, ℤ, Bool, true, false, ◌&&◌, List, [], Some, length, map, sum}
 use Rattle.std.specs.List.{list_all}
 use Rattle.spec_model.specs.Syntax.{Specification}
 use Rattle.spec_model.specs.WellTyped.{is_typed_pattern, is_typed_trigger}
@@ -13,12 +13,12 @@ use Rattle.spectra_resolved.specs.Resolved.{ResolvedRegex, Atom, Sequence, Choic
 use Rattle.spectra_resolved.specs.Texts.{ResolvedPattern}
 use Rattle.spectra_judge.specs.Kinds.{Kind}
 use Rattle.spectra_judge.specs.Known.{Known}
-use Rattle.spectra_judge.specs.Erased.{has_room}
-use Rattle.spectra_judge.specs.PutIn.{is_put_in, in_line, domain_kind}
+use Rattle.spectra_judge.specs.PutIn.{Parts, is_put_in, in_line, domain_kind, has_room}
+use Rattle.spectra_cases.specs.Laws.{AreAlike}
 use Rattle.spectra_patterns.specs.Patterns.{pattern_of, pattern_faults}
 use Rattle.spectra_patterns.specs.SoundPatterns.{IsSound}
 use Rattle.spectra_patterns.specs.Triggers.{trigger_of, is_right}
-use Rattle.spectra_patterns.specs.TriggerParts.{atom_faults, regex_put_in}
+use Rattle.spectra_patterns.specs.TriggerParts.{atom_faults, regex_put_in, RegexIsWrittenOut}
 
 -- a pattern without a fault means one that is well typed
 abbrev pub PatternIsTyped : Type 0
@@ -40,27 +40,30 @@ abbrev mutual
   has_some ResolvedRegexes.none = false
   has_some (ResolvedRegexes.one_more r rs) = true
 
--- one side of a trigger of a specification, in which everything is put in: its choices have alternatives, and its brackets no fault
-pub record IsFaultless (s : Specification) (known : Known) (r : ResolvedRegex) : Type 0 where
+-- One side of a trigger of a specification, in which everything is put in: its choices have alternatives, and its brackets no fault.
+-- Variables of so many elements each are declared.
+pub record IsFaultless (s : Specification) (counts : List ℕ) (known : Known) (r : ResolvedRegex) : Type 0 where
   pub choices : has_choices r ≡ true
-  pub put_in : regex_put_in (in_line (length s.names) (length s.variables)) r ≡ true
+  pub put_in : regex_put_in (in_line (length s.names) counts) r ≡ true
+  pub out : RegexIsWrittenOut r
   pub faultless : atom_faults known r ≡ []
 
 -- a trigger without a fault means one that is well typed, where the enum names of variables have numbers of 16 bits
 abbrev pub TriggerIsTyped : Type 0
-TriggerIsTyped = (s : Specification) (known : Known) (cause effect : ResolvedRegex) → known.variables ≡ map (λ v. domain_kind v.domain) s.variables → list_all has_room known.variables ≡ true →
-    IsFaultless s known cause → IsFaultless s known effect → is_right cause effect ≡ true → is_typed_trigger s (trigger_of cause effect) ≡ true
+TriggerIsTyped = (s : Specification) (counts : List ℕ) (known : Known) (cause effect : ResolvedRegex) → sum counts ≡ length s.variables → length s.variables ≤ 1024 → AreAlike counts known → known.variables ≡ map (λ v. domain_kind v.domain) s.variables → list_all has_room known.variables ≡ true →
+    IsFaultless s counts known cause → IsFaultless s counts known effect → is_right known cause effect ≡ true → is_typed_trigger s (trigger_of known cause effect) ≡ true
 
 -- ---- names
 
 -- names stand for parts without parts that pass a test, as truth values and numbers do, and for nothing else
-pub record StandForLeaves (look : Looking) (good : Leaf → Bool) : Type 0 where
-  pub truth : (b : Bool) → good (leaf.Truth b) ≡ true
-  pub number : (z : ℤ) → good (leaf.Number z) ≡ true
-  pub name : (text : List ℕ) (l : Leaf) → look text ≡ Some (names.Leaf l) → good l ≡ true
+pub record StandForLeaves (look : Looking) (good : Parts) : Type 0 where
+  pub truth : (b : Bool) → good.leaf (leaf.Truth b) ≡ true
+  pub number : (z : ℤ) → good.leaf (leaf.Number z) ≡ true
+  pub name : (text : List ℕ) (l : Leaf) → look text ≡ Some (names.Leaf l) → good.leaf l ≡ true
   pub predicate : (text : List ℕ) (k arity : ℕ) → look text ≡ Some (names.Predicate k arity) → ⊥
+  pub array : (text : List ℕ) (k n : ℕ) → look text ≡ Some (names.Array k n) → ⊥
 
 -- in an expression whose names do so and are not misused, everything is put in as it is written
 abbrev pub ResolvedIsPutIn : Type 0
-ResolvedIsPutIn = (look : Looking) (good : Leaf → Bool) → StandForLeaves look good → (file : ℕ) (e : Expression) →
+ResolvedIsPutIn = (look : Looking) (good : Parts) → StandForLeaves look good → (file : ℕ) (e : Expression) →
     misuses (resolved look file e) ≡ [] → is_put_in good (resolved look file e) ≡ true

@@ -15,7 +15,7 @@ use Rattle.spectra_resolved.specs.Texts.{ResolvedPatternLine, Initial, Safety, R
 use Rattle.spectra_judge.specs.Kinds.{Kind, Truth, Whole, NameOf}
 use Rattle.spectra_judge.specs.Known.{Known}
 use Rattle.spectra_judge.specs.Judged.{faults_of}
-use Rattle.spectra_judge.specs.Erased.{erased}
+use Rattle.spectra_cases.specs.Formulas.{formula_of}
 
 -- ---- lines
 
@@ -46,6 +46,10 @@ line_faults known l = faults_of known (line_stand l) (line_tree l)
 abbrev pub lines_faults : List Kind → ResolvedPattern → List Finding
 lines_faults own p = flat_map (line_faults (pattern_known p.params own)) p.lines
 
+-- a pattern with other lines
+abbrev pub with_lines : ResolvedPattern → List ResolvedPatternLine → ResolvedPattern
+with_lines p lines = record p { lines = lines }
+
 -- ---- what it means
 
 -- the domain of a variable of a kind
@@ -54,17 +58,17 @@ domain_of (Whole low high) = WholeNumbers low high
 domain_of (NameOf names) = Enumeration names
 domain_of _ = TruthValues
 
-abbrev pub first_in : (params : ℕ) → ResolvedPatternLine → List Formula
-first_in params (Initial at t) = erased params t ∷ []
-first_in params _ = []
+abbrev pub first_in : Known → (params : ℕ) → ResolvedPatternLine → List Formula
+first_in known params (Initial at t) = formula_of known params t ∷ []
+first_in known params _ = []
 
-abbrev pub step_in : (params : ℕ) → ResolvedPatternLine → List Formula
-step_in params (Safety at t) = erased params t ∷ []
-step_in params _ = []
+abbrev pub step_in : Known → (params : ℕ) → ResolvedPatternLine → List Formula
+step_in known params (Safety at t) = formula_of known params t ∷ []
+step_in known params _ = []
 
-abbrev pub goals_in : (params : ℕ) → ResolvedPatternLine → List Formula
-goals_in params (Recurring at t) = erased params t ∷ []
-goals_in params _ = []
+abbrev pub goals_in : Known → (params : ℕ) → ResolvedPatternLine → List Formula
+goals_in known params (Recurring at t) = formula_of known params t ∷ []
+goals_in known params _ = []
 
 -- the pattern of the specification
 abbrev pub pattern_of : List Kind → ResolvedPattern → PatternData
@@ -72,9 +76,9 @@ pattern_of own p =
     record {
       params = p.params;
       domains = map domain_of own;
-      first = flat_map (first_in p.params) p.lines;
-      step = flat_map (step_in p.params) p.lines;
-      goals = flat_map (goals_in p.params) p.lines;
+      first = flat_map (first_in (pattern_known p.params own) p.params) p.lines;
+      step = flat_map (step_in (pattern_known p.params own) p.params) p.lines;
+      goals = flat_map (goals_in (pattern_known p.params own) p.params) p.lines;
     }
 
 -- ---- faults of the whole

@@ -1,11 +1,12 @@
 -- Which patterns have no fault of their types.
-use Rattle.std.specs.Prelude.{ℕ, Bool, true, false, List, Option, Some, None, length, IsTrue}
+use Rattle.std.specs.Prelude.{ℕ, Bool, true, false, List, Option, Some, None, length, IsTrue, All}
 use Rattle.std.specs.List.{list_all}
 use Rattle.spec_model.specs.Values.{WholeNumbers, Enumeration}
 use Rattle.spec_model.specs.Syntax.{PatternData}
 use Rattle.spec_model.specs.WellTyped.{is_domain_of}
 use Rattle.spectra_resolved.specs.Texts.{ResolvedPattern}
 use Rattle.spectra_judge.specs.Kinds.{Kind, Truth, Whole, NameOf}
+use Rattle.spectra_cases.specs.Laws.{IsWrittenOut}
 use Rattle.spectra_judge.specs.PutIn.{is_put_in, in_pattern}
 use Rattle.spectra_patterns.specs.Patterns.{line_tree}
 
@@ -32,3 +33,4 @@ pub record IsSound (own : List Kind) (p : ResolvedPattern) : Type 0 where
   pub types : IsTrue (list_all (is_type_kind names) own)
   pub few : IsTrue (list_all (is_type_kind 65_536) own)
   pub lines : IsTrue (list_all (λ l. is_put_in (in_pattern names p.params (length own)) (line_tree l)) p.lines)
+  pub out : All (λ l. IsWrittenOut (line_tree l)) p.lines

@@ -4,12 +4,12 @@ use Rattle.spec_model.specs.Syntax as model
 use Rattle.spec_model.specs.Syntax.{Regular, TriggerData}
 use Rattle.spectra_resolved.specs.declared.stand.Stand.TheVariants as stand
 use Rattle.spectra_resolved.specs.declared.findings.Finding.{Finding}
-use Rattle.spectra_resolved.specs.declared.tree.Leaf.{Leaf}
 use Rattle.spectra_resolved.specs.declared.tree.Times.{Times}
 use Rattle.spectra_resolved.specs.Resolved.{ResolvedRegex, Atom, Sequence, Choice, Repetition, ResolvedRegexes}
 use Rattle.spectra_judge.specs.Known.{Known}
 use Rattle.spectra_judge.specs.Judged.{faults_of}
-use Rattle.spectra_judge.specs.PutIn.{is_put_in}
+use Rattle.spectra_cases.specs.Laws.{IsWrittenOut}
+use Rattle.spectra_judge.specs.PutIn.{Parts, is_put_in}
 use Rattle.spectra_patterns.specs.Triggers.{count_of, trigger_of, is_right}
 
 -- ---- brackets
@@ -28,15 +28,27 @@ abbrev mutual
 
 abbrev mutual
   -- everything is put in in its brackets
-  pub regex_put_in : (Leaf → Bool) → ResolvedRegex → Bool
+  pub regex_put_in : Parts → ResolvedRegex → Bool
   regex_put_in good (Atom t) = is_put_in good t
   regex_put_in good (Sequence rs) = each_regex_put_in good rs
   regex_put_in good (Choice rs) = each_regex_put_in good rs
   regex_put_in good (Repetition r times) = regex_put_in good r
 
-  pub each_regex_put_in : (Leaf → Bool) → ResolvedRegexes → Bool
+  pub each_regex_put_in : Parts → ResolvedRegexes → Bool
   each_regex_put_in good ResolvedRegexes.none = true
   each_regex_put_in good (ResolvedRegexes.one_more r rs) = regex_put_in good r && each_regex_put_in good rs
+
+abbrev mutual
+  -- and each quantifier in them whose bounds have numbers is written out
+  pub RegexIsWrittenOut : ResolvedRegex → Type 0
+  RegexIsWrittenOut (Atom t) = IsWrittenOut t
+  RegexIsWrittenOut (Sequence rs) = EachIsWrittenOut rs
+  RegexIsWrittenOut (Choice rs) = EachIsWrittenOut rs
+  RegexIsWrittenOut (Repetition r times) = RegexIsWrittenOut r
+
+  pub EachIsWrittenOut : ResolvedRegexes → Type 0
+  EachIsWrittenOut ResolvedRegexes.none = Unit {0}
+  EachIsWrittenOut (ResolvedRegexes.one_more r rs) = RegexIsWrittenOut r × EachIsWrittenOut rs
 
 -- ---- what it means
 
@@ -48,5 +60,5 @@ with_repeats r (t ∷ ts) = with_repeats (model.Repetition r (count_of t.least) 
 -- ---- faults of the whole
 
 -- and one that is so means this
-abbrev pub meant_by : (cause effect : ResolvedRegex) → Option TriggerData
-meant_by cause effect = if is_right cause effect then Some (trigger_of cause effect) else None
+abbrev pub meant_by : Known → (cause effect : ResolvedRegex) → Option TriggerData
+meant_by known cause effect = if is_right known cause effect then Some (trigger_of known cause effect) else None

@@ -8,7 +8,8 @@ use Rattle.spectra_resolved.specs.declared.spot.Spot.{Spot}
 use Rattle.spectra_resolved.specs.declared.findings.Finding.{Finding}
 use Rattle.spectra_resolved.specs.Resolved.{ResolvedRegex, Atom, Sequence, Choice, Repetition, ResolvedRegexes}
 use Rattle.spectra_judge.specs.Findings.{fault_if}
-use Rattle.spectra_judge.specs.Erased.{erased}
+use Rattle.spectra_judge.specs.Known.{Known}
+use Rattle.spectra_cases.specs.Formulas.{formula_of}
 
 -- ---- repeats
 
@@ -40,19 +41,19 @@ abbrev pub count_of : ℤ → ℕ
 count_of n = if is_count n then nat_abs n else 0
 
 abbrev mutual
-  pub regular_of : ResolvedRegex → Regular
-  regular_of (Atom t) = model.Atom (erased 0 t)
-  regular_of (Sequence rs) = model.Sequence (regulars_of rs)
-  regular_of (Choice rs) = model.Choice (regulars_of rs)
-  regular_of (Repetition r times) = model.Repetition (regular_of r) (count_of times.least) (option_map count_of times.most)
+  pub regular_of : Known → ResolvedRegex → Regular
+  regular_of known (Atom t) = model.Atom (formula_of known 0 t)
+  regular_of known (Sequence rs) = model.Sequence (regulars_of known rs)
+  regular_of known (Choice rs) = model.Choice (regulars_of known rs)
+  regular_of known (Repetition r times) = model.Repetition (regular_of known r) (count_of times.least) (option_map count_of times.most)
 
-  pub regulars_of : ResolvedRegexes → Regulars
-  regulars_of ResolvedRegexes.none = Regulars.none
-  regulars_of (ResolvedRegexes.one_more r rs) = Regulars.one_more (regular_of r) (regulars_of rs)
+  pub regulars_of : Known → ResolvedRegexes → Regulars
+  regulars_of known ResolvedRegexes.none = Regulars.none
+  regulars_of known (ResolvedRegexes.one_more r rs) = Regulars.one_more (regular_of known r) (regulars_of known rs)
 
 -- the trigger of the specification
-abbrev pub trigger_of : (cause effect : ResolvedRegex) → TriggerData
-trigger_of cause effect = record { cause = regular_of cause; effect = regular_of effect }
+abbrev pub trigger_of : Known → (cause effect : ResolvedRegex) → TriggerData
+trigger_of known cause effect = record { cause = regular_of known cause; effect = regular_of known effect }
 
 -- ---- faults of the whole
 
@@ -67,9 +68,9 @@ is_narrow t =
     && (nat_le (length (brackets (written t.cause))) 64 && (nat_le (length (brackets (written t.effect))) 64 && nat_le (trigger_states t) 256))
 
 -- its repeats are right, and it isn't too wide
-abbrev pub is_right : (cause effect : ResolvedRegex) → Bool
-is_right cause effect = counts_well cause && (counts_well effect && is_narrow (trigger_of cause effect))
+abbrev pub is_right : Known → (cause effect : ResolvedRegex) → Bool
+is_right known cause effect = counts_well cause && (counts_well effect && is_narrow (trigger_of known cause effect))
 
 -- the word `trig` is at fault for a trigger that isn't so
-abbrev pub trigger_faults : Spot → (cause effect : ResolvedRegex) → List Finding
-trigger_faults at cause effect = fault_if (not (is_right cause effect)) (number_of TriggerWide) at
+abbrev pub trigger_faults : Known → Spot → (cause effect : ResolvedRegex) → List Finding
+trigger_faults known at cause effect = fault_if (not (is_right known cause effect)) (number_of TriggerWide) at

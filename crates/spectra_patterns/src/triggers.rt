@@ -16,7 +16,7 @@ ghost use Rattle.spectra_patterns.specs.TriggerParts.{atom_faults, each_atom_fau
 use crate::counting::{MAX_COUNT, counts_well};
 use spec_model::expr;
 use spec_model::spec::Trigger;
-use spectra_elaboration::erasing::erase;
+use spectra_cases::making::{Making, formula};
 use spectra_judge::findings::report_if;
 use spectra_judge::known::Known;
 use spectra_judge::reporting::report_faults;
@@ -97,27 +97,29 @@ fn repeats(alloc: Global, part: expr::Regex, times: &[Times]) -> Result<expr::Re
 
 // What one side of a trigger means.
 #[cycle(sides)]
-fn side(alloc: Global, r: &Regex) -> Result<expr::Regex, AllocError>
-    ensures { IfOk result (λ made. regular made ≡ regular_of (regex_data r.now)) }
+fn side(by: &Making<'_, '_>, r: &Regex) -> Result<expr::Regex, AllocError>
+    requires line { by.now.params ≡ 0 }
+    ensures { IfOk result (λ made. regular made ≡ regular_of (known_data by.now.known) (regex_data r.now)) }
 {
     match r {
-        Regex::Atom(t) => Ok(expr::Regex::Atom(erase(alloc, 0, t)?)),
-        Regex::Cat(rs) => Ok(expr::Regex::Cat(sides(alloc, rs)?)),
-        Regex::Alt(rs) => Ok(expr::Regex::Alt(sides(alloc, rs)?)),
+        Regex::Atom(t) => Ok(expr::Regex::Atom(formula(by, t)?)),
+        Regex::Cat(rs) => Ok(expr::Regex::Cat(sides(by, rs)?)),
+        Regex::Alt(rs) => Ok(expr::Regex::Alt(sides(by, rs)?)),
         Regex::Repeat(part, times) => {
-            let made = side(alloc, part)?;
-            repeats(alloc, made, times)
+            let made = side(by, part)?;
+            repeats(by.alloc, made, times)
         }
     }
 }
 
 #[cycle(sides)]
-fn sides(alloc: Global, rs: &[Regex]) -> Result<Vec<expr::Regex>, AllocError>
-    ensures { IfOk result (λ made. regulars (map regular made.items) ≡ regulars_of (regexes (map regex_data rs.now))) }
+fn sides(by: &Making<'_, '_>, rs: &[Regex]) -> Result<Vec<expr::Regex>, AllocError>
+    requires line { by.now.params ≡ 0 }
+    ensures { IfOk result (λ made. regulars (map regular made.items) ≡ regulars_of (known_data by.now.known) (regexes (map regex_data rs.now))) }
 {
-    let mut made = Vec::new(alloc);
+    let mut made = Vec::new(by.alloc);
     for r in rs {
-        made.push(side(alloc, r)?)?;
+        made.push(side(by, r)?)?;
     }
     Ok(made)
 }
@@ -135,23 +137,38 @@ fn is_narrow(alloc: Global, trigger: &Trigger) -> Result<bool, AllocError>
 
 /// What a trigger means in whose brackets everything is put in, whether or not it is right: a wrong number of a repeat counts
 /// as 0. The error is that memory is short.
-pub fn trigger_of(alloc: Global, cause: &Regex, effect: &Regex) -> Result<Trigger, AllocError>
-    ensures { IfOk result (λ made. trigger_data made ≡ trigger_of_lem (regex_data cause.now) (regex_data effect.now)) }
+pub fn trigger_of(
+    alloc: Global,
+    known: &Known<'_, '_>,
+    cause: &Regex,
+    effect: &Regex,
+) -> Result<Trigger, AllocError>
+    ensures { IfOk result (λ made. trigger_data made ≡ trigger_of_lem (known_data known.now) (regex_data cause.now) (regex_data effect.now)) }
 {
+    let by = Making {
+        alloc,
+        known: *known,
+        params: 0,
+    };
     Ok(Trigger {
-        cause: side(alloc, cause)?,
-        effect: side(alloc, effect)?,
+        cause: side(&by, cause)?,
+        effect: side(&by, effect)?,
     })
 }
 
 /// The same, where its repeats are right and it isn't too wide, and none where it isn't so. The error is that memory is short.
-pub fn trigger(alloc: Global, cause: &Regex, effect: &Regex) -> Result<Option<Trigger>, AllocError>
-    ensures { IfOk result (λ made. option_map trigger_data made ≡ meant_by (regex_data cause.now) (regex_data effect.now)) }
+pub fn trigger(
+    alloc: Global,
+    known: &Known<'_, '_>,
+    cause: &Regex,
+    effect: &Regex,
+) -> Result<Option<Trigger>, AllocError>
+    ensures { IfOk result (λ made. option_map trigger_data made ≡ meant_by (known_data known.now) (regex_data cause.now) (regex_data effect.now)) }
 {
     if !counts_well(cause) || !counts_well(effect) {
         return Ok(None);
     }
-    let made = trigger_of(alloc, cause, effect)?;
+    let made = trigger_of(alloc, known, cause, effect)?;
     if is_narrow(alloc, &made)? {
         Ok(Some(made))
     } else {

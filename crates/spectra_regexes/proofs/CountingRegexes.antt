@@ -6,25 +6,25 @@ use Rattle.spectra_trees.specs.Data.{Expression, RegexData, regexes, RepeatData}
 use Rattle.spectra_trees.specs.Lexemes.{Lexeme}
 use Rattle.spectra_exprs.specs.Read.{starts}
 use Rattle.spectra_exprs.specs.Expressions.{inside}
-use Rattle.spectra_exprs.specs.Nesting.{Opening, sort_of, completed, levels_of}
+use Rattle.spectra_exprs.specs.Nesting.{Opening, sort_of, completed, ended, levels_of}
 use Rattle.spectra_regexes.specs.Regexes.{between_of, exactly_of, counted, repeat, starts_repeat, repeated, InsideRegex, atom_of, group_of, ratom_of, post_of, starts_ratom, follower_of, followed_of, cat_of, branch_of, branched_of, regex_of, inside_regex}
-use Rattle.spectra_exprs.proofs.Counting.{Counts, Exactly, Ends, Opens, counts_gives, counts_same, counts_from, counts_then, counts_if, counts_steps, opens_then}
-use Rattle.spectra_exprs.proofs.CountingTokens.{ends_exactly, counts_operand, counts_mark, counts_close, counts_level}
+use Rattle.spectra_exprs.proofs.Counting.{Counts, Exactly, Shuts, Opens, counts_gives, counts_same, counts_from, counts_then, counts_if, counts_steps, opens_then}
+use Rattle.spectra_exprs.proofs.CountingTokens.{shuts_exactly, counts_operand, counts_mark, counts_separated, counts_close, counts_level}
 use Rattle.spectra_exprs.proofs.CountingExpressions.{counts_inside, counts_whole}
 use Rattle.spectra_regexes.proofs.SoundRegexes.{repeat_same}
 
 pub record CountsRegex (left : ℕ) (r : InsideRegex) : Type 0 where
   pub regex : (k : ℕ) (stack : List Opening) → levels_of stack + left ≡ k → (t : Lexeme) → Opens k t Opening.Level stack (Exactly false (Opening.Level ∷ stack)) (r.regex t)
-  pub atom : (k : ℕ) (stack : List Opening) → levels_of stack + left ≡ k → (t : Lexeme) → Opens k t Opening.Level stack (Ends (Opening.Level ∷ stack)) (r.atom t)
+  pub atom : (k : ℕ) (stack : List Opening) → levels_of stack + left ≡ k → (t : Lexeme) → Opens k t Opening.Level stack (Shuts (Opening.Level ∷ stack)) (r.atom t)
 
-module _ (left : ℕ) (r : InsideRegex) (h : CountsRegex left r) (k : ℕ) (stack : List Opening) (flat : completed stack ≡ stack) (size : levels_of stack + left ≡ k) where
+module _ (left : ℕ) (r : InsideRegex) (h : CountsRegex left r) (k : ℕ) (stack : List Opening) (flat : completed stack ≡ stack) (shut : ended stack ≡ stack) (size : levels_of stack + left ≡ k) where
   few : levels_of stack ≤ k
   few = omega (arith, size)
 
   counts_between : (low : List ℕ) → Counts k (Exactly false stack) (Exactly false stack) (between_of low)
   unfolding between_of sort_of same_class place_of
   counts_between low =
-      counts_mark stack flat few classes.Comma false refl (λ (c : Lexeme). counts_operand stack classes.Number refl few (λ (n : Lexeme). counts_mark stack flat few classes.CloseBrace false refl
+      counts_separated stack false shut classes.Comma refl few (λ (c : Lexeme). counts_operand stack classes.Number refl few (λ (n : Lexeme). counts_mark stack flat few classes.CloseBrace false refl
       (λ (u : Lexeme). counts_gives (RepeatData.Between low n.text))))
 
   counts_exactly : (low : List ℕ) → Counts k (Exactly false stack) (Exactly false stack) (exactly_of low)
@@ -58,7 +58,7 @@ module _ (left : ℕ) (r : InsideRegex) (h : CountsRegex left r) (k : ℕ) (stac
   unfolding group_of sort_of same_class place_of
   counts_group =
       counts_level stack classes.Open refl (λ (t : Lexeme). opens_then (h.regex k stack size t) (λ (x : RegexData).
-      counts_from (ends_exactly false (Opening.Level ∷ stack)) (counts_close stack Opening.Level refl classes.Close refl few (λ (u : Lexeme). counts_gives x))))
+      counts_from (shuts_exactly false (Opening.Level ∷ stack)) (counts_close stack Opening.Level refl classes.Close refl few (λ (u : Lexeme). counts_gives x))))
 
   counts_ratom : Counts k (Exactly false stack) (Exactly false stack) (ratom_of r)
   unfolding ratom_of
@@ -98,6 +98,6 @@ pub counts_inside_regex : (left : ℕ) → CountsRegex left (inside_regex left)
 unfolding inside_regex
 counts_inside_regex zero = record { regex = λ k stack size t. Opens.deep (λ ts. refl) (omega (arith, size)); atom = λ k stack size t. Opens.deep (λ ts. refl) (omega (arith, size)) }
 counts_inside_regex (suc left) = record {
-  regex = λ k stack size t. Opens.some (omega (arith, size)) (counts_regex left (inside_regex left) (counts_inside_regex left) k (Opening.Level ∷ stack) refl (omega (arith, size)));
+  regex = λ k stack size t. Opens.some (omega (arith, size)) (counts_regex left (inside_regex left) (counts_inside_regex left) k (Opening.Level ∷ stack) refl refl (omega (arith, size)));
   atom = λ k stack size t. Opens.some (omega (arith, size)) (counts_whole left (inside left) (counts_inside left) k (Opening.Level ∷ stack) refl (omega (arith, size)));
 }

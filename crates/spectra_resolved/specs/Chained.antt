@@ -4,7 +4,7 @@ use Rattle.spectra_trees.specs.declared.tree.BinaryWord.{BinaryWord}
 use Rattle.spectra_resolved.specs.declared.spot.Spot.{Spot}
 use Rattle.spectra_resolved.specs.declared.spot.Mark.{Mark}
 use Rattle.spectra_resolved.specs.declared.tree.Times.{Times}
-use Rattle.spectra_resolved.specs.Resolved.{ResolvedTree, Form, ResolvedTrees, tree, Binary, none, one_more, ResolvedRegex, ResolvedRegexes, Repetition, none, one_more}
+use Rattle.spectra_resolved.specs.Resolved.{ResolvedTree, Form, ResolvedTrees, tree, ResolvedRegex, ResolvedRegexes}
 
 -- the trees as a list, and back
 abbrev pub trees : List ResolvedTree → ResolvedTrees

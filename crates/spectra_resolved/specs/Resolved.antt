@@ -6,6 +6,8 @@ use Rattle.spectra_resolved.specs.declared.spot.Spot.{Spot}
 use Rattle.spectra_resolved.specs.declared.spot.Mark.{Mark}
 use Rattle.spectra_resolved.specs.declared.tree.Leaf.{Leaf}
 use Rattle.spectra_resolved.specs.declared.tree.Misuse.{Misuse}
+use Rattle.spectra_resolved.specs.declared.tree.QuantifierWord.{QuantifierWord}
+use Rattle.spectra_resolved.specs.declared.tree.Extent.{Extent}
 use Rattle.spectra_resolved.specs.declared.tree.Times.{Times}
 
 mutual
@@ -23,6 +25,8 @@ mutual
     Mod : ResolvedTree → (number_at : Spot) → (number : ℤ) → Form
     And : ResolvedTrees → (operators : List Spot) → Form
     Or : ResolvedTrees → (operators : List Spot) → Form
+    Index : (first count : ℕ) → ResolvedTree → Form
+    Quantified : QuantifierWord → (variable : Spot) → Extent → (low high : ResolvedTree) → (copies : ResolvedTrees) → Form
 
   -- several trees
   pub data ResolvedTrees : Type 0 where

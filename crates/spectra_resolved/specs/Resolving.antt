@@ -8,13 +8,15 @@ use Rattle.spectra_resolved.specs.declared.spot.Mark.{Mark}
 use Rattle.spectra_resolved.specs.declared.tree.Leaf.TheVariants as leaves
 use Rattle.spectra_resolved.specs.declared.tree.Misuse.{Misuse}
 use Rattle.spectra_resolved.specs.declared.tree.Misuse.TheVariants as misuse
+use Rattle.spectra_resolved.specs.declared.tree.QuantifierWord.TheVariants as words
+use Rattle.spectra_resolved.specs.declared.tree.Extent.TheVariants as extents
 use Rattle.spectra_resolved.specs.declared.table.Named.{Named}
 use Rattle.spectra_resolved.specs.declared.table.Named.TheVariants as names
 use Rattle.spectra_resolved.specs.declared.findings.Finding.{Finding}
 use Rattle.spectra_resolved.specs.Findings.{fault}
 use Rattle.spectra_resolved.specs.Numbers.{number_of, signed}
 use Rattle.spectra_resolved.specs.Spots.{spot_at, spot_of, in_text}
-use Rattle.spectra_resolved.specs.Looks.{Looking}
+use Rattle.spectra_resolved.specs.Looks.{Looking, bound_in}
 use Rattle.spectra_resolved.specs.Resolved.{ResolvedTree, tree, Form, ResolvedTrees, listed}
 
 -- ---- what a name is
@@ -22,14 +24,27 @@ use Rattle.spectra_resolved.specs.Resolved.{ResolvedTree, tree, Form, ResolvedTr
 -- a name without parentheses
 abbrev pub read_form : Option Named → Form
 read_form (Some (names.Leaf leaf)) = Form.LeafOf leaf
+read_form (Some (names.Array k n)) = Form.MisuseOf (misuse.Called (leaves.Variable k)) ResolvedTrees.none
 read_form (Some (names.Predicate k arity)) = Form.MisuseOf (misuse.Bare k) ResolvedTrees.none
 read_form _ = Form.MisuseOf misuse.Unknown ResolvedTrees.none
 
 -- a name with arguments
 abbrev pub call_form : Option Named → ResolvedTrees → Form
 call_form (Some (names.Leaf leaf)) ts = Form.MisuseOf (misuse.Called leaf) ts
+call_form (Some (names.Array k n)) ts = Form.MisuseOf (misuse.Called (leaves.Variable k)) ts
 call_form (Some (names.Predicate k arity)) ts = if length (listed ts) == arity then Form.PredicateOf k ts else Form.MisuseOf (misuse.Arity k) ts
 call_form _ ts = Form.MisuseOf misuse.Unknown ts
+
+-- a name with brackets behind it that is no array's
+abbrev pub index_misuse : Option Named → Misuse
+index_misuse (Some (names.Leaf leaf)) = misuse.Called leaf
+index_misuse (Some (names.Predicate k arity)) = misuse.Bare k
+index_misuse _ = misuse.Unknown
+
+-- a name with what stands in the brackets behind it
+abbrev pub index_form : Option Named → ResolvedTree → Form
+index_form (Some (names.Array first n)) t = Form.Index first n t
+index_form named t = Form.MisuseOf (index_misuse named) (ResolvedTrees.one_more t ResolvedTrees.none)
 
 -- ---- the tree of an expression
 
@@ -49,6 +64,13 @@ abbrev mutual
   resolved_form look file first at (written.Form.Mod e number digits) = tree first at (Form.Mod (resolved look file e) (spot_at file number) (number_of digits))
   resolved_form look file first at (written.Form.And es ops) = tree first at (Form.And (resolved_each look file es) (map (spot_at file) ops))
   resolved_form look file first at (written.Form.Or es ops) = tree first at (Form.Or (resolved_each look file es) (map (spot_at file) ops))
+  resolved_form look file first at (written.Form.Index name e) = tree first (in_text (spot_of file name)) (index_form (look name.text) (resolved look file e))
+  resolved_form look file first at (written.Form.ForAll name low high e) =
+      tree first at (Form.Quantified words.ForAll (spot_of file name) extents.Open (resolved look file low) (resolved look file high)
+      (ResolvedTrees.one_more (resolved (bound_in look name.text (spot_of file name)) file e) ResolvedTrees.none))
+  resolved_form look file first at (written.Form.Exists name low high e) =
+      tree first at (Form.Quantified words.Exists (spot_of file name) extents.Open (resolved look file low) (resolved look file high)
+      (ResolvedTrees.one_more (resolved (bound_in look name.text (spot_of file name)) file e) ResolvedTrees.none))
 
   pub resolved_each : Looking → (file : ℕ) → Expressions → ResolvedTrees
   resolved_each look file Expressions.none = ResolvedTrees.none
@@ -78,6 +100,8 @@ abbrev mutual
   form_misuses at (Form.Mod t number_at n) = misuses t
   form_misuses at (Form.And ts ops) = misuses_of_each ts
   form_misuses at (Form.Or ts ops) = misuses_of_each ts
+  form_misuses at (Form.Index first n t) = misuses t
+  form_misuses at (Form.Quantified word variable extent low high ts) = misuses low ++ (misuses high ++ misuses_of_each ts)
 
   pub misuses_of_each : ResolvedTrees → List Finding
   misuses_of_each ResolvedTrees.none = []

@@ -1,9 +1,13 @@
 -- Places in several files, and names with their places.
-use Rattle.std.specs.Prelude.{ℕ, true, false, List}
+use Rattle.std.specs.Prelude.{ℕ, Bool, true, false, ◌==◌, ◌&&◌, List}
 use Rattle.spectra_trees.specs.declared.tree.Place.{Place}
 use Rattle.spectra_trees.specs.Data.{NameData}
 use Rattle.spectra_resolved.specs.declared.spot.Spot.{Spot}
 use Rattle.spectra_resolved.specs.declared.spot.Mark.{Mark}
+
+-- whether two places are one
+abbrev pub same_place : Spot → Spot → Bool
+same_place a b = (a.file == b.file) && ((a.line == b.line) && (a.column == b.column))
 
 -- a place of a file
 abbrev pub spot_at : (file : ℕ) → Place → Spot

@@ -24,7 +24,7 @@ type_data (types.Named k) = ResolvedType.TypeNumber k
 type_data types.Hole = ResolvedType.NoType
 
 abbrev pub variable_data : Variable → ResolvedVariable
-variable_data v = record { name = mention_data v.name; owner = v.owner; domain = type_data v.domain }
+variable_data v = record { name = mention_data v.name; owner = v.owner; domain = type_data v.domain; array = v.array; count = v.count }
 
 abbrev pub alias_data : Alias → ResolvedAlias
 alias_data a = record { name = mention_data a.name; body = type_data a.body }

@@ -16,10 +16,13 @@ pub data ResolvedType : Type 0 where
   TypeNumber : (number : ℕ) → ResolvedType
   NoType : ResolvedType
 
+-- an array is so many variables, and everything else is one
 pub record ResolvedVariable : Type 0 where
   pub name : MentionData
   pub owner : Owner
   pub domain : ResolvedType
+  pub array : Bool
+  pub count : ℕ
 
 pub record ResolvedAlias : Type 0 where
   pub name : MentionData

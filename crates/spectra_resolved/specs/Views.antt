@@ -18,6 +18,8 @@ shape_step (Shape-F.Prefix word t) = Form.Prefix word t.value
 shape_step (Shape-F.Mod t at n) = Form.Mod t.value at n
 shape_step (Shape-F.And ts ops) = Form.And (trees ts.items) ops.items
 shape_step (Shape-F.Or ts ops) = Form.Or (trees ts.items) ops.items
+shape_step (Shape-F.Index first n t) = Form.Index first n t.value
+shape_step (Shape-F.Quantified word variable extent low high ts) = Form.Quantified word variable extent low.value high.value (trees ts.items)
 
 abbrev pub link_step : Link-F ResolvedTree Form LinkData → LinkData
 link_step l = record { first = l.first; at = l.at; word = l.word; second = l.second }

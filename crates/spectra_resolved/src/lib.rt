@@ -10,6 +10,7 @@
 pub mod enum_names;
 pub mod findings;
 pub mod look;
+pub mod naming;
 pub mod numbers;
 pub mod regexes;
 pub mod resolving;

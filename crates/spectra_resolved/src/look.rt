@@ -1,10 +1,12 @@
 //! What a name stands for where it stands.
 
-ghost use Rattle.std.specs.Prelude.{◌≡◌};
-ghost use Rattle.spectra_resolved.specs.Looks.{outside};
+ghost use Rattle.std.specs.Prelude.{◌≡◌, map};
+ghost use Rattle.spectra_resolved.specs.MentionViews.{mention_data};
+ghost use Rattle.spectra_resolved.specs.Looks.{looked_up, outside, through_quantifiers};
 ghost use Rattle.spectra_resolved.specs.LookViews.{around_data, look_data, scope_data};
 
 use crate::enum_names::EnumNames;
+use crate::spot::Mention;
 use crate::table::{Named, Table};
 use crate::tree::Leaf;
 
@@ -25,18 +27,42 @@ pub enum Sight {
     EnumNames,
 }
 
-/// Where a name stands: what is declared around it, as parameters, hides what is outside.
+/// Where a name stands: what is declared around it, as parameters, hides what is outside, and the variables of the quantifiers
+/// around it, the innermost last, hide both.
 #[derive(Clone, Copy)]
 pub struct Look<'s, 't> {
     pub scope: &'s Scope<'t>,
     pub around: Option<&'s Table<'t>>,
     pub sight: Sight,
+    pub quantified: &'s [Mention<'s>],
 }
 
 impl<'s, 't> Look<'s, 't> {
     /// What a name stands for, where it has a declaration that is visible.
     pub fn named(&self, text: &str) -> Option<Named>
         ensures { result ≡ look_data self.now text.now }
+    {
+        let declared = self.declared(text);
+        self.through(text, declared)
+    }
+
+    // What a name stands for that stands for so much outside of the quantifiers.
+    fn through(&self, text: &str, outside: Option<Named>) -> Option<Named>
+        ensures { result ≡ through_quantifiers (map mention_data self.now.quantified.now) text.now outside }
+    {
+        let quantified = self.quantified;
+        let mut named = outside;
+        for variable in quantified {
+            if text == variable.text {
+                named = Some(Named::Leaf(Leaf::Bound(variable.at)));
+            }
+        }
+        named
+    }
+
+    // What a name stands for by declarations.
+    fn declared(&self, text: &str) -> Option<Named>
+        ensures { result ≡ looked_up self.now.sight (scope_data self.now.scope.now) (around_data self.now.around) text.now }
     {
         match self.inside(text) {
             Some(named) => Some(named),

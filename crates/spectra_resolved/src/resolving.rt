@@ -1,6 +1,6 @@
 //! The tree of an expression with each name replaced by what it stands for.
 
-ghost use Rattle.std.specs.Prelude.{◌≡◌, false, map, IfOk, OnOk};
+ghost use Rattle.std.specs.Prelude.{◌≡◌, false, [], ◌∷◌, ◌++◌, map, IfOk, OnOk};
 ghost use Rattle.spectra_trees.specs.Data.{expressions};
 ghost use Rattle.spectra_trees.specs.Chains.{is_joined};
 ghost use Rattle.spectra_trees.specs.Views.{name_data, expr_data};
@@ -8,20 +8,22 @@ ghost use Rattle.spectra_resolved.specs.Spots.{spot_at as spot_at_lem, spot_of a
 ghost use Rattle.spectra_resolved.specs.Findings.{with_faults};
 ghost use Rattle.spectra_resolved.specs.Reports.{found_in};
 ghost use Rattle.spectra_resolved.specs.Resolved.{tree as tree_lem, Form};
-ghost use Rattle.spectra_resolved.specs.Chained.{trees as trees_lem, chained};
+ghost use Rattle.spectra_resolved.specs.Chained.{trees as trees_lem};
 ghost use Rattle.spectra_resolved.specs.Views.{resolved_data, link_data};
-ghost use Rattle.spectra_resolved.specs.Resolving.{read_form, call_form, misuses, misuses_of_each, fault_of as fault_of_lem};
+ghost use Rattle.spectra_resolved.specs.Resolving.{read_form, call_form, index_form, misuses, form_misuses, misuses_of_each};
 ghost use Rattle.spectra_resolved.specs.Misused.{own_misuse};
 ghost use Rattle.spectra_resolved.specs.LookViews.{look_data};
-ghost use Rattle.spectra_resolved.specs.ResolverViews.{resolved_by, resolved_each_by};
+ghost use Rattle.spectra_resolved.specs.MentionViews.{mention_data};
+ghost use Rattle.spectra_resolved.specs.Spots.{mentioned as mentioned_lem};
+ghost use Rattle.spectra_resolved.specs.ResolverViews.{resolved_by, resolved_each_by, resolved_inside, quantified_by};
 
 use crate::findings::Findings;
 use crate::look::Look;
-use crate::numbers::{number_of, signed};
-use crate::spot::{Spot, in_text, spot_at, spot_of};
+use crate::naming::{chain, conjunction, disjunction, index_misuse, misused, numeral, predicate};
+use crate::numbers::number_of;
+use crate::spot::{Mention, Spot, in_text, mentioned, spot_at, spot_of};
 use crate::table::Named;
-use crate::tree::{Leaf, Link, Misuse, Resolved, Shape};
-use spectra_trees::faults::{ARITY, UNKNOWN, WRONG_TYPE};
+use crate::tree::{Extent, Leaf, Link, Misuse, QuantifierWord, Resolved, Shape};
 use spectra_trees::tree::{BinaryWord, ExprForm, ExprTree, Name, Place};
 use std::alloc::{AllocError, Global};
 
@@ -31,66 +33,6 @@ pub struct Resolver<'s, 't> {
     pub alloc: Global,
     pub look: Look<'s, 't>,
     pub file: usize,
-}
-
-/// The number of a misused name's fault.
-pub fn fault_of(misuse: Misuse) -> u8
-    ensures { result ≡ fault_of_lem misuse }
-{
-    match misuse {
-        Misuse::Unknown => UNKNOWN,
-        Misuse::Arity(_) => ARITY,
-        Misuse::Bare(_) => WRONG_TYPE,
-        Misuse::Called(_) => WRONG_TYPE,
-    }
-}
-
-// A misused name, which is a fault at the name.
-fn misused(
-    findings: &mut Findings,
-    first: Spot,
-    at: Spot,
-    misuse: Misuse,
-    arguments: Vec<Resolved>,
-) -> Resolved
-    ensures tree { resolved_data result ≡ tree_lem first (in_text_lem at) (Form.MisuseOf misuse (trees_lem (map resolved_data arguments.items))) }
-    ensures found { found_in findings.new ≡ with_faults (found_in findings.old) (own_misuse at (Form.MisuseOf misuse (trees_lem (map resolved_data arguments.items)))) }
-{
-    findings.report(fault_of(misuse), at);
-    Resolved::Node(first, in_text(at), Shape::Misuse(misuse, arguments))
-}
-
-// The use of a predicate.
-fn predicate(first: Spot, at: Spot, number: usize, arguments: Vec<Resolved>) -> Resolved
-    ensures { resolved_data result ≡ tree_lem first (in_text_lem at) (Form.PredicateOf number (trees_lem (map resolved_data arguments.items))) }
-{
-    Resolved::Node(first, in_text(at), Shape::Predicate(number, arguments))
-}
-
-// A conjunction.
-fn conjunction(first: Spot, at: Spot, parts: Vec<Resolved>, operators: Vec<Spot>) -> Resolved
-    ensures { resolved_data result ≡ tree_lem first (in_text_lem at) (Form.And (trees_lem (map resolved_data parts.items)) operators.items) }
-{
-    Resolved::Node(first, in_text(at), Shape::And(parts, operators))
-}
-
-// A disjunction.
-fn disjunction(first: Spot, at: Spot, parts: Vec<Resolved>, operators: Vec<Spot>) -> Resolved
-    ensures { resolved_data result ≡ tree_lem first (in_text_lem at) (Form.Or (trees_lem (map resolved_data parts.items)) operators.items) }
-{
-    Resolved::Node(first, in_text(at), Shape::Or(parts, operators))
-}
-
-#[tactic(auto, using(crate::proofs::Trees::chain_data))]
-// A tree with operators behind it, where there are any.
-fn chain(alloc: Global, head: Resolved, links: Vec<Link>) -> Result<Resolved, AllocError>
-    ensures { IfOk result (λ t. resolved_data t ≡ chained (resolved_data head) (map link_data links.items)) }
-{
-    if links.is_empty() {
-        Ok(head)
-    } else {
-        Ok(Resolved::Chain(Box::new(alloc, head)?, links))
-    }
 }
 
 // A name without parentheses.
@@ -103,6 +45,10 @@ fn read(resolver: &Resolver<'_, '_>, findings: &mut Findings, first: Spot, name:
     let none = Vec::new(resolver.alloc);
     match resolver.look.named(name.text.as_str()) {
         Some(Named::Leaf(leaf)) => Resolved::Node(first, in_text(at), Shape::Leaf(leaf)),
+        Some(Named::Array(number, _)) => {
+            let array = Misuse::Called(Leaf::Variable(number));
+            misused(findings, first, at, array, none)
+        }
         Some(Named::Predicate(number, _)) => {
             misused(findings, first, at, Misuse::Bare(number), none)
         }
@@ -127,6 +73,10 @@ fn called(
     let at = spot_of(resolver.file, name);
     match resolver.look.named(name.text.as_str()) {
         Some(Named::Leaf(leaf)) => misused(findings, first, at, Misuse::Called(leaf), arguments),
+        Some(Named::Array(number, _)) => {
+            let array = Misuse::Called(Leaf::Variable(number));
+            misused(findings, first, at, array, arguments)
+        }
         Some(Named::Predicate(number, arity)) => {
             if arguments.len() == arity {
                 predicate(first, at, number, arguments)
@@ -136,6 +86,50 @@ fn called(
         }
         _ => misused(findings, first, at, Misuse::Unknown, arguments),
     }
+}
+
+// A name with what stands in the brackets behind it, whose own faults were found before.
+fn indexed(
+    resolver: &Resolver<'_, '_>,
+    findings: &mut Findings,
+    first: Spot,
+    name: &Name,
+    index: Resolved,
+) -> Result<Resolved, AllocError>
+    ensures tree { IfOk result (λ t. resolved_data t ≡ tree_lem first (in_text_lem (spot_of_lem resolver.now.file (name_data name.now)))
+        (index_form (look_data resolver.now.look (name_data name.now).text) (resolved_data index))) }
+    ensures found { OnOk result (found_in findings.new ≡ with_faults (found_in findings.old) (own_misuse (spot_of_lem resolver.now.file (name_data name.now))
+        (index_form (look_data resolver.now.look (name_data name.now).text) (resolved_data index)))) }
+{
+    let at = spot_of(resolver.file, name);
+    match resolver.look.named(name.text.as_str()) {
+        Some(Named::Array(number, count)) => {
+            let index = Box::new(resolver.alloc, index)?;
+            let shape = Shape::Index(number, count, index);
+            Ok(Resolved::Node(first, in_text(at), shape))
+        }
+        named => {
+            let misuse = index_misuse(named);
+            let arguments = vec![in resolver.alloc; index]?;
+            Ok(misused(findings, first, at, misuse, arguments))
+        }
+    }
+}
+
+// The variables of the quantifiers around the body of one more.
+fn quantified_inside<'e>(
+    resolver: &'e Resolver<'_, '_>,
+    name: &'e Name,
+) -> Result<Vec<Mention<'e>>, AllocError>
+    ensures { IfOk result (λ all. map mention_data all.items ≡ map mention_data resolver.now.look.quantified.now ++ mentioned_lem resolver.now.file (name_data name.now) ∷ []) }
+{
+    let around = resolver.look.quantified;
+    let mut all = Vec::new(resolver.alloc);
+    for variable in around {
+        all.push(*variable)?;
+    }
+    all.push(mentioned(resolver.file, name))?;
+    Ok(all)
 }
 
 // The places of operators.
@@ -211,10 +205,7 @@ fn node(
     match &e.form {
         ExprForm::True => Ok(Resolved::Node(first, in_text(at), Shape::Leaf(Leaf::Truth(true)))),
         ExprForm::False => Ok(Resolved::Node(first, in_text(at), Shape::Leaf(Leaf::Truth(false)))),
-        ExprForm::Number(negative, digits) => {
-            let number = signed(*negative, digits.as_str());
-            Ok(Resolved::Node(first, in_text(at), Shape::Leaf(Leaf::Number(number))))
-        }
+        ExprForm::Number(negative, digits) => Ok(numeral(first, at, *negative, digits.as_str())),
         ExprForm::Read(name) => Ok(read(resolver, findings, first, name)),
         ExprForm::Call(name, es) => {
             let arguments = trees(resolver, findings, es)?;
@@ -235,17 +226,131 @@ fn node(
             let number = number_of(digits.as_str());
             Ok(Resolved::Node(first, in_text(at), Shape::Mod(part, number_at, number)))
         }
-        ExprForm::And(es, ops) => {
-            let parts = trees(resolver, findings, es)?;
-            let operators = spots(resolver, ops)?;
-            Ok(conjunction(first, at, parts, operators))
+        ExprForm::And(es, ops) => all_of(resolver, findings, first, at, es, ops),
+        ExprForm::Or(es, ops) => any_of(resolver, findings, first, at, es, ops),
+        ExprForm::Index(name, e) => index(resolver, findings, first, name, e),
+        ExprForm::ForAll(name, low, high, body) => {
+            let word = QuantifierWord::ForAll;
+            quantified(resolver, findings, e, word, name, low, high, body)
         }
-        ExprForm::Or(es, ops) => {
-            let parts = trees(resolver, findings, es)?;
-            let operators = spots(resolver, ops)?;
-            Ok(disjunction(first, at, parts, operators))
+        ExprForm::Exists(name, low, high, body) => {
+            let word = QuantifierWord::Exists;
+            quantified(resolver, findings, e, word, name, low, high, body)
         }
     }
+}
+
+// A conjunction.
+#[cycle(resolving)]
+fn all_of(
+    resolver: &Resolver<'_, '_>,
+    findings: &mut Findings,
+    first: Spot,
+    at: Spot,
+    es: &[ExprTree],
+    ops: &[Place],
+) -> Result<Resolved, AllocError>
+    ensures tree { IfOk result (λ t. resolved_data t ≡ tree_lem first (in_text_lem at) (Form.And (resolved_each_by resolver.now (expressions (map expr_data es.now))) (map (spot_at_lem resolver.now.file) ops.now))) }
+    ensures found { OnOk result (found_in findings.new ≡ with_faults (found_in findings.old) (misuses_of_each (resolved_each_by resolver.now (expressions (map expr_data es.now))))) }
+{
+    let parts = trees(resolver, findings, es)?;
+    let operators = spots(resolver, ops)?;
+    Ok(conjunction(first, at, parts, operators))
+}
+
+// A disjunction.
+#[cycle(resolving)]
+fn any_of(
+    resolver: &Resolver<'_, '_>,
+    findings: &mut Findings,
+    first: Spot,
+    at: Spot,
+    es: &[ExprTree],
+    ops: &[Place],
+) -> Result<Resolved, AllocError>
+    ensures tree { IfOk result (λ t. resolved_data t ≡ tree_lem first (in_text_lem at) (Form.Or (resolved_each_by resolver.now (expressions (map expr_data es.now))) (map (spot_at_lem resolver.now.file) ops.now))) }
+    ensures found { OnOk result (found_in findings.new ≡ with_faults (found_in findings.old) (misuses_of_each (resolved_each_by resolver.now (expressions (map expr_data es.now))))) }
+{
+    let parts = trees(resolver, findings, es)?;
+    let operators = spots(resolver, ops)?;
+    Ok(disjunction(first, at, parts, operators))
+}
+
+// A name with an index behind it.
+#[cycle(resolving)]
+fn index(
+    resolver: &Resolver<'_, '_>,
+    findings: &mut Findings,
+    first: Spot,
+    name: &Name,
+    e: &ExprTree,
+) -> Result<Resolved, AllocError>
+    ensures tree { IfOk result (λ t. resolved_data t ≡ tree_lem first (in_text_lem (spot_of_lem resolver.now.file (name_data name.now)))
+        (index_form (look_data resolver.now.look (name_data name.now).text) (resolved_by resolver.now (expr_data e.now)))) }
+    ensures found { OnOk result (found_in findings.new ≡ with_faults (found_in findings.old) (form_misuses (spot_of_lem resolver.now.file (name_data name.now))
+        (index_form (look_data resolver.now.look (name_data name.now).text) (resolved_by resolver.now (expr_data e.now))))) }
+{
+    let made = tree(resolver, findings, e)?;
+    indexed(resolver, findings, first, name, made)
+}
+
+#[tactic(auto, using(crate::proofs::First::with_faults_append))]
+// A quantifier, which isn't written out yet.
+#[cycle(resolving)]
+fn quantified(
+    resolver: &Resolver<'_, '_>,
+    findings: &mut Findings,
+    whole: &ExprTree,
+    word: QuantifierWord,
+    name: &Name,
+    low: &ExprTree,
+    high: &ExprTree,
+    body: &ExprTree,
+) -> Result<Resolved, AllocError>
+    ensures tree { IfOk result (λ t. resolved_data t ≡ tree_lem (spot_at_lem resolver.now.file whole.now.first) (in_text_lem (spot_at_lem resolver.now.file whole.now.at))
+        (quantified_by resolver.now word (name_data name.now) (expr_data low.now) (expr_data high.now) (expr_data body.now))) }
+    ensures found { OnOk result (found_in findings.new ≡ with_faults (found_in findings.old)
+        (form_misuses (spot_at_lem resolver.now.file whole.now.at) (quantified_by resolver.now word (name_data name.now) (expr_data low.now) (expr_data high.now) (expr_data body.now)))) }
+{
+    let low = Box::new(resolver.alloc, tree(resolver, findings, low)?)?;
+    let high = Box::new(resolver.alloc, tree(resolver, findings, high)?)?;
+    let body = inside(resolver, findings, name, body)?;
+    let copies = vec![in resolver.alloc; body]?;
+    let variable = spot_of(resolver.file, name);
+    let shape = Shape::Quantified(word, variable, Extent::Open, low, high, copies);
+    let first = spot_at(resolver.file, whole.first);
+    let at = spot_at(resolver.file, whole.at);
+    Ok(Resolved::Node(first, in_text(at), shape))
+}
+
+// The body of a quantifier, in which its variable hides what is outside.
+#[cycle(resolving)]
+fn inside(
+    resolver: &Resolver<'_, '_>,
+    findings: &mut Findings,
+    name: &Name,
+    body: &ExprTree,
+) -> Result<Resolved, AllocError>
+    ensures tree { IfOk result (λ t. resolved_data t ≡ resolved_inside resolver.now (name_data name.now) (expr_data body.now)) }
+    ensures found { OnOk result (found_in findings.new ≡ with_faults (found_in findings.old) (misuses (resolved_inside resolver.now (name_data name.now) (expr_data body.now)))) }
+{
+    let variables = quantified_inside(&*resolver, &*name)?;
+    let around = match resolver.look.around {
+        Some(table) => Some(&*table),
+        None => None,
+    };
+    let look = Look {
+        scope: &*resolver.look.scope,
+        around,
+        sight: resolver.look.sight,
+        quantified: variables.as_slice(),
+    };
+    let within = Resolver {
+        alloc: resolver.alloc,
+        look,
+        file: resolver.file,
+    };
+    tree(&within, findings, body)
 }
 
 /// The trees of several expressions. Each misused name is reported.

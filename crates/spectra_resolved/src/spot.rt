@@ -2,7 +2,7 @@
 
 ghost use Rattle.std.specs.Prelude.{◌≡◌};
 ghost use Rattle.spectra_trees.specs.Views.{name_data};
-ghost use Rattle.spectra_resolved.specs.Spots.{spot_at as spot_at_lem, spot_of as spot_of_lem, in_text as in_text_lem, brought_at as brought_at_lem, mentioned as mentioned_lem};
+ghost use Rattle.spectra_resolved.specs.Spots.{same_place as same_place_lem, spot_at as spot_at_lem, spot_of as spot_of_lem, in_text as in_text_lem, brought_at as brought_at_lem, mentioned as mentioned_lem};
 ghost use Rattle.spectra_resolved.specs.MentionViews.{mention_data};
 
 use spectra_trees::tree::{Name, Place};
@@ -28,6 +28,13 @@ pub struct Mark {
 pub struct Mention<'t> {
     pub text: &'t str,
     pub at: Spot,
+}
+
+/// Whether two places are one.
+pub fn same_place(a: Spot, b: Spot) -> bool
+    ensures { result ≡ same_place_lem a b }
+{
+    a.file == b.file && a.line == b.line && a.column == b.column
 }
 
 /// A place of a file.

@@ -16,11 +16,13 @@ use indexmap::IndexMap;
 use spectra_trees::faults::TWICE;
 use std::alloc::{AllocError, Global};
 
-/// What a name stands for: a value without parentheses; a predicate or a pattern, by its number and that of its parameters; a
-/// type, by its number; nothing but itself, as the name of a line.
+/// What a name stands for: a value without parentheses; an array, by the number of its first element and that of all, which is
+/// 0 where its length is faulty; a predicate or a pattern, by its number and that of its parameters; a type, by its number;
+/// nothing but itself, as the name of a line.
 #[derive(Clone, Copy, PartialEq, Eq)]
 pub enum Named {
     Leaf(Leaf),
+    Array(usize, usize),
     Predicate(usize, usize),
     Pattern(usize, usize),
     Type(usize),

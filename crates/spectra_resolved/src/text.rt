@@ -18,12 +18,15 @@ pub enum TypeUse {
     Hole,
 }
 
-/// A variable or monitor. A monitor belongs to the system.
+/// A variable or monitor, or an array, whose elements are so many variables of one type: from 1 to 256, or 1 where the length is
+/// faulty. What is no array is one variable. A monitor belongs to the system.
 #[derive(Drop)]
 pub struct Variable<'t> {
     pub name: Mention<'t>,
     pub owner: Owner,
     pub domain: TypeUse,
+    pub array: bool,
+    pub count: usize,
 }
 
 /// A name for a type.

@@ -4,8 +4,9 @@
 //! monitors, an enum name by its number among all enum names, a parameter and an own variable by its place among those of
 //! the definition or pattern around it. Every tree keeps its two places: that of its first token, opening parentheses
 //! included, and its own, which is that of its operator (of `And` and `Or` the first one), or of the name, word or number
-//! that it is; of the latter the tree says whether a body brings it. The form of a tree is shared by what is written and by what is put in: a tree as it is written has no `Hole`,
-//! and a tree in which everything is put in has no define, predicate, parameter or misuse.
+//! that it is; of the latter the tree says whether a body brings it. The form of a tree is shared by what is written and by what is put
+//! in: a tree as it is written has no `Hole`, and a tree in which everything is put in has no define, predicate, parameter or
+//! misuse. The variable of a quantifier is named by the place of its name in the text, which no other quantifier has.
 
 use crate::spot::{Mark, Spot};
 use spectra_trees::tree::{BinaryWord, PrefixWord};
@@ -30,6 +31,8 @@ pub enum Leaf {
     Own(usize),
     /// The use of a define, by its number among the definitions.
     Define(usize),
+    /// The variable of a quantifier around it, by the place of its name.
+    Bound(Spot),
     Hole(Hole),
 }
 
@@ -44,6 +47,22 @@ pub enum Misuse {
     Called(Leaf),
     /// A predicate with a wrong number of arguments: it fits every Boolean.
     Arity(usize),
+}
+
+/// Whether all of a quantifier's copies are to hold, or one of them.
+#[derive(Clone, Copy, PartialEq, Eq)]
+pub enum QuantifierWord {
+    ForAll,
+    Exists,
+}
+
+/// What is known of a quantifier's range. `Open`: its bounds have no numbers. `Wrong`: they have, and there is no number
+/// from the one to the other, or too many. `Right`: it is written out.
+#[derive(Clone, Copy, PartialEq, Eq)]
+pub enum Extent {
+    Open,
+    Wrong,
+    Right,
 }
 
 /// What a tree is made of, where it isn't an operator between two operands. The place in `Mod` is that of its number.
@@ -61,6 +80,12 @@ pub enum Shape {
     Mod(Box<Resolved>, Spot, i64),
     And(Vec<Resolved>, Vec<Spot>),
     Or(Vec<Resolved>, Vec<Spot>),
+    /// An element of an array: the number of the first one, how many there are, and what says which. Of an array whose length
+    /// is faulty there are none.
+    Index(usize, usize, Box<Resolved>),
+    /// A quantifier: its variable, what is known of its range, its two bounds, and its copies in the order of their numbers,
+    /// or its body alone where the range isn't `Right`.
+    Quantified(QuantifierWord, Spot, Extent, Box<Resolved>, Box<Resolved>, Vec<Resolved>),
 }
 
 /// An operator with its second operand. Its first operand is all that stands before it in the chain; `first` is the place
@@ -98,6 +123,8 @@ impl Drop for Resolved {
                     Shape::Mod(first, _, _) => self = Box::into_inner(first),
                     Shape::And(_operands, _operators) => return,
                     Shape::Or(_operands, _operators) => return,
+                    Shape::Index(_, _, index) => self = Box::into_inner(index),
+                    Shape::Quantified(_, _, _, _low, _high, _copies) => return,
                 },
             }
         }

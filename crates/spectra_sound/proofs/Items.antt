@@ -30,7 +30,7 @@ use Rattle.spectra_items.specs.Meanings.{at_large, variables_in, aliases_in, by_
 use Rattle.spectra_declared.specs.Items.{FiledItem, enum_names_of}
 use Rattle.spectra_parser.specs.Shapes.{IsShapedType, IsShapedItem, has_shaped_sides, has_choices, is_written_role, is_monitor_part}
 use Rattle.spectra_elaboration.specs.Written.{is_use}
-use Rattle.spectra_sound.specs.Sound.{Sizes, is_type, is_sound_tree, is_sound_definition, is_sound_body, is_pattern_use, fits_role, is_sound_line}
+use Rattle.spectra_sound.specs.Sound.{Sizes, is_type, is_part, is_sound_tree, is_sound_definition, is_sound_body, is_pattern_use, fits_role, is_sound_line}
 use Rattle.spectra_sound.proofs.Empty.{not_empty, empty_parts, every_parts}
 use Rattle.spectra_sound.proofs.Spaces.{found}
 use Rattle.spectra_sound.proofs.Standing.{is_right}
@@ -50,7 +50,7 @@ pub record IsFaultless (s : Names) (i : FiledItem) : Type 0 where
   pub shaped : IsShapedItem i.1
   pub enums : Every (IsEnumName s) (enum_names_of i.1)
 
-right_well : (z : Sizes) (params : ℕ) (x : Named) → is_right z x ≡ true → stands_well z params x ≡ true
+right_well : (z : Sizes) (params : ℕ) (x : Named) → is_right z x ≡ true → stands_well z (is_part z) params x ≡ true
 right_well z params (names.Leaf (leaves.EnumName k)) is = is
 right_well z params (names.Leaf (leaves.Variable k)) is = is
 right_well z params (names.Leaf (leaves.Define k)) is = is
@@ -58,15 +58,17 @@ right_well z params (names.Leaf (leaves.Truth k)) is = absurd (false≢true is)
 right_well z params (names.Leaf (leaves.Number k)) is = absurd (false≢true is)
 right_well z params (names.Leaf (leaves.Parameter k)) is = absurd (false≢true is)
 right_well z params (names.Leaf (leaves.Own k)) is = absurd (false≢true is)
+right_well z params (names.Leaf (leaves.Bound k)) is = absurd (false≢true is)
 right_well z params (names.Leaf (leaves.Hole k)) is = absurd (false≢true is)
+right_well z params (names.Array k n) is = is
 right_well z params (names.Predicate k n) is = is
 right_well z params (names.Pattern k n) is = refl
 right_well z params (names.Type k) is = refl
 right_well z params names.Plain is = refl
 
 module _ (z : Sizes) (s : Names) (right : AreRight z s) where
-  pub large_well : StandWell z 0 (at_large s)
-  large_well text x is = right_well z 0 x (right.values text x is)
+  pub large_well : StandWell z (is_part z) 0 (at_large s)
+  large_well = record { truth = λ b. refl; number = λ n. refl; names = λ text x is. right_well z 0 x (right.values text x is) }
 
   types_stand : TypesStand z s
   types_stand text k is = right.types text (names.Type k) is
@@ -76,22 +78,22 @@ module _ (z : Sizes) (s : Names) (right : AreRight z s) where
 
   -- ---- predicates
 
-  parameters_well : (most file k : ℕ) (ns : List NameData) → k + length ns ≤ most → list_all (λ (e : Entry). stands_well z most e.1) (by_place leaves.Parameter file k ns) ≡ true
+  parameters_well : (most file k : ℕ) (ns : List NameData) → k + length ns ≤ most → list_all (λ (e : Entry). stands_well z (is_part z) most e.1) (by_place leaves.Parameter file k ns) ≡ true
   parameters_well most file k [] few = refl
   parameters_well most file k (n ∷ ns) few = and_from _ _ (lt-ltb k most (omega (arith, few))) (parameters_well most file (suc k) ns (omega (arith, few)))
 
-  predicate_well : (file : ℕ) (p : PredicateData) → StandWell z (length p.params) (in_predicate s file p)
-  predicate_well file p text x is = by (declared (parameter_entries file p.params) text) refl is
+  predicate_well : (file : ℕ) (p : PredicateData) → StandWell z (is_part z) (length p.params) (in_predicate s file p)
+  predicate_well file p = record { truth = λ b. refl; number = λ n. refl; names = λ text x is. by text x (declared (parameter_entries file p.params) text) refl is }
     where
-      here : (y : Named) → Some y ≡ Some x → y ≡ x
-      here y e = cc
+      here : (x y : Named) → Some y ≡ Some x → y ≡ x
+      here x y e = cc
 
-      all : list_all (λ (e : Entry). stands_well z (length p.params) e.1) (parameter_entries file p.params) ≡ true
+      all : list_all (λ (e : Entry). stands_well z (is_part z) (length p.params) e.1) (parameter_entries file p.params) ≡ true
       all = parameters_well (length p.params) file 0 (map (λ a. a.1) p.params) (let long = length-map p.params (λ a. a.1) in omega (arith, long))
 
-      by : (o : Option Named) → declared (parameter_entries file p.params) text ≡ o → option_or o (s.values text) ≡ Some x → stands_well z (length p.params) x ≡ true
-      by (Some y) at e = subst (λ x. stands_well z (length p.params) x ≡ true) (here y e) (found (stands_well z (length p.params)) (parameter_entries file p.params) text y all at)
-      by None at e = right_well z (length p.params) x (right.values text x e)
+      by : (text : List ℕ) (x : Named) (o : Option Named) → declared (parameter_entries file p.params) text ≡ o → option_or o (s.values text) ≡ Some x → stands_well z (is_part z) (length p.params) x ≡ true
+      by text x (Some y) at e = subst (λ x. stands_well z (is_part z) (length p.params) x ≡ true) (here x y e) (found (stands_well z (is_part z) (length p.params)) (parameter_entries file p.params) text y all at)
+      by text x None at e = right_well z (length p.params) x (right.values text x e)
 
   param_types : (look : Looking) (file : ℕ) (params : List (TypeData × NameData)) → All (λ (t : TypeData). IsShapedType t.form) (map (λ a. a.0) params) →
       Every (IsEnumName s) (flat_map (λ a. enum_names a.0) params) → flat_map (λ a. type_faults s look file a.0) params ≡ [] → list_all (is_type z) (map (λ a. type_of s look file a.0) params) ≡ true
@@ -129,6 +131,7 @@ module _ (z : Sizes) (s : Names) (right : AreRight z s) where
           fits true same none = let e : arguments ≡ arity = grind (arith, nat_tests) in ap (is_use z.patterns k) e ∙ right.patterns n.text (names.Pattern k arity) is
           fits false same none = absurd (not_empty _ _ none)
       by (Some (names.Leaf l)) is none = absurd (not_empty _ _ none)
+      by (Some (names.Array k m)) is none = absurd (not_empty _ _ none)
       by (Some (names.Predicate k m)) is none = absurd (not_empty _ _ none)
       by (Some (names.Type k)) is none = absurd (not_empty _ _ none)
       by (Some names.Plain) is none = absurd (not_empty _ _ none)
@@ -175,7 +178,7 @@ module _ (z : Sizes) (s : Names) (right : AreRight z s) where
   first_type ts t all = All-head (λ (t : TypeData). IsShapedType t.form) t ts all
 
   pub variables_sound : (i : FiledItem) → IsFaultless s i → list_all (λ (v : ResolvedVariable). is_type z v.domain) (variables_in s i.0 i.1) ≡ true
-  variables_sound (file, ItemData.Variable x) f = and_from _ true (sound_type (at_large s) file x.domain (first_type [] x.domain f.shaped.types) f.enums f.none) refl
+  variables_sound (file, ItemData.Variable x) f = and_from _ true (sound_type (at_large s) file x.domain (first_type [] x.domain f.shaped.types) f.enums (empty_parts (type_faults s (at_large s) file x.domain) _ f.none).0) refl
   variables_sound (file, ItemData.Monitor m) f =
       let parts = empty_parts (type_faults s (at_large s) file m.domain) _ f.none in and_from _ true (sound_type (at_large s) file m.domain (first_type [] m.domain f.shaped.types) f.enums parts.0) refl
   variables_sound (file, ItemData.Alias x) f = refl

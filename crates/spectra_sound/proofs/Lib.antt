@@ -10,3 +10,6 @@ pub mod Types
 pub mod Items
 pub mod Patterns
 pub mod Whole
+pub mod Again
+pub mod Allowed
+pub mod WrittenSound

@@ -47,7 +47,7 @@ by_place_good good leaf most file k (n ∷ ns) each few = and_from _ _ (each k (
 place_below : (enums : List (List ℕ)) (text : List ℕ) (k : ℕ) → position (bytes_eq text) enums ≡ Some k → nat_lt k (length enums) ≡ true
 place_below enums text k is = lt-ltb k (length enums) (position-Some (bytes_eq text) enums k [] is).0
 
-module _ (z : Sizes) (s : Names) (right : AreRight z s) (file : ℕ) where
+module _ (z : Sizes) (s : Names) (enums_are : z.names ≡ length s.enums) (file : ℕ) where
   abbrev pub own_count : PatternData → ℕ
   own_count p = length (flat_map own_names p.parts)
 
@@ -63,27 +63,27 @@ module _ (z : Sizes) (s : Names) (right : AreRight z s) (file : ℕ) where
       by rest at (PartShape.Recurring e) = rest
 
   module _ (p : PatternData) where
-    abbrev pub good : Leaf → Bool
-    good l = judged.in_pattern z.names (length p.params) (own_count p) l
+    abbrev pub good : judged.Parts
+    good = judged.in_pattern z.names (length p.params) (own_count p)
 
-    entries_good : list_all (λ (e : Entry). is_leaf good e.1) (pattern_entries file p) ≡ true
+    entries_good : list_all (λ (e : Entry). is_leaf good.leaf e.1) (pattern_entries file p) ≡ true
     entries_good =
         list_all-append _ (by_place leaves.Parameter file 0 p.params) (by_place leaves.Own file 0 (flat_map own_names p.parts))
-        ∙ and_from _ _ (by_place_good good leaves.Parameter (length p.params) file 0 p.params (λ j below. below) (omega arith))
-        (by_place_good good leaves.Own (own_count p) file 0 (flat_map own_names p.parts) (λ j below. below) (omega arith))
+        ∙ and_from _ _ (by_place_good good.leaf leaves.Parameter (length p.params) file 0 p.params (λ j below. below) (omega arith))
+        (by_place_good good.leaf leaves.Own (own_count p) file 0 (flat_map own_names p.parts) (λ j below. below) (omega arith))
 
-    looks_good : (text : List ℕ) (x : Named) → in_pattern s file p text ≡ Some x → is_leaf good x ≡ true
+    looks_good : (text : List ℕ) (x : Named) → in_pattern s file p text ≡ Some x → is_leaf good.leaf x ≡ true
     looks_good text x is = by (declared (pattern_entries file p) text) refl is
       where
         here : (y : Named) → Some y ≡ Some x → y ≡ x
         here y e = cc
 
-        enum : (o : Option ℕ) → position (bytes_eq text) s.enums ≡ o → option_map (λ k. names.Leaf (leaves.EnumName k)) o ≡ Some x → is_leaf good x ≡ true
-        enum (Some k) at e = subst (λ x. is_leaf good x ≡ true) (here (names.Leaf (leaves.EnumName k)) e) (ap (nat_lt k) right.enums ∙ place_below s.enums text k at)
+        enum : (o : Option ℕ) → position (bytes_eq text) s.enums ≡ o → option_map (λ k. names.Leaf (leaves.EnumName k)) o ≡ Some x → is_leaf good.leaf x ≡ true
+        enum (Some k) at e = subst (λ x. is_leaf good.leaf x ≡ true) (here (names.Leaf (leaves.EnumName k)) e) (ap (nat_lt k) enums_are ∙ place_below s.enums text k at)
         enum None at e = absurd (cc)
 
-        by : (o : Option Named) → declared (pattern_entries file p) text ≡ o → option_or o (option_map (λ k. names.Leaf (leaves.EnumName k)) (position (bytes_eq text) s.enums)) ≡ Some x → is_leaf good x ≡ true
-        by (Some y) at e = subst (λ x. is_leaf good x ≡ true) (here y e) (found (is_leaf good) (pattern_entries file p) text y entries_good at)
+        by : (o : Option Named) → declared (pattern_entries file p) text ≡ o → option_or o (option_map (λ k. names.Leaf (leaves.EnumName k)) (position (bytes_eq text) s.enums)) ≡ Some x → is_leaf good.leaf x ≡ true
+        by (Some y) at e = subst (λ x. is_leaf good.leaf x ≡ true) (here y e) (found (is_leaf good.leaf) (pattern_entries file p) text y entries_good at)
         by None at e = enum (position (bytes_eq text) s.enums) refl e
 
     pub stand : StandForLeaves (in_pattern s file p) good
@@ -93,6 +93,7 @@ module _ (z : Sizes) (s : Names) (right : AreRight z s) (file : ℕ) where
           number = λ n. refl;
           name = λ text l is. looks_good text (names.Leaf l) is;
           predicate = λ text k arity is. false≢true (looks_good text (names.Predicate k arity) is);
+          array = λ text k n is. false≢true (looks_good text (names.Array k n) is);
         }
 
     part_sound : (part : PartData) → part_faults s (in_pattern s file p) file part ≡ [] → list_all (is_sound_pattern_line good) (pattern_lines (in_pattern s file p) file part) ≡ true
@@ -113,34 +114,35 @@ module _ (z : Sizes) (s : Names) (right : AreRight z s) (file : ℕ) where
     abbrev IsShapedOne : TypeData → Type 0
     IsShapedOne t = IsShapedType t.form
 
-    own_sound : (parts : List PartData) → All IsShapedOne (flat_map part_types parts) → Every (IsEnumName s) (flat_map part_enum_names parts) → flat_map (part_faults s (in_pattern s file p) file) parts ≡ [] →
-        list_all (is_type z) (flat_map (own_types s (in_pattern s file p) file) parts) ≡ true
-    own_sound [] shaped enums none = refl
-    own_sound (part ∷ parts) shaped enums none = by (λ shaped enums none. own_sound parts shaped enums none) part.at part.form shaped enums none
-      where
-        by : (All IsShapedOne (flat_map part_types parts) → Every (IsEnumName s) (flat_map part_enum_names parts) → flat_map (part_faults s (in_pattern s file p) file) parts ≡ [] → list_all (is_type z) (flat_map (own_types s (in_pattern s file p) file) parts) ≡ true) →
-            (at : Place) (form : PartShape) → All IsShapedOne (part_types (record { at = at; form = form }) ++ flat_map part_types parts) → Every (IsEnumName s) (part_enum_names (record { at = at; form = form }) ++ flat_map part_enum_names parts) →
-            part_faults s (in_pattern s file p) file (record { at = at; form = form }) ++ flat_map (part_faults s (in_pattern s file p) file) parts ≡ [] →
-            list_all (is_type z) (own_types s (in_pattern s file p) file (record { at = at; form = form }) ++ flat_map (own_types s (in_pattern s file p) file) parts) ≡ true
-        by rest at (PartShape.Own t n) shaped enums none =
-            let each = empty_parts (type_faults s (in_pattern s file p) file t) _ none in
-            let mentions = every_parts (IsEnumName s) (enum_names t) _ enums in
-            and_from _ _ (sound_type z s right (in_pattern s file p) file t (All-head IsShapedOne t (flat_map part_types parts) shaped) mentions.0 each.0)
-            (rest (All-tail IsShapedOne t (flat_map part_types parts) shaped) mentions.1 each.1)
-        by rest at (PartShape.Initial e) shaped enums none = rest shaped enums (empty_parts (misuses (resolved (in_pattern s file p) file e)) _ none).1
-        by rest at (PartShape.Always e) shaped enums none = rest shaped enums (empty_parts (misuses (resolved (in_pattern s file p) file e)) _ none).1
-        by rest at (PartShape.Recurring e) shaped enums none = rest shaped enums (empty_parts (misuses (resolved (in_pattern s file p) file e)) _ none).1
+    module _ (right : AreRight z s) where
+      own_sound : (parts : List PartData) → All IsShapedOne (flat_map part_types parts) → Every (IsEnumName s) (flat_map part_enum_names parts) → flat_map (part_faults s (in_pattern s file p) file) parts ≡ [] →
+          list_all (is_type z) (flat_map (own_types s (in_pattern s file p) file) parts) ≡ true
+      own_sound [] shaped enums none = refl
+      own_sound (part ∷ parts) shaped enums none = by (λ shaped enums none. own_sound parts shaped enums none) part.at part.form shaped enums none
+        where
+          by : (All IsShapedOne (flat_map part_types parts) → Every (IsEnumName s) (flat_map part_enum_names parts) → flat_map (part_faults s (in_pattern s file p) file) parts ≡ [] → list_all (is_type z) (flat_map (own_types s (in_pattern s file p) file) parts) ≡ true) →
+              (at : Place) (form : PartShape) → All IsShapedOne (part_types (record { at = at; form = form }) ++ flat_map part_types parts) → Every (IsEnumName s) (part_enum_names (record { at = at; form = form }) ++ flat_map part_enum_names parts) →
+              part_faults s (in_pattern s file p) file (record { at = at; form = form }) ++ flat_map (part_faults s (in_pattern s file p) file) parts ≡ [] →
+              list_all (is_type z) (own_types s (in_pattern s file p) file (record { at = at; form = form }) ++ flat_map (own_types s (in_pattern s file p) file) parts) ≡ true
+          by rest at (PartShape.Own t n) shaped enums none =
+              let each = empty_parts (type_faults s (in_pattern s file p) file t) _ none in
+              let mentions = every_parts (IsEnumName s) (enum_names t) _ enums in
+              and_from _ _ (sound_type z s right (in_pattern s file p) file t (All-head IsShapedOne t (flat_map part_types parts) shaped) mentions.0 each.0)
+              (rest (All-tail IsShapedOne t (flat_map part_types parts) shaped) mentions.1 each.1)
+          by rest at (PartShape.Initial e) shaped enums none = rest shaped enums (empty_parts (misuses (resolved (in_pattern s file p) file e)) _ none).1
+          by rest at (PartShape.Always e) shaped enums none = rest shaped enums (empty_parts (misuses (resolved (in_pattern s file p) file e)) _ none).1
+          by rest at (PartShape.Recurring e) shaped enums none = rest shaped enums (empty_parts (misuses (resolved (in_pattern s file p) file e)) _ none).1
 
-    pattern_sound : IsFaultless s (file, ItemData.Pattern p) → is_sound_pattern z (pattern_of s file p) ≡ true
-    pattern_sound f =
-        let parts = empty_parts (clashes (pattern_entries file p)) _ f.none in
-        and_from _ _ (ap (λ fs. not (is_some (first_of_faults fs))) parts.0)
-        (and_from _ _ (own_sound p.parts f.shaped.types f.enums parts.1)
-        (ap (λ n. list_all (is_sound_pattern_line (judged.in_pattern z.names (length p.params) n)) (flat_map (pattern_lines (in_pattern s file p) file) p.parts)) (same_count (in_pattern s file p) p.parts) ∙ parts_sound p.parts parts.1))
+      pattern_sound : IsFaultless s (file, ItemData.Pattern p) → is_sound_pattern z (pattern_of s file p) ≡ true
+      pattern_sound f =
+          let parts = empty_parts (clashes (pattern_entries file p)) _ f.none in
+          and_from _ _ (ap (λ fs. not (is_some (first_of_faults fs))) parts.0)
+          (and_from _ _ (own_sound p.parts f.shaped.types f.enums parts.1)
+          (ap (λ n. list_all (is_sound_pattern_line (judged.in_pattern z.names (length p.params) n)) (flat_map (pattern_lines (in_pattern s file p) file) p.parts)) (same_count (in_pattern s file p) p.parts) ∙ parts_sound p.parts parts.1))
 
 module _ (z : Sizes) (s : Names) (right : AreRight z s) where
   pub patterns_sound : (i : FiledItem) → IsFaultless s i → list_all (is_sound_pattern z) (patterns_in s i.0 i.1) ≡ true
-  patterns_sound (file, ItemData.Pattern p) f = and_from _ true (pattern_sound z s right file p f) refl
+  patterns_sound (file, ItemData.Pattern p) f = and_from _ true (pattern_sound z s right.enums file p right f) refl
   patterns_sound (file, ItemData.Variable x) f = refl
   patterns_sound (file, ItemData.Alias x) f = refl
   patterns_sound (file, ItemData.Define x) f = refl

@@ -44,26 +44,57 @@ found p (d ∷ ds) text x all e = by (bytes_eq text d.0.text) refl (λ all e. fo
 abbrev pub variable_texts : List Entry → List (List ℕ)
 variable_texts [] = []
 variable_texts ((n, names.Leaf (leaves.Variable k)) ∷ ds) = n.text ∷ variable_texts ds
+variable_texts ((n, names.Array k size) ∷ ds) = n.text ∷ variable_texts ds
 variable_texts (_ ∷ ds) = variable_texts ds
 
 abbrev pub is_variable : Named → Bool
 is_variable (names.Leaf (leaves.Variable k)) = true
+is_variable (names.Array k size) = true
 is_variable _ = false
 
-was_nothing : (first : Option Named) (n : MentionData) (k : ℕ) → clash first (n, names.Leaf (leaves.Variable k)) ≡ [] → first ≡ None
-was_nothing None n k e = refl
-was_nothing (Some (names.Leaf (leaves.EnumName m))) n k e = absurd (not_empty _ _ e)
-was_nothing (Some (names.Leaf (leaves.Truth m))) n k e = absurd (not_empty _ _ e)
-was_nothing (Some (names.Leaf (leaves.Number m))) n k e = absurd (not_empty _ _ e)
-was_nothing (Some (names.Leaf (leaves.Variable m))) n k e = absurd (not_empty _ _ e)
-was_nothing (Some (names.Leaf (leaves.Parameter m))) n k e = absurd (not_empty _ _ e)
-was_nothing (Some (names.Leaf (leaves.Own m))) n k e = absurd (not_empty _ _ e)
-was_nothing (Some (names.Leaf (leaves.Define m))) n k e = absurd (not_empty _ _ e)
-was_nothing (Some (names.Leaf (leaves.Hole m))) n k e = absurd (not_empty _ _ e)
-was_nothing (Some (names.Predicate m a)) n k e = absurd (not_empty _ _ e)
-was_nothing (Some (names.Pattern m a)) n k e = absurd (not_empty _ _ e)
-was_nothing (Some (names.Type m)) n k e = absurd (not_empty _ _ e)
-was_nothing (Some names.Plain) n k e = absurd (not_empty _ _ e)
+-- a variable's name is new where it makes no clash
+new_name : (first : Option Named) (n : MentionData) (x : Named) → is_variable x ≡ true → clash first (n, x) ≡ [] → first ≡ None
+new_name None n x is e = refl
+new_name (Some (names.Leaf (leaves.EnumName m))) n (names.Leaf (leaves.Variable k)) is e = absurd (not_empty _ _ e)
+new_name (Some (names.Leaf (leaves.Truth m))) n (names.Leaf (leaves.Variable k)) is e = absurd (not_empty _ _ e)
+new_name (Some (names.Leaf (leaves.Number m))) n (names.Leaf (leaves.Variable k)) is e = absurd (not_empty _ _ e)
+new_name (Some (names.Leaf (leaves.Variable m))) n (names.Leaf (leaves.Variable k)) is e = absurd (not_empty _ _ e)
+new_name (Some (names.Leaf (leaves.Parameter m))) n (names.Leaf (leaves.Variable k)) is e = absurd (not_empty _ _ e)
+new_name (Some (names.Leaf (leaves.Own m))) n (names.Leaf (leaves.Variable k)) is e = absurd (not_empty _ _ e)
+new_name (Some (names.Leaf (leaves.Define m))) n (names.Leaf (leaves.Variable k)) is e = absurd (not_empty _ _ e)
+new_name (Some (names.Leaf (leaves.Bound m))) n (names.Leaf (leaves.Variable k)) is e = absurd (not_empty _ _ e)
+new_name (Some (names.Leaf (leaves.Hole m))) n (names.Leaf (leaves.Variable k)) is e = absurd (not_empty _ _ e)
+new_name (Some (names.Array m a)) n (names.Leaf (leaves.Variable k)) is e = absurd (not_empty _ _ e)
+new_name (Some (names.Predicate m a)) n (names.Leaf (leaves.Variable k)) is e = absurd (not_empty _ _ e)
+new_name (Some (names.Pattern m a)) n (names.Leaf (leaves.Variable k)) is e = absurd (not_empty _ _ e)
+new_name (Some (names.Type m)) n (names.Leaf (leaves.Variable k)) is e = absurd (not_empty _ _ e)
+new_name (Some names.Plain) n (names.Leaf (leaves.Variable k)) is e = absurd (not_empty _ _ e)
+new_name (Some (names.Leaf (leaves.EnumName m))) n (names.Array k size) is e = absurd (not_empty _ _ e)
+new_name (Some (names.Leaf (leaves.Truth m))) n (names.Array k size) is e = absurd (not_empty _ _ e)
+new_name (Some (names.Leaf (leaves.Number m))) n (names.Array k size) is e = absurd (not_empty _ _ e)
+new_name (Some (names.Leaf (leaves.Variable m))) n (names.Array k size) is e = absurd (not_empty _ _ e)
+new_name (Some (names.Leaf (leaves.Parameter m))) n (names.Array k size) is e = absurd (not_empty _ _ e)
+new_name (Some (names.Leaf (leaves.Own m))) n (names.Array k size) is e = absurd (not_empty _ _ e)
+new_name (Some (names.Leaf (leaves.Define m))) n (names.Array k size) is e = absurd (not_empty _ _ e)
+new_name (Some (names.Leaf (leaves.Bound m))) n (names.Array k size) is e = absurd (not_empty _ _ e)
+new_name (Some (names.Leaf (leaves.Hole m))) n (names.Array k size) is e = absurd (not_empty _ _ e)
+new_name (Some (names.Array m a)) n (names.Array k size) is e = absurd (not_empty _ _ e)
+new_name (Some (names.Predicate m a)) n (names.Array k size) is e = absurd (not_empty _ _ e)
+new_name (Some (names.Pattern m a)) n (names.Array k size) is e = absurd (not_empty _ _ e)
+new_name (Some (names.Type m)) n (names.Array k size) is e = absurd (not_empty _ _ e)
+new_name (Some names.Plain) n (names.Array k size) is e = absurd (not_empty _ _ e)
+new_name (Some first) n (names.Leaf (leaves.EnumName k)) is e = absurd (false≢true is)
+new_name (Some first) n (names.Leaf (leaves.Truth k)) is e = absurd (false≢true is)
+new_name (Some first) n (names.Leaf (leaves.Number k)) is e = absurd (false≢true is)
+new_name (Some first) n (names.Leaf (leaves.Parameter k)) is e = absurd (false≢true is)
+new_name (Some first) n (names.Leaf (leaves.Own k)) is e = absurd (false≢true is)
+new_name (Some first) n (names.Leaf (leaves.Define k)) is e = absurd (false≢true is)
+new_name (Some first) n (names.Leaf (leaves.Bound k)) is e = absurd (false≢true is)
+new_name (Some first) n (names.Leaf (leaves.Hole k)) is e = absurd (false≢true is)
+new_name (Some first) n (names.Predicate k a) is e = absurd (false≢true is)
+new_name (Some first) n (names.Pattern k a) is e = absurd (false≢true is)
+new_name (Some first) n (names.Type k) is e = absurd (false≢true is)
+new_name (Some first) n names.Plain is e = absurd (false≢true is)
 
 -- the texts behind one entry
 pub texts_behind : (d : Entry) (ds : List Entry) → variable_texts (d ∷ ds) ≡ (if is_variable d.1 then d.0.text ∷ [] else []) ++ variable_texts ds
@@ -74,25 +105,13 @@ texts_behind (n, names.Leaf (leaves.Number k)) ds = refl
 texts_behind (n, names.Leaf (leaves.Parameter k)) ds = refl
 texts_behind (n, names.Leaf (leaves.Own k)) ds = refl
 texts_behind (n, names.Leaf (leaves.Define k)) ds = refl
+texts_behind (n, names.Leaf (leaves.Bound k)) ds = refl
 texts_behind (n, names.Leaf (leaves.Hole k)) ds = refl
+texts_behind (n, names.Array k size) ds = refl
 texts_behind (n, names.Predicate k a) ds = refl
 texts_behind (n, names.Pattern k a) ds = refl
 texts_behind (n, names.Type k) ds = refl
 texts_behind (n, names.Plain) ds = refl
-
-new_variable : (look : List ℕ → Option Named) (d : Entry) → is_variable d.1 ≡ true → clash (look d.0.text) d ≡ [] → look d.0.text ≡ None
-new_variable look (n, names.Leaf (leaves.Variable k)) is e = was_nothing (look n.text) n k e
-new_variable look (n, names.Leaf (leaves.EnumName k)) is e = absurd (false≢true is)
-new_variable look (n, names.Leaf (leaves.Truth k)) is e = absurd (false≢true is)
-new_variable look (n, names.Leaf (leaves.Number k)) is e = absurd (false≢true is)
-new_variable look (n, names.Leaf (leaves.Parameter k)) is e = absurd (false≢true is)
-new_variable look (n, names.Leaf (leaves.Own k)) is e = absurd (false≢true is)
-new_variable look (n, names.Leaf (leaves.Define k)) is e = absurd (false≢true is)
-new_variable look (n, names.Leaf (leaves.Hole k)) is e = absurd (false≢true is)
-new_variable look (n, names.Predicate k a) is e = absurd (false≢true is)
-new_variable look (n, names.Pattern k a) is e = absurd (false≢true is)
-new_variable look (n, names.Type k) is e = absurd (false≢true is)
-new_variable look (n, names.Plain) is e = absurd (false≢true is)
 
 taken : (look : List ℕ → Option Named) (m : List ℕ) (x : Named) (ds : List Entry) → clashes_after look ds ≡ [] → look m ≡ Some x → list_any (bytes_eq m) (variable_texts ds) ≡ false
 taken look m x [] e there = refl
@@ -106,7 +125,7 @@ taken look m x (d ∷ ds) e there =
 
     by : (b : Bool) → is_variable d.1 ≡ b → clash (look d.0.text) d ≡ [] → list_any (bytes_eq m) (variable_texts ds) ≡ false → list_any (bytes_eq m) ((if b then d.0.text ∷ [] else []) ++ variable_texts ds) ≡ false
     by true is none rest =
-        or_from _ _ (false_from_ne_true (bytes_eq m d.0.text) (λ same. some_none (sym there ∙ ap look (eq-same m d.0.text same) ∙ new_variable look d is none))) rest
+        or_from _ _ (false_from_ne_true (bytes_eq m d.0.text) (λ same. some_none (sym there ∙ ap look (eq-same m d.0.text same) ∙ new_name (look d.0.text) d.0 d.1 is none))) rest
     by false is none rest = rest
 
 pub variables_differ : (look : List ℕ → Option Named) (ds : List Entry) → clashes_after look ds ≡ [] → all_differ bytes_eq (variable_texts ds) ≡ true
@@ -118,7 +137,7 @@ variables_differ look (d ∷ ds) e =
     by : (b : Bool) → is_variable d.1 ≡ b → clash (look d.0.text) d ≡ [] → clashes_after (and_name look d.0.text d.1) ds ≡ [] → all_differ bytes_eq (variable_texts ds) ≡ true
         → all_differ bytes_eq ((if b then d.0.text ∷ [] else []) ++ variable_texts ds) ≡ true
     by true is none later rest =
-        and_from _ _ (not_from_false _ (taken (and_name look d.0.text d.1) d.0.text d.1 ds later (put_new look d.0.text d.1 (new_variable look d is none)))) rest
+        and_from _ _ (not_from_false _ (taken (and_name look d.0.text d.1) d.0.text d.1 ds later (put_new look d.0.text d.1 (new_name (look d.0.text) d.0 d.1 is none)))) rest
     by false is none later rest = rest
 
 -- ---- enum names
@@ -136,7 +155,9 @@ first_enum (Some (names.Leaf (leaves.Variable m))) d is e = absurd (not_empty _ 
 first_enum (Some (names.Leaf (leaves.Parameter m))) d is e = absurd (not_empty _ _ e)
 first_enum (Some (names.Leaf (leaves.Own m))) d is e = absurd (not_empty _ _ e)
 first_enum (Some (names.Leaf (leaves.Define m))) d is e = absurd (not_empty _ _ e)
+first_enum (Some (names.Leaf (leaves.Bound m))) d is e = absurd (not_empty _ _ e)
 first_enum (Some (names.Leaf (leaves.Hole m))) d is e = absurd (not_empty _ _ e)
+first_enum (Some (names.Array m a)) d is e = absurd (not_empty _ _ e)
 first_enum (Some (names.Predicate m a)) d is e = absurd (not_empty _ _ e)
 first_enum (Some (names.Pattern m a)) d is e = absurd (not_empty _ _ e)
 first_enum (Some (names.Type m)) d is e = absurd (not_empty _ _ e)

@@ -48,7 +48,9 @@ plain_taken look file m x (n ∷ ns) e there =
     was_nothing (Some (names.Leaf (leaves.Parameter m))) e = absurd (not_empty _ _ e)
     was_nothing (Some (names.Leaf (leaves.Own m))) e = absurd (not_empty _ _ e)
     was_nothing (Some (names.Leaf (leaves.Define m))) e = absurd (not_empty _ _ e)
+    was_nothing (Some (names.Leaf (leaves.Bound m))) e = absurd (not_empty _ _ e)
     was_nothing (Some (names.Leaf (leaves.Hole m))) e = absurd (not_empty _ _ e)
+    was_nothing (Some (names.Array m a)) e = absurd (not_empty _ _ e)
     was_nothing (Some (names.Predicate m a)) e = absurd (not_empty _ _ e)
     was_nothing (Some (names.Pattern m a)) e = absurd (not_empty _ _ e)
     was_nothing (Some (names.Type m)) e = absurd (not_empty _ _ e)
@@ -103,6 +105,7 @@ module _ (z : Sizes) (s : Names) (same : z.names ≡ length s.enums) (stand : Ty
   named_sound : (at : Spot) (text : List ℕ) (o : Option Named) → s.types text ≡ o → named_faults o at ≡ [] → is_type z (named_type o) ≡ true
   named_sound at text (Some (names.Type k)) is none = stand text k is
   named_sound at text (Some (names.Leaf l)) is none = absurd (not_empty _ _ none)
+  named_sound at text (Some (names.Array k n)) is none = absurd (not_empty _ _ none)
   named_sound at text (Some (names.Predicate k n)) is none = absurd (not_empty _ _ none)
   named_sound at text (Some (names.Pattern k n)) is none = absurd (not_empty _ _ none)
   named_sound at text (Some names.Plain) is none = absurd (not_empty _ _ none)

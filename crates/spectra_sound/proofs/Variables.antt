@@ -1,23 +1,28 @@
 -- The variables of several files, and the enum names of their items.
-use Rattle.std.proofs.Common.{◌≡◌, ℕ, ◌+◌, Bool, true, false, if◌then◌else◌, List, [], ◌∷◌, ◌++◌, map, flat_map, append_assoc, refl, sym, ap, ◌∙◌}
-use Rattle.std.specs.Prelude.{All, Option}
+use Rattle.std.proofs.Common.{◌≡◌, ℕ, ◌+◌, max, nat_lt, nat_le, Bool, true, false, ◌||◌, if◌then◌else◌, List, [], ◌∷◌, ◌++◌, map, flat_map, append_assoc, refl, sym, ap, ◌∙◌, arith}
+use Rattle.std.specs.Prelude.{All, Option, Some, None, is_some}
+use Rattle.std.specs.List.{list_all}
+use Rattle.std.proofs.lemmas.Bool.{and_from, lt-ltb, le-leb, leb-true}
 use Rattle.std.proofs.lemmas.List.{append-nil}
 use Rattle.std.proofs.lemmas.List.Elements.{All-nil, All-cons, All-head, All-tail, All-append}
 use Rattle.spec_model.specs.Names.{IsName}
 use Rattle.spec_model.proofs.AllStates.{Every}
 use Rattle.spectra_trees.specs.declared.tree.Place.{Place}
-use Rattle.spectra_trees.specs.Data.{NameData, Expression, TypeData, TypeShape, PartData, PartShape, ItemData}
+use Rattle.spectra_trees.specs.Data.{NameData, Expression, TypeData, TypeShape, PartData, PartShape, LengthData, ItemData}
 use Rattle.spectra_resolved.specs.declared.table.Named.{Named}
+use Rattle.spectra_resolved.specs.Spots.{mentioned}
 use Rattle.spectra_resolved.specs.Enums.{enum_names}
+use Rattle.spectra_resolved.specs.Numbers.{written_after}
 use Rattle.spectra_resolved.specs.Looks.{Names}
 use Rattle.spectra_resolved.specs.Spaces.{Entry}
 use Rattle.spectra_resolved.specs.Texts.{ResolvedVariable}
+use Rattle.spectra_items.specs.Lengths.{elements_of, count_of}
 use Rattle.spectra_items.specs.Types.{is_enum}
 use Rattle.spectra_items.specs.Meanings.{variables_in}
 use Rattle.spectra_declared.specs.declared.declaring.Space.TheVariants as spaces
 use Rattle.spectra_declared.specs.declared.declaring.Counts.{Counts}
 use Rattle.spectra_declared.specs.Items.{FiledItem, enum_names_of, part_enum_names}
-use Rattle.spectra_declared.specs.Declarations.{counted, enum_entry, define_entries, own_entries, enum_entries, is_named_first, entries_of, entries_from}
+use Rattle.spectra_declared.specs.Declarations.{counted, variable_named, enum_entry, define_entries, own_entries, enum_entries, is_named_first, entries_of, entries_from}
 use Rattle.spectra_parser.specs.Shapes.{IsSpelled, IsShapedType, IsShapedItem, types_in, part_types, variable_names}
 use Rattle.spectra_sound.proofs.Empty.{every_parts}
 use Rattle.spectra_sound.proofs.Spaces.{variable_texts, texts_behind, is_variable, StandsForEnum}
@@ -43,7 +48,11 @@ abbrev texts_in : ItemData → List (List ℕ)
 texts_in i = map (λ (n : NameData). n.text) (variable_names i)
 
 own_texts : (c : Counts) (file : ℕ) (i : ItemData) → variable_texts (own_entries spaces.Values c file i) ≡ texts_in i
-own_texts c file (ItemData.Variable x) = refl
+own_texts c file (ItemData.Variable x) = by x.length
+  where
+    by : (o : Option LengthData) → variable_texts ((mentioned file x.name, variable_named c.variables o) ∷ []) ≡ x.name.text ∷ []
+    by None = refl
+    by (Some l) = refl
 own_texts c file (ItemData.Monitor x) = refl
 own_texts c file (ItemData.Define x) = no_define file c.definitions x.bodies
 own_texts c file (ItemData.Predicate x) = refl
@@ -76,6 +85,61 @@ pub variables_are : (s : Names) (enums : List (List ℕ)) (c : Counts) (items : 
     map (λ (v : ResolvedVariable). v.name.text) (flat_map (λ (i : FiledItem). variables_in s i.0 i.1) items) ≡ variable_texts (entries_from spaces.Values enums c items)
 variables_are s enums c items =
     mapped (λ (v : ResolvedVariable). v.name.text) (λ (i : FiledItem). variables_in s i.0 i.1) texts_in items (one_texts s) ∙ sym (all_texts enums c items)
+
+-- ---- arrays
+
+-- each has an element at least and 256 at most, and what is no array is one variable
+abbrev pub has_some : ResolvedVariable → Bool
+has_some v = nat_lt 0 v.count
+
+abbrev pub is_short : ResolvedVariable → Bool
+is_short v = nat_le v.count 256
+
+abbrev pub is_alone : ResolvedVariable → Bool
+is_alone v = v.array || nat_le v.count 1
+
+at_least_one : (o : Option LengthData) → nat_lt 0 (count_of o) ≡ true
+at_least_one None = refl
+at_least_one (Some l) = lt-ltb 0 (max (elements_of l) 1) (omega arith)
+
+at_most_elements : (o : Option LengthData) → nat_le (count_of o) 256 ≡ true
+at_most_elements None = refl
+at_most_elements (Some l) = by (nat_le (written_after 0 l.digits) 256) refl
+  where
+    by : (b : Bool) → nat_le (written_after 0 l.digits) 256 ≡ b → nat_le (max (if b then written_after 0 l.digits else 0) 1) 256 ≡ true
+    by true is = let few = leb-true (written_after 0 l.digits) 256 is in le-leb (max (written_after 0 l.digits) 1) 256 (omega (arith, few))
+    by false is = refl
+
+alone : (o : Option LengthData) → (is_some o || nat_le (count_of o) 1) ≡ true
+alone None = refl
+alone (Some l) = refl
+
+pub some_in : (s : Names) (file : ℕ) (i : ItemData) → list_all has_some (variables_in s file i) ≡ true
+some_in s file (ItemData.Variable x) = and_from _ true (at_least_one x.length) refl
+some_in s file (ItemData.Monitor x) = refl
+some_in s file (ItemData.Define x) = refl
+some_in s file (ItemData.Predicate x) = refl
+some_in s file (ItemData.Alias x) = refl
+some_in s file (ItemData.Pattern x) = refl
+some_in s file (ItemData.Statement x) = refl
+
+pub short_in : (s : Names) (file : ℕ) (i : ItemData) → list_all is_short (variables_in s file i) ≡ true
+short_in s file (ItemData.Variable x) = and_from _ true (at_most_elements x.length) refl
+short_in s file (ItemData.Monitor x) = refl
+short_in s file (ItemData.Define x) = refl
+short_in s file (ItemData.Predicate x) = refl
+short_in s file (ItemData.Alias x) = refl
+short_in s file (ItemData.Pattern x) = refl
+short_in s file (ItemData.Statement x) = refl
+
+pub alone_in : (s : Names) (file : ℕ) (i : ItemData) → list_all is_alone (variables_in s file i) ≡ true
+alone_in s file (ItemData.Variable x) = and_from _ true (alone x.length) refl
+alone_in s file (ItemData.Monitor x) = refl
+alone_in s file (ItemData.Define x) = refl
+alone_in s file (ItemData.Predicate x) = refl
+alone_in s file (ItemData.Alias x) = refl
+alone_in s file (ItemData.Pattern x) = refl
+alone_in s file (ItemData.Statement x) = refl
 
 -- ---- how they are spelled
 

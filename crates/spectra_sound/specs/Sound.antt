@@ -1,5 +1,5 @@
 -- What holds of a text whose names have no fault.
-use Rattle.std.specs.Prelude.{◌≡◌, ◌≤◌, ℕ, Bool, true, false, not, ◌&&◌, nat_lt, List, length, map, bytes_eq, All}
+use Rattle.std.specs.Prelude.{◌≡◌, ◌≤◌, ℕ, Bool, true, false, not, ◌&&◌, ◌||◌, nat_lt, nat_le, List, length, map, sum, bytes_eq, All}
 use Rattle.std.specs.List.{list_all}
 use Rattle.spec_model.specs.declared.spec.Role.{Role}
 use Rattle.spec_model.specs.declared.spec.Role.TheVariants as roles
@@ -7,12 +7,11 @@ use Rattle.spec_model.specs.Names.{IsName}
 use Rattle.spec_model.specs.Values.{Enumeration}
 use Rattle.spec_model.specs.WellMade.{all_differ}
 use Rattle.spec_model.specs.WellTyped.{is_domain_of}
-use Rattle.spectra_resolved.specs.declared.tree.Leaf.{Leaf}
 use Rattle.spectra_resolved.specs.declared.text.PatternUse.{PatternUse}
 use Rattle.spectra_resolved.specs.declared.text.PatternUse.TheVariants as uses
 use Rattle.spectra_resolved.specs.Resolved.{ResolvedTree, ResolvedRegex, Atom, Sequence, Choice, Repetition, ResolvedRegexes}
 use Rattle.spectra_resolved.specs.Texts.{ResolvedType, Booleans, RangeOf, EnumOf, TypeNumber, NoType, ResolvedVariable, ResolvedAlias, ResolvedDefinition, ResolvedPatternLine, ResolvedPattern, ResolvedBody, ResolvedLine, ResolvedText}
-use Rattle.spectra_judge.specs.PutIn.{is_put_in, in_line, in_pattern}
+use Rattle.spectra_judge.specs.PutIn.{Parts, is_put_in, in_line, in_pattern}
 use Rattle.spectra_elaboration.specs.Written.{is_use, is_written}
 
 -- ---- types
@@ -27,19 +26,23 @@ is_sound_type names types NoType = false
 
 -- ---- what names stand for in a text
 
--- how many things there are, and how many parameters each definition and each pattern has
+-- how many things there are, how many elements each variable has, and how many parameters each definition and each pattern
 pub record Sizes : Type 0 where
   pub names : ℕ
-  pub variables : ℕ
+  pub counts : List ℕ
   pub types : ℕ
   pub arities : List ℕ
   pub patterns : List ℕ
+
+-- each element of an array counts as one variable
+abbrev pub elements_in : List ResolvedVariable → ℕ
+elements_in vs = sum (map (λ (v : ResolvedVariable). v.count) vs)
 
 abbrev pub sizes_of : ResolvedText → Sizes
 sizes_of text =
     record {
       names = length text.names;
-      variables = length text.variables;
+      counts = map (λ (v : ResolvedVariable). v.count) text.variables;
       types = length text.types;
       arities = map (λ (d : ResolvedDefinition). length d.params) text.definitions;
       patterns = map (λ (p : ResolvedPattern). p.params) text.patterns;
@@ -48,9 +51,9 @@ sizes_of text =
 abbrev pub is_type : Sizes → ResolvedType → Bool
 is_type z t = is_sound_type z.names z.types t
 
--- what stands in a line for a part without parts, besides defines
-abbrev pub is_part : Sizes → Leaf → Bool
-is_part z l = in_line z.names z.variables l
+-- what stands in a line: parts without parts, besides defines, and arrays
+abbrev pub is_part : Sizes → Parts
+is_part z = in_line z.names z.counts
 
 -- an expression of a line, or of a body with so many parameters
 abbrev pub is_sound_tree : Sizes → (params : ℕ) → ResolvedTree → Bool
@@ -61,7 +64,7 @@ is_sound_tree z params t = is_written z.arities (is_part z) params t
 abbrev pub is_sound_definition : Sizes → ResolvedDefinition → Bool
 is_sound_definition z d = not d.doubled && (list_all (is_type z) d.params && is_sound_tree z (length d.params) d.body)
 
-abbrev pub is_sound_pattern_line : (Leaf → Bool) → ResolvedPatternLine → Bool
+abbrev pub is_sound_pattern_line : Parts → ResolvedPatternLine → Bool
 is_sound_pattern_line good (ResolvedPatternLine.Initial at t) = is_put_in good t
 is_sound_pattern_line good (ResolvedPatternLine.Safety at t) = is_put_in good t
 is_sound_pattern_line good (ResolvedPatternLine.Recurring at t) = is_put_in good t
@@ -119,7 +122,10 @@ pub record IsSound (text : ResolvedText) : Type 0 where
   pub few_names : length text.names ≤ 65_535
   pub different_names : all_differ bytes_eq text.names ≡ true
   pub spelled_names : All IsName text.names
-  pub few_variables : length text.variables ≤ 1024
+  pub few_variables : elements_in text.variables ≤ 1024
+  pub some_elements : list_all (λ (v : ResolvedVariable). nat_lt 0 v.count) text.variables ≡ true
+  pub few_elements : list_all (λ (v : ResolvedVariable). nat_le v.count 256) text.variables ≡ true
+  pub alone : list_all (λ (v : ResolvedVariable). v.array || nat_le v.count 1) text.variables ≡ true
   pub different_variables : all_differ bytes_eq (map (λ (v : ResolvedVariable). v.name.text) text.variables) ≡ true
   pub spelled_variables : All (λ (v : ResolvedVariable). IsName v.name.text) text.variables
   pub variables : list_all (λ (v : ResolvedVariable). is_type (sizes_of text) v.domain) text.variables ≡ true

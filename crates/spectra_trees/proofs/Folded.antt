@@ -6,7 +6,7 @@ use Rattle.spectra_trees.specs.declared.tree.ExprForm.{ExprForm-F, fold-roll-Exp
 use Rattle.spectra_trees.specs.declared.tree.ExprForm.TheFolds.{fold-ExprTree, fold_out-ExprTree}
 use Rattle.spectra_trees.specs.declared.tree.ExprTree.{ExprTree}
 use Rattle.spectra_trees.specs.declared.tree.ExprForm.TheVariants as variants
-use Rattle.spectra_trees.specs.declared.tree.ExprForm.TheVariants.{rolls-Number, rolls-Read, rolls-Call, rolls-Binary, rolls-And, rolls-Or}
+use Rattle.spectra_trees.specs.declared.tree.ExprForm.TheVariants.{rolls-Number, rolls-Read, rolls-Call, rolls-Binary, rolls-And, rolls-Or, rolls-Index, rolls-ForAll, rolls-Exists}
 use Rattle.spectra_trees.specs.Data.{Form, Expression, expressions}
 use Rattle.spectra_trees.specs.Views.{name_data, form_data, expr_data, form_step, expr_step}
 
@@ -42,3 +42,21 @@ or_folded es ops =
     ap form_data (sym (rolls-Or es ops))
     ∙ fold-roll-ExprForm Form Expression form_step expr_step (ExprForm-F.Or es ops)
     ∙ (λ i. Form.Or (expressions (map (λ e. tree-folded e i) es.items)) ops.items)
+
+pub index_folded : (name : Name) (e : _) → form_data (variants.Index name e) ≡ Form.Index (name_data name) (expr_data e.value)
+index_folded name e =
+    ap form_data (sym (rolls-Index name e))
+    ∙ fold-roll-ExprForm Form Expression form_step expr_step (ExprForm-F.Index name e)
+    ∙ (λ i. Form.Index (name_data name) (tree-folded e.value i))
+
+pub for_all_folded : (name : Name) (low high body : _) → form_data (variants.ForAll name low high body) ≡ Form.ForAll (name_data name) (expr_data low.value) (expr_data high.value) (expr_data body.value)
+for_all_folded name low high body =
+    ap form_data (sym (rolls-ForAll name low high body))
+    ∙ fold-roll-ExprForm Form Expression form_step expr_step (ExprForm-F.ForAll name low high body)
+    ∙ (λ i. Form.ForAll (name_data name) (tree-folded low.value i) (tree-folded high.value i) (tree-folded body.value i))
+
+pub exists_folded : (name : Name) (low high body : _) → form_data (variants.Exists name low high body) ≡ Form.Exists (name_data name) (expr_data low.value) (expr_data high.value) (expr_data body.value)
+exists_folded name low high body =
+    ap form_data (sym (rolls-Exists name low high body))
+    ∙ fold-roll-ExprForm Form Expression form_step expr_step (ExprForm-F.Exists name low high body)
+    ∙ (λ i. Form.Exists (name_data name) (tree-folded low.value i) (tree-folded high.value i) (tree-folded body.value i))

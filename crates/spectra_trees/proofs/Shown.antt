@@ -1,6 +1,6 @@
 -- What is shown of a fault's number is the number and the word of that fault.
 use Rattle.std.proofs.Common.{refl}
-use Rattle.spectra_trees.specs.Faults.{NotUtf8, BadCharacter, TooLong, Unexpected, TooDeep, Parentheses, Unknown, Twice, WrongType, NextHere, NextNested, NextOfSystem, SystemInInitial, WideInt, Cycle, Arity, ImportedLine, TooMany, TooLarge, PatternOpen, PatternWide, TriggerWide, fault_text}
+use Rattle.spectra_trees.specs.Faults.{NotUtf8, BadCharacter, TooLong, Unexpected, TooDeep, Parentheses, Unknown, Twice, WrongType, NextHere, NextNested, NextOfSystem, SystemInInitial, WideInt, Cycle, Arity, ImportedLine, TooMany, TooLarge, PatternOpen, PatternWide, TriggerWide, OutOfBounds, WideArray, fault_text}
 use Rattle.spectra_trees.specs.Laws.{EachIsShown}
 
 pub each_shown : EachIsShown
@@ -27,3 +27,5 @@ each_shown TooLarge = refl
 each_shown PatternOpen = refl
 each_shown PatternWide = refl
 each_shown TriggerWide = refl
+each_shown OutOfBounds = refl
+each_shown WideArray = refl

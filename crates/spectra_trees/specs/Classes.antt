@@ -19,6 +19,7 @@ words =
     (codes "G", classes.Alw) ∷ (codes "trans", classes.Alw) ∷ (codes "alwEv", classes.AlwEv) ∷ (codes "alwaysEventually", classes.AlwEv) ∷
     (codes "GF", classes.AlwEv) ∷ (codes "trig", classes.Trig) ∷
     (codes "next", classes.Next) ∷ (codes "true", classes.True) ∷ (codes "false", classes.False) ∷ (codes "mod", classes.Mod) ∷
+    (codes "forall", classes.ForAll) ∷ (codes "exists", classes.Exists) ∷ (codes "in", classes.In) ∷
     (codes "not", classes.Not) ∷ (codes "and", classes.And) ∷ (codes "or", classes.Or) ∷ (codes "implies", classes.Implies) ∷
     (codes "iff", classes.Iff) ∷
     (codes "PREV", classes.Prev) ∷ (codes "Y", classes.Prev) ∷ (codes "ONCE", classes.Once) ∷ (codes "O", classes.Once) ∷
@@ -105,24 +106,27 @@ place_of classes.Plus = 39
 place_of classes.Minus = 40
 place_of classes.Star = 41
 place_of classes.Mod = 42
-place_of classes.Then = 43
-place_of classes.Becomes = 44
-place_of classes.UpTo = 45
-place_of classes.Question = 46
-place_of classes.Colon = 47
-place_of classes.Semicolon = 48
-place_of classes.Comma = 49
-place_of classes.Open = 50
-place_of classes.Close = 51
-place_of classes.OpenBracket = 52
-place_of classes.CloseBracket = 53
-place_of classes.OpenBrace = 54
-place_of classes.CloseBrace = 55
-place_of classes.Name = 56
-place_of classes.Number = 57
-place_of classes.Text = 58
-place_of classes.Finish = 59
-place_of classes.Unknown = 60
+place_of classes.ForAll = 43
+place_of classes.Exists = 44
+place_of classes.In = 45
+place_of classes.Then = 46
+place_of classes.Becomes = 47
+place_of classes.UpTo = 48
+place_of classes.Question = 49
+place_of classes.Colon = 50
+place_of classes.Semicolon = 51
+place_of classes.Comma = 52
+place_of classes.Open = 53
+place_of classes.Close = 54
+place_of classes.OpenBracket = 55
+place_of classes.CloseBracket = 56
+place_of classes.OpenBrace = 57
+place_of classes.CloseBrace = 58
+place_of classes.Name = 59
+place_of classes.Number = 60
+place_of classes.Text = 61
+place_of classes.Finish = 62
+place_of classes.Unknown = 63
 
 -- whether two classes are the same
 unfoldable pub same_class : Class → Class → Bool

@@ -29,6 +29,9 @@ mutual
     Mod : Expression → Place → (digits : List ℕ) → Form
     And : Expressions → (operators : List Place) → Form
     Or : Expressions → (operators : List Place) → Form
+    Index : NameData → Expression → Form
+    ForAll : NameData → (low high body : Expression) → Form
+    Exists : NameData → (low high body : Expression) → Form
 
   -- several expressions
   pub data Expressions : Type 0 where
@@ -97,10 +100,16 @@ pub data BodyData : Type 0 where
   Trigger : Place → (cause effect : RegexData) → BodyData
   Call : NameData → List Expression → BodyData
 
+-- how many elements an array has: the place of the bracket, and the digits as written
+pub record LengthData : Type 0 where
+  pub bracket : Place
+  pub digits : List ℕ
+
 pub record VarData : Type 0 where
   pub at : Place
   pub owner : OwnerWord
   pub domain : TypeData
+  pub length : Option LengthData
   pub name : NameData
 
 pub record AliasData : Type 0 where

@@ -25,6 +25,8 @@ pub data Fault : Type 0 where
   PatternOpen : Fault
   PatternWide : Fault
   TriggerWide : Fault
+  OutOfBounds : Fault
+  WideArray : Fault
 
 -- ---- the table
 
@@ -51,6 +53,8 @@ row TooLarge = (19, codes "TooLarge")
 row PatternOpen = (20, codes "PatternOpen")
 row PatternWide = (21, codes "PatternWide")
 row TriggerWide = (22, codes "TriggerWide")
+row OutOfBounds = (25, codes "OutOfBounds")
+row WideArray = (26, codes "WideArray")
 
 abbrev pub number_of : Fault → ℕ
 number_of f = (row f).0
@@ -69,7 +73,8 @@ abbrev pub all_faults : List Fault
 all_faults =
     NotUtf8 ∷ BadCharacter ∷ TooLong ∷ Unexpected ∷ TooDeep ∷ Parentheses ∷ Unknown ∷ Twice
     ∷ WrongType ∷ NextHere ∷ NextNested ∷ NextOfSystem ∷ SystemInInitial ∷ WideInt ∷ Cycle ∷ Arity
-    ∷ ImportedLine ∷ TooMany ∷ TooLarge ∷ PatternOpen ∷ PatternWide ∷ TriggerWide ∷ []
+    ∷ ImportedLine ∷ TooMany ∷ TooLarge ∷ PatternOpen ∷ PatternWide ∷ TriggerWide
+    ∷ OutOfBounds ∷ WideArray ∷ []
 
 -- what is shown of the fault of a number among these; the last one is shown of a number that none of them has
 abbrev pub shown_among : List Fault → ℕ → List ℕ

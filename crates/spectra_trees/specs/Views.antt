@@ -16,10 +16,11 @@ use Rattle.spectra_trees.specs.declared.tree.PartForm.{PartForm}
 use Rattle.spectra_trees.specs.declared.tree.PartForm.TheVariants as parts
 use Rattle.spectra_trees.specs.declared.tree.BodyTree.{BodyTree}
 use Rattle.spectra_trees.specs.declared.tree.BodyTree.TheVariants as bodies
+use Rattle.spectra_trees.specs.declared.tree.Length.{Length}
 use Rattle.spectra_trees.specs.declared.tree.Item.{Item}
 use Rattle.spectra_trees.specs.declared.tree.Item.TheVariants as items
 use Rattle.spectra_trees.specs.declared.tree.Tree.{Tree}
-use Rattle.spectra_trees.specs.Data.{NameData, Expression, Form, expression, expressions, TypeData, TypeShape, RegexData, regexes, RepeatData, PartData, PartShape, BodyData, ItemData, TreeData}
+use Rattle.spectra_trees.specs.Data.{NameData, Expression, Form, expression, expressions, TypeData, TypeShape, RegexData, regexes, RepeatData, PartData, PartShape, BodyData, LengthData, ItemData, TreeData}
 use Rattle.spectra_trees.specs.declared.lexeme.Spelled.{Spelled}
 use Rattle.spectra_trees.specs.Lexemes.{Lexeme}
 
@@ -39,6 +40,9 @@ form_step (ExprForm-F.Binary op a b) = Form.Binary op a.value b.value
 form_step (ExprForm-F.Mod a at digits) = Form.Mod a.value at (string_bytes digits)
 form_step (ExprForm-F.And es ops) = Form.And (expressions es.items) ops.items
 form_step (ExprForm-F.Or es ops) = Form.Or (expressions es.items) ops.items
+form_step (ExprForm-F.Index n a) = Form.Index (name_data n) a.value
+form_step (ExprForm-F.ForAll n low high body) = Form.ForAll (name_data n) low.value high.value body.value
+form_step (ExprForm-F.Exists n low high body) = Form.Exists (name_data n) low.value high.value body.value
 
 abbrev pub expr_step : ExprTree-F Form Expression → Expression
 expr_step e = expression e.first e.at e.form
@@ -90,8 +94,12 @@ body_data (bodies.Recurring e) = BodyData.Recurring (expr_data e)
 body_data (bodies.Trigger at cause effect) = BodyData.Trigger at (regex_data cause) (regex_data effect)
 body_data (bodies.Call n es) = BodyData.Call (name_data n) (map expr_data es.items)
 
+abbrev pub length_data : Length → LengthData
+length_data l = record { bracket = l.bracket; digits = string_bytes l.digits }
+
 abbrev pub item_data : Item → ItemData
-item_data (items.Variable v) = ItemData.Variable (record { at = v.at; owner = v.owner; domain = type_data v.domain; name = name_data v.name })
+item_data (items.Variable v) =
+    ItemData.Variable (record { at = v.at; owner = v.owner; domain = type_data v.domain; length = option_map length_data v.length; name = name_data v.name })
 item_data (items.Alias t) = ItemData.Alias (record { at = t.at; name = name_data t.name; body = type_data t.body })
 item_data (items.Define d) = ItemData.Define (record { at = d.at; bodies = map (λ b. (name_data b.0, expr_data b.1)) d.bodies.items })
 item_data (items.Predicate p) =

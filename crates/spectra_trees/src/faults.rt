@@ -47,6 +47,10 @@ pub const PATTERN_OPEN: u8 = 20;
 pub const PATTERN_WIDE: u8 = 21;
 /// A trigger has too many atoms, positions or states, or a repeat that counts too far or backwards.
 pub const TRIGGER_WIDE: u8 = 22;
+/// An index may be none of its array's.
+pub const OUT_OF_BOUNDS: u8 = 25;
+/// An array has no element, or too many.
+pub const WIDE_ARRAY: u8 = 26;
 
 /// The number and the word of a fault, as an answer shows them.
 pub fn fault_text(number: u8) -> &'static str
@@ -74,6 +78,8 @@ pub fn fault_text(number: u8) -> &'static str
         TOO_LARGE => "19 TooLarge",
         PATTERN_OPEN => "20 PatternOpen",
         PATTERN_WIDE => "21 PatternWide",
+        OUT_OF_BOUNDS => "25 OutOfBounds",
+        WIDE_ARRAY => "26 WideArray",
         _ => "22 TriggerWide",
     }
 }

@@ -6,7 +6,7 @@ ghost use Rattle.spectra_trees.specs.Classes.{class_in as class_in_lem, sign_cla
 use crate::class::Class;
 
 /// The reserved words, each with what it is for the grammar.
-const WORDS: [(&str, Class); 47] = [
+const WORDS: [(&str, Class); 50] = [
     ("spec", Class::Head),
     ("module", Class::Head),
     ("import", Class::Import),
@@ -39,6 +39,9 @@ const WORDS: [(&str, Class); 47] = [
     ("true", Class::True),
     ("false", Class::False),
     ("mod", Class::Mod),
+    ("forall", Class::ForAll),
+    ("exists", Class::Exists),
+    ("in", Class::In),
     ("not", Class::Not),
     ("and", Class::And),
     ("or", Class::Or),

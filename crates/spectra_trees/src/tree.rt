@@ -53,7 +53,15 @@ pub struct VarItem {
     pub at: Place,
     pub owner: OwnerWord,
     pub domain: TypeTree,
+    pub length: Option<Length>,
     pub name: Name,
+}
+
+/// How many elements an array has: the place of the `[`, and the digits as written.
+#[derive(Drop)]
+pub struct Length {
+    pub bracket: Place,
+    pub digits: String,
 }
 
 /// A name for a type.
@@ -188,6 +196,7 @@ pub enum BinaryWord {
 
 /// What an expression is made of. A number is whether `-` stands before it, and its digits as written. The place in
 /// `Mod` is that of its number. `And` and `Or` have all their operands, and the places of the operators between them.
+/// The three trees of a quantifier are its lower bound, its upper bound and its body.
 #[cycle(tree)]
 pub enum ExprForm {
     True,
@@ -201,11 +210,14 @@ pub enum ExprForm {
     Mod(Box<ExprTree>, Place, String),
     And(Vec<ExprTree>, Vec<Place>),
     Or(Vec<ExprTree>, Vec<Place>),
+    Index(Name, Box<ExprTree>),
+    ForAll(Name, Box<ExprTree>, Box<ExprTree>, Box<ExprTree>),
+    Exists(Name, Box<ExprTree>, Box<ExprTree>, Box<ExprTree>),
 }
 
 impl Drop for ExprForm {
-    /// A loop over first operands, since a sum nests to the left as deep as its text is long. Only the other operands
-    /// are a recursion, and brackets bound how deep those nest.
+    /// A loop over first operands, what stands in an index and the bodies of quantifiers, since a sum nests to the left
+    /// as deep as its text is long. Only the other operands are a recursion, and brackets bound how deep those nest.
     #[cycle(tree)]
     fn drop(mut self) {
         loop {
@@ -220,6 +232,9 @@ impl Drop for ExprForm {
                 ExprForm::Prefix(_, first) => self = Box::into_inner(first).form,
                 ExprForm::Mod(first, _, _digits) => self = Box::into_inner(first).form,
                 ExprForm::Binary(_, first, _second) => self = Box::into_inner(first).form,
+                ExprForm::Index(_name, inner) => self = Box::into_inner(inner).form,
+                ExprForm::ForAll(_name, _low, _high, body) => self = Box::into_inner(body).form,
+                ExprForm::Exists(_name, _low, _high, body) => self = Box::into_inner(body).form,
             }
         }
     }

@@ -100,4 +100,4 @@ module _ (text : ResolvedText) (sound : IsSound text) (none : declared_faults te
 
   pub everything_put : (stand : Stand) (t : ResolvedTree) → is_sound_tree (sizes_of text) 0 t ≡ true → faults_of (known_in_line (noted text)) stand t ≡ [] →
       is_put_in (is_part (sizes_of text)) (put_in (bodies text) (holed (known_in_line (noted text)) stand t)) ≡ true
-  everything_put stand t written faultless = lines_are_put_in text arities (is_part (sizes_of text)) order.0 order_is single meant all_written none stand t written faultless
+  everything_put stand t written faultless = lines_are_put_in text arities (is_part (sizes_of text)) order.0 (λ n. refl) order_is single meant all_written none stand t written faultless

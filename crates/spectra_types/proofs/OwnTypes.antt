@@ -21,7 +21,7 @@ use Rattle.spectra_resolved.specs.Texts.{ResolvedType, Booleans, RangeOf, EnumOf
 use Rattle.spectra_items.specs.Types.{plain_entries, is_sound_enum, enum_number, enum_type, named_type, type_of}
 use Rattle.spectra_parser.specs.Shapes.{IsShapedType}
 use Rattle.spectra_judge.specs.Kinds.{Kind, Truth, Whole, SomeWhole, NameOf, OneName, Anything}
-use Rattle.spectra_judge.specs.Erased.{has_room}
+use Rattle.spectra_judge.specs.PutIn.{has_room}
 use Rattle.spectra_bounds.specs.Numbers.{Constants, constants, sound_number}
 use Rattle.spectra_bounds.specs.Types.{range_kind, meant_within, own_kind, type_kind}
 use Rattle.spectra_meant.specs.Laws.{is_anything, is_domain_kind}
@@ -72,6 +72,7 @@ module _ (s : Names) where
   name_named : (o : Option Named) → has_names (length s.enums) (named_type o) ≡ true
   name_named (Some (names.Type k)) = refl
   name_named (Some (names.Leaf l)) = refl
+  name_named (Some (names.Array k n)) = refl
   name_named (Some (names.Predicate k n)) = refl
   name_named (Some (names.Pattern k n)) = refl
   name_named (Some names.Plain) = refl

@@ -11,21 +11,22 @@ use Rattle.spec_model.specs.WellTyped.{is_typed_pattern, have_few_levels, patter
 use Rattle.spectra_resolved.specs.Resolved.{ResolvedTree}
 use Rattle.spectra_resolved.specs.Texts.{ResolvedType, ResolvedPatternLine, Initial, Safety, Recurring, ResolvedPattern, ResolvedText}
 use Rattle.spectra_judge.specs.Kinds.{Kind}
-use Rattle.spectra_judge.specs.Erased.{erased}
 use Rattle.spectra_judge.specs.PutIn.{is_put_in, in_pattern}
-use Rattle.spectra_elaboration.specs.Laws.{NodesAreThoseOfTheFormula, LevelsAreThoseOfTheFormula}
-use Rattle.spectra_elaboration.specs.Levels.{tree_levels}
+use Rattle.spectra_judge.specs.Known.{Known}
+use Rattle.spectra_cases.specs.Formulas.{formula_of}
 use Rattle.spectra_notes.specs.TypeKinds.{kind_in}
 use Rattle.spectra_patterns.specs.SoundPatterns as patterns
-use Rattle.spectra_patterns.specs.Patterns.{first_in, step_in, goals_in, pattern_of, line_tree}
+use Rattle.spectra_patterns.specs.Patterns.{pattern_known, first_in, step_in, goals_in, pattern_of, line_tree}
 use Rattle.spectra_patterns.specs.SoundPatterns.{is_type_kind}
 use Rattle.spectra_patterns.proofs.Shaped.{all_room, pattern_typed}
-use Rattle.spectra_lines.specs.Limits.{are_flat}
-use Rattle.spectra_lines.specs.Parts.{TypedPattern}
-use Rattle.spectra_lines.specs.Laws.{nodes_of_pattern, nodes_of_patterns, are_flat_lines, are_all_sound, PatternsHaveNoFault}
+use Rattle.spectra_lines.specs.Contents.{Facts, pattern_put}
+use Rattle.spectra_lines.specs.Limits.{is_flat, fits, nodes_of, are_flat}
+use Rattle.spectra_lines.specs.Parts.{TypedPattern, known_inside}
+use Rattle.spectra_lines.specs.Laws.{put_trees_of, nodes_of_patterns, are_all_sound, PatternsHaveNoFault}
 use Rattle.spectra_sound.specs.Sound.{Sizes, sizes_of, is_type, is_sound_pattern_line, is_sound_pattern}
 use Rattle.spectra_types.specs.Meanings.{own_kinds, is_sound, typed_pattern}
 use Rattle.spectra_types.proofs.Domains.{type_most}
+use Rattle.spectra_types.proofs.PatternsPut.{lines_put, lines_out}
 
 module _ (text : ResolvedText) where
   abbrev z : Sizes
@@ -51,8 +52,8 @@ module _ (text : ResolvedText) where
     said p is kinds =
         and_from _ _ (and_parts (not p.doubled) _ is).0 (all_room (own_kinds text p) (kinds_most few p.own kinds))
 
-    is_so : (p : ResolvedPattern) → is_sound_pattern z p ≡ true → list_all (λ t. is_type_kind z.names (kind_in text t)) p.own ≡ true → patterns.IsSound (own_kinds text p) p
-    is_so p is kinds =
+    is_so : (f : Facts) (p : ResolvedPattern) → is_sound_pattern z p ≡ true → list_all (λ t. is_type_kind z.names (kind_in text t)) p.own ≡ true → patterns.IsSound (own_kinds text p) (pattern_put f p)
+    is_so f p is kinds =
         let own = and_parts (not p.doubled) _ is in
         let parts = and_parts (list_all (is_type z) p.own) (list_all (is_sound_pattern_line (in_pattern z.names p.params (length p.own))) p.lines) own.1 in
         let long = length-map p.own (kind_in text) in
@@ -60,7 +61,9 @@ module _ (text : ResolvedText) where
           names = z.names;
           types = all_kinds p.own kinds;
           few = kinds_most few p.own kinds;
-          lines = lines_in_place _ p.lines (ap (λ n. list_all (is_sound_pattern_line (in_pattern z.names p.params n)) p.lines) long ∙ parts.1);
+          lines = lines_put f z.names p.params (length (own_kinds text p)) p.lines
+              (lines_in_place _ p.lines (ap (λ n. list_all (is_sound_pattern_line (in_pattern z.names p.params n)) p.lines) long ∙ parts.1));
+          out = lines_out f p.lines;
         }
 
     pub patterns_said : (ps : List ResolvedPattern) → list_all (is_sound_pattern z) ps ≡ true → list_all (λ (p : ResolvedPattern). list_all (λ t. is_type_kind z.names (kind_in text t)) p.own) ps ≡ true → are_all_sound (map (typed_pattern text) ps) ≡ true
@@ -70,74 +73,76 @@ module _ (text : ResolvedText) where
         let own = and_parts (list_all (λ t. is_type_kind z.names (kind_in text t)) p.own) _ kinds in
         and_from _ _ (said p tests.0 own.0) (patterns_said ps tests.1 own.1)
 
-    pub patterns_right : (ps : List ResolvedPattern) → list_all (is_sound_pattern z) ps ≡ true → list_all (λ (p : ResolvedPattern). list_all (λ t. is_type_kind z.names (kind_in text t)) p.own) ps ≡ true →
-        PatternsHaveNoFault (map (typed_pattern text) ps) → list_all (is_typed_pattern z.names) (map (λ (p : TypedPattern). pattern_of p.own p.pattern) (map (typed_pattern text) ps)) ≡ true
+    pub patterns_right : (f : Facts) (ps : List ResolvedPattern) → list_all (is_sound_pattern z) ps ≡ true → list_all (λ (p : ResolvedPattern). list_all (λ t. is_type_kind z.names (kind_in text t)) p.own) ps ≡ true →
+        PatternsHaveNoFault f (map (typed_pattern text) ps) → list_all (is_typed_pattern z.names) (map (λ (p : TypedPattern). pattern_of p.own (pattern_put f p.pattern)) (map (typed_pattern text) ps)) ≡ true
     unfolding is_so
-    patterns_right [] all kinds none = refl
-    patterns_right (p ∷ ps) all kinds none =
+    patterns_right f [] all kinds none = refl
+    patterns_right f (p ∷ ps) all kinds none =
         let tests = and_parts (is_sound_pattern z p) _ all in
         let own = and_parts (list_all (λ t. is_type_kind z.names (kind_in text t)) p.own) _ kinds in
-        and_from _ _ (pattern_typed (own_kinds text p) p (is_so p tests.0 own.0) (none.0 (said p tests.0 own.0))) (patterns_right ps tests.1 own.1 none.1)
+        and_from _ _ (pattern_typed (own_kinds text p) (pattern_put f p) (is_so f p tests.0 own.0) (none.1 (said p tests.0 own.0))) (patterns_right f ps tests.1 own.1 none.2)
 
-  pub params_are : (ps : List ResolvedPattern) → map (λ (p : PatternData). p.params) (map (λ (p : TypedPattern). pattern_of p.own p.pattern) (map (typed_pattern text) ps)) ≡ map (λ (p : ResolvedPattern). p.params) ps
-  params_are [] = refl
-  params_are (p ∷ ps) = ap (λ ns. p.params ∷ ns) (params_are ps)
+  pub params_are : (f : Facts) (ps : List ResolvedPattern) → map (λ (p : PatternData). p.params) (map (λ (p : TypedPattern). pattern_of p.own (pattern_put f p.pattern)) (map (typed_pattern text) ps)) ≡ map (λ (p : ResolvedPattern). p.params) ps
+  params_are f [] = refl
+  params_are f (p ∷ ps) = ap (λ ns. p.params ∷ ns) (params_are f ps)
 
 -- ---- nodes
 
 abbrev nodes : List Formula → ℕ
 nodes fs = sum_by nodes_in fs
 
-lines_nodes : NodesAreThoseOfTheFormula → (params : ℕ) (ls : List ResolvedPatternLine) → nodes (flat_map (first_in params) ls) + (nodes (flat_map (step_in params) ls) + nodes (flat_map (goals_in params) ls)) ≡ nodes_of_pattern ls
-lines_nodes law params [] = refl
-lines_nodes law params (Initial at t ∷ ls) =
-    let rest = lines_nodes law params ls in let here = law params t in let one = sum_by-cons nodes_in (erased params t) (flat_map (first_in params) ls) in omega (arith, rest, here, one)
-lines_nodes law params (Safety at t ∷ ls) =
-    let rest = lines_nodes law params ls in let here = law params t in let one = sum_by-cons nodes_in (erased params t) (flat_map (step_in params) ls) in omega (arith, rest, here, one)
-lines_nodes law params (Recurring at t ∷ ls) =
-    let rest = lines_nodes law params ls in let here = law params t in let one = sum_by-cons nodes_in (erased params t) (flat_map (goals_in params) ls) in omega (arith, rest, here, one)
+module _ (known : Known) (params : ℕ) where
+  lines_nodes : (ls : List ResolvedPatternLine) → nodes (flat_map (first_in known params) ls) + (nodes (flat_map (step_in known params) ls) + nodes (flat_map (goals_in known params) ls)) ≡ nodes_of known params (map line_tree ls)
+  lines_nodes [] = refl
+  lines_nodes (Initial at t ∷ ls) =
+      let rest = lines_nodes ls in let one = sum_by-cons nodes_in (formula_of known params t) (flat_map (first_in known params) ls) in omega (arith, rest, one)
+  lines_nodes (Safety at t ∷ ls) =
+      let rest = lines_nodes ls in let one = sum_by-cons nodes_in (formula_of known params t) (flat_map (step_in known params) ls) in omega (arith, rest, one)
+  lines_nodes (Recurring at t ∷ ls) =
+      let rest = lines_nodes ls in let one = sum_by-cons nodes_in (formula_of known params t) (flat_map (goals_in known params) ls) in omega (arith, rest, one)
 
-one_pattern : NodesAreThoseOfTheFormula → (own : List Kind) (p : ResolvedPattern) → nodes (pattern_formulas (pattern_of own p)) ≡ nodes_of_pattern p.lines
-one_pattern law own p =
-    let first = flat_map (first_in p.params) p.lines in
-    let step = flat_map (step_in p.params) p.lines in
-    let goals = flat_map (goals_in p.params) p.lines in
+one_pattern : (own : List Kind) (p : ResolvedPattern) → nodes (pattern_formulas (pattern_of own p)) ≡ nodes_of (pattern_known p.params own) p.params (map line_tree p.lines)
+one_pattern own p =
+    let known = pattern_known p.params own in
+    let first = flat_map (first_in known p.params) p.lines in
+    let step = flat_map (step_in known p.params) p.lines in
+    let goals = flat_map (goals_in known p.params) p.lines in
     let a = sum_by-append nodes_in first (step ++ goals) in
     let b = sum_by-append nodes_in step goals in
-    let all = lines_nodes law p.params p.lines in omega (arith, a, b, all)
+    let all = lines_nodes known p.params p.lines in omega (arith, a, b, all)
 
-pub pattern_nodes : NodesAreThoseOfTheFormula → (ps : List TypedPattern) → sum_by (λ (p : PatternData). nodes (pattern_formulas p)) (map (λ (p : TypedPattern). pattern_of p.own p.pattern) ps) ≡ nodes_of_patterns ps
-pattern_nodes law [] = refl
-pattern_nodes law (p ∷ ps) =
-    let here = one_pattern law p.own p.pattern in
-    let rest = pattern_nodes law ps in
-    let one = sum_by-cons (λ (p : PatternData). nodes (pattern_formulas p)) (pattern_of p.own p.pattern) (map (λ (p : TypedPattern). pattern_of p.own p.pattern) ps) in omega (arith, here, rest, one)
+pub pattern_nodes : (f : Facts) (ps : List TypedPattern) → sum_by (λ (p : PatternData). nodes (pattern_formulas p)) (map (λ (p : TypedPattern). pattern_of p.own (pattern_put f p.pattern)) ps) ≡ nodes_of_patterns f ps
+pattern_nodes f [] = refl
+pattern_nodes f (p ∷ ps) =
+    let here = one_pattern p.own (pattern_put f p.pattern) in
+    let rest = pattern_nodes f ps in
+    let one = sum_by-cons (λ (p : PatternData). nodes (pattern_formulas p)) (pattern_of p.own (pattern_put f p.pattern)) (map (λ (p : TypedPattern). pattern_of p.own (pattern_put f p.pattern)) ps) in omega (arith, here, rest, one)
 
 -- ---- levels
 
-abbrev is_shallow : ResolvedTree → Bool
-is_shallow t = are_flat (t ∷ [])
+module _ (known : Known) (params : ℕ) where
+  one_flat : (t : ResolvedTree) → is_flat known params t ≡ true → nat_le (levels_in (formula_of known params t)) 512 ≡ true
+  one_flat t flat = (and_parts (fits t) (nat_le (levels_in (formula_of known params t)) 512) flat).1
 
-erased_shallow : LevelsAreThoseOfTheFormula → (params : ℕ) (t : ResolvedTree) → is_shallow t ≡ true → nat_le (levels_in (erased params t)) 512 ≡ true
-erased_shallow law params t flat = ap (λ n. nat_le n 512) (law params t) ∙ (and_parts (nat_le (tree_levels t) 512) true flat).0
+  lines_flat : (ls : List ResolvedPatternLine) → are_flat known params (map line_tree ls) ≡ true →
+      (have_few_levels (flat_map (first_in known params) ls) ≡ true) × (have_few_levels (flat_map (step_in known params) ls) ≡ true) × (have_few_levels (flat_map (goals_in known params) ls) ≡ true)
+  lines_flat [] flat = (refl, refl, refl)
+  lines_flat (Initial at t ∷ ls) flat = let parts = and_parts (is_flat known params t) _ flat in let rest = lines_flat ls parts.1 in (and_from _ _ (one_flat t parts.0) rest.0, rest.1, rest.2)
+  lines_flat (Safety at t ∷ ls) flat = let parts = and_parts (is_flat known params t) _ flat in let rest = lines_flat ls parts.1 in (rest.0, and_from _ _ (one_flat t parts.0) rest.1, rest.2)
+  lines_flat (Recurring at t ∷ ls) flat = let parts = and_parts (is_flat known params t) _ flat in let rest = lines_flat ls parts.1 in (rest.0, rest.1, and_from _ _ (one_flat t parts.0) rest.2)
 
-lines_flat : LevelsAreThoseOfTheFormula → (params : ℕ) (ls : List ResolvedPatternLine) → are_flat_lines ls ≡ true →
-    (have_few_levels (flat_map (first_in params) ls) ≡ true) × (have_few_levels (flat_map (step_in params) ls) ≡ true) × (have_few_levels (flat_map (goals_in params) ls) ≡ true)
-lines_flat law params [] flat = (refl, refl, refl)
-lines_flat law params (Initial at t ∷ ls) flat = let parts = and_parts (is_shallow t) _ flat in let rest = lines_flat law params ls parts.1 in (and_from _ _ (erased_shallow law params t parts.0) rest.0, rest.1, rest.2)
-lines_flat law params (Safety at t ∷ ls) flat = let parts = and_parts (is_shallow t) _ flat in let rest = lines_flat law params ls parts.1 in (rest.0, and_from _ _ (erased_shallow law params t parts.0) rest.1, rest.2)
-lines_flat law params (Recurring at t ∷ ls) flat = let parts = and_parts (is_shallow t) _ flat in let rest = lines_flat law params ls parts.1 in (rest.0, rest.1, and_from _ _ (erased_shallow law params t parts.0) rest.2)
-
-flat_pattern : LevelsAreThoseOfTheFormula → (own : List Kind) (p : ResolvedPattern) → are_flat_lines p.lines ≡ true → have_few_levels (pattern_formulas (pattern_of own p)) ≡ true
-flat_pattern law own p flat =
+flat_pattern : (own : List Kind) (p : ResolvedPattern) → are_flat (pattern_known p.params own) p.params (map line_tree p.lines) ≡ true → have_few_levels (pattern_formulas (pattern_of own p)) ≡ true
+flat_pattern own p flat =
+    let known = pattern_known p.params own in
     let test : Formula → Bool = λ e. nat_le (levels_in e) 512 in
-    let first = flat_map (first_in p.params) p.lines in
-    let step = flat_map (step_in p.params) p.lines in
-    let goals = flat_map (goals_in p.params) p.lines in
-    let all = lines_flat law p.params p.lines flat in
+    let first = flat_map (first_in known p.params) p.lines in
+    let step = flat_map (step_in known p.params) p.lines in
+    let goals = flat_map (goals_in known p.params) p.lines in
+    let all = lines_flat known p.params p.lines flat in
     list_all-append test first (step ++ goals) ∙ and_from _ _ all.0 (list_all-append test step goals ∙ and_from _ _ all.1 all.2)
 
-pub pattern_levels : LevelsAreThoseOfTheFormula → (ps : List TypedPattern) → list_all (λ (p : TypedPattern). are_flat_lines p.pattern.lines) ps ≡ true →
-    list_all (λ (p : PatternData). have_few_levels (pattern_formulas p)) (map (λ (p : TypedPattern). pattern_of p.own p.pattern) ps) ≡ true
-pattern_levels law [] flat = refl
-pattern_levels law (p ∷ ps) flat = let parts = and_parts (are_flat_lines p.pattern.lines) _ flat in and_from _ _ (flat_pattern law p.own p.pattern parts.0) (pattern_levels law ps parts.1)
+pub pattern_levels : (f : Facts) (ps : List TypedPattern) → list_all (λ (p : TypedPattern). are_flat (known_inside p) p.pattern.params (put_trees_of f p)) ps ≡ true →
+    list_all (λ (p : PatternData). have_few_levels (pattern_formulas p)) (map (λ (p : TypedPattern). pattern_of p.own (pattern_put f p.pattern)) ps) ≡ true
+pattern_levels f [] flat = refl
+pattern_levels f (p ∷ ps) flat =
+    let parts = and_parts (are_flat (known_inside p) p.pattern.params (put_trees_of f p)) _ flat in and_from _ _ (flat_pattern p.own (pattern_put f p.pattern) parts.0) (pattern_levels f ps parts.1)

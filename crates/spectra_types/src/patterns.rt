@@ -3,7 +3,7 @@
 ghost use Rattle.std.specs.Prelude.{◌≡◌, nat_lt, map, IfOk};
 ghost use Rattle.std.specs.List.{list_all};
 ghost use Rattle.spectra_resolved.specs.TextViews.{text_data, pattern_data};
-ghost use Rattle.spectra_judge.specs.Erased.{has_room as has_room_lem};
+ghost use Rattle.spectra_judge.specs.PutIn.{has_room as has_room_lem};
 ghost use Rattle.spectra_judge.specs.KindViews.{kind_data};
 ghost use Rattle.spectra_notes.specs.TypeKinds.{type_kinds as type_kinds_lem};
 ghost use Rattle.spectra_notes.specs.NoteViews.{type_kinds_data};

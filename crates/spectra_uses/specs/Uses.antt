@@ -33,6 +33,8 @@ abbrev mutual
   form_uses (Form.Mod t number_at n) = uses_in t
   form_uses (Form.And ts operators) = each_uses ts
   form_uses (Form.Or ts operators) = each_uses ts
+  form_uses (Form.Index first n t) = uses_in t
+  form_uses (Form.Quantified word variable extent low high ts) = uses_in low ++ (uses_in high ++ each_uses ts)
 
   pub each_uses : ResolvedTrees → List ℕ
   each_uses ResolvedTrees.none = []

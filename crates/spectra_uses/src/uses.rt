@@ -23,6 +23,7 @@ fn add_leaf(uses: &mut Vec<usize>, leaf: Leaf) -> Result<(), AllocError>
         Leaf::Variable(_) => {}
         Leaf::Parameter(_) => {}
         Leaf::Own(_) => {}
+        Leaf::Bound(_) => {}
         Leaf::Hole(_) => {}
     }
     Ok(())
@@ -88,7 +89,25 @@ fn add_shape(uses: &mut Vec<usize>, shape: &Shape) -> Result<(), AllocError>
         Shape::Mod(t, _, _) => add(uses, t),
         Shape::And(ts, _) => add_each(uses, ts),
         Shape::Or(ts, _) => add_each(uses, ts),
+        Shape::Index(_, _, t) => add(uses, t),
+        Shape::Quantified(_, _, _, low, high, copies) => add_quantified(uses, low, high, copies),
     }
+}
+
+#[tactic(auto, using(std::proofs::Common::append_assoc))]
+// Adds those of a quantifier: of its bounds, and of its copies.
+#[cycle(using_up)]
+fn add_quantified(
+    uses: &mut Vec<usize>,
+    low: &Resolved,
+    high: &Resolved,
+    copies: &[Resolved],
+) -> Result<(), AllocError>
+    ensures { OnOk result (uses.new.items ≡ uses.old.items ++ (uses_in (resolved_data low.now) ++ (uses_in (resolved_data high.now) ++ each_uses (trees (map resolved_data copies.now))))) }
+{
+    add(uses, low)?;
+    add(uses, high)?;
+    add_each(uses, copies)
 }
 
 #[tactic(auto, using(std::proofs::Common::append_assoc))]

@@ -6,3 +6,4 @@ pub mod Reaching
 pub mod Searching
 pub mod Standing
 pub mod Counting
+pub mod Splitting

@@ -14,7 +14,7 @@ syntax keyword spectraDeclaration type define predicate pattern var monitor
 syntax keyword spectraRole asm assumption gar guarantee
 syntax keyword spectraTime ini initially alw always G trans alwEv alwaysEventually GF trig
 syntax keyword spectraPast PREV Y ONCE O HISTORICALLY H SINCE S TRIGGERED T
-syntax keyword spectraOperator next not and or implies iff mod
+syntax keyword spectraOperator next not and or implies iff mod forall exists in
 syntax keyword spectraConstant true false
 
 syntax match spectraNumber "\<\d\+\>"

@@ -6,7 +6,7 @@ use Rattle.spectra_exprs.specs.Read.{starts}
 use Rattle.spectra_exprs.specs.OperatorReaders.{starts_sum, starts_or}
 use Rattle.spectra_exprs.specs.ExprViews.{term_data, chain_data}
 use Rattle.spectra_exprs.specs.Expressions.{inside, times_of, plus_of, conjunct_of, disjunct_of, argument_of}
-use Rattle.spectra_exprs.proofs.Levels.{whole_deep, operand_deep, arguments_deep, whole_open, operand_open, arguments_open}
+use Rattle.spectra_exprs.proofs.Levels.{whole_deep, operand_deep, arguments_deep, whole_open, operand_open, arguments_open, subscript_deep, subscript_open, scope_deep, scope_open}
 use Rattle.spectra_exprs.proofs.Loops.{grown_first}
 use Rattle.spectra_exprs.proofs.StoppingExpressions.{uses_times, uses_plus, uses_conjunct, uses_disjunct, uses_argument, stable_inside}
 use Rattle.spectra_exprs.proofs.Turns.{fewer, turned, failed, ended}
@@ -114,3 +114,15 @@ operands::deeper_arguments-returns-then-left-eq0 t c = record { read = arguments
 
 pub operands::deeper_arguments-returns : goal.operands::deeper_arguments-returns
 operands::deeper_arguments-returns t c = record { read = rw (arguments_open c.args.left (lexeme_of c.args.token.now) (lexemes_of c.args.tokens.now) (omega arith)) c.arguments.ensures.read }
+
+pub operands::deeper_subscript-returns-then-left-eq0 : goal.operands::deeper_subscript-returns-then-left-eq0
+operands::deeper_subscript-returns-then-left-eq0 t c = record { read = subscript_deep c.args.left (lexeme_of c.args.token.now) (lexemes_of c.args.tokens.now) (omega arith) }
+
+pub operands::deeper_subscript-returns : goal.operands::deeper_subscript-returns
+operands::deeper_subscript-returns t c = record { read = rw (subscript_open c.args.left (lexeme_of c.args.token.now) (lexemes_of c.args.tokens.now) (omega arith)) c.subscript.ensures.read }
+
+pub operands::deeper_scope-returns-then-left-eq0 : goal.operands::deeper_scope-returns-then-left-eq0
+operands::deeper_scope-returns-then-left-eq0 t c = record { read = scope_deep c.args.left (lexeme_of c.args.token.now) (lexemes_of c.args.tokens.now) (omega arith) }
+
+pub operands::deeper_scope-returns : goal.operands::deeper_scope-returns
+operands::deeper_scope-returns t c = record { read = rw (scope_open c.args.left (lexeme_of c.args.token.now) (lexemes_of c.args.tokens.now) (omega arith)) c.scope.ensures.read }

@@ -41,10 +41,10 @@ abbrev pub decreases-formulas::arrow : goal.decreases-formulas::arrow
 decreases-formulas::arrow l = 32 * l.left + 22
 
 abbrev pub decreases-formulas::expr : goal.decreases-formulas::expr
-decreases-formulas::expr l = 32 * l.left + 23
+decreases-formulas::expr l = 32 * l.left + 25
 
 abbrev pub decreases-formulas::formula : goal.decreases-formulas::formula
-decreases-formulas::formula l = 32 * l.left + 24
+decreases-formulas::formula l = 32 * l.left + 26
 
 abbrev pub decreases-operands::deeper_whole : goal.decreases-operands::deeper_whole
 decreases-operands::deeper_whole l = 32 * l.left + 0
@@ -65,10 +65,10 @@ abbrev pub decreases-operands::prefixed : goal.decreases-operands::prefixed
 decreases-operands::prefixed l = 32 * l.left + 1
 
 abbrev pub decreases-operands::some_arguments : goal.decreases-operands::some_arguments
-decreases-operands::some_arguments l = 32 * l.left + 27
+decreases-operands::some_arguments l = 32 * l.left + 29
 
 abbrev pub decreases-operands::arguments : goal.decreases-operands::arguments
-decreases-operands::arguments l = 32 * l.left + 28
+decreases-operands::arguments l = 32 * l.left + 30
 
 abbrev pub decreases-operands::deeper_arguments : goal.decreases-operands::deeper_arguments
 decreases-operands::deeper_arguments l = 32 * l.left + 0
@@ -78,6 +78,33 @@ decreases-operands::call l = 32 * l.left + 1
 
 abbrev pub decreases-operands::named : goal.decreases-operands::named
 decreases-operands::named l = 32 * l.left + 2
+
+abbrev pub decreases-formulas::unquantified : goal.decreases-formulas::unquantified
+decreases-formulas::unquantified l = 32 * l.left + 23
+
+abbrev pub decreases-sums::limit : goal.decreases-sums::limit
+decreases-sums::limit l = 32 * l.left + 10
+
+abbrev pub decreases-quantifiers::subscript : goal.decreases-quantifiers::subscript
+decreases-quantifiers::subscript l = 32 * l.left + 11
+
+abbrev pub decreases-quantifiers::scope : goal.decreases-quantifiers::scope
+decreases-quantifiers::scope l = 32 * l.left + 31
+
+abbrev pub decreases-quantifiers::for_all : goal.decreases-quantifiers::for_all
+decreases-quantifiers::for_all l = 32 * l.left + 1
+
+abbrev pub decreases-quantifiers::exists : goal.decreases-quantifiers::exists
+decreases-quantifiers::exists l = 32 * l.left + 1
+
+abbrev pub decreases-operands::deeper_subscript : goal.decreases-operands::deeper_subscript
+decreases-operands::deeper_subscript l = 32 * l.left + 0
+
+abbrev pub decreases-operands::deeper_scope : goal.decreases-operands::deeper_scope
+decreases-operands::deeper_scope l = 32 * l.left + 0
+
+abbrev pub decreases-operands::index : goal.decreases-operands::index
+decreases-operands::index l = 32 * l.left + 1
 
 abbrev pub decreases-sums::times : goal.decreases-sums::times
 decreases-sums::times l = 32 * l.left + 4
@@ -116,10 +143,10 @@ abbrev pub decreases-formulas::alone : goal.decreases-formulas::alone
 decreases-formulas::alone l = 32 * l.left + 5
 
 abbrev pub decreases-operands::argument : goal.decreases-operands::argument
-decreases-operands::argument l = 32 * l.left + 25
+decreases-operands::argument l = 32 * l.left + 27
 
 abbrev pub decreases-operands::more_arguments : goal.decreases-operands::more_arguments
-decreases-operands::more_arguments l = 32 * l.left + 26
+decreases-operands::more_arguments l = 32 * l.left + 28
 
 -- what was read so far, with what is still read, is all
 abbrev pub invariant-sums::products-loop-alloc : goal.invariant-sums::products-loop-alloc

@@ -1,16 +1,35 @@
-use Rattle.std.proofs.Common.{◌≡◌, sym, ◌∙◌, subst, ap, suc, refl, arith}
+use Rattle.std.proofs.Common.{◌≡◌, [], ◌∷◌, sym, ◌∙◌, subst, ap, suc, refl, arith}
 use Rattle.std.proofs.lemmas.Bool.{false≢true}
+use Rattle.std.proofs.lemmas.Result.{IfOk-weaker, IfErr-weaker}
 use Rattle.spec_model.proofs.Fixpoints.{IsFalling}
-use Rattle.regions.specs.Kept.{MakesRegion}
+use Rattle.regions.specs.Kept.{MakesRegion, Or, States}
 use Rattle.regions.proofs.Holding.{made_is}
 use Rattle.gr1_sys.specs.Held.{waiting}
 use Rattle.gr1_sys.proofs.Holdings.{same_then}
-use Rattle.gr1_sys.proofs.Waits.{waiting-first, waiting-next, waiting-fewer, waiting-last, turned, still}
-use Rattle.gr1_sys.specs.Moment.{iterated, part, part_iterate}
+use Rattle.gr1_sys.proofs.Waits.{waiting-first, waiting-next, waiting-fewer, waiting-last, waiting-never, turned, still}
+use Rattle.gr1_sys.specs.Moment.{iterated, part, part_iterate, based, lapse}
 use Rattle.gr1_sys.specs.Told.{TellsHalt}
-use Rattle.gr1_sys.proofs.Told.{handed_on, past_one}
+use Rattle.gr1_sys.proofs.Told.{handed_on, past_one, told}
 use Rattle.gr1_sys.proofs.Naming.{part_iterated, part_still}
 use Rattle.gr1_sys.proofs.parts.greatest_part.Goals as goal
+
+pub returns-then-same-clause-made : goal.returns-then-same-clause-made
+returns-then-same-clause-made g c =
+    let kept = g.G.Regions.kept in
+    let first = kept c.args.g.now in
+    let new = kept c.or.new.self in
+    let never = c.same.ensures.0 c.if-same.true ∙ c.requires.none.1 in
+    let is = waiting-never first.game (first.set c.args.base.now) (first.set c.args.lapse.now) (g.met.G.Regions.proper c.args.g.now c.args.base.now c.requires.base) never in
+    IfOk-weaker c.or.result _ _ (λ r made. subst (MakesRegion first new r) is made) c.or.ensures.made
+
+pub returns-then-same-clause-told : goal.returns-then-same-clause-told
+returns-then-same-clause-told g c = λ z j r i are.
+    let kept = g.G.Regions.kept in
+    let first = kept c.args.g.now in
+    let new = kept c.or.new.self in
+    IfErr-weaker c.or.result _ _
+    (λ halt halts. told first new z Or (States (first.set c.args.base.now) ∷ States (first.set c.args.lapse.now) ∷ []) halt halts.jam
+    (based j r are.goal_in are.base_is, (lapse i are.index_in are.away_is, tt)) tt) c.or.ensures.halted
 
 pub loop-next-init : goal.loop-next-init
 loop-next-init g c =

@@ -1,6 +1,6 @@
 use Rattle.std.proofs.Common.{◌∙◌, List, length, ap, subst, sym, arith, map}
 use Rattle.gr1_sys.specs.Held.{HasEach, MakesRegions, part_at, layer_sets, layer_regions}
-use Rattle.gr1_sys.proofs.Lists.{each_stays}
+use Rattle.gr1_sys.proofs.Lists.{each_stays, region_stays, set_kept}
 use Rattle.gr1_sys.proofs.Parted.{rank_made, made_above, halted_above, given_counted, given_stays}
 use Rattle.spec_model.specs.Sets.{either, pre_sys}
 use Rattle.regions.proofs.Holding.{set_is}
@@ -15,6 +15,16 @@ layer_on-requires-clause-lapses g c =
     let kept = g.G.Regions.kept in
     let made = c.in_ok-base.ensures.made in
     subst (HasEach (kept c.base_above.new.g)) (sym c.deref.ensures.value) (each_stays (kept c.args.g.now) (kept c.base_above.new.g) c.args.given.now.lapses.items (λ w. omega (arith, made.held w)) c.requires.given.lapses)
+
+pub layer_on-requires-clause-none : goal.layer_on-requires-clause-none
+layer_on-requires-clause-none g c =
+    let kept = g.G.Regions.kept in
+    let k = kept c.args.g.now in
+    let k1 = kept c.base_above.new.g in
+    let made = c.in_ok-base.ensures.made in (
+      region_stays k k1 c.args.given.now.none (λ w. omega (arith, made.held w)) c.requires.given.none,
+      set_kept k k1 c.args.given.now.none (g.met.G.Regions.exact _) (λ w. omega (arith, made.held w)) c.requires.given.none ∙ c.requires.given.empty,
+    )
 
 pub returns-in-Ok-clause-made : goal.returns-in-Ok-clause-made
 returns-in-Ok-clause-made g c = λ z j r reach_is low_is.

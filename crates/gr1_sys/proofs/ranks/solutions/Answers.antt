@@ -3,7 +3,7 @@ use Rattle.spec_model.specs.Steps.{below}
 use Rattle.regions.specs.Kept.{MakesRegion}
 use Rattle.gr1_sys.specs.Held.{MakesRegions, part_at}
 use Rattle.gr1_sys.proofs.Holdings.{same_then}
-use Rattle.gr1_sys.proofs.Lists.{one_of, set_at_is, region_stays, part_stays, together_as, makes_more, made_and_spent_all}
+use Rattle.gr1_sys.proofs.Lists.{one_of, set_at_is, region_stays, set_kept, part_stays, together_as, makes_more, made_and_spent_all}
 use Rattle.gr1_sys.proofs.Parted.{nothing_made, map_below-more}
 use Rattle.gr1_sys.proofs.Told.{past_many}
 use Rattle.gr1_sys.proofs.Naming.{lapse_at, lapse_count, part_still, parts_named}
@@ -28,6 +28,15 @@ pub greatest_part-requires-clause-lapse : goal.greatest_part-requires-clause-lap
 greatest_part-requires-clause-lapse g c =
     let kept = g.G.Regions.kept in
     region_stays (kept c.args.g.now) (kept c.loop-lapse.g) c.lapse-item.result (λ w. omega (arith, c.loop-lapse.invariant.made.held w)) (one_of (kept c.args.g.now) c.args.lapses.now c.loop-lapse.lapse-index c.lapse-item.result c.requires.lapses c.loop-lapse-test.true c.lapse-item.is)
+
+pub greatest_part-requires-clause-none : goal.greatest_part-requires-clause-none
+greatest_part-requires-clause-none g c =
+    let kept = g.G.Regions.kept in
+    let first = kept c.args.g.now in
+    let k = kept c.loop-lapse.g in (
+      region_stays first k c.args.none.now (λ w. omega (arith, c.loop-lapse.invariant.made.held w)) c.requires.none.0,
+      set_kept first k c.args.none.now (g.met.G.Regions.exact _) (λ w. omega (arith, c.loop-lapse.invariant.made.held w)) c.requires.none.0 ∙ c.requires.none.1,
+    )
 
 pub spend_all-requires : goal.spend_all-requires
 spend_all-requires g c =

@@ -25,6 +25,9 @@ decreases-link_behind l = 8 * size-Link l.link.now + 1
 abbrev pub decreases-shape_behind : goal.decreases-shape_behind
 decreases-shape_behind l = 8 * size-Shape l.shape.now + 4
 
+abbrev pub decreases-bounded_behind : goal.decreases-bounded_behind
+decreases-bounded_behind l = 8 * max (size-Resolved l.low.now) (max (size-Resolved l.high.now) (most (λ t. size-Resolved t) l.copies.now)) + 3
+
 abbrev pub decreases-each_behind : goal.decreases-each_behind
 decreases-each_behind l = 8 * most (λ t. size-Resolved t) l.ts.now + 1
 

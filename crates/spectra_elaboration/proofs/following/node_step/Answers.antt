@@ -4,7 +4,7 @@ use Rattle.spectra_resolved.specs.Views.{resolved_data, form_data}
 use Rattle.spectra_elaboration.specs.DefinitionViews.{definitions_data}
 use Rattle.spectra_elaboration.specs.Frames.{around_at, put_around, form_at, used_at}
 use Rattle.spectra_elaboration.specs.Following.{step_data, Goes}
-use Rattle.spectra_elaboration.proofs.Folded.{predicate_data}
+use Rattle.spectra_copies.proofs.Folded.{predicate_data}
 use Rattle.spectra_elaboration.proofs.Framed.{listed_each}
 use Rattle.spectra_elaboration.proofs.following.node_step.Goals as goal
 

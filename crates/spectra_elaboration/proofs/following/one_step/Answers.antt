@@ -3,11 +3,11 @@ use Rattle.std.proofs.lemmas.Option.{slice_get_read}
 use Rattle.spectra_resolved.specs.Chained.{chained}
 use Rattle.spectra_resolved.specs.Views.{resolved_data, link_data, form_data}
 use Rattle.spectra_resolved.proofs.Trees.{chain_data}
-use Rattle.spectra_elaboration.specs.Putting.{placed, marked}
+use Rattle.spectra_copies.specs.Places.{placed, marked}
 use Rattle.spectra_elaboration.specs.DefinitionViews.{definitions_data}
 use Rattle.spectra_elaboration.specs.Frames.{filled_at, form_at}
 use Rattle.spectra_elaboration.specs.Following.{step_data, Goes}
-use Rattle.spectra_elaboration.proofs.Folded.{node_data}
+use Rattle.spectra_copies.proofs.Folded.{node_data}
 use Rattle.spectra_elaboration.proofs.Framed.{grows_not, brought_is}
 use Rattle.spectra_elaboration.proofs.following.one_step.Goals as goal
 

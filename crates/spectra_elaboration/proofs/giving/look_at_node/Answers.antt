@@ -4,7 +4,7 @@ use Rattle.spectra_resolved.specs.Chained.{trees}
 use Rattle.spectra_resolved.specs.Views.{resolved_data, form_data}
 use Rattle.spectra_elaboration.specs.Giving.{form_gives}
 use Rattle.spectra_elaboration.specs.Looking.{Looks}
-use Rattle.spectra_elaboration.proofs.Folded.{leaf_data, predicate_data}
+use Rattle.spectra_copies.proofs.Folded.{leaf_data, predicate_data}
 use Rattle.spectra_elaboration.proofs.giving.look_at_node.Goals as goal
 
 pub returns-in-Leaf : goal.returns-in-Leaf

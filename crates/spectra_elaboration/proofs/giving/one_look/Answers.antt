@@ -4,7 +4,7 @@ use Rattle.spectra_resolved.specs.Views.{resolved_data, link_data}
 use Rattle.spectra_resolved.proofs.Trees.{chain_data}
 use Rattle.spectra_elaboration.specs.Giving.{gives}
 use Rattle.spectra_elaboration.specs.Looking.{Looks}
-use Rattle.spectra_elaboration.proofs.Folded.{node_data}
+use Rattle.spectra_copies.proofs.Folded.{node_data}
 use Rattle.spectra_elaboration.proofs.giving.one_look.Goals as goal
 
 pub returns-in-Chain : goal.returns-in-Chain

@@ -1,27 +1,28 @@
-use Rattle.std.proofs.Common.{Some, ap, ◌∙◌}
+use Rattle.std.proofs.Common.{◌≡◌, false, [], Some, None, option_map, IfOk, sym, ap, subst, ◌∙◌}
 use Rattle.spectra_resolved.specs.Views.{resolved_data}
-use Rattle.spectra_elaboration.specs.Levels.{within_limits}
+use Rattle.spectra_copies.specs.Copies.{has_quantifier, written}
+use Rattle.spectra_copies.specs.Levels.{within_limits, within_room}
 use Rattle.spectra_elaboration.specs.DefinitionViews.{definitions_data}
-use Rattle.spectra_elaboration.specs.Frames.{filled_at}
-use Rattle.spectra_elaboration.proofs.Flats.{made_within, large_without, deep_without}
+use Rattle.spectra_elaboration.specs.Putting.{with_bodies}
+use Rattle.spectra_elaboration.proofs.WrittenOut.{plain_stays, out_within, out_without, within_flat}
 use Rattle.spectra_elaboration.proofs.putting.put_in.Goals as goal
 
-pub returns-in-Ok : goal.returns-in-Ok
-returns-in-Ok c =
-    let t = resolved_data c.args.t.now in
-    let all = filled_at (definitions_data c.args.definitions.now) c.in_ok-frames.frames.items 0 t in
-    ap (λ x. Some (resolved_data x)) c.into_inner.ensures
-    ∙ made_within c.args.room c.args.levels all c.in-Ok.made c.in-Ok.ensures.made c.in-Ok.ensures.flat
-    ∙ ap (within_limits c.args.room c.args.levels) (c.in_ok-frames.ensures.line t)
+pub returns-then-has_quantifier : goal.returns-then-has_quantifier
+returns-then-has_quantifier c =
+    let t = with_bodies (definitions_data c.args.definitions.now) (resolved_data c.args.t.now) in
+    let some = sym (ap (option_map resolved_data) c.in-Some.is) ∙ c.in_ok-made.ensures in
+    let fits = within_flat c.args.room c.args.levels t (resolved_data c.in-Some.made) some in
+    subst (λ x. IfOk c.write_line.result (λ made. option_map resolved_data made ≡ x)) (ap (λ u. within_room c.args.room (written [] [] u)) fits.0 ∙ out_within [] [] c.args.room c.args.levels t fits.1) c.write_line.ensures
 
-pub returns-in-Err-Large : goal.returns-in-Err-Large
-returns-in-Err-Large c =
-    let t = resolved_data c.args.t.now in
-    let all = filled_at (definitions_data c.args.definitions.now) c.in_ok-frames.frames.items 0 t in
-    large_without c.args.room c.args.levels all c.in-Err-Large.field-0 c.in-Err-Large.ensures.made c.in-Err-Large.field-0-is ∙ ap (within_limits c.args.room c.args.levels) (c.in_ok-frames.ensures.line t)
+pub returns-else-has_quantifier : goal.returns-else-has_quantifier
+returns-else-has_quantifier c =
+    let t = with_bodies (definitions_data c.args.definitions.now) (resolved_data c.args.t.now) in
+    let some = sym (ap (option_map resolved_data) c.in-Some.is) ∙ c.in_ok-made.ensures in
+    let fits = within_flat c.args.room c.args.levels t (resolved_data c.in-Some.made) some in
+    let plain : has_quantifier t ≡ false = ap has_quantifier (sym fits.0) ∙ sym c.has_quantifier.ensures ∙ c.if-has_quantifier.false in
+    some ∙ ap (within_limits c.args.room c.args.levels) (sym (plain_stays [] t plain))
 
-pub returns-in-Err-Deep : goal.returns-in-Err-Deep
-returns-in-Err-Deep c =
-    let t = resolved_data c.args.t.now in
-    let all = filled_at (definitions_data c.args.definitions.now) c.in_ok-frames.frames.items 0 t in
-    deep_without c.args.room c.args.levels all c.in-Err-Deep.field-0 c.in-Err-Deep.ensures.flat c.in-Err-Deep.field-0-is ∙ ap (within_limits c.args.room c.args.levels) (c.in_ok-frames.ensures.line t)
+pub returns-in-None : goal.returns-in-None
+returns-in-None c =
+    let t = with_bodies (definitions_data c.args.definitions.now) (resolved_data c.args.t.now) in
+    out_without [] [] c.args.room c.args.levels t (sym (ap (option_map resolved_data) c.in-None.is) ∙ c.in_ok-made.ensures)

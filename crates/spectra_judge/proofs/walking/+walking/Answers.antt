@@ -9,12 +9,12 @@ use Rattle.spectra_judge.specs.Kinds.{Anything, is_truth, can_equal}
 use Rattle.spectra_judge.specs.KindViews.{kind_data, setting_data}
 use Rattle.spectra_judge.specs.Operators.{is_past}
 use Rattle.spectra_judge.specs.Known.{wanted}
-use Rattle.spectra_judge.specs.Judged.{kind_of, wrong, first_of, binary_faults, remainder_faults, operator_faults, faults, operand_faults, argument_faults}
+use Rattle.spectra_judge.specs.Judged.{kind_of, wrong, first_of, binary_faults, remainder_faults, operator_faults, faults, operand_faults, argument_faults, copy_faults}
 use Rattle.spectra_judge.specs.Chains.{opened, chain_kind, chain_faults}
 use Rattle.spectra_resolved.proofs.First.{with_faults_append}
 use Rattle.spectra_resolved.proofs.Trees.{chain_data}
 use Rattle.spectra_judge.proofs.Chained.{chain_kind_is, chain_faults_is}
-use Rattle.spectra_judge.proofs.Leftover.{from_place, operand_left, argument_left, kind_left, link_left}
+use Rattle.spectra_judge.proofs.Leftover.{from_place, operand_left, argument_left, copy_left, kind_left, link_left}
 use Rattle.spectra_judge.proofs.walking.+walking.Goals as goal
 
 pub walk_arguments-loop-t-preserved : goal.walk_arguments-loop-t-preserved
@@ -56,6 +56,16 @@ walk_operands-loop-t-preserved t c =
           ∙ c.loop-t.invariant.found;
     }
 
+pub walk_copies-loop-t-preserved : goal.walk_copies-loop-t-preserved
+walk_copies-loop-t-preserved t c =
+    let s = setting_data c.args.setting.now in
+    let o = c.args.around in
+    let ts = c.args.copies.now in
+    let k = c.loop-t.t-index in
+    ap (λ f. with_faults f (copy_faults s o (from_place ts (k + 1)))) c.walk_copy.ensures
+    ∙ copy_left s o ts k c.t-item.result c.loop-t-test.true c.t-item.is (found_in c.loop-t.findings)
+    ∙ c.loop-t.invariant
+
 pub walk_chain-loop-link-init : goal.walk_chain-loop-link-init
 walk_chain-loop-link-init t c =
     let s = setting_data c.args.setting.now in
@@ -84,11 +94,11 @@ walk_chain-loop-link-preserved t c =
       place = omega arith;
       kind =
           ap (λ j. chain_kind s.known j (map link_data (drop (k + 1) ls))) c.walk_link-kind.ensures.kind
-          ∙ kind_left s o ls k l c.loop-link-test.true c.link-item.is kind
+          ∙ kind_left ls k l c.loop-link-test.true c.link-item.is kind s.known
           ∙ c.loop-link.invariant.kind;
       found =
           (λ i. with_faults (c.walk_link-kind.ensures.found i) (chain_faults s o (c.walk_link-kind.ensures.kind i) (map link_data (drop (k + 1) ls))))
-          ∙ link_left s o ls k l c.loop-link-test.true c.link-item.is kind (found_in c.loop-link.findings) c.at-inner.result inner
+          ∙ link_left ls k l c.loop-link-test.true c.link-item.is kind s o (found_in c.loop-link.findings) c.at-inner.result inner
           ∙ c.loop-link.invariant.found;
     }
 

@@ -9,7 +9,7 @@ use Rattle.spectra_resolved.specs.Findings.{with_faults}
 use Rattle.spectra_resolved.specs.Reports.{found_in}
 use Rattle.spectra_judge.specs.KindViews.{kind_data, setting_data}
 use Rattle.spectra_judge.specs.Known.{wanted}
-use Rattle.spectra_judge.specs.Judged.{kind_of, faults, operand_faults, argument_faults}
+use Rattle.spectra_judge.specs.Judged.{kind_of, faults, operand_faults, argument_faults, copy_faults}
 use Rattle.spectra_judge.specs.Chains.{chain_kind, chain_faults}
 use Rattle.spectra_judge.proofs.walking.+walking.Given as goal
 
@@ -40,6 +40,11 @@ invariant-walk_arguments-loop-t l =
           ≡ with_faults (found_in l.fn.findings) (argument_faults (setting_data l.setting) l.around (wanted (setting_data l.setting).known l.predicate) (trees (map resolved_data l.ts)));
     }
 
+abbrev pub invariant-walk_copies-loop-t : goal.invariant-walk_copies-loop-t
+invariant-walk_copies-loop-t l =
+    with_faults (found_in l.findings) (copy_faults (setting_data l.setting) l.around (trees (map resolved_data (drop l.t-index l.copies))))
+    ≡ with_faults (found_in l.fn.findings) (copy_faults (setting_data l.setting) l.around (trees (map resolved_data l.copies)))
+
 abbrev pub decreases-walk : goal.decreases-walk
 decreases-walk l = 8 * size-Resolved l.tree.now
 
@@ -69,3 +74,21 @@ decreases-walk_arguments l = 8 * most (λ t. size-Resolved t) l.ts.now + 2
 
 abbrev pub decreases-walk_argument : goal.decreases-walk_argument
 decreases-walk_argument l = 8 * size-Resolved l.t.now + 1
+
+abbrev pub decreases-walk_index : goal.decreases-walk_index
+decreases-walk_index l = 8 * size-Resolved l.t.now + 1
+
+abbrev pub decreases-walk_quantified : goal.decreases-walk_quantified
+decreases-walk_quantified l = 8 * max (max (size-Resolved l.low.now) (size-Resolved l.high.now)) (most (λ t. size-Resolved t) l.copies.now) + 3
+
+abbrev pub decreases-walk_bounds : goal.decreases-walk_bounds
+decreases-walk_bounds l = 8 * max (size-Resolved l.low.now) (size-Resolved l.high.now) + 2
+
+abbrev pub decreases-walk_bound : goal.decreases-walk_bound
+decreases-walk_bound l = 8 * size-Resolved l.t.now + 1
+
+abbrev pub decreases-walk_copies : goal.decreases-walk_copies
+decreases-walk_copies l = 8 * most (λ t. size-Resolved t) l.copies.now + 2
+
+abbrev pub decreases-walk_copy : goal.decreases-walk_copy
+decreases-walk_copy l = 8 * size-Resolved l.t.now + 1

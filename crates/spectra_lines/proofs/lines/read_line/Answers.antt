@@ -26,10 +26,10 @@ returns-in-Some-clause-found c =
     let first : c.first_fault-first.result ≡ first_of_faults written = c.first_fault-first.ensures ∙ (λ i. first_of_faults (trees_faults f.known (stand i) (trees i))) in
     let sound : c.is_none-sound.result ≡ is_empty written = none_seen c.first_fault-first.result c.is_none-sound.result c.is_none-sound.ensures ∙ none_empty written c.first_fault-first.result first in
     let put = c.in_ok-report_put-in-Some.ensures
-    ∙ (λ i. with_faults old (trees_faults f.known (stand i) (trees_in body) ++ (if sound i && is_empty (trees_faults f.known (stand i) (trees_in body)) then whole_faults body else []))) in
+    ∙ (λ i. with_faults old (trees_faults f.known (stand i) (trees_in body) ++ (if sound i && is_empty (trees_faults f.known (stand i) (trees_in body)) then whole_faults f.known body else []))) in
     let made = sym (ap (option_map line_data) c.in-Some.is) ∙ c.in_ok-put.ensures.made in
     all_found f room l (found_in c.args.findings.now) _ old _ (c.report_first.ensures written first) c.report_own.ensures
-    (some_sized l.at (faults_as f l) (is_some room) (is_small room (put_trees f l)) (line_data c.in-Some.made) (line_put f l) _ old made put)
+    (some_sized l.at (faults_as f l) (is_some room) (is_small f.known 0 room (put_trees f l)) (line_data c.in-Some.made) (line_put f l) _ old made put)
 
 pub returns-clause-found : goal.returns-clause-found
 returns-clause-found c =
@@ -44,4 +44,4 @@ returns-clause-found c =
     let put = c.report_if.ensures ∙ ap (λ b. with_faults old (fault_if b (number_of TooLarge) l.at)) c.is_some-had_room.ensures in
     let made = sym (ap (option_map line_data) c.in-None.is) ∙ c.in_ok-put.ensures.made in
     all_found f room l (found_in c.args.findings.now) _ old _ (c.report_first.ensures written first) c.report_own.ensures
-    (none_sized l.at (faults_as f l) (is_some room) (is_small room (put_trees f l)) (line_put f l) _ old made put)
+    (none_sized l.at (faults_as f l) (is_some room) (is_small f.known 0 room (put_trees f l)) (line_put f l) _ old made put)

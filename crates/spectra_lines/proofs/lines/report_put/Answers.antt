@@ -13,7 +13,7 @@ use Rattle.spectra_lines.proofs.lines.report_put.Goals as goal
 pub returns : goal.returns
 returns c =
     let put = trees_faults (known_data c.args.known.now) c.args.stand (trees_in (body_data c.args.body.now)) in
-    let whole = whole_faults (body_data c.args.body.now) in
+    let whole = whole_faults (known_data c.args.known.now) (body_data c.args.body.now) in
     let old = found_in c.args.findings.now in
     let first = c.in_ok-first.ensures in
     let test : c.is_sound-whole.result ≡ (c.args.sound && is_empty put) = c.is_sound-whole.ensures ∙ ap (λ b. c.args.sound && b) (none_empty put c.in_ok-first.first first) in

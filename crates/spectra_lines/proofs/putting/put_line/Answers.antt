@@ -1,47 +1,83 @@
-use Rattle.std.proofs.Common.{◌≡◌, true, false, if◌then◌else◌, map, Some, None, sym, ap, ◌∙◌}
-use Rattle.spectra_resolved.specs.TextViews.{line_data}
-use Rattle.spectra_lines.specs.Contents.{stand_in, is_asm, tree_put, body_put, line_put}
-use Rattle.spectra_lines.specs.Limits.{nodes_of, room_behind, is_small}
+use Rattle.std.proofs.Common.{◌≡◌, true, false, not, if◌then◌else◌, Some, None, is_some, option_map, sym, ap, ◌∙◌}
+use Rattle.spectra_resolved.specs.TextViews.{body_data, line_data}
+use Rattle.spectra_lines.specs.Contents.{trees_in, line_put}
+use Rattle.spectra_lines.specs.Limits.{all_fit, room_behind, is_small}
 use Rattle.spectra_lines.specs.Lines.{put_trees}
-use Rattle.spectra_lines.specs.Views.{facts_data, trees_data}
-use Rattle.spectra_lines.proofs.PutTrees.{trees_put, is_off, is_on}
+use Rattle.spectra_lines.specs.Views.{facts_data}
+use Rattle.spectra_lines.proofs.Rooms.{none_behind, large_behind, if_some, if_none}
 use Rattle.spectra_lines.proofs.putting.put_line.Goals as goal
 
-pub returns-then-not-size-clause-room : goal.returns-then-not-size-clause-room
-returns-then-not-size-clause-room c =
-    let f = facts_data c.args.facts.now in
-    let l = line_data c.args.line.now in
-    let stand = c.stand_in.ensures ∙ ap (λ a. stand_in a l.body) c.is_assumption-asm.ensures in
-    let trees = ap trees_data c.deref.ensures.value ∙ c.in_ok-trees.ensures in
-    let all : map (tree_put f c.stand_in.result) (trees_data c.deref.result.now) ≡ put_trees f l = (λ i. map (tree_put f (stand i)) (trees i)) ∙ sym (trees_put f (is_asm l) l.body) in
-    c.in_ok-size.ensures.left ∙ (λ i. room_behind (sym c.in-Some.is i) (nodes_of (all i)))
+-- ---- no room before
 
-pub returns-then-not-size-clause-made : goal.returns-then-not-size-clause-made
-returns-then-not-size-clause-made c =
+pub returns-in-None-clause-room : goal.returns-in-None-clause-room
+returns-in-None-clause-room c =
+    let f = facts_data c.args.facts.now in
+    let ts = put_trees f (line_data c.args.line.now) in
+    c.in-None.is ∙ sym (none_behind f.known 0 ts) ∙ ap (λ o. room_behind f.known 0 o ts) (sym c.in-None.is)
+
+pub returns-in-None-clause-made : goal.returns-in-None-clause-made
+returns-in-None-clause-made c =
     let f = facts_data c.args.facts.now in
     let l = line_data c.args.line.now in
-    let stand = c.stand_in.ensures ∙ ap (λ a. stand_in a l.body) c.is_assumption-asm.ensures in
-    let trees = ap trees_data c.deref.ensures.value ∙ c.in_ok-trees.ensures in
-    let all : map (tree_put f c.stand_in.result) (trees_data c.deref.result.now) ≡ put_trees f l = (λ i. map (tree_put f (stand i)) (trees i)) ∙ sym (trees_put f (is_asm l) l.body) in
-    let small : is_small c.args.room.now (put_trees f l) ≡ false = (λ i. is_small (c.in-Some.is i) (sym all i)) ∙ sym c.in_ok-size.ensures.small ∙ is_off c.in_ok-size.size.small c.if-not-size.true in
+    let ts = put_trees f l in
+    let small : is_small f.known 0 c.args.room.now ts ≡ false = ap (λ o. is_small f.known 0 o ts) c.in-None.is ∙ ap is_some (none_behind f.known 0 ts) in
     λ i. if sym small i then Some (line_put f l) else None
+
+-- ---- what is put in is too large
+
+pub returns-in-None-2-clause-room : goal.returns-in-None-2-clause-room
+returns-in-None-2-clause-room c =
+    let f = facts_data c.args.facts.now in
+    let l = line_data c.args.line.now in
+    let ts = put_trees f l in
+    let large = if_none (all_fit ts) (line_put f l).body (sym (ap (option_map body_data) c.in-None-2.is) ∙ c.in_ok-body.ensures) in
+    sym (large_behind f.known 0 c.args.room.now ts large)
+
+pub returns-in-None-2-clause-made : goal.returns-in-None-2-clause-made
+returns-in-None-2-clause-made c =
+    let f = facts_data c.args.facts.now in
+    let l = line_data c.args.line.now in
+    let ts = put_trees f l in
+    let large = if_none (all_fit ts) (line_put f l).body (sym (ap (option_map body_data) c.in-None-2.is) ∙ c.in_ok-body.ensures) in
+    let small : is_small f.known 0 c.args.room.now ts ≡ false = ap is_some (large_behind f.known 0 c.args.room.now ts large) in
+    λ i. if sym small i then Some (line_put f l) else None
+
+-- ---- its formulas are too large
+
+pub returns-then-is_none-clause-room : goal.returns-then-is_none-clause-room
+returns-then-is_none-clause-room c =
+    let f = facts_data c.args.facts.now in
+    let l = line_data c.args.line.now in
+    let made = if_some (all_fit (put_trees f l)) (body_data c.in-Some-2.body) (line_put f l).body (sym (ap (option_map body_data) c.in-Some-2.is) ∙ c.in_ok-body.ensures) in
+    let trees = ap trees_in made.1 in
+    c.in_ok-room.ensures (ap all_fit trees ∙ made.0) ∙ (λ i. room_behind f.known 0 (sym c.in-Some.is i) (trees i))
+
+pub returns-then-is_none-clause-made : goal.returns-then-is_none-clause-made
+returns-then-is_none-clause-made c =
+    let f = facts_data c.args.facts.now in
+    let l = line_data c.args.line.now in
+    let made = if_some (all_fit (put_trees f l)) (body_data c.in-Some-2.body) (line_put f l).body (sym (ap (option_map body_data) c.in-Some-2.is) ∙ c.in_ok-body.ensures) in
+    let trees = ap trees_in made.1 in
+    let left = c.in_ok-room.ensures (ap all_fit trees ∙ made.0) ∙ (λ i. room_behind f.known 0 (sym c.in-Some.is i) (trees i)) in
+    let small : is_small f.known 0 c.args.room.now (put_trees f l) ≡ false = sym (ap is_some left) ∙ c.is_none.ensures ∙ ap not c.if-is_none.true in
+    λ i. if sym small i then Some (line_put f l) else None
+
+-- ---- it is made
 
 pub returns-clause-room : goal.returns-clause-room
 returns-clause-room c =
     let f = facts_data c.args.facts.now in
     let l = line_data c.args.line.now in
-    let stand = c.stand_in.ensures ∙ ap (λ a. stand_in a l.body) c.is_assumption-asm.ensures in
-    let trees = ap trees_data c.deref.ensures.value ∙ c.in_ok-trees.ensures in
-    let all : map (tree_put f c.stand_in.result) (trees_data c.deref.result.now) ≡ put_trees f l = (λ i. map (tree_put f (stand i)) (trees i)) ∙ sym (trees_put f (is_asm l) l.body) in
-    c.in_ok-size.ensures.left ∙ (λ i. room_behind (sym c.in-Some.is i) (nodes_of (all i)))
+    let made = if_some (all_fit (put_trees f l)) (body_data c.in-Some-2.body) (line_put f l).body (sym (ap (option_map body_data) c.in-Some-2.is) ∙ c.in_ok-body.ensures) in
+    let trees = ap trees_in made.1 in
+    c.in_ok-room.ensures (ap all_fit trees ∙ made.0) ∙ (λ i. room_behind f.known 0 (sym c.in-Some.is i) (trees i))
 
 pub returns-clause-made : goal.returns-clause-made
 returns-clause-made c =
     let f = facts_data c.args.facts.now in
     let l = line_data c.args.line.now in
-    let stand = c.stand_in.ensures ∙ ap (λ a. stand_in a l.body) c.is_assumption-asm.ensures in
-    let trees = ap trees_data c.deref.ensures.value ∙ c.in_ok-trees.ensures in
-    let all : map (tree_put f c.stand_in.result) (trees_data c.deref.result.now) ≡ put_trees f l = (λ i. map (tree_put f (stand i)) (trees i)) ∙ sym (trees_put f (is_asm l) l.body) in
-    let small : is_small c.args.room.now (put_trees f l) ≡ true = (λ i. is_small (c.in-Some.is i) (sym all i)) ∙ sym c.in_ok-size.ensures.small ∙ is_on c.in_ok-size.size.small c.if-not-size.false in
-    let body = c.in_ok-body.ensures ∙ ap (λ a. body_put f a l.body) c.is_assumption-asm.ensures in
-    (λ i. Some (record l { body = body i })) ∙ (λ i. if sym small i then Some (line_put f l) else None)
+    let made = if_some (all_fit (put_trees f l)) (body_data c.in-Some-2.body) (line_put f l).body (sym (ap (option_map body_data) c.in-Some-2.is) ∙ c.in_ok-body.ensures) in
+    let trees = ap trees_in made.1 in
+    let left = c.in_ok-room.ensures (ap all_fit trees ∙ made.0) ∙ (λ i. room_behind f.known 0 (sym c.in-Some.is i) (trees i)) in
+    let small : is_small f.known 0 c.args.room.now (put_trees f l) ≡ true = sym (ap is_some left) ∙ c.is_none.ensures ∙ ap not c.if-is_none.false in
+    (λ i. Some (record l { body = made.1 i })) ∙ (λ i. if sym small i then Some (line_put f l) else None)

@@ -19,8 +19,8 @@ loop-part-preserved c =
     let before = c.loop-part.invariant in
     let now = c.in_ok-read_part.ensures in
     record {
-      sound = (first_sound p _ _ left before.sound).1;
+      sound = (first_sound f p _ _ left before.sound).1;
       found = found_more f room _ p _ _ (found_in c.loop-part.findings) _ _ left now.read.room now.found before.found;
       lines = through_more f (part_lines f) room _ p _ _ (map line_data c.loop-part.read.lines.items) _ _ left now.read.room now.read.lines before.lines;
-      patterns = through_more f part_patterns room _ p _ _ (map model_pattern c.loop-part.read.patterns.items) _ _ left now.read.room now.read.patterns before.patterns;
+      patterns = through_more f (part_patterns f) room _ p _ _ (map model_pattern c.loop-part.read.patterns.items) _ _ left now.read.room now.read.patterns before.patterns;
     }

@@ -13,7 +13,7 @@ use Rattle.spectra_lines.proofs.reading.read_parts.Given as goal
 abbrev pub invariant-loop-part : goal.invariant-loop-part
 invariant-loop-part l =
     record {
-      sound : ArePartsSound (map part_data (drop l.part-index l.parts));
+      sound : ArePartsSound (facts_data l.facts) (map part_data (drop l.part-index l.parts));
       found : with_faults (found_in l.findings) (parts_faults (facts_data l.facts) l.read.room (map part_data (drop l.part-index l.parts))) ≡ with_faults (found_in l.fn.findings) (parts_faults (facts_data l.facts) all_room (map part_data l.parts));
       lines : map line_data l.read.lines.items ++ parts_lines (facts_data l.facts) l.read.room (map part_data (drop l.part-index l.parts)) ≡ parts_lines (facts_data l.facts) all_room (map part_data l.parts);
       patterns : map model_pattern l.read.patterns.items ++ parts_patterns (facts_data l.facts) l.read.room (map part_data (drop l.part-index l.parts)) ≡ parts_patterns (facts_data l.facts) all_room (map part_data l.parts);

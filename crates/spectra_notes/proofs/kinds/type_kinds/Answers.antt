@@ -1,4 +1,4 @@
-use Rattle.std.proofs.Common.{List, length, map, sym, ap, subst, ◌∙◌}
+use Rattle.std.proofs.Common.{List, length, map, flat_map, replicate, sym, ap, subst, ◌∙◌}
 use Rattle.spectra_uses.specs.Cycles.{AreOnCycle}
 use Rattle.spectra_uses.specs.Orders.{IsOrderOf}
 use Rattle.spectra_resolved.specs.declared.text.Definition.{Definition}
@@ -23,8 +23,8 @@ pub returns : goal.returns
 returns c =
     let made = c.in_ok-constants.ensures ∙ ap (λ (xs : List Definition). constants (map definition_data xs)) c.deref.ensures.value in
     let variables = c.in_ok-variables.ensures
-    ∙ (λ i. map (λ (v : ResolvedVariable). type_kind (made i) (map alias_data (c.deref-2.ensures.value i)) v.domain) (map variable_data (c.deref-3.ensures.value i))) in
-    let system = c.in_ok-system.ensures ∙ ap (λ (xs : List Variable). map (λ (v : ResolvedVariable). is_of_system v.owner) (map variable_data xs)) c.deref-4.ensures.value in
+    ∙ (λ i. flat_map (λ (v : ResolvedVariable). replicate v.count (type_kind (made i) (map alias_data (c.deref-2.ensures.value i)) v.domain)) (map variable_data (c.deref-3.ensures.value i))) in
+    let system = c.in_ok-system.ensures ∙ ap (λ (xs : List Variable). flat_map (λ (v : ResolvedVariable). replicate v.count (is_of_system v.owner)) (map variable_data xs)) c.deref-4.ensures.value in
     let predicates = c.in_ok-predicates.ensures
     ∙ (λ i. map (λ (d : ResolvedDefinition). map (type_kind (made i) (map alias_data (c.deref-5.ensures.value i))) d.params) (map definition_data (c.deref-6.ensures.value i))) in
     λ i. record { constants = made i; variables = variables i; system = system i; predicates = predicates i }

@@ -1,24 +1,28 @@
-use Rattle.std.proofs.Common.{◌+◌, add-one, drop-cons, ◌≡◌, true, false, ◌++◌, List, [], ◌∷◌, map, drop, reverse, refl, sym, ap, ◌∙◌, append-nil, arith, rules}
+use Rattle.std.proofs.Common.{◌+◌, add-one, drop-cons, ◌≡◌, ◌++◌, List, [], ◌∷◌, map, drop, reverse, sym, ap, ◌∙◌, append-nil, arith}
 use Rattle.std.proofs.lemmas.List.{drop_all}
+use Rattle.std.proofs.lemmas.Result.{IfOk-weaker}
 use Rattle.spectra_trees.specs.declared.tree.ExprTree.{ExprTree, size-ExprTree}
 use Rattle.spectra_trees.specs.Data as written
 use Rattle.spectra_trees.specs.Data.{expressions}
 use Rattle.spectra_trees.specs.Views.{name_data, form_data, expr_data}
-use Rattle.spectra_trees.proofs.Folded.{call_folded, and_folded, or_folded, binary_folded, read_folded}
-use Rattle.spectra_resolved.specs.Spots.{spot_at, spot_of, in_text}
+use Rattle.spectra_trees.proofs.Folded.{call_folded, and_folded, or_folded}
+use Rattle.spectra_resolved.specs.Spots.{spot_at, spot_of, in_text, mentioned}
 use Rattle.spectra_resolved.specs.Findings.{with_faults}
 use Rattle.spectra_resolved.specs.Reports.{found_in}
 use Rattle.spectra_resolved.specs.Resolved.{tree, Form, listed}
 use Rattle.spectra_resolved.specs.Chained.{trees, chained}
 use Rattle.spectra_resolved.specs.Views.{resolved_data, link_data}
-use Rattle.spectra_resolved.specs.LookViews.{look_data}
-use Rattle.spectra_resolved.specs.Resolving.{call_form, resolved_form, resolved_each, misuses, misuses_of_each}
+use Rattle.spectra_resolved.specs.MentionViews.{mention_data}
+use Rattle.spectra_resolved.specs.LookViews.{around_data, look_data}
+use Rattle.spectra_resolved.specs.Resolving.{call_form, index_form, resolved, resolved_form, misuses, misuses_of_each}
 use Rattle.spectra_resolved.specs.Misused.{own_misuse}
 use Rattle.spectra_resolved.specs.ResolverViews.{resolved_by, resolved_each_by}
-use Rattle.spectra_resolved.proofs.First.{found_later, with_faults_append}
+use Rattle.spectra_resolved.proofs.First.{found_later}
 use Rattle.spectra_resolved.proofs.Steps.{chain_step, chain_found, first_smaller, each_step, each_found}
-use Rattle.spectra_resolved.proofs.Trees.{trees-listed, call-misuses, read-misuses}
+use Rattle.spectra_resolved.proofs.Trees.{trees-listed, call-misuses, index-misuses}
+use Rattle.spectra_resolved.proofs.Quantified.{look_within}
 use Rattle.spectra_resolved.proofs.resolving.+resolving.Goals as goal
+use Rattle.spectra_resolved.proofs.resolving.+resolving.Goals.{inside-in-Some, inside-in-None}
 
 pub node-returns-in_ok-arguments-in-Call-clause-tree : goal.node-returns-in_ok-arguments-in-Call-clause-tree
 node-returns-in_ok-arguments-in-Call-clause-tree t c =
@@ -54,42 +58,6 @@ trees-returns-clause-trees t c =
     let all = ap (λ es. map resolved_data c.loop-e.made.items ++ listed (resolved_each_by r (expressions (map expr_data es)))) (sym left) ∙ c.loop-e.invariant.same in
     ap trees (sym (append-nil (map resolved_data c.loop-e.made.items)) ∙ all) ∙ trees-listed (resolved_each_by r (expressions (map expr_data c.args.es.now)))
 
-pub node-returns-in_ok-operators-in-And-clause-tree : goal.node-returns-in_ok-operators-in-And-clause-tree
-node-returns-in_ok-operators-in-And-clause-tree t c =
-    let r = c.args.resolver.now in
-    let e = c.args.e.now in
-    c.conjunction.ensures
-    ∙ (λ i. tree (c.spot_at-first.ensures i) (in_text (c.spot_at-at.ensures i)) (Form.And (c.in_ok-parts-in-And.ensures.trees i) (c.in_ok-operators-in-And.ensures i)))
-    ∙ (λ i. resolved_form (look_data r.look) r.file (spot_at r.file e.first) (in_text (spot_at r.file e.at)) (written.Form.And (expressions (map expr_data (c.deref-in-And.ensures.value i))) (c.deref-in-And-2.ensures.value i)))
-    ∙ sym (ap (resolved_form (look_data r.look) r.file (spot_at r.file e.first) (in_text (spot_at r.file e.at))) (ap form_data c.in-And.is ∙ and_folded c.in-And.es c.in-And.ops))
-
-pub node-returns-in_ok-operators-in-And-clause-found : goal.node-returns-in_ok-operators-in-And-clause-found
-node-returns-in_ok-operators-in-And-clause-found t c =
-    let r = c.args.resolver.now in
-    let e = c.args.e.now in
-    let old = found_in c.args.findings.now in
-    c.in_ok-parts-in-And.ensures.found
-    ∙ ap (λ (es : List ExprTree). with_faults old (misuses_of_each (resolved_each_by r (expressions (map expr_data es))))) c.deref-in-And.ensures.value
-    ∙ sym (ap (λ f. with_faults old (misuses (resolved_form (look_data r.look) r.file (spot_at r.file e.first) (in_text (spot_at r.file e.at)) f))) (ap form_data c.in-And.is ∙ and_folded c.in-And.es c.in-And.ops))
-
-pub node-returns-in_ok-operators-in-Or-clause-tree : goal.node-returns-in_ok-operators-in-Or-clause-tree
-node-returns-in_ok-operators-in-Or-clause-tree t c =
-    let r = c.args.resolver.now in
-    let e = c.args.e.now in
-    c.disjunction.ensures
-    ∙ (λ i. tree (c.spot_at-first.ensures i) (in_text (c.spot_at-at.ensures i)) (Form.Or (c.in_ok-parts-in-Or.ensures.trees i) (c.in_ok-operators-in-Or.ensures i)))
-    ∙ (λ i. resolved_form (look_data r.look) r.file (spot_at r.file e.first) (in_text (spot_at r.file e.at)) (written.Form.Or (expressions (map expr_data (c.deref-in-Or.ensures.value i))) (c.deref-in-Or-2.ensures.value i)))
-    ∙ sym (ap (resolved_form (look_data r.look) r.file (spot_at r.file e.first) (in_text (spot_at r.file e.at))) (ap form_data c.in-Or.is ∙ or_folded c.in-Or.es c.in-Or.ops))
-
-pub node-returns-in_ok-operators-in-Or-clause-found : goal.node-returns-in_ok-operators-in-Or-clause-found
-node-returns-in_ok-operators-in-Or-clause-found t c =
-    let r = c.args.resolver.now in
-    let e = c.args.e.now in
-    let old = found_in c.args.findings.now in
-    c.in_ok-parts-in-Or.ensures.found
-    ∙ ap (λ (es : List ExprTree). with_faults old (misuses_of_each (resolved_each_by r (expressions (map expr_data es))))) c.deref-in-Or.ensures.value
-    ∙ sym (ap (λ f. with_faults old (misuses (resolved_form (look_data r.look) r.file (spot_at r.file e.first) (in_text (spot_at r.file e.at)) f))) (ap form_data c.in-Or.is ∙ or_folded c.in-Or.es c.in-Or.ops))
-
 pub tree-chain-preserved : goal.tree-chain-preserved
 tree-chain-preserved t c =
     let r = c.args.resolver.now in
@@ -123,3 +91,83 @@ trees-loop-e-preserved t c =
       found = ap (λ f. with_faults f (misuses_of_each (resolved_each_by r (expressions (map expr_data (drop (i + 1) es)))))) c.in_ok-tree.ensures.found
           ∙ each_found r es i e rest (found_in c.loop-e.findings) _ c.loop-e.invariant.found;
     }
+
+pub index-returns-clause-tree : goal.index-returns-clause-tree
+index-returns-clause-tree t c =
+    let r = c.args.resolver.now in
+    let name = name_data c.args.name.now in
+    IfOk-weaker c.indexed.result _ _ (λ made is. is ∙ (λ i. tree c.args.first (in_text (spot_of r.file name)) (index_form (look_data r.look name.text) (c.in_ok-made.ensures.tree i)))) c.indexed.ensures.tree
+
+-- what is found at the name comes behind what is found in the brackets
+pub index-returns-clause-found : goal.index-returns-clause-found
+index-returns-clause-found t c =
+    let r = c.args.resolver.now in
+    let name = name_data c.args.name.now in
+    let named = look_data r.look name.text in
+    let at = spot_of r.file name in
+    let inside = resolved_by r (expr_data c.args.e.now) in
+    let old = found_in c.args.findings.now in
+    let all = (λ i. with_faults (c.in_ok-made.ensures.found i) (own_misuse at (index_form named (c.in_ok-made.ensures.tree i))))
+    ∙ sym (found_later old (own_misuse at (index_form named inside)) (misuses inside))
+    ∙ ap (with_faults old) (sym (index-misuses at named inside)) in
+    IfOk-weaker c.indexed.result _ _ (λ made is. is ∙ all) c.indexed.ensures.found
+
+pub inside-returns-clause-tree : goal.inside-returns-clause-tree
+inside-returns-clause-tree t c =
+    let r = c.args.resolver.now in
+    let e = expr_data c.args.body.now in
+    let around : around_data c.match-resolver.around ≡ around_data r.look.around = elim c.match-resolver.branch [
+      | inside-in-Some w ↦ ap around_data w.around-is ∙ sym (ap around_data w.in-Some.is)
+      | inside-in-None w ↦ ap around_data w.around-is ∙ sym (ap around_data w.in-None.is)
+    ] in
+    let more = ap (map mention_data) c.as_slice.ensures.value ∙ c.in_ok-variables.ensures in
+    let seen = look_within r.look c.match-resolver.around c.as_slice.result (mentioned r.file (name_data c.args.name.now)) around more in
+    IfOk-weaker c.tree.result _ _ (λ made is. is ∙ ap (λ look. resolved look r.file e) seen) c.tree.ensures.tree
+
+pub inside-returns-clause-found : goal.inside-returns-clause-found
+inside-returns-clause-found t c =
+    let r = c.args.resolver.now in
+    let e = expr_data c.args.body.now in
+    let around : around_data c.match-resolver.around ≡ around_data r.look.around = elim c.match-resolver.branch [
+      | inside-in-Some w ↦ ap around_data w.around-is ∙ sym (ap around_data w.in-Some.is)
+      | inside-in-None w ↦ ap around_data w.around-is ∙ sym (ap around_data w.in-None.is)
+    ] in
+    let more = ap (map mention_data) c.as_slice.ensures.value ∙ c.in_ok-variables.ensures in
+    let seen = look_within r.look c.match-resolver.around c.as_slice.result (mentioned r.file (name_data c.args.name.now)) around more in
+    IfOk-weaker c.tree.result _ _ (λ made is. is ∙ ap (λ look. with_faults (found_in c.args.findings.now) (misuses (resolved look r.file e))) seen) c.tree.ensures.found
+
+pub node-returns-in-And-clause-tree : goal.node-returns-in-And-clause-tree
+node-returns-in-And-clause-tree t c =
+    let r = c.args.resolver.now in
+    let e = c.args.e.now in
+    let all = (λ i. tree (c.spot_at-first.ensures i) (in_text (c.spot_at-at.ensures i))
+    (Form.And (resolved_each_by r (expressions (map expr_data (c.deref-in-And.ensures.value i)))) (map (spot_at r.file) (c.deref-in-And-2.ensures.value i))))
+    ∙ sym (ap (resolved_form (look_data r.look) r.file (spot_at r.file e.first) (in_text (spot_at r.file e.at))) (ap form_data c.in-And.is ∙ and_folded c.in-And.es c.in-And.ops)) in
+    IfOk-weaker c.all_of.result _ _ (λ made is. is ∙ all) c.all_of.ensures.tree
+
+pub node-returns-in-And-clause-found : goal.node-returns-in-And-clause-found
+node-returns-in-And-clause-found t c =
+    let r = c.args.resolver.now in
+    let e = c.args.e.now in
+    let old = found_in c.args.findings.now in
+    let all = ap (λ (es : List ExprTree). with_faults old (misuses_of_each (resolved_each_by r (expressions (map expr_data es))))) c.deref-in-And.ensures.value
+    ∙ sym (ap (λ f. with_faults old (misuses (resolved_form (look_data r.look) r.file (spot_at r.file e.first) (in_text (spot_at r.file e.at)) f))) (ap form_data c.in-And.is ∙ and_folded c.in-And.es c.in-And.ops)) in
+    IfOk-weaker c.all_of.result _ _ (λ made is. is ∙ all) c.all_of.ensures.found
+
+pub node-returns-in-Or-clause-tree : goal.node-returns-in-Or-clause-tree
+node-returns-in-Or-clause-tree t c =
+    let r = c.args.resolver.now in
+    let e = c.args.e.now in
+    let all = (λ i. tree (c.spot_at-first.ensures i) (in_text (c.spot_at-at.ensures i))
+    (Form.Or (resolved_each_by r (expressions (map expr_data (c.deref-in-Or.ensures.value i)))) (map (spot_at r.file) (c.deref-in-Or-2.ensures.value i))))
+    ∙ sym (ap (resolved_form (look_data r.look) r.file (spot_at r.file e.first) (in_text (spot_at r.file e.at))) (ap form_data c.in-Or.is ∙ or_folded c.in-Or.es c.in-Or.ops)) in
+    IfOk-weaker c.any_of.result _ _ (λ made is. is ∙ all) c.any_of.ensures.tree
+
+pub node-returns-in-Or-clause-found : goal.node-returns-in-Or-clause-found
+node-returns-in-Or-clause-found t c =
+    let r = c.args.resolver.now in
+    let e = c.args.e.now in
+    let old = found_in c.args.findings.now in
+    let all = ap (λ (es : List ExprTree). with_faults old (misuses_of_each (resolved_each_by r (expressions (map expr_data es))))) c.deref-in-Or.ensures.value
+    ∙ sym (ap (λ f. with_faults old (misuses (resolved_form (look_data r.look) r.file (spot_at r.file e.first) (in_text (spot_at r.file e.at)) f))) (ap form_data c.in-Or.is ∙ or_folded c.in-Or.es c.in-Or.ops)) in
+    IfOk-weaker c.any_of.result _ _ (λ made is. is ∙ all) c.any_of.ensures.found

@@ -1,4 +1,4 @@
-use Rattle.std.proofs.Common.{◌≡◌, ◌≤◌, ◌*◌, ◌+◌, ◌++◌, map, drop, reverse}
+use Rattle.std.proofs.Common.{◌≡◌, ◌≤◌, ◌*◌, ◌+◌, ◌++◌, max, map, drop, reverse}
 use denote.Param.Weighed.{most}
 use Rattle.spectra_trees.specs.declared.tree.ExprTree.{size-ExprTree}
 use Rattle.spectra_trees.specs.Data.{expressions}
@@ -23,6 +23,21 @@ decreases-node l = 2 * size-ExprTree l.e.now
 
 abbrev pub decreases-trees : goal.decreases-trees
 decreases-trees l = 2 * most (λ e. size-ExprTree e) l.es.now + 1 + 1
+
+abbrev pub decreases-all_of : goal.decreases-all_of
+decreases-all_of l = 2 * most (λ e. size-ExprTree e) l.es.now + 1 + 1 + 1
+
+abbrev pub decreases-any_of : goal.decreases-any_of
+decreases-any_of l = 2 * most (λ e. size-ExprTree e) l.es.now + 1 + 1 + 1
+
+abbrev pub decreases-index : goal.decreases-index
+decreases-index l = 2 * size-ExprTree l.e.now + 1 + 1
+
+abbrev pub decreases-quantified : goal.decreases-quantified
+decreases-quantified l = 2 * max (size-ExprTree l.low.now) (max (size-ExprTree l.high.now) (size-ExprTree l.body.now)) + 1 + 1 + 1
+
+abbrev pub decreases-inside : goal.decreases-inside
+decreases-inside l = 2 * size-ExprTree l.body.now + 1 + 1
 
 -- with the operators so far behind it, what is left is all; what was found in their operands comes behind what is found in it
 abbrev pub invariant-tree-chain : goal.invariant-tree-chain

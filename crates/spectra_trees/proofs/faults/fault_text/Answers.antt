@@ -88,6 +88,14 @@ pub returns-in-21 : goal.returns-in-21
 unfolding fault_text digits
 returns-in-21 c = sym (ap fault_text c.in-21.is)
 
+pub returns-in-25 : goal.returns-in-25
+unfolding fault_text digits
+returns-in-25 c = sym (ap fault_text c.in-25.is)
+
+pub returns-in-26 : goal.returns-in-26
+unfolding fault_text digits
+returns-in-26 c = sym (ap fault_text c.in-26.is)
+
 pub returns-in_default : goal.returns-in_default
 unfolding fault_text digits
 returns-in_default c = search rules

@@ -1,6 +1,6 @@
 use Rattle.std.proofs.Common.{◌≡◌, map, drop}
 use Rattle.std.specs.List.{list_all}
-use Rattle.spectra_judge.specs.Erased.{has_room}
+use Rattle.spectra_judge.specs.PutIn.{has_room}
 use Rattle.spectra_judge.specs.KindViews.{kind_data}
 use Rattle.spectra_types.proofs.patterns.all_have_room.Given as goal
 

@@ -21,6 +21,9 @@ decreases-add_links l = 8 * most (λ k. size-Link k) l.links.now + 2
 abbrev pub decreases-add_shape : goal.decreases-add_shape
 decreases-add_shape l = 8 * size-Shape l.shape.now + 3
 
+abbrev pub decreases-add_quantified : goal.decreases-add_quantified
+decreases-add_quantified l = 8 * max (max (size-Resolved l.low.now) (size-Resolved l.high.now)) (most (λ t. size-Resolved t) l.copies.now) + 2
+
 abbrev pub decreases-add_call : goal.decreases-add_call
 decreases-add_call l = 8 * most (λ t. size-Resolved t) l.ts.now + 2
 

@@ -16,7 +16,7 @@ returns-clause-begins g c =
     let k = g.G.Regions.kept c.args.self.now.g in
     let at = subst (λ (d : GameData). IsAt d c.start_anew.new.self None first_memory) c.game.ensures c.start_anew.ensures in
     record {
-      stands = λ z l h b m st. record { sound = st.sound; play = ChosenPlay.nothing; whole = tt; place = at; owned = st.owned; few = st.few; judge = st.judge };
+      stands = λ z l h b m st. record { sound = st.sound; play = ChosenPlay.nothing; whole = tt; place = at; owned = st.owned; few = st.few; judge = st.judge; replies = st.replies; room = st.room };
       fresh = λ z l h b m st. none_yet k.game l h b m st.play (sym st.place.position.started ∙ at.position.started);
       not_started = at.position.started;
     }

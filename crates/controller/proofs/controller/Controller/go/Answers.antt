@@ -35,6 +35,8 @@ returns-clause-stands g c = λ z l h b m st to s next ends.
       owned = st.owned;
       few = st.few;
       judge = st.judge;
+      replies = st.replies;
+      room = st.room;
     }
 
 pub returns-clause-keeps : goal.returns-clause-keeps

@@ -5,6 +5,7 @@ use Rattle.regions.specs.declared.types.When.TheVariants.{First, Later}
 use Rattle.gr1_law.specs.Choice.{first_memory, ChosenPlay}
 use Rattle.gr1_sys.specs.Held.{HasEach, all_regions}
 use Rattle.strategy_parts.specs.Owned.{MakesAll}
+use Rattle.controller.specs.Replies.{HasRoomFor}
 use Rattle.controller.specs.Owned.{made_items}
 use Rattle.controller.specs.Made.{AreTargets, targets_of, AreLike, AreAllLike, regions_for, first_layers, made_meanings}
 use Rattle.controller.specs.Places.{IsAt}
@@ -52,6 +53,8 @@ returns-in-Ok-equip-clause-begins g c = λ l own.
         owned = owned k new same (g.met.G.Regions.exact _) all.z layers l own first goals holds made like_first like many;
         few = all.counted;
         judge = subst (λ (h : GameData). IsJudgeOf h c.in-Ok.judge) (c.game.ensures ∙ sym same.game) c.in-Ok.ensures.1;
+        replies = λ before after state input output has. absurd (c.in-Ok.ensures.2.none before after state input output has);
+        room = subst (λ (h : GameData). HasRoomFor h c.in-Ok.replies) (c.game.ensures ∙ sym same.game) c.in-Ok.ensures.2.room;
       };
       fresh = λ t sets h b m stands. none_yet new.game sets h b m stands.play (sym stands.place.position.started ∙ at.position.started);
       not_started = at.position.started;

@@ -3,6 +3,7 @@ use Rattle.spec_model.specs.Steps.{reached}
 use Rattle.spec_model.specs.Games.{GameData}
 use Rattle.game_play.specs.Judged.{IsJudgeOf}
 use Rattle.gr1_sys.specs.Held.{ranks_of}
+use Rattle.controller.specs.Replies.{AreRepliesOf, HasRoomFor}
 use Rattle.controller.specs.Objects.{AreSound, items_of}
 use Rattle.controller.specs.Settled.{Settles}
 use Rattle.controller.specs.Places.{IsAt}
@@ -98,4 +99,4 @@ returns-clause-chosen g c = λ z l h b m st.
     let gone =
     has_gone k k2 stays (same_then k k1 k2 c.least_rank-rank.ensures.keeps c.new_index-index.ensures.keeps)
     layers first goals holds z l st.sound h b m st.play x t.output t.next t.turn out f.output c.remember.new.self place in
-    (t.next, record { chosen = gone.chosen; stands = record { sound = gone.sound; play = gone.play; whole = gone.whole; place = gone.place; owned = owned; few = st.few; judge = subst (λ (h : GameData). IsJudgeOf h c.args.self.now.judge) (sym (same_then k k1 k2 c.least_rank-rank.ensures.keeps c.new_index-index.ensures.keeps).game) st.judge } })
+    (t.next, record { chosen = gone.chosen; stands = record { sound = gone.sound; play = gone.play; whole = gone.whole; place = gone.place; owned = owned; few = st.few; judge = subst (λ (h : GameData). IsJudgeOf h c.args.self.now.judge) (sym (same_then k k1 k2 c.least_rank-rank.ensures.keeps c.new_index-index.ensures.keeps).game) st.judge; replies = subst (λ (h : GameData). AreRepliesOf h l c.args.self.now.replies) (sym (same_then k k1 k2 c.least_rank-rank.ensures.keeps c.new_index-index.ensures.keeps).game) st.replies; room = subst (λ (h : GameData). HasRoomFor h c.args.self.now.replies) (sym (same_then k k1 k2 c.least_rank-rank.ensures.keeps c.new_index-index.ensures.keeps).game) st.room } })

@@ -1,7 +1,7 @@
 use Rattle.std.proofs.Common.{◌∙◌, rules}
 use Rattle.std.proofs.lemmas.Map.Text.{hash_map_updates_str}
 use Rattle.spectra_resolved.specs.Tables.{in_table}
-use Rattle.spectra_resolved.proofs.Naming.{put_first}
+use Rattle.spectra_resolved.proofs.Entered.{put_first}
 use Rattle.spectra_resolved.proofs.table.Table.put.Goals as goal
 
 pub returns-in_ok-insert : goal.returns-in_ok-insert

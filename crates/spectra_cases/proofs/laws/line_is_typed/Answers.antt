@@ -1,0 +1,5 @@
+use Rattle.spectra_cases.proofs.Lines as lemmas
+use Rattle.spectra_cases.proofs.laws.line_is_typed.Goals as goal
+
+pub returns : goal.returns
+returns c = lemmas.line_is_typed

@@ -1,0 +1,14 @@
+pub mod Places
+pub mod Nodes
+pub mod Levels
+pub mod Links
+pub mod Operands
+pub mod Making
+pub mod Numbers
+pub mod ChainNumbers
+pub mod Ranges
+pub mod PartViews
+pub mod Copies
+pub mod QuantifiedLinks
+pub mod Texts
+pub mod TextSteps

@@ -1,6 +1,0 @@
-use Rattle.std.proofs.Common.{◌≡◌, map, take}
-use Rattle.spectra_elaboration.specs.Putting.{placed}
-use Rattle.spectra_elaboration.proofs.parts.placed_each.Given as goal
-
-abbrev pub invariant-loop-at : goal.invariant-loop-at
-invariant-loop-at l = l.made.items ≡ map (placed l.brought) (take l.at-index l.places)

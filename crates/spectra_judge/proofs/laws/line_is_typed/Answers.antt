@@ -1,5 +1,0 @@
-use Rattle.spectra_judge.proofs.Lines as lemmas
-use Rattle.spectra_judge.proofs.laws.line_is_typed.Goals as goal
-
-pub returns : goal.returns
-returns c = lemmas.line_is_typed

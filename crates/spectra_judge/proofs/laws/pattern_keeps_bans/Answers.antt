@@ -1,5 +1,0 @@
-use Rattle.spectra_judge.proofs.Bans as lemmas
-use Rattle.spectra_judge.proofs.laws.pattern_keeps_bans.Goals as goal
-
-pub returns : goal.returns
-returns c = lemmas.pattern_keeps_bans

@@ -1,5 +1,0 @@
-use Rattle.spectra_senses.proofs.Spans as lemmas
-use Rattle.spectra_senses.proofs.laws.spans_are_exact.Goals as goal
-
-pub returns : goal.returns
-returns c = lemmas.spans_are_exact

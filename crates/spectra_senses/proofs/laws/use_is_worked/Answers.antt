@@ -1,5 +1,0 @@
-use Rattle.spectra_senses.proofs.Worked as lemmas
-use Rattle.spectra_senses.proofs.laws.use_is_worked.Goals as goal
-
-pub returns : goal.returns
-returns c = lemmas.use_is_worked
