@@ -1,5 +1,5 @@
 -- What a call over levels gives is what it gives over bits.
-use Rattle.std.proofs.Common.{◌≡◌, ℕ, Bool, true, false, List, Result, IfOk, Ok, Err, inl, refl, ◌∙◌, ap, subst}
+use Rattle.std.proofs.Common.{◌≡◌, ℕ, Bool, true, false, List, Result, IfOk, Ok, Err, refl, ◌∙◌, ap, subst}
 use Rattle.std.proofs.lemmas.Bool.{false≢true}
 use Rattle.spec_model.specs.Diagrams.{Diagram, Function, value}
 use Rattle.node_table.specs.Table.{Table, diagram_at}
@@ -24,9 +24,7 @@ gives_bits old new r g f M order over gives = record {
   added = gives.added;
   refused = gives.refused;
   keeps = record { levels = gives.keeps.levels; budget = gives.keeps.budget; order = order; meaning = gives.keeps.meaning };
-  made = gives.made;
   full = gives.full;
-  rooted = gives.rooted;
 }
 
 -- under one order a diagram has one function
@@ -56,9 +54,7 @@ nothing_given c f M = record {
   added = tt;
   refused = λ n. refl;
   keeps = record { levels = refl; budget = refl; order = refl; meaning = λ n root. refl };
-  made = λ n live. inl (live, refl);
   full = λ e. absurd (false≢true (ap is_full e));
-  rooted = λ e. absurd (false≢true (ap is_full e));
 }
   where
     is_full : Result ℕ StoreFault → Bool

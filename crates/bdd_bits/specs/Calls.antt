@@ -3,8 +3,8 @@ use Rattle.std.specs.Prelude.{◌≡◌, ◌<◌, ◌≤◌, ℕ, List, length, 
 use Rattle.spec_model.specs.Diagrams.{Diagram, Function}
 use Rattle.bdd_store.specs.declared.fault.StoreFault.{StoreFault}
 use Rattle.bdd_store.specs.declared.fault.StoreFault.TheVariants.{Full}
-use Rattle.bdd_store.specs.State.{IsRoot, diagram_of, MakesOnly, AddsRoot, SameRoots, IsFull}
-use Rattle.bdd_ops.specs.Calls.{HasRoots}
+use Rattle.bdd_store.specs.State.{IsRoot, diagram_of, AddsRoot, SameRoots}
+use Rattle.bdd_ops.specs.Calls.{IsCrowded}
 use Rattle.bdd_ops.specs.Reading.{DependsOn}
 use Rattle.bdd_bits.specs.Orders.{BitOrder, level_of}
 use Rattle.bdd_bits.specs.Contents.{Contents, function_at}
@@ -21,17 +21,14 @@ pub record SameNodes (old new : Contents) : Type 0 where
   pub table : new.state.table ≡ old.state.table
   pub order : new.order ≡ old.order
 
--- The result is a root of this function, or a refusal that leaves what is kept. Either way each new node is one that the
--- operation may make, told by levels, and `Full` comes only where the store then holds exactly its budget, the nodes of
--- all kept roots among them.
+-- The result is a root of this function, or a refusal that leaves what is kept. `Full` comes only where the store then holds
+-- exactly its budget, each node a constant or a part of a kept root or of one that the operation may make, told by levels.
 pub record GivesRoot (old new : Contents) (result : Result ℕ StoreFault) (f : Function) (MayMake : Diagram → Type 0) : Type 0 where
   pub meaning : IfOk result (λ r. function_at new r ≡ f)
   pub added : IfOk result (λ r. AddsRoot old.state new.state r)
   pub refused : OnErr result (SameRoots old.state new.state)
   pub keeps : KeepsRoots old new
-  pub made : MakesOnly old.state new.state MayMake
-  pub full : result ≡ Err Full → IsFull new.state
-  pub rooted : result ≡ Err Full → HasRoots new.state
+  pub full : result ≡ Err Full → IsCrowded new.state MayMake
 
 -- the list, which is no longer than there are bits, gives each one that the function reads one of them, and keeps the order
 -- of their levels

@@ -1,6 +1,6 @@
 //! The calls that give roots.
 
-ghost use Rattle.std.specs.Prelude.{◌≡◌, ◌<◌, true, false, IfOk, OnOk};
+ghost use Rattle.std.specs.Prelude.{◌≡◌, ◌<◌, ◌++◌, ◌∷◌, [], true, false, IfOk, OnOk};
 ghost use Rattle.spec_model.specs.Diagrams.{ite, value, exists_over, and_exists_over, shifted};
 ghost use Rattle.spec_model.specs.DiagramReads.{forall_over};
 ghost use Rattle.bdd_store.specs.State.{IsRoot, diagram_of};
@@ -16,13 +16,25 @@ use crate::diagrams::Diagrams;
 use crate::order::{Order, at};
 use bdd_ops::{Root, StoreFault};
 
+/// Adds a level, without a look for memory where there is room.
+fn put(levels: &mut Vec<u32>, level: u32) -> Result<(), OutOfMemory>
+    ensures { OnOk result (levels.new.items ≡ levels.old.items ++ level ∷ []) }
+{
+    if levels.len() < levels.capacity() {
+        levels.push_reserved(level);
+    } else {
+        levels.push(level)?;
+    }
+    Ok(())
+}
+
 /// Writes the levels of several bits.
 fn write_levels(order: &Order, bits: &[u32], levels: &mut Vec<u32>) -> Result<(), OutOfMemory>
     ensures { OnOk result (levels.new.items ≡ levels_of order.now bits.now) }
 {
     levels.clear();
     for &bit in bits {
-        levels.push(order.level(bit))?;
+        put(levels, order.level(bit))?;
     }
     Ok(())
 }
@@ -34,7 +46,7 @@ fn write_moved(order: &Order, to: &[u32], levels: &mut Vec<u32>) -> Result<(), O
     levels.clear();
     for level in 0..order.len() {
         let moved = at(to, order.bit(level));
-        levels.push(order.level(moved))?;
+        put(levels, order.level(moved))?;
     }
     Ok(())
 }

@@ -1,9 +1,11 @@
 //! Diagrams over bits: made, given back, compared.
 
-ghost use Rattle.std.specs.Prelude.{◌≡◌, ◌<◌, ◌≤◌, ◌↔◌, ◌⊎◌, ℕ, length, IfOk, IsTrue};
+ghost use Rattle.std.specs.Prelude.{◌≡◌, ◌<◌, ◌≤◌, ◌↔◌, ◌⊎◌, ℕ, Bool, length, IfOk, IsTrue, MatchOption};
 ghost use Rattle.spec_model.specs.DiagramReads.{bits_of};
+ghost use Rattle.spec_model.specs.Diagrams.{constant};
 ghost use Rattle.node_table.specs.Table.{count_of};
 ghost use Rattle.bdd_store.specs.State.{IsEdge, IsRoot, diagram_of, SameRoots, AddsRoot, IsNewStore, IsReached};
+ghost use Rattle.bdd_ops.specs.Steps.{level_at};
 ghost use Rattle.bdd_bits.specs.Orders.{IsOrder};
 ghost use Rattle.bdd_bits.specs.Contents.{Contents, over_levels, function_at, IsDeclared};
 ghost use Rattle.bdd_bits.specs.Calls.{KeepsRoots, SameNodes};
@@ -89,6 +91,14 @@ impl Diagrams {
         ensures { IsTrue result ↔ (function_at self.now a.now ≡ function_at self.now b.now) }
     {
         self.over_levels.equal(a, b)
+    }
+
+    /// The level at which the first bit stands that a diagram reads, and none for a constant. It takes no memory.
+    pub fn first_level(&self, a: &Root) -> Option<u32>
+        requires { IsRoot self.now.state a.now }
+        ensures { MatchOption result ((b : Bool) × (diagram_of self.now.state a.now ≡ constant b)) (λ level. level ≡ level_at (over_levels self.now) a.now) }
+    {
+        self.over_levels.first_level(a)
     }
 
     /// The same diagrams, over the levels at which the bits stand.

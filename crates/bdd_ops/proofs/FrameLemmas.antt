@@ -2,17 +2,10 @@
 use Rattle.std.proofs.Common.{◌≡◌, ℕ, zero, suc, ◌<◌, ◌≤◌, ◌+◌, ◌-◌, sym, ◌∙◌, ap, subst, refl, arith, min, List, [], ◌∷◌, ◌++◌, length, length-append, take, set, slice_get, Some}
 use Rattle.std.proofs.Math.Seq.{take-append_seam}
 use Rattle.std.proofs.lemmas.List.{set-append_right}
-use Rattle.spec_model.specs.Diagrams.{Diagram, Function}
-use Rattle.spec_model.specs.DiagramReads.{Reads}
-use Rattle.bdd_store.specs.State.{IsEdge, KeepsEdges}
 use Rattle.bdd_ops.specs.declared.frames.Frame.{Frame}
 use Rattle.bdd_ops.specs.declared.frames.Waits.{Waits}
 use Rattle.bdd_ops.specs.declared.frames.Waits.TheVariants.{Low, High}
-use Rattle.bdd_ops.specs.Reading.{IgnoresTo}
-use Rattle.bdd_ops.specs.Contents.{Contents}
-use Rattle.bdd_ops.specs.Steps.{IsSplitAt}
 use Rattle.bdd_ops.specs.Frames.{Leads, IsTop, turns, turns_waiting, turns_of_frames}
-use Rattle.bdd_ops.proofs.ChoiceLemmas.{carried, level_stays}
 
 -- one frame more leads to a part of what was asked
 pub leads_more : {Q : Type 0} (Awaits : Frame Q → Q → Type 0) (whole : Q) (frames : List (Frame Q)) (frame : Frame Q) (part : Q) → Leads Awaits whole frames frame.asked → Awaits frame part → Leads Awaits whole (frames ++ frame ∷ []) part
@@ -26,12 +19,6 @@ leads_less Awaits whole [] frame part leads = (leads.1, subst (Awaits frame) (sy
 leads_less Awaits whole (first ∷ frames) frame part leads =
     let rest = leads_less Awaits leads.0 frames frame part leads.3 in
     ((leads.0, leads.1, leads.2, rest.0), rest.1)
-
--- they lead on where what each awaits stays
-pub leads_stays : {Q : Type 0} (Before After : Frame Q → Q → Type 0) (whole : Q) (frames : List (Frame Q)) (part : Q) → ((frame : Frame Q) (next : Q) → Before frame next → After frame next) → Leads Before whole frames part → Leads After whole frames part
-leads_stays Before After whole [] part stays leads = leads
-leads_stays Before After whole (first ∷ frames) part stays leads =
-    (leads.0, leads.1, stays first leads.0 leads.2, leads_stays Before After leads.0 frames part stays leads.3)
 
 -- where no frame waits, the question is the whole one
 pub leads_none : {Q : Type 0} (Awaits : Frame Q → Q → Type 0) (whole : Q) (frames : List (Frame Q)) (part : Q) → length frames ≡ 0 → Leads Awaits whole frames part → part ≡ whole
@@ -103,23 +90,7 @@ turns_pushed levels (first ∷ frames) frame =
     let rest : turns_of_frames levels (frames ++ frame ∷ []) ≡ turns_of_frames levels frames + turns_waiting (levels - (frame.level + 1)) frame.waits = turns_pushed levels frames frame in
     omega arith
 
--- ---- parts
-
--- the parts of a live node stay its parts
-pub split_stays : (old new : Contents) (level n low high : ℕ) → KeepsEdges old.state new.state → IsEdge old.state n → IsSplitAt old level n low high → IsSplitAt new level n low high
-split_stays old new level n low high keeps live is = record {
-  low_live = keeps.live low is.low_live;
-  high_live = keeps.live high is.high_live;
-  low_after = subst (λ (k : ℕ). level < k) (sym (level_stays old new low keeps is.low_live)) is.low_after;
-  high_after = subst (λ (k : ℕ). level < k) (sym (level_stays old new high keeps is.high_live)) is.high_after;
-  low_ignores = subst (λ (f : Function). IgnoresTo level f) (sym (carried old new low keeps is.low_live)) is.low_ignores;
-  high_ignores = subst (λ (f : Function). IgnoresTo level f) (sym (carried old new high keeps is.high_live)) is.high_ignores;
-  low_reads = λ x reads. is.low_reads x (subst (λ (d : Diagram). Reads x d) (keeps.meaning low is.low_live) reads);
-  high_reads = λ x reads. is.high_reads x (subst (λ (d : Diagram). Reads x d) (keeps.meaning high is.high_live) reads);
-  low_part = rw (keeps.meaning low is.low_live, keeps.meaning n live) is.low_part;
-  high_part = rw (keeps.meaning high is.high_live, keeps.meaning n live) is.high_part;
-  function = rw (carried old new n keeps live, carried old new low keeps is.low_live, carried old new high keeps is.high_live) is.function;
-}
+-- ---- levels
 
 pub least_after : (level x y z : ℕ) → level < x → level < y → level < z → level < min (min x y) z
 least_after level x y z before_x before_y before_z = omega arith

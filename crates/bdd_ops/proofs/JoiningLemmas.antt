@@ -1,21 +1,19 @@
 -- The steps of `and` and `or`.
-use Rattle.std.proofs.Common.{◌≡◌, ℕ, sym, ◌∙◌, ap, subst, refl, true≢false, Bool, true, false, not, if◌then◌else◌, Option, Some, None, IfSome}
+use Rattle.std.proofs.Common.{◌≡◌, ℕ, List, sym, ◌∙◌, ap, subst, refl, true≢false, Bool, true, false, not, if◌then◌else◌, Option, Some, None, IfSome}
 use Rattle.spec_model.specs.Diagrams.{Diagram, constant, Function, value, ite, IsPartOf}
 use Rattle.bdd_store.specs.declared.edge.Edge.{Edge}
-use Rattle.bdd_store.specs.State.{IsEdge, diagram_of, KeepsEdges}
+use Rattle.bdd_store.specs.State.{IsEdge, diagram_of}
 use Rattle.bdd_ops.specs.Functions.{split, joined, join_of}
 use Rattle.bdd_ops.specs.Reading.{IgnoresTo}
 use Rattle.bdd_ops.specs.Contents.{Contents, function_at}
 use Rattle.bdd_ops.specs.declared.frames.Pair.{Pair}
-use Rattle.bdd_ops.specs.Steps.{Grows, HasFunction, IsChoice, IsSplit, IsSplitAt, IsJoinOfParts, SameNodes}
-use Rattle.bdd_ops.specs.Questions.{AreHalves, AreBothLive, MayJoin, joined_of, joining}
-use Rattle.bdd_ops.proofs.DiagramLemmas.{part_of_itself, part_of_part}
-use Rattle.bdd_ops.proofs.StepLemmas.{grows_on, grows_more}
-use Rattle.bdd_ops.proofs.ChoiceLemmas.{carried, same_keeps}
+use Rattle.bdd_ops.specs.Steps.{Works, HasFunction, IsChoice, IsSplit, IsSplitAt, IsJoinOfParts, SameNodes}
+use Rattle.bdd_ops.specs.Questions.{AreHalves, AreBothHeld, MayJoin, joined_of, joining}
+use Rattle.bdd_ops.proofs.DiagramLemmas.{part_of_part}
+use Rattle.bdd_ops.proofs.StayLemmas.{Stays, carried, function_stays, held_there, same_there, answer_there}
 use Rattle.bdd_ops.proofs.JoinLemmas.{ite-and, ite-or}
-use Rattle.bdd_ops.proofs.OverLemmas.{function_stays}
-use Rattle.bdd_ops.proofs.QuestionLemmas.{HasParts, IsOfParts, Carries}
-use Rattle.bdd_ops.proofs.RelatedLemmas.{AreWithin, relating_has_parts, relating_parts, relating_carries}
+use Rattle.bdd_ops.proofs.QuestionLemmas.{HasParts, IsOfParts, IsClosed, Carries}
+use Rattle.bdd_ops.proofs.RelatedLemmas.{AreWithin, relating_has_parts, relating_parts, relating_closed, relating_carries}
 
 -- ---- joined at once
 
@@ -88,41 +86,47 @@ pub or_chosen : (all : Bool) (c : Contents) (a b decides n : ℕ) → all ≡ fa
 or_chosen false c a b decides n is_all is has = record { live = has.live; function = has.function ∙ sym (chosen_is false c a b decides is) }
 or_chosen true c a b decides n is_all is has = absurd (true≢false is_all)
 
--- ---- what is kept while nodes come
+-- ---- what stays
 
-joined_same : (all : Bool) (old new : Contents) (a b : ℕ) → KeepsEdges old.state new.state → IsEdge old.state a → IsEdge old.state b → joined_of all new a b ≡ joined_of all old a b
-joined_same all old new a b keeps a_live b_live =
-    ap (λ (f : Function). joined (join_of all) f (function_at new b)) (carried old new a keeps a_live) ∙ ap (λ (f : Function). joined (join_of all) (function_at old a) f) (carried old new b keeps b_live)
+joined_same : (all : Bool) (old new : Contents) (a b : ℕ) → Stays old new a → Stays old new b → joined_of all new a b ≡ joined_of all old a b
+joined_same all old new a b of_a of_b =
+    ap (λ (f : Function). joined (join_of all) f (function_at new b)) (carried old new a of_a) ∙ ap (λ (f : Function). joined (join_of all) (function_at old a) f) (carried old new b of_b)
 
-pub joined_before : (all : Bool) (old mid new : Contents) (a b n : ℕ) → KeepsEdges old.state mid.state → IsEdge old.state a → IsEdge old.state b → HasFunction new (joined_of all mid a b) n → HasFunction new (joined_of all old a b) n
-joined_before all old mid new a b n keeps a_live b_live has = subst (λ (f : Function). HasFunction new f n) (joined_same all old mid a b keeps a_live b_live) has
+joined_now : (all : Bool) (old new : Contents) (a b n : ℕ) → Stays old new a → Stays old new b → HasFunction new (joined_of all old a b) n → HasFunction new (joined_of all new a b) n
+joined_now all old new a b n of_a of_b has = subst (λ (f : Function). HasFunction new f n) (sym (joined_same all old new a b of_a of_b)) has
 
-pub joined_now : (all : Bool) (old new : Contents) (a b n : ℕ) → KeepsEdges old.state new.state → IsEdge old.state a → IsEdge old.state b → HasFunction new (joined_of all old a b) n → HasFunction new (joined_of all new a b) n
-joined_now all old new a b n keeps a_live b_live has = subst (λ (f : Function). HasFunction new f n) (sym (joined_same all old new a b keeps a_live b_live)) has
-
--- the answer, once it is remembered
+-- the answer, where the nodes stay
 pub joined_remembered : (all : Bool) (mid new : Contents) (a b n : ℕ) → SameNodes mid new → IsEdge mid.state a → IsEdge mid.state b → HasFunction mid (joined_of all mid a b) n → HasFunction new (joined_of all new a b) n
 joined_remembered all mid new a b n same a_live b_live has =
-    joined_now all mid new a b n (same_keeps mid new same) a_live b_live (function_stays mid new _ n (same_keeps mid new same) has)
+    joined_now all mid new a b n (same_there mid new a same a_live) (same_there mid new b same b_live) (function_stays mid new _ n (same_there mid new n same has.live) has)
 
-joining_has_parts : (all : Bool) (c : Contents) → HasParts (joining all c)
+pub joining_has_parts : (all : Bool) (c : Contents) → HasParts (joining all c)
 joining_has_parts all c = let is = relating_has_parts 0 c in record { low_live = is.low_live; high_live = is.high_live; low_after = is.low_after; high_after = is.high_after }
 
 pub joining_parts : (all : Bool) (c : Contents) → IsOfParts (joining all c) (AreWithin c)
 joining_parts all c = let is = relating_parts 0 c in record { itself = is.itself; on = is.on; low = is.low; high = is.high }
 
-pub joining_carries : (all : Bool) (old new : Contents) (Any : Diagram → Type 0) → Grows old new Any → Carries (joining all old) (joining all new)
-joining_carries all old new Any grows =
-    let is = relating_carries 0 old new Any grows in
+pub joining_closed : (all : Bool) (c : Contents) (starts : List ℕ) → IsClosed (joining all c) (AreBothHeld c starts)
+joining_closed all c starts = let is = relating_closed 0 c starts in record { low = is.low; high = is.high }
+
+pub joining_carries : (all : Bool) (old new : Contents) (starts : List ℕ) → Works old new starts → Carries (joining all old) (joining all new) (AreBothHeld old starts) starts
+joining_carries all old new starts works =
+    let is = relating_carries 0 old new starts works in
     record {
-      parts_before = joining_has_parts all old;
+      closed = joining_closed all old starts;
       parts_after = joining_has_parts all new;
       levels = is.levels;
       first = is.first;
       live = is.live;
       splits = is.splits;
-      answers = λ q n live has. joined_now all old new q.a.0 q.b.0 n grows.keeps live.a_live live.b_live (function_stays old new _ n grows.keeps has);
+      answers = λ q n held there has.
+          joined_now all old new q.a.0 q.b.0 n (held_there old new starts q.a.0 works held.a_held) (held_there old new starts q.b.0 works held.b_held) (function_stays old new _ n (answer_there old new starts n works there has.live) has);
     }
+
+-- the answer, said of what the two were before
+pub joined_before : (all : Bool) (first now : Contents) (base : List ℕ) (asked : Pair) (n : ℕ) → Works first now base → AreBothHeld first base asked → HasFunction now (joined_of all now asked.a.0 asked.b.0) n → HasFunction now (joined_of all first asked.a.0 asked.b.0) n
+joined_before all first now base asked n works held has =
+    subst (λ (f : Function). HasFunction now f n) (joined_same all first now asked.a.0 asked.b.0 (held_there first now base asked.a.0 works held.a_held) (held_there first now base asked.b.0 works held.b_held)) has
 
 join_more : (all : Bool) (x y a b d : Diagram) → IsPartOf x a → IsPartOf y b → IsJoinOfParts (join_of all) x y d → IsJoinOfParts (join_of all) a b d
 join_more all x y a b d in_a in_b made = record {
@@ -133,12 +137,28 @@ join_more all x y a b d in_a in_b made = record {
   is_join = made.is_join;
 }
 
--- what parts' questions may make the whole may make
-pub joined_on : (all : Bool) (old mid new : Contents) (whole q : Pair) → Grows old mid (MayJoin all old whole.a.0 whole.b.0) → Grows mid new (MayJoin all mid q.a.0 q.b.0) → AreBothLive old whole → AreWithin mid q whole → Grows old new (MayJoin all old whole.a.0 whole.b.0)
-joined_on all old mid new whole q first second live within =
-    let more : Grows mid new (MayJoin all mid whole.a.0 whole.b.0) = grows_more mid new _ _ second (λ d made. join_more all (diagram_of mid.state q.a.0) (diagram_of mid.state q.b.0) (diagram_of mid.state whole.a.0) (diagram_of mid.state whole.b.0) d within.a_part within.b_part made) in
-    let as_before : Grows mid new (MayJoin all old whole.a.0 whole.b.0) = rw (← first.keeps.meaning whole.a.0 live.a_live, ← first.keeps.meaning whole.b.0 live.b_live) more in
-    grows_on old mid new _ _ _ first as_before (λ d made. made) (λ d made. made)
+-- ---- what may be made
+
+may_join_before : (all : Bool) (first now : Contents) (base : List ℕ) (asked : Pair) (d : Diagram) → Works first now base → AreBothHeld first base asked → MayJoin all now asked.a.0 asked.b.0 d → MayJoin all first asked.a.0 asked.b.0 d
+may_join_before all first now base asked d works held made = rw (← (held_there first now base asked.a.0 works held.a_held).1, ← (held_there first now base asked.b.0 works held.b_held).1) made
+
+-- a part's answer
+pub joined_result : (all : Bool) (first now : Contents) (base : List ℕ) (whole q : Pair) (n : ℕ) → Works first now base → AreBothHeld first base whole → AreWithin now q whole → HasFunction now (joined_of all now q.a.0 q.b.0) n → IsEdge now.state n × MayJoin all first whole.a.0 whole.b.0 (diagram_of now.state n)
+joined_result all first now base whole q n works held within has = (
+  has.live,
+  may_join_before all first now base whole (diagram_of now.state n) works held (record {
+    x = diagram_of now.state q.a.0;
+    y = diagram_of now.state q.b.0;
+    x_part = within.a_part;
+    y_part = within.b_part;
+    is_join = has.function;
+  }),
+)
+
+-- what a part's question may make
+pub joined_wider : (all : Bool) (first now : Contents) (base : List ℕ) (whole q : Pair) → Works first now base → AreBothHeld first base whole → AreWithin now q whole → (d : Diagram) → MayJoin all now q.a.0 q.b.0 d → MayJoin all first whole.a.0 whole.b.0 d
+joined_wider all first now base whole q works held within d made =
+    may_join_before all first now base whole d works held (join_more all (diagram_of now.state q.a.0) (diagram_of now.state q.b.0) (diagram_of now.state whole.a.0) (diagram_of now.state whole.b.0) d within.a_part within.b_part made)
 
 -- ---- the answers of parts
 
@@ -175,21 +195,22 @@ whole_function all c level asked low high r has is_split =
     ∙ sym (joined-split all c level asked.a.0 p.a.0 q.a.0 asked.b.0 p.b.0 q.b.0 is.a_split is.b_split)))
 
 -- the node that joins them answers
-pub joined_given : (all : Bool) (old new : Contents) (level : ℕ) (asked : Pair) (low high n : ℕ) → AreHalves (joining all old) level asked low high → KeepsEdges old.state new.state → IsSplit new level (function_at old low) (function_at old high) n → HasFunction new (joined_of all new asked.a.0 asked.b.0) n
-joined_given all old new level asked low high n has keeps is_split =
-    let live = has.awaits.parts.live in
-    joined_now all old new asked.a.0 asked.b.0 n keeps live.a_live live.b_live (record {
+pub joined_given : (all : Bool) (old new : Contents) (starts : List ℕ) (level : ℕ) (asked : Pair) (low high n : ℕ) → AreHalves (joining all old) level asked low high → Works old new starts → AreBothHeld old starts asked → IsSplit new level (function_at old low) (function_at old high) n → HasFunction new (joined_of all new asked.a.0 asked.b.0) n
+joined_given all old new starts level asked low high n has works held is_split =
+    joined_now all old new asked.a.0 asked.b.0 n (held_there old new starts asked.a.0 works held.a_held) (held_there old new starts asked.b.0 works held.b_held) (record {
       live = is_split.live;
       function = whole_function all old level asked low high (function_at new n) has is_split.function;
     })
 
--- and may be made
-pub joined_made : (all : Bool) (old new : Contents) (level : ℕ) (asked : Pair) (low high : ℕ) → AreHalves (joining all old) level asked low high → Grows old new (λ d. value d ≡ split level (function_at old low) (function_at old high)) → Grows old new (MayJoin all old asked.a.0 asked.b.0)
-joined_made all old new level asked low high has grows =
-    grows_more old new _ _ grows (λ d made. record {
-      x = diagram_of old.state asked.a.0;
-      y = diagram_of old.state asked.b.0;
-      x_part = part_of_itself (diagram_of old.state asked.a.0);
-      y_part = part_of_itself (diagram_of old.state asked.b.0);
-      is_join = whole_function all old level asked low high (value d) has made;
-    })
+-- and both may be made
+pub low_may : (all : Bool) (c : Contents) (level : ℕ) (asked : Pair) (low high : ℕ) → AreHalves (joining all c) level asked low high → MayJoin all c asked.a.0 asked.b.0 (diagram_of c.state low)
+low_may all c level asked low high has =
+    let p = has.awaits.low_part in
+    let is = has.awaits.parts.splits in
+    record { x = diagram_of c.state p.a.0; y = diagram_of c.state p.b.0; x_part = is.a_split.low_part; y_part = is.b_split.low_part; is_join = has.awaits.low_is.function }
+
+pub high_may : (all : Bool) (c : Contents) (level : ℕ) (asked : Pair) (low high : ℕ) → AreHalves (joining all c) level asked low high → MayJoin all c asked.a.0 asked.b.0 (diagram_of c.state high)
+high_may all c level asked low high has =
+    let p = has.high_part in
+    let is = has.awaits.parts.splits in
+    record { x = diagram_of c.state p.a.0; y = diagram_of c.state p.b.0; x_part = is.a_split.high_part; y_part = is.b_split.high_part; is_join = has.high_is.function }

@@ -2,9 +2,12 @@ pub mod FunctionLemmas
 pub mod ReadingLemmas
 pub mod DiagramLemmas
 pub mod StepLemmas
+pub mod StayLemmas
+pub mod SpentLemmas
+pub mod StackLemmas
+pub mod PushLemmas
 pub mod ChoiceLemmas
 pub mod FrameLemmas
-pub mod ChoiceFrameLemmas
 pub mod JoinLemmas
 pub mod OverLemmas
 pub mod QuestionLemmas
@@ -15,7 +18,6 @@ pub mod CallLemmas
 pub mod ListLemmas
 pub mod ListCallLemmas
 pub mod ShiftLemmas
-pub mod MovedFrameLemmas
 pub mod PathLemmas
 pub mod RowLemmas
 pub mod LeavingLemmas

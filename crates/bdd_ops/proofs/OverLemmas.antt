@@ -2,15 +2,13 @@
 use Rattle.std.proofs.Common.{◌≡◌, ℕ, ◌<◌, inl, inr, sym, ◌∙◌, subst, refl, arith, List, [], ◌∷◌, Bool, true, false, not, ◌||◌, ◌==◌, MatchBool, IsTrue}
 use Rattle.std.proofs.lemmas.Bool.Decides.{eqb_tells}
 use Rattle.spec_model.specs.Diagrams.{Diagram, constant, Function, value, IsPartOf}
-use Rattle.bdd_store.specs.State.{diagram_of, KeepsEdges}
+use Rattle.bdd_store.specs.State.{diagram_of}
 use Rattle.bdd_ops.specs.Functions.{split, Join, joined, joined_over, join_of, is_among, IsQuantifier}
 use Rattle.bdd_ops.specs.Reading.{Ignores, IgnoresTo}
 use Rattle.bdd_ops.specs.Contents.{Contents, function_at}
-use Rattle.bdd_ops.specs.Steps.{Grows, HasFunction, IsUnfinished, IsQuantifiedPart, JoinsOrSplits, joined_or_split}
+use Rattle.bdd_ops.specs.Steps.{HasFunction, IsUnfinished, IsQuantifiedPart, JoinsOrSplits, joined_or_split}
 use Rattle.bdd_ops.proofs.DiagramLemmas.{part_of_part}
 use Rattle.bdd_ops.proofs.FunctionLemmas.{joined_over-split, joined_over-ignored, ignores-joined_over, IgnoresAll, some_is_quantifier, all_is_quantifier}
-use Rattle.bdd_ops.proofs.StepLemmas.{grows_more}
-use Rattle.bdd_ops.proofs.ChoiceLemmas.{carried}
 
 -- both ways to join are quantifiers
 pub quantifier_of : (all : Bool) → IsQuantifier (join_of all)
@@ -59,10 +57,6 @@ over_free all levels f ignores = joined_over-ignored (join_of all) (quantifier_o
 
 -- ---- states
 
--- a function stays
-pub function_stays : (old new : Contents) (f : Function) (n : ℕ) → KeepsEdges old.state new.state → HasFunction old f n → HasFunction new f n
-function_stays old new f n keeps has = record { live = keeps.live n has.live; function = carried old new n keeps has.live ∙ has.function }
-
 -- what may be made of a part may be made of the whole
 pub unfinished_more : (join : Join) (First Second : Diagram → Type 0) → ((d : Diagram) → First d → Second d) → (d : Diagram) → IsUnfinished join First d → IsUnfinished join Second d
 unfinished_more join First Second more d (inl is) = inl (more d is)
@@ -103,13 +97,13 @@ over_given old new all levels level f f0 f1 IsResult low high n has given = reco
   function = over_whole all levels level f f0 f1 (function_at old low) (function_at old high) (function_at new n) has.is_split has.f0_ignores has.f1_ignores has.low_is.function has.high_is.function given.function;
 }
 
-pub over_made : (old new : Contents) (all : Bool) (levels : List ℕ) (level : ℕ) (f f0 f1 : Function) (IsResult : Diagram → Type 0) (low high : ℕ) → HasOver old all levels level f f0 f1 IsResult low high →
-    Grows old new (JoinsOrSplits (join_of all) levels level (diagram_of old.state low) (diagram_of old.state high)) → Grows old new (IsUnfinished (join_of all) IsResult)
-over_made old new all levels level f f0 f1 IsResult low high has grows =
-    grows_more old new _ _ grows (λ d made. elim made [
+pub over_made : (old : Contents) (all : Bool) (levels : List ℕ) (level : ℕ) (f f0 f1 : Function) (IsResult : Diagram → Type 0) (low high : ℕ) → HasOver old all levels level f f0 f1 IsResult low high →
+    (d : Diagram) → JoinsOrSplits (join_of all) levels level (diagram_of old.state low) (diagram_of old.state high) d → IsUnfinished (join_of all) IsResult d
+over_made old all levels level f f0 f1 IsResult low high has d made =
+    elim made [
       | inl joins ↦ inr (record { first = diagram_of old.state low; second = diagram_of old.state high; first_is = has.low_result; second_is = has.high_result; joins = joins })
       | inr is ↦ inl (has.whole_result d (over_whole all levels level f f0 f1 (function_at old low) (function_at old high) (value d) has.is_split has.f0_ignores has.f1_ignores has.low_is.function has.high_is.function is))
-    ])
+    ]
 
 -- a constant is free of every list
 pub constant_free : (all : Bool) (levels : List ℕ) (d : Diagram) (b : Bool) → d ≡ constant b → joined_over (join_of all) levels (value d) ≡ value d

@@ -2,23 +2,21 @@
 use Rattle.std.proofs.Common.{◌≡◌, ◌≢◌, ℕ, ◌<◌, ◌≤◌, inl, sym, ◌∙◌, ap, subst, refl, arith, List, [], length, slice_index_or}
 use Rattle.spec_model.specs.Diagrams.{Diagram, constant, branch, Function, with_bit, value, shifted, IsReduced, IsWithin, IsPartOf}
 use Rattle.spec_model.specs.DiagramReads.{Reads}
-use Rattle.bdd_store.specs.State.{IsEdge, diagram_of, KeepsEdges}
+use Rattle.bdd_store.specs.declared.edge.Edge.{Edge}
+use Rattle.bdd_store.specs.State.{IsEdge, IsHeldBy, diagram_of}
 use Rattle.bdd_ops.specs.Functions.{split}
 use Rattle.bdd_ops.specs.Reading.{IgnoresTo}
 use Rattle.bdd_ops.specs.Contents.{Contents, function_at, list_at}
-use Rattle.bdd_ops.specs.Steps.{Grows, HasFunction, IsSplitAt, IsSplit, IsShiftedPart, IsShift, level_of, level_at}
+use Rattle.bdd_ops.specs.Steps.{Works, SameNodes, HasFunction, IsSplit, IsShiftedPart, IsShift, level_of, level_at}
 use Rattle.bdd_ops.specs.Calls.{RisesOver}
 use Rattle.bdd_ops.proofs.DiagramLemmas.{part_of_itself, part_of_part, reads_part, reads_depends, reads_within, value_read}
 use Rattle.bdd_ops.proofs.FunctionLemmas.{with_bit-other}
-use Rattle.bdd_ops.proofs.StepLemmas.{grows_on, grows_more}
-use Rattle.bdd_ops.proofs.ChoiceLemmas.{carried}
-use Rattle.bdd_ops.proofs.OverLemmas.{function_stays}
+use Rattle.bdd_ops.specs.Questions.{AreHalves, IsMovable, SplitsMoved, MayMove, moving}
+use Rattle.bdd_ops.proofs.StayLemmas.{Stays, carried, level_stays, function_stays, held_there, held_part, same_there, split_held, answer_there}
+use Rattle.bdd_ops.proofs.QuestionLemmas.{HasParts, IsOfParts, IsClosed, Carries}
 
 abbrev pub shifted_at : Contents → ℕ → ℕ → Function
 shifted_at c list a = shifted (list_at c list) (function_at c a)
-
-abbrev pub MayShift : Contents → ℕ → ℕ → Diagram → Type 0
-MayShift c list a = IsShiftedPart (list_at c list) (diagram_of c.state a)
 
 -- a list that rises over the levels that the function depends on rises over those that stand in its diagram
 pub shift_of_rising : (levels : ℕ) (to : List ℕ) (d : Diagram) → IsReduced d → IsWithin levels d → RisesOver levels to (value d) → IsShift levels to d
@@ -36,32 +34,10 @@ shift_part levels to part d within is = record {
   rising = λ x y reads_x reads_y before. is.rising x y (reads_part part d x within reads_x) (reads_part part d y within reads_y) before;
 }
 
--- the same where the node was looked at before a step
-pub shift_later : (old new : Contents) (list a part : ℕ) (Any : Diagram → Type 0) → Grows old new Any → IsEdge old.state part → IsPartOf (diagram_of old.state part) (diagram_of old.state a) → IsShift old.state.table.levels (list_at old list) (diagram_of old.state a) → IsShift new.state.table.levels (list_at new list) (diagram_of new.state part)
-shift_later old new list a part Any grows live within is =
-    let here : IsShift old.state.table.levels (list_at old list) (diagram_of old.state part) = shift_part old.state.table.levels (list_at old list) (diagram_of old.state part) (diagram_of old.state a) within is in
-    let of_lists : IsShift old.state.table.levels (list_at new list) (diagram_of old.state part) = subst (λ (l : List (List ℕ)). IsShift old.state.table.levels (slice_index_or l list []) (diagram_of old.state part)) (sym grows.lists) here in
-    let of_levels : IsShift new.state.table.levels (list_at new list) (diagram_of old.state part) = subst (λ (n : ℕ). IsShift n (list_at new list) (diagram_of old.state part)) (sym grows.keeps.levels) of_lists in
-    subst (λ (d : Diagram). IsShift new.state.table.levels (list_at new list) d) (sym (grows.keeps.meaning part live)) of_levels
-
 -- a node that is no constant reads its level
 pub reads_own : (levels : ℕ) (d : Diagram) → level_of levels d < levels → Reads (level_of levels d) d
 reads_own levels (constant b) before = omega arith
 reads_own levels (branch own low high) before = inl refl
-
--- the list gives the node's level one
-pub known_now : (old new : Contents) (list level a : ℕ) → new.lists ≡ old.lists → IsShift old.state.table.levels (list_at old list) (diagram_of old.state a) → level ≡ level_at old a → level_at old a < old.state.table.levels → level < length (list_at new list)
-known_now old new list level a lists is is_level below =
-    let reads : Reads level (diagram_of old.state a) = rw is_level (reads_own old.state.table.levels (diagram_of old.state a) below) in
-    subst (λ (l : List (List ℕ)). level < length (slice_index_or l list [])) (sym lists) (is.known level reads)
-
--- and one of the store's
-pub target_below : (old new mid : Contents) (list level target a : ℕ) → mid.lists ≡ old.lists → new.state.table.levels ≡ old.state.table.levels → IsShift old.state.table.levels (list_at old list) (diagram_of old.state a) → level ≡ level_at old a → level_at old a < old.state.table.levels → target ≡ slice_index_or (list_at mid list) level level → target < new.state.table.levels
-target_below old new mid list level target a lists levels is is_level below is_target =
-    let reads : Reads level (diagram_of old.state a) = rw is_level (reads_own old.state.table.levels (diagram_of old.state a) below) in
-    let same : target ≡ slice_index_or (list_at old list) level level = is_target ∙ ap (λ (l : List (List ℕ)). slice_index_or (slice_index_or l list []) level level) lists in
-    let under : slice_index_or (list_at old list) level level < old.state.table.levels = is.below level reads in
-    omega arith
 
 apart_from : (m target other : ℕ) → m ≤ target → target < other → other ≢ m
 apart_from m target other le before = omega arith
@@ -74,70 +50,135 @@ shifted_ignores to level target d after m le s b =
 pub shifted_more : (to : List ℕ) (part a d : Diagram) → IsPartOf part a → IsShiftedPart to part d → IsShiftedPart to a d
 shifted_more to part a d within made = record { x = made.x; x_part = part_of_part made.x part a made.x_part within; is_shifted = made.is_shifted }
 
-pub shifted_same : (old new : Contents) (list a : ℕ) → new.lists ≡ old.lists → KeepsEdges old.state new.state → IsEdge old.state a → shifted_at new list a ≡ shifted_at old list a
-shifted_same old new list a lists keeps live =
-    ap (λ (l : List (List ℕ)). shifted (slice_index_or l list []) (function_at new a)) lists ∙ ap (shifted (list_at old list)) (carried old new a keeps live)
+shifted_same : (old new : Contents) (list a : ℕ) → new.lists ≡ old.lists → Stays old new a → shifted_at new list a ≡ shifted_at old list a
+shifted_same old new list a lists stays =
+    ap (λ (l : List (List ℕ)). shifted (slice_index_or l list []) (function_at new a)) lists ∙ ap (shifted (list_at old list)) (carried old new a stays)
 
-pub shifted_before : (old mid new : Contents) (list a n : ℕ) (Any : Diagram → Type 0) → Grows old mid Any → IsEdge old.state a → HasFunction new (shifted_at mid list a) n → HasFunction new (shifted_at old list a) n
-shifted_before old mid new list a n Any grows live has = subst (λ (f : Function). HasFunction new f n) (shifted_same old mid list a grows.lists grows.keeps live) has
+pub shifted_before : (first now : Contents) (base : List ℕ) (list a n : ℕ) → Works first now base → IsHeldBy first.state base a → HasFunction now (shifted_at now list a) n → HasFunction now (shifted_at first list a) n
+shifted_before first now base list a n works held has = subst (λ (f : Function). HasFunction now f n) (shifted_same first now list a works.lists (held_there first now base a works held)) has
 
-pub shifted_now : (old new : Contents) (list a n : ℕ) (Any : Diagram → Type 0) → Grows old new Any → IsEdge old.state a → HasFunction new (shifted_at old list a) n → HasFunction new (shifted_at new list a) n
-shifted_now old new list a n Any grows live has = subst (λ (f : Function). HasFunction new f n) (sym (shifted_same old new list a grows.lists grows.keeps live)) has
+pub shifted_now : (old new : Contents) (starts : List ℕ) (list a n : ℕ) → Works old new starts → IsHeldBy old.state starts a → HasFunction new (shifted_at old list a) n → HasFunction new (shifted_at new list a) n
+shifted_now old new starts list a n works held has = subst (λ (f : Function). HasFunction new f n) (sym (shifted_same old new list a works.lists (held_there old new starts a works held))) has
 
-pub shifted_low_made : (old mid : Contents) (list level a a0 a1 : ℕ) → IsSplitAt old level a a0 a1 → Grows old mid (MayShift old list a0) → Grows old mid (MayShift old list a)
-shifted_low_made old mid list level a a0 a1 is_split grows =
-    grows_more old mid _ _ grows (λ d made. shifted_more (list_at old list) (diagram_of old.state a0) (diagram_of old.state a) d is_split.low_part made)
+-- the answer, where the nodes stay
+pub shifted_remembered : (mid new : Contents) (list a n : ℕ) → SameNodes mid new → IsEdge mid.state a → HasFunction mid (shifted_at mid list a) n → HasFunction new (shifted_at new list a) n
+shifted_remembered mid new list a n same live has =
+    subst (λ (f : Function). HasFunction new f n) (sym (shifted_same mid new list a same.lists (same_there mid new a same live))) (function_stays mid new _ n (same_there mid new n same has.live) has)
 
-pub shifted_high_made : (old mid new : Contents) (list level a a0 a1 : ℕ) → IsSplitAt old level a a0 a1 → Grows old mid (MayShift old list a0) → Grows mid new (MayShift mid list a1) → Grows old new (MayShift old list a)
-shifted_high_made old mid new list level a a0 a1 is_split first second =
-    let as_before : Grows mid new (MayShift old list a1) = rw (← first.lists, ← first.keeps.meaning a1 is_split.high_live) second in
-    grows_on old mid new _ _ _ (shifted_low_made old mid list level a a0 a1 is_split first) as_before (λ d made. made)
-    (λ d made. shifted_more (list_at old list) (diagram_of old.state a1) (diagram_of old.state a) d is_split.high_part made)
+-- ---- the operation
 
--- both parts shifted
-pub record HasShifted (old mid : Contents) (list level target a a0 a1 low high : ℕ) : Type 0 where
-  pub is_split : IsSplitAt old level a a0 a1
-  pub is_shift : IsShift old.state.table.levels (list_at old list) (diagram_of old.state a)
-  pub reads : Reads level (diagram_of old.state a)
-  pub is_target : target ≡ slice_index_or (list_at old list) level level
-  pub grows : Grows old mid (MayShift old list a)
-  pub low_is : HasFunction mid (shifted_at old list a0) low
-  pub high_is : HasFunction mid (shifted_at old list a1) high
+part_movable : (c : Contents) (list : ℕ) (whole part : Edge) → IsMovable c list whole → IsEdge c.state part.0 → IsPartOf (diagram_of c.state part.0) (diagram_of c.state whole.0) → IsMovable c list part
+part_movable c list whole part is live within = record { known = is.known; live = live; rises = shift_part c.state.table.levels (list_at c list) (diagram_of c.state part.0) (diagram_of c.state whole.0) within is.rises }
 
-pub shifted_halves : (old mid new : Contents) (list level target a a0 a1 low high : ℕ) → IsSplitAt old level a a0 a1 → IsShift old.state.table.levels (list_at old list) (diagram_of old.state a) → level ≡ level_at old a → level_at old a < old.state.table.levels →
-    Grows old mid (MayShift old list a0) → Grows mid new (MayShift mid list a1) → HasFunction mid (shifted_at old list a0) low → HasFunction new (shifted_at mid list a1) high → target ≡ slice_index_or (list_at new list) level level → HasShifted old new list level target a a0 a1 low high
-shifted_halves old mid new list level target a a0 a1 low high is_split is_shift is_level below first second is_low is_high is_target = record {
-  is_split = is_split;
-  is_shift = is_shift;
-  reads = rw is_level (reads_own old.state.table.levels (diagram_of old.state a) below);
-  is_target = is_target ∙ ap (λ (l : List (List ℕ)). slice_index_or (slice_index_or l list []) level level) (second.lists ∙ first.lists);
-  grows = shifted_high_made old mid new list level a a0 a1 is_split first second;
-  low_is = function_stays mid new _ low second.keeps is_low;
-  high_is = shifted_before old mid new list a1 high _ first is_split.high_live is_high;
+pub moving_has_parts : (list : ℕ) (c : Contents) → HasParts (moving list c)
+moving_has_parts list c = record {
+  low_live = λ level asked low high is. part_movable c list asked low is.movable is.is_split.low_live is.is_split.low_part;
+  high_live = λ level asked low high is. part_movable c list asked high is.movable is.is_split.high_live is.is_split.high_part;
+  low_after = λ level asked low high is. is.is_split.low_after;
+  high_after = λ level asked low high is. is.is_split.high_after;
 }
 
-pub shifted_low_ignores : (old mid : Contents) (list level target a a0 a1 low high : ℕ) → HasShifted old mid list level target a a0 a1 low high → IgnoresTo target (function_at mid low)
-shifted_low_ignores old mid list level target a a0 a1 low high has =
-    subst (λ (f : Function). IgnoresTo target f) (sym has.low_is.function) (shifted_ignores (list_at old list) level target (diagram_of old.state a0) (λ x reads.
-    rw has.is_target (has.is_shift.rising level x has.reads (reads_part (diagram_of old.state a0) (diagram_of old.state a) x has.is_split.low_part reads) (has.is_split.low_reads x reads))))
+pub moving_parts : (list : ℕ) (c : Contents) → IsOfParts (moving list c) (λ q a. IsPartOf (diagram_of c.state q.0) (diagram_of c.state a.0))
+moving_parts list c = record {
+  itself = λ q. part_of_itself (diagram_of c.state q.0);
+  on = λ x y z first second. part_of_part (diagram_of c.state x.0) (diagram_of c.state y.0) (diagram_of c.state z.0) first second;
+  low = λ level asked low high is. is.is_split.low_part;
+  high = λ level asked low high is. is.is_split.high_part;
+}
 
-pub shifted_high_ignores : (old mid : Contents) (list level target a a0 a1 low high : ℕ) → HasShifted old mid list level target a a0 a1 low high → IgnoresTo target (function_at mid high)
-shifted_high_ignores old mid list level target a a0 a1 low high has =
-    subst (λ (f : Function). IgnoresTo target f) (sym has.high_is.function) (shifted_ignores (list_at old list) level target (diagram_of old.state a1) (λ x reads.
-    rw has.is_target (has.is_shift.rising level x has.reads (reads_part (diagram_of old.state a1) (diagram_of old.state a) x has.is_split.high_part reads) (has.is_split.high_reads x reads))))
+pub moving_closed : (list : ℕ) (c : Contents) (starts : List ℕ) → IsClosed (moving list c) (λ a. IsHeldBy c.state starts a.0)
+moving_closed list c starts = record {
+  low = λ level asked low high held is. held_part c.state starts asked.0 low.0 held is.is_split.low_live is.is_split.low_part;
+  high = λ level asked low high held is. held_part c.state starts asked.0 high.0 held is.is_split.high_live is.is_split.high_part;
+}
 
--- what is split into them at the shifted level is the shifted function
-pub shifted_whole : (old mid : Contents) (list level target a a0 a1 low high : ℕ) (r : Function) → HasShifted old mid list level target a a0 a1 low high → r ≡ split target (function_at mid low) (function_at mid high) → r ≡ shifted_at old list a
-shifted_whole old mid list level target a a0 a1 low high r has is =
-    rw (is, has.low_is.function, has.high_is.function, has.is_target, has.is_split.function) refl
+-- ---- what stays
 
-pub shifted_given : (old mid new : Contents) (list level target a a0 a1 low high n : ℕ) → HasShifted old mid list level target a a0 a1 low high → IsSplit new target (function_at mid low) (function_at mid high) n → HasFunction new (shifted_at old list a) n
-shifted_given old mid new list level target a a0 a1 low high n has is = record { live = is.live; function = shifted_whole old mid list level target a a0 a1 low high (function_at new n) has is.function }
+pub movable_stays : (old new : Contents) (starts : List ℕ) (list : ℕ) (asked : Edge) → Works old new starts → IsHeldBy old.state starts asked.0 → IsMovable old list asked → IsMovable new list asked
+movable_stays old new starts list asked works held is =
+    let stays = held_there old new starts asked.0 works held in
+    let of_lists : IsShift old.state.table.levels (list_at new list) (diagram_of old.state asked.0) = subst (λ (l : List (List ℕ)). IsShift old.state.table.levels (slice_index_or l list []) (diagram_of old.state asked.0)) (sym works.lists) is.rises in
+    let of_levels : IsShift new.state.table.levels (list_at new list) (diagram_of old.state asked.0) = subst (λ (n : ℕ). IsShift n (list_at new list) (diagram_of old.state asked.0)) (sym works.keeps.levels) of_lists in
+    record {
+      known = subst (λ (l : List (List ℕ)). list < length l) (sym works.lists) is.known;
+      live = stays.0;
+      rises = subst (λ (d : Diagram). IsShift new.state.table.levels (list_at new list) d) (sym stays.1) of_levels;
+    }
 
-pub shifted_join_made : (old mid new : Contents) (list level target a a0 a1 low high : ℕ) → HasShifted old mid list level target a a0 a1 low high → Grows mid new (λ d. value d ≡ split target (function_at mid low) (function_at mid high)) → Grows old new (MayShift old list a)
-shifted_join_made old mid new list level target a a0 a1 low high has grows =
-    grows_on old mid new _ _ _ has.grows grows (λ d made. made) (λ d made. record {
-      x = diagram_of old.state a;
-      x_part = part_of_itself (diagram_of old.state a);
-      is_shifted = shifted_whole old mid list level target a a0 a1 low high (value d) has made;
-    })
+pub moving_carries : (list : ℕ) (old new : Contents) (starts : List ℕ) → Works old new starts → Carries (moving list old) (moving list new) (λ a. IsHeldBy old.state starts a.0) starts
+moving_carries list old new starts works = record {
+  closed = moving_closed list old starts;
+  parts_after = moving_has_parts list new;
+  levels = works.keeps.levels;
+  first = λ q held. level_stays old new q.0 works.keeps.levels (held_there old new starts q.0 works held);
+  live = λ q held live. movable_stays old new starts list q works held live;
+  splits = λ level asked low high held is. record {
+    movable = movable_stays old new starts list asked works held is.movable;
+    is_split = split_held old new starts level asked.0 low.0 high.0 works held is.is_split;
+  };
+  answers = λ q n held there has. shifted_now old new starts list q.0 n works held (function_stays old new _ n (answer_there old new starts n works there has.live) has);
+}
+
+-- ---- what may be made
+
+may_move_before : (first now : Contents) (base : List ℕ) (list a : ℕ) (d : Diagram) → Works first now base → IsHeldBy first.state base a → MayMove now list a d → MayMove first list a d
+may_move_before first now base list a d works held made = rw (← works.lists, ← (held_there first now base a works held).1) made
+
+-- a part's answer
+pub shifted_result : (first now : Contents) (base : List ℕ) (list : ℕ) (whole q : Edge) (n : ℕ) → Works first now base → IsHeldBy first.state base whole.0 → IsPartOf (diagram_of now.state q.0) (diagram_of now.state whole.0) → HasFunction now (shifted_at now list q.0) n → IsEdge now.state n × MayMove first list whole.0 (diagram_of now.state n)
+shifted_result first now base list whole q n works held within has = (has.live, may_move_before first now base list whole.0 (diagram_of now.state n) works held (record { x = diagram_of now.state q.0; x_part = within; is_shifted = has.function }))
+
+-- what a part's question may make
+pub shifted_wider : (first now : Contents) (base : List ℕ) (list : ℕ) (whole q : Edge) → Works first now base → IsHeldBy first.state base whole.0 → IsPartOf (diagram_of now.state q.0) (diagram_of now.state whole.0) → (d : Diagram) → MayMove now list q.0 d → MayMove first list whole.0 d
+shifted_wider first now base list whole q works held within d made =
+    may_move_before first now base list whole.0 d works held (shifted_more (list_at now list) (diagram_of now.state q.0) (diagram_of now.state whole.0) d within made)
+
+-- ---- the answers of parts
+
+module _ (c : Contents) (list level target : ℕ) (asked : Edge) (low high : ℕ) (has : AreHalves (moving list c) level asked low high) where
+  abbrev p : Edge
+  p = has.awaits.low_part
+
+  abbrev q : Edge
+  q = has.high_part
+
+  splits : SplitsMoved c list level asked p q
+  splits = has.awaits.parts.splits
+
+  inner : level_at c asked.0 < c.state.table.levels
+  inner = subst (λ (n : ℕ). n < c.state.table.levels) has.awaits.parts.is_first has.awaits.parts.below
+
+  own_read : Reads level (diagram_of c.state asked.0)
+  own_read = rw has.awaits.parts.is_first (reads_own c.state.table.levels (diagram_of c.state asked.0) inner)
+
+  -- the list gives the level one
+  pub target_known : level < length (list_at c list)
+  target_known = splits.movable.rises.known level own_read
+
+  module _ (is_target : target ≡ slice_index_or (list_at c list) level level) where
+    -- and one of the store's
+    pub target_below : target < c.state.table.levels
+    target_below = subst (λ (n : ℕ). n < c.state.table.levels) (sym is_target) (splits.movable.rises.below level own_read)
+
+    -- they read no level up to the moved one
+    pub moved_low_ignores : IgnoresTo target (function_at c low)
+    moved_low_ignores = subst (λ (f : Function). IgnoresTo target f) (sym has.awaits.low_is.function) (shifted_ignores (list_at c list) level target (diagram_of c.state p.0) (λ x reads.
+        rw is_target (splits.movable.rises.rising level x own_read (reads_part (diagram_of c.state p.0) (diagram_of c.state asked.0) x splits.is_split.low_part reads) (splits.is_split.low_reads x reads))))
+
+    pub moved_high_ignores : IgnoresTo target (function_at c high)
+    moved_high_ignores = subst (λ (f : Function). IgnoresTo target f) (sym has.high_is.function) (shifted_ignores (list_at c list) level target (diagram_of c.state q.0) (λ x reads.
+        rw is_target (splits.movable.rises.rising level x own_read (reads_part (diagram_of c.state q.0) (diagram_of c.state asked.0) x splits.is_split.high_part reads) (splits.is_split.high_reads x reads))))
+
+    -- what is split into them at the moved level is the answer
+    moved_whole : (r : Function) → r ≡ split target (function_at c low) (function_at c high) → r ≡ shifted_at c list asked.0
+    moved_whole r is = rw (is, has.awaits.low_is.function, has.high_is.function, is_target, splits.is_split.function) refl
+
+    pub moved_given : (new : Contents) (starts : List ℕ) (n : ℕ) → Works c new starts → IsHeldBy c.state starts asked.0 → IsSplit new target (function_at c low) (function_at c high) n → HasFunction new (shifted_at new list asked.0) n
+    moved_given new starts n works held is = shifted_now c new starts list asked.0 n works held (record { live = is.live; function = moved_whole (function_at new n) is.function })
+
+  -- both may be made
+  pub moved_low_may : MayMove c list asked.0 (diagram_of c.state low)
+  moved_low_may = record { x = diagram_of c.state p.0; x_part = splits.is_split.low_part; is_shifted = has.awaits.low_is.function }
+
+  pub moved_high_may : MayMove c list asked.0 (diagram_of c.state high)
+  moved_high_may = record { x = diagram_of c.state q.0; x_part = splits.is_split.high_part; is_shifted = has.high_is.function }

@@ -1,15 +1,15 @@
--- What growth keeps.
+-- What steps keep.
 use Rattle.std.proofs.Common.{◌≡◌, ℕ, ◌<◌, ◌≤◌, ◌⊎◌, inl, inr, sym, ◌∙◌, ap, subst, refl, arith, Bool, true, false, List, ◌+◌, ◌*◌, [], ◌∷◌, ◌++◌, map, if◌then◌else◌, length, slice_index_or, Result, Ok, Err, IfOk, Option, Some, None, IfSome}
 use Rattle.spec_model.specs.Diagrams.{Diagram, constant, branch, Bits, Function, value, ite, shifted, IsLater, IsPartOf}
 use Rattle.bdd_cache.specs.declared.answer.Answer.{Answer}
 use Rattle.bdd_store.specs.declared.edge.Edge.{Edge}
 use Rattle.bdd_store.specs.declared.fault.StoreFault.{StoreFault}
 use Rattle.node_table.specs.Table.{diagram_at}
-use Rattle.bdd_store.specs.State.{State, IsStore, IsEdge, HasAnswer, diagram_of, KeepsEdges, MakesOnly, SameRoots, HasParts, IsNewStore}
+use Rattle.bdd_store.specs.State.{State, IsStore, IsEdge, HasAnswer, diagram_of, KeepsAnswers, HasParts, IsNewStore}
 use Rattle.bdd_ops.specs.Functions.{split, joined, joined_over, join_of}
 use Rattle.bdd_ops.specs.Reading.{Ignores, IgnoresTo}
 use Rattle.bdd_ops.specs.Contents.{Contents, IsAnswer, IsRight, AreRight, function_at, list_at, over_op}
-use Rattle.bdd_ops.specs.Steps.{Grows, IsChoiceOfParts, IsSplitAt, level_of, level_at, IsSplit, HasFunction}
+use Rattle.bdd_ops.specs.Steps.{IsChoiceOfParts, IsSplitAt, level_of, level_at, IsSplit, HasFunction}
 use Rattle.std.proofs.lemmas.List.{length-append, map-append}
 use Rattle.bdd_ops.specs.declared.level_list.LevelList.{LevelList}
 use Rattle.bdd_ops.proofs.ListLemmas.{before_end}
@@ -22,52 +22,13 @@ right_of old new x lists same store has right =
     let live = store.answers_live x has in
     rw (lists, same x.a live.0, same x.b live.1, same x.c live.2, same x.r live.3) right
 
--- answers stay right where nothing is freed and no answer comes
-pub right_kept : (old new : Contents) → AreRight old → KeepsEdges old.state new.state → new.state.answers ≡ old.state.answers → new.lists ≡ old.lists → IsStore new.state → AreRight new
-right_kept old new are keeps answers lists store =
-    record {
-      store = store;
-      right = λ x has.
-          let had : HasAnswer old.state x = rw (← answers) has in
-          right_of old new x lists (λ n live. ap value (keeps.meaning n live)) are.store had (are.right x had);
-    }
-
--- nothing grows where nothing changes
-pub grows_none : (c : Contents) (MayMake : Diagram → Type 0) → Grows c c MayMake
-grows_none c MayMake = record {
-  lists = refl;
-  keeps = record { levels = refl; budget = refl; live = λ n live. live; meaning = λ n live. refl };
-  roots = λ n. refl;
-  made = λ n live. inl (live, refl);
-}
-
--- one growth after another
-pub grows_on : (old mid new : Contents) (First Second MayMake : Diagram → Type 0) → Grows old mid First → Grows mid new Second → ((d : Diagram) → First d → MayMake d) → ((d : Diagram) → Second d → MayMake d) → Grows old new MayMake
-grows_on old mid new First Second MayMake first second is_first is_second = record {
-  lists = second.lists ∙ first.lists;
-  keeps = record {
-    levels = second.keeps.levels ∙ first.keeps.levels;
-    budget = second.keeps.budget ∙ first.keeps.budget;
-    live = λ n live. second.keeps.live n (first.keeps.live n live);
-    meaning = λ n live. second.keeps.meaning n (first.keeps.live n live) ∙ first.keeps.meaning n live;
-  };
-  roots = λ n. second.roots n ∙ first.roots n;
-  made = λ n live. elim (second.made n live) [
-    | inl before ↦ elim (first.made n before.0) [
-      | inl earlier ↦ inl (earlier.0, before.1 ∙ earlier.1)
-      | inr made ↦ inr (is_first _ (rw before.1 made))
-    ]
-    | inr made ↦ inr (is_second _ made)
-  ];
-}
-
--- a growth that may make more
-pub grows_more : (old new : Contents) (First MayMake : Diagram → Type 0) → Grows old new First → ((d : Diagram) → First d → MayMake d) → Grows old new MayMake
-grows_more old new First MayMake first is_first = record {
-  lists = first.lists;
-  keeps = first.keeps;
-  roots = first.roots;
-  made = λ n live. elim (first.made n live) [ inl before ↦ inl before | inr made ↦ inr (is_first _ made) ];
+-- answers stay right where each that stays is about nodes that stand for what they stood for
+pub right_kept : (old new : Contents) → AreRight old → KeepsAnswers old.state new.state → new.lists ≡ old.lists → IsStore new.state → AreRight new
+right_kept old new are keeps lists store = record {
+  store = store;
+  right = λ x has.
+      let was = keeps x has in
+      rw (lists, ap value was.1.a.1, ap value was.1.b.1, ap value was.1.c.1, ap value was.1.r.1) (are.right x was.0);
 }
 
 -- a choice between parts' parts is one between parts
@@ -156,18 +117,6 @@ pub split_given : (at now new : Contents) (level low high : ℕ) (r : Result Edg
 split_given at now new level low high (Ok e) same live agree =
     subst (λ (c : Contents). IsSplit new level (function_at c low) (function_at c high) e.0) same (record { live = live; function = λ i s. agree s i })
 split_given at now new level low high (Err fault) same live agree = tt
-
--- the node that may be new is split at the level
-pub node_grows : (at now new : Contents) (level low high : ℕ) → at ≡ now → new.lists ≡ at.lists → KeepsEdges at.state new.state → SameRoots at.state new.state →
-    MakesOnly at.state new.state (λ made. made ≡ branch level (diagram_of at.state low) (diagram_of at.state high)) →
-    Grows now new (λ d. value d ≡ split level (function_at now low) (function_at now high))
-node_grows at now new level low high same lists keeps roots made =
-    subst (λ (c : Contents). Grows c new (λ d. value d ≡ split level (function_at c low) (function_at c high))) same (record {
-      lists = lists;
-      keeps = keeps;
-      roots = roots;
-      made = λ n live. elim (made n live) [ inl before ↦ inl before | inr is ↦ inr (ap value is) ];
-    })
 
 -- ---- answers
 

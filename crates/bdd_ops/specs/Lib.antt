@@ -10,5 +10,4 @@ pub mod Searching
 pub mod Ways
 pub mod Splits
 pub mod Frames
-pub mod MovedFrames
 pub mod Questions

@@ -1,8 +1,9 @@
 -- Questions of any operation that wait for the answers of their parts. No public clause cites these.
-use Rattle.std.specs.Prelude.{◌≡◌, ◌<◌, ℕ, Bool, false, true, min, List, [], ◌∷◌, ◌++◌}
-use Rattle.spec_model.specs.Diagrams.{Diagram, Function}
+use Rattle.std.specs.Prelude.{◌≡◌, ◌<◌, ℕ, Bool, false, true, min, List, [], ◌∷◌, ◌++◌, length}
+use Rattle.spec_model.specs.Diagrams.{Diagram, Function, shifted}
 use Rattle.bdd_store.specs.declared.edge.Edge.{Edge}
-use Rattle.bdd_store.specs.State.{IsEdge, diagram_of}
+use Rattle.bdd_store.specs.State.{IsEdge, IsHeldBy, diagram_of}
+use Rattle.bdd_ops.specs.declared.frames.Choice.{Choice}
 use Rattle.bdd_ops.specs.declared.frames.Frame.{Frame}
 use Rattle.bdd_ops.specs.declared.frames.Pair.{Pair}
 use Rattle.bdd_ops.specs.declared.frames.Waits.{Waits}
@@ -11,7 +12,7 @@ use Rattle.bdd_ops.specs.declared.frames.Turn.{Turn}
 use Rattle.bdd_ops.specs.declared.frames.Turn.TheVariants.{Ask, Given}
 use Rattle.bdd_ops.specs.Functions.{joined, joined_over, join_of}
 use Rattle.bdd_ops.specs.Contents.{Contents, function_at, list_at}
-use Rattle.bdd_ops.specs.Steps.{IsSplitAt, HasFunction, level_at, IsUnfinished, IsQuantifiedPart, IsRelatedPart, IsJoinOfParts}
+use Rattle.bdd_ops.specs.Steps.{IsSplitAt, IsChoice, HasFunction, IsShift, level_at, IsUnfinished, IsQuantifiedPart, IsRelatedPart, IsJoinOfParts, IsChoiceOfParts, IsShiftedPart}
 use Rattle.bdd_ops.specs.Frames.{Leads}
 
 -- an operation on diagrams as they are: the first level that a question looks at, which questions are live, the two parts at a level, and which nodes are answers
@@ -158,3 +159,79 @@ joining all c = record {
   Splits = λ level asked low high. SplitsBoth c level asked low high;
   Answers = λ asked n. HasFunction c (joined_of all c asked.a.0 asked.b.0) n;
 }
+
+-- ---- choices
+
+pub record AreLive (c : Contents) (asked : Choice) : Type 0 where
+  pub a_live : IsEdge c.state asked.a.0
+  pub b_live : IsEdge c.state asked.b.0
+  pub c_live : IsEdge c.state asked.c.0
+
+abbrev pub first_level : Contents → Choice → ℕ
+first_level c asked = min (min (level_at c asked.a.0) (level_at c asked.b.0)) (level_at c asked.c.0)
+
+-- the node is the answer
+abbrev pub Chooses : Contents → Choice → ℕ → Type 0
+Chooses c asked n = IsChoice c (function_at c asked.a.0) (function_at c asked.b.0) (function_at c asked.c.0) n
+
+-- what a choice may make
+abbrev pub MayChoose : Contents → Choice → Diagram → Type 0
+MayChoose c asked = IsChoiceOfParts (diagram_of c.state asked.a.0) (diagram_of c.state asked.b.0) (diagram_of c.state asked.c.0)
+
+-- the two parts of the three
+pub record SplitsChoice (c : Contents) (level : ℕ) (asked low high : Choice) : Type 0 where
+  pub a_split : IsSplitAt c level asked.a.0 low.a.0 high.a.0
+  pub b_split : IsSplitAt c level asked.b.0 low.b.0 high.b.0
+  pub c_split : IsSplitAt c level asked.c.0 low.c.0 high.c.0
+
+abbrev pub choosing : Contents → Operation Choice
+choosing c = record {
+  levels = c.state.table.levels;
+  first = first_level c;
+  IsLive = AreLive c;
+  Splits = SplitsChoice c;
+  Answers = Chooses c;
+}
+
+-- ---- moved levels
+
+-- the list moves the levels of the edge
+pub record IsMovable (s : Contents) (list : ℕ) (asked : Edge) : Type 0 where
+  pub known : list < length s.lists
+  pub live : IsEdge s.state asked.0
+  pub rises : IsShift s.state.table.levels (list_at s list) (diagram_of s.state asked.0)
+
+-- the node is the answer
+abbrev pub Moves : Contents → ℕ → Edge → ℕ → Type 0
+Moves s list asked n = HasFunction s (shifted (list_at s list) (function_at s asked.0)) n
+
+-- what moving levels may make
+abbrev pub MayMove : Contents → ℕ → ℕ → Diagram → Type 0
+MayMove c list a = IsShiftedPart (list_at c list) (diagram_of c.state a)
+
+-- the two parts of a movable edge
+pub record SplitsMoved (c : Contents) (list level : ℕ) (asked low high : Edge) : Type 0 where
+  pub movable : IsMovable c list asked
+  pub is_split : IsSplitAt c level asked.0 low.0 high.0
+
+abbrev pub moving : ℕ → Contents → Operation Edge
+moving list c = record {
+  levels = c.state.table.levels;
+  first = λ a. level_at c a.0;
+  IsLive = IsMovable c list;
+  Splits = SplitsMoved c list;
+  Answers = Moves c list;
+}
+
+-- ---- held questions
+
+-- kept roots and these nodes hold both
+pub record AreBothHeld (c : Contents) (starts : List ℕ) (asked : Pair) : Type 0 where
+  pub a_held : IsHeldBy c.state starts asked.a.0
+  pub b_held : IsHeldBy c.state starts asked.b.0
+
+-- and all three
+pub record AreHeld (c : Contents) (starts : List ℕ) (asked : Choice) : Type 0 where
+  pub a_held : IsHeldBy c.state starts asked.a.0
+  pub b_held : IsHeldBy c.state starts asked.b.0
+  pub c_held : IsHeldBy c.state starts asked.c.0

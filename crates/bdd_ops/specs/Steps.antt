@@ -2,11 +2,11 @@
 use Rattle.std.specs.Prelude.{◌≡◌, ◌<◌, ◌⊎◌, ℕ, true, List, length, slice_index_or, if◌then◌else◌}
 use Rattle.spec_model.specs.Diagrams.{Diagram, constant, branch, Function, value, ite, IsPartOf}
 use Rattle.spec_model.specs.DiagramReads.{Reads}
-use Rattle.bdd_store.specs.State.{IsEdge, diagram_of, KeepsEdges, MakesOnly, SameRoots}
+use Rattle.bdd_store.specs.State.{IsEdge, diagram_of, IsFull, IsHeldBy, KeepsHeld, SameRoots}
 use Rattle.bdd_ops.specs.Functions.{split, Join, joined, joined_over, join_of, is_among}
 use Rattle.bdd_ops.specs.Reading.{IgnoresTo}
 use Rattle.bdd_ops.specs.Contents.{Contents, function_at}
-pub use Rattle.bdd_ops.specs.Unfinished.{IsChoiceOfParts, IsJoinOfParts, JoinsResults, IsUnfinished, IsRelatedPart, IsShiftedPart}
+pub use Rattle.bdd_ops.specs.Unfinished.{IsChoiceOfParts, IsJoinOfParts, JoinsResults, IsUnfinished, IsRelatedPart, IsShiftedPart, StandsInMade}
 
 -- the diagram's level, and for a constant the number of levels
 abbrev pub level_of : ℕ → Diagram → ℕ
@@ -16,12 +16,16 @@ level_of levels (branch level low high) = level
 abbrev pub level_at : Contents → ℕ → ℕ
 level_at c n = level_of c.state.table.levels (diagram_of c.state n)
 
--- nothing is freed, kept roots and lists stay, and each new node is one that the operation may make
-pub record Grows (old new : Contents) (MayMake : Diagram → Type 0) : Type 0 where
+-- kept roots and lists stay, and all that kept roots and these nodes hold
+pub record Works (old new : Contents) (starts : List ℕ) : Type 0 where
   pub lists : new.lists ≡ old.lists
-  pub keeps : KeepsEdges old.state new.state
   pub roots : SameRoots old.state new.state
-  pub made : MakesOnly old.state new.state MayMake
+  pub keeps : KeepsHeld old.state new.state starts
+
+-- the store holds exactly its budget, and each node is held by kept roots and these nodes, or stands in one that may be made
+pub record IsSpent (c : Contents) (starts : List ℕ) (MayMake : Diagram → Type 0) : Type 0 where
+  pub full : IsFull c.state
+  pub needed : (n : ℕ) → IsEdge c.state n → IsHeldBy c.state starts n ⊎ StandsInMade c.state MayMake n
 
 -- the two parts of a node at a level: each is a part of its diagram, of later levels
 pub record IsSplitAt (c : Contents) (level n low high : ℕ) : Type 0 where
@@ -72,9 +76,10 @@ joined_or_split join levels level low high = if is_among level levels then joine
 abbrev pub JoinsOrSplits : Join → List ℕ → ℕ → Diagram → Diagram → Diagram → Type 0
 JoinsOrSplits join levels level low high made = IsJoinOfParts join low high made ⊎ (value made ≡ joined_or_split join levels level (value low) (value high))
 
--- the node is the conjunction of two, and its parts are conjunctions of theirs
+-- the node is the conjunction of two, and one of them, and its parts are conjunctions of theirs
 pub record IsConjunctionAt (c : Contents) (a b n : ℕ) : Type 0 where
   pub live : IsEdge c.state n
+  pub one : (n ≡ a) ⊎ (n ≡ b)
   pub function : function_at c n ≡ joined (join_of true) (function_at c a) (function_at c b)
   pub parts : (x : Diagram) → IsPartOf x (diagram_of c.state n) → IsJoinOfParts (join_of true) (diagram_of c.state a) (diagram_of c.state b) x
 

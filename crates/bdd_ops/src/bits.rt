@@ -1,22 +1,23 @@
 //! The negation of an edge, and the edge of a bit.
 
 ghost use Rattle.std.specs.Prelude.{◌≡◌, ◌<◌, ℕ, IfOk};
-ghost use Rattle.bdd_store.specs.State.{IsEdge, IsRoot, diagram_of, IsFull};
+ghost use Rattle.bdd_store.specs.State.{IsEdge, IsHeld, IsRoot, diagram_of};
 ghost use Rattle.spec_model.specs.Diagrams.{value};
 ghost use Rattle.bdd_ops.specs.Contents.{function_at};
-ghost use Rattle.bdd_ops.specs.Steps.{HasFunction, Grows};
+ghost use Rattle.bdd_ops.specs.Steps.{HasFunction, IsSpent, Works};
 ghost use Rattle.bdd_ops.specs.Calls.{IsNegatedPart, negated};
 
-use crate::diagrams::Diagrams;
+use crate::work::Work;
 use bdd_store::{Edge, StoreFault};
 
-impl Diagrams {
+impl Work {
     /// The negation of an edge.
     pub(crate) fn negation(&mut self, a: Edge) -> Result<Edge, StoreFault>
-        requires { IsEdge self.old.state a.0 }
+        requires { IsHeld self.old.state a.0 }
         ensures negated { IfOk result (λ e. HasFunction self.new (negated (function_at self.old a.0)) e.0) }
-        ensures grows { Grows self.old self.new (IsNegatedPart (diagram_of self.old.state a.0)) }
-        ensures full { result ≡ Err StoreFault.Full → IsFull self.new.state }
+        ensures works { Works self.old self.new self.old.state.stack }
+        ensures stack { self.new.state.stack ≡ self.old.state.stack }
+        ensures full { result ≡ Err StoreFault.Full → IsSpent self.new self.old.state.stack (IsNegatedPart (diagram_of self.old.state a.0)) }
     {
         let never = self.constant_edge(false);
         let always = self.constant_edge(true);
@@ -27,8 +28,9 @@ impl Diagrams {
     pub(crate) fn bit(&mut self, level: u32) -> Result<Edge, StoreFault>
         requires { level < self.old.state.table.levels }
         ensures bit { IfOk result (λ e. HasFunction self.new (λ s. s level) e.0) }
-        ensures grows { Grows self.old self.new (λ made. value made ≡ (λ s. s level)) }
-        ensures full { result ≡ Err StoreFault.Full → IsFull self.new.state }
+        ensures works { Works self.old self.new self.old.state.stack }
+        ensures stack { self.new.state.stack ≡ self.old.state.stack }
+        ensures full { result ≡ Err StoreFault.Full → IsSpent self.new self.old.state.stack (λ made. value made ≡ (λ s. s level)) }
         ensures roots_live { (n : ℕ) → IsRoot self.old.state n → IsEdge self.old.state n }
     {
         let low = self.constant_edge(false);

@@ -1,16 +1,17 @@
 //! The choice between two edges by a third.
 
-ghost use Rattle.std.specs.Prelude.{◌≡◌, ◌<◌, [], IfOk, MatchOption};
-ghost use Rattle.bdd_store.specs.State.{IsEdge, diagram_of, IsFull};
+ghost use Rattle.std.specs.Prelude.{◌≡◌, ◌<◌, [], IfOk, OnErr, MatchOption};
+ghost use Rattle.bdd_store.specs.State.{IsEdge, IsHeld, diagram_of};
 ghost use Rattle.bdd_ops.specs.Contents.{function_at};
-ghost use Rattle.bdd_ops.specs.Steps.{IsChoice, IsChoiceOfParts, Grows, level_at};
-ghost use Rattle.bdd_ops.specs.Frames.{AreLive, Chooses, AsksChoice, AreHalves, IsAnswered, GivesChoice};
+ghost use Rattle.bdd_ops.specs.Steps.{IsChoice, IsChoiceOfParts, IsSpent, Works, level_at};
+ghost use Rattle.bdd_ops.specs.Frames.{IsTop, MovesStack, IsOver};
+ghost use Rattle.bdd_ops.specs.Questions.{Asks, AreHalves, IsAnswered, GivesTop, AreLive, AreHeld, Chooses, MayChoose, choosing};
 
-use crate::diagrams::Diagrams;
-use crate::frames::{Choice, Frame, Turn, Waits, push, waiting, waiting_high};
+use crate::frames::{Choice, Frame, Turn, Waits, await_high, drop_top, push, top, waiting};
+use crate::work::Work;
 use bdd_store::{Edge, StoreFault};
 
-impl Diagrams {
+impl Work {
     /// The choice, where it is one of the three.
     fn choice_at_once(&self, a: Edge, b: Edge, c: Edge) -> Option<Edge>
         requires a_live { IsEdge self.now.state a.0 }
@@ -51,7 +52,7 @@ impl Diagrams {
         asked: Choice,
     ) -> Result<Turn<Choice>, StoreFault>
         requires { AreLive self.now asked }
-        ensures asks { IfOk result (λ turn. AsksChoice self.now asked frames.old.items frames.new.items turn) }
+        ensures asks { IfOk result (λ turn. Asks (choosing self.now) asked frames.old.items frames.new.items turn) }
         ensures memory { result ≡ Err StoreFault.Full → ⊥ }
     {
         if let Some(edge) = self.known_choice(asked) {
@@ -83,10 +84,12 @@ impl Diagrams {
         low: Edge,
         high: Edge,
     ) -> Result<Edge, StoreFault>
-        requires { AreHalves self.old level asked low.0 high.0 }
+        requires halves { AreHalves (choosing self.old) level asked low.0 high.0 }
+        requires held { AreHeld self.old self.old.state.stack asked }
         ensures choice { IfOk result (λ e. Chooses self.new asked e.0) }
-        ensures grows { Grows self.old self.new (IsChoiceOfParts (diagram_of self.old.state asked.a.0) (diagram_of self.old.state asked.b.0) (diagram_of self.old.state asked.c.0)) }
-        ensures full { result ≡ Err StoreFault.Full → IsFull self.new.state }
+        ensures works { Works self.old self.new self.old.state.stack }
+        ensures stack { self.new.state.stack ≡ self.old.state.stack }
+        ensures full { result ≡ Err StoreFault.Full → IsSpent self.new self.old.state.stack (MayChoose self.old asked) }
     {
         let edge = self.join(level, low, high)?;
         self.remember_choice(asked.a, asked.b, asked.c, edge);
@@ -100,18 +103,25 @@ impl Diagrams {
         frame: Frame<Choice>,
         edge: Edge,
     ) -> Result<Turn<Choice>, StoreFault>
-        requires { IsAnswered self.old frame edge.0 }
-        ensures gives { IfOk result (λ turn. GivesChoice self.new frame frames.old.items frames.new.items turn) }
-        ensures grows { Grows self.old self.new (IsChoiceOfParts (diagram_of self.old.state frame.asked.a.0) (diagram_of self.old.state frame.asked.b.0) (diagram_of self.old.state frame.asked.c.0)) }
-        ensures full { result ≡ Err StoreFault.Full → IsFull self.new.state }
+        requires answered { IsAnswered (choosing self.old) frame edge.0 }
+        requires held { AreHeld self.old self.old.state.stack frame.asked }
+        requires top { IsTop frames.old.items frame }
+        ensures gives { IfOk result (λ turn. GivesTop (choosing self.new) frame frames.old.items frames.new.items turn) }
+        ensures works { Works self.old self.new self.old.state.stack }
+        ensures moves { IfOk result (λ turn. MovesStack frames.old.items frames.new.items self.old.state.stack self.new.state.stack) }
+        ensures refused { OnErr result (self.new.state.stack ≡ self.old.state.stack) }
+        ensures full { result ≡ Err StoreFault.Full → IsSpent self.new self.old.state.stack (MayChoose self.old frame.asked) }
     {
         match frame.waits {
             Waits::Low(high) => {
-                push(frames, waiting_high(frame, edge))?;
+                self.push(edge)?;
+                await_high(frames, frame, edge);
                 Ok(Turn::Ask(high))
             }
             Waits::High(low) => {
                 let whole = self.join_choice(frame.asked, frame.level, low, edge)?;
+                drop_top(frames);
+                self.pop();
                 Ok(Turn::Given(whole))
             }
         }
@@ -123,18 +133,19 @@ impl Diagrams {
         frames: &mut Vec<Frame<Choice>>,
         whole: Choice,
     ) -> Result<Edge, StoreFault>
-        requires live { AreLive self.old whole }
+        requires held { AreHeld self.old self.old.state.stack whole }
         requires none_waits { frames.old.items ≡ [] }
         ensures choice { IfOk result (λ e. IsChoice self.new (function_at self.old whole.a.0) (function_at self.old whole.b.0) (function_at self.old whole.c.0) e.0) }
-        ensures grows { Grows self.old self.new (IsChoiceOfParts (diagram_of self.old.state whole.a.0) (diagram_of self.old.state whole.b.0) (diagram_of self.old.state whole.c.0)) }
-        ensures full { result ≡ Err StoreFault.Full → IsFull self.new.state }
+        ensures works { Works self.old self.new self.old.state.stack }
+        ensures over { IsOver self.old.state.stack self.new.state.stack }
+        ensures full { result ≡ Err StoreFault.Full → IsSpent self.new self.old.state.stack (MayChoose self.old whole) }
     {
         let mut turn = Turn::Ask(whole);
         loop {
             match turn {
                 Turn::Ask(asked) => turn = self.ask_choice(frames, asked)?,
                 Turn::Given(edge) => {
-                    let Some(frame) = frames.pop() else {
+                    let Some(frame) = top(frames) else {
                         return Ok(edge);
                     };
                     turn = self.give_choice(frames, frame, edge)?;
@@ -143,22 +154,37 @@ impl Diagrams {
         }
     }
 
+    /// The same, with the memory that is kept for frames.
+    fn framed_choice(&mut self, whole: Choice) -> Result<Edge, StoreFault>
+        requires { AreHeld self.old self.old.state.stack whole }
+        ensures choice { IfOk result (λ e. IsChoice self.new (function_at self.old whole.a.0) (function_at self.old whole.b.0) (function_at self.old whole.c.0) e.0) }
+        ensures works { Works self.old self.new self.old.state.stack }
+        ensures over { IsOver self.old.state.stack self.new.state.stack }
+        ensures full { result ≡ Err StoreFault.Full → IsSpent self.new self.old.state.stack (MayChoose self.old whole) }
+    {
+        let mut frames = self.take_choices();
+        let given = self.choice_in(&mut frames, whole);
+        self.put_choices(frames);
+        given
+    }
+
     /// `b` where `a` is true, and else `c`.
     pub(crate) fn choice(&mut self, a: Edge, b: Edge, c: Edge) -> Result<Edge, StoreFault>
-        requires a_live { IsEdge self.old.state a.0 }
-        requires b_live { IsEdge self.old.state b.0 }
-        requires c_live { IsEdge self.old.state c.0 }
+        requires a_held { IsHeld self.old.state a.0 }
+        requires b_held { IsHeld self.old.state b.0 }
+        requires c_held { IsHeld self.old.state c.0 }
         ensures choice { IfOk result (λ e. IsChoice self.new (function_at self.old a.0) (function_at self.old b.0) (function_at self.old c.0) e.0) }
-        ensures grows { Grows self.old self.new (IsChoiceOfParts (diagram_of self.old.state a.0) (diagram_of self.old.state b.0) (diagram_of self.old.state c.0)) }
-        ensures full { result ≡ Err StoreFault.Full → IsFull self.new.state }
+        ensures works { Works self.old self.new self.old.state.stack }
+        ensures stack { self.new.state.stack ≡ self.old.state.stack }
+        ensures full { result ≡ Err StoreFault.Full → IsSpent self.new self.old.state.stack (IsChoiceOfParts (diagram_of self.old.state a.0) (diagram_of self.old.state b.0) (diagram_of self.old.state c.0)) }
     {
         let asked = Choice { a, b, c };
         if let Some(edge) = self.known_choice(asked) {
             return Ok(edge);
         }
-        let mut frames = self.take_choices();
-        let given = self.choice_in(&mut frames, asked);
-        self.put_choices(frames);
+        let depth = self.depth();
+        let given = self.framed_choice(asked);
+        self.cut(depth);
         given
     }
 }

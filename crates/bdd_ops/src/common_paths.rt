@@ -8,9 +8,9 @@ ghost use Rattle.bdd_ops.specs.Paths.{fixed_at, IsFirst, HasNone};
 ghost use Rattle.bdd_ops.specs.Together.{IsRow, SettlesRow, all_in, first_bit, AreFirst, HasNoneWith};
 ghost use Rattle.bdd_ops.specs.Searching.{row_at, top_of, next_of, IsNext};
 
-use crate::diagrams::Diagrams;
 use crate::paths::allows_at;
 use crate::rows::{first_bit, write_first};
+use crate::work::Work;
 use bdd_store::Edge;
 
 /// The row at a depth.
@@ -21,7 +21,7 @@ fn row_at(rows: &[Edge], width: usize, depth: usize) -> &[Edge]
     &rows[depth * width..][..width]
 }
 
-impl Diagrams {
+impl Work {
     /// Writes what a bit at a level, and the fixed bits behind it, leave of a row. False: it may not stand there, or an
     /// edge became false.
     fn leads(

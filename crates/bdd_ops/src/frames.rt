@@ -5,7 +5,7 @@ ghost use Rattle.std.specs.Prelude.{◌≡◌, ◌++◌, ◌∷◌, [], OnOk, Ma
 ghost use Rattle.bdd_ops.specs.declared.frames.Waits.TheVariants.{Low, High};
 ghost use Rattle.bdd_ops.specs.Frames.{IsTop, DropsTop, AwaitsHighFrom};
 
-use crate::diagrams::Diagrams;
+use crate::work::Work;
 use bdd_store::{Edge, StoreFault};
 use std::mem;
 
@@ -75,6 +75,10 @@ pub fn push<Q: Copy>(frames: &mut Vec<Frame<Q>>, frame: Frame<Q>) -> Result<(), 
     ensures pushed { OnOk result (frames.new.items ≡ frames.old.items ++ frame ∷ []) }
     ensures memory { result ≡ Err StoreFault.Full → ⊥ }
 {
+    if frames.len() < frames.capacity() {
+        frames.push_reserved(frame);
+        return Ok(());
+    }
     match frames.push(frame) {
         Ok(()) => Ok(()),
         Err(_) => Err(StoreFault::Memory),
@@ -107,7 +111,7 @@ pub fn await_high<Q: Copy>(frames: &mut Vec<Frame<Q>>, frame: Frame<Q>, low: Edg
     frames[last] = waiting_high(frame, low);
 }
 
-impl Diagrams {
+impl Work {
     /// The memory for frames of choices, with no frame in it.
     pub(crate) fn take_choices(&mut self) -> Vec<Frame<Choice>>
         ensures same { self.new ≡ self.old }

@@ -1,18 +1,18 @@
 //! Two edges joined by `and` or `or`.
 
-ghost use Rattle.std.specs.Prelude.{◌≡◌, ◌<◌, [], IfOk, MatchOption};
-ghost use Rattle.bdd_store.specs.State.{IsEdge, diagram_of, IsFull};
+ghost use Rattle.std.specs.Prelude.{◌≡◌, ◌<◌, [], IfOk, OnErr, MatchOption};
+ghost use Rattle.bdd_store.specs.State.{IsEdge, IsHeld, diagram_of};
 ghost use Rattle.bdd_ops.specs.Functions.{joined, join_of};
 ghost use Rattle.bdd_ops.specs.Contents.{function_at};
-ghost use Rattle.bdd_ops.specs.Steps.{HasFunction, IsJoinOfParts, Grows, level_at};
-ghost use Rattle.bdd_ops.specs.Frames.{IsTop};
-ghost use Rattle.bdd_ops.specs.Questions.{Asks, AreHalves, IsAnswered, GivesTop, AreBothLive, joining, joined_of, MayJoin};
+ghost use Rattle.bdd_ops.specs.Steps.{HasFunction, IsJoinOfParts, IsSpent, Works, level_at};
+ghost use Rattle.bdd_ops.specs.Frames.{IsTop, MovesStack, IsOver};
+ghost use Rattle.bdd_ops.specs.Questions.{Asks, AreHalves, IsAnswered, GivesTop, AreBothLive, AreBothHeld, joining, joined_of, MayJoin};
 
-use crate::diagrams::Diagrams;
 use crate::frames::{Frame, Pair, Turn, Waits, await_high, drop_top, push, top, waiting};
+use crate::work::Work;
 use bdd_store::{Edge, StoreFault};
 
-impl Diagrams {
+impl Work {
     /// `and` where `all` holds, and else `or`, where it is one of the two.
     fn joined_at_once(&self, all: bool, a: Edge, b: Edge) -> Option<Edge>
         requires a_live { IsEdge self.now.state a.0 }
@@ -80,9 +80,11 @@ impl Diagrams {
         high: Edge,
     ) -> Result<Edge, StoreFault>
         requires halves { AreHalves (joining all self.old) level asked low.0 high.0 }
+        requires held { AreBothHeld self.old self.old.state.stack asked }
         ensures given { IfOk result (λ e. HasFunction self.new (joined_of all self.new asked.a.0 asked.b.0) e.0) }
-        ensures grows { Grows self.old self.new (MayJoin all self.old asked.a.0 asked.b.0) }
-        ensures full { result ≡ Err StoreFault.Full → IsFull self.new.state }
+        ensures works { Works self.old self.new self.old.state.stack }
+        ensures stack { self.new.state.stack ≡ self.old.state.stack }
+        ensures full { result ≡ Err StoreFault.Full → IsSpent self.new self.old.state.stack (MayJoin all self.old asked.a.0 asked.b.0) }
     {
         let edge = self.join(level, low, high)?;
         self.remember_joined(all, asked.a, asked.b, edge);
@@ -98,19 +100,24 @@ impl Diagrams {
         edge: Edge,
     ) -> Result<Turn<Pair>, StoreFault>
         requires answered { IsAnswered (joining all self.old) frame edge.0 }
+        requires held { AreBothHeld self.old self.old.state.stack frame.asked }
         requires top { IsTop frames.old.items frame }
         ensures gives { IfOk result (λ turn. GivesTop (joining all self.new) frame frames.old.items frames.new.items turn) }
-        ensures grows { Grows self.old self.new (MayJoin all self.old frame.asked.a.0 frame.asked.b.0) }
-        ensures full { result ≡ Err StoreFault.Full → IsFull self.new.state }
+        ensures works { Works self.old self.new self.old.state.stack }
+        ensures moves { IfOk result (λ turn. MovesStack frames.old.items frames.new.items self.old.state.stack self.new.state.stack) }
+        ensures refused { OnErr result (self.new.state.stack ≡ self.old.state.stack) }
+        ensures full { result ≡ Err StoreFault.Full → IsSpent self.new self.old.state.stack (MayJoin all self.old frame.asked.a.0 frame.asked.b.0) }
     {
         match frame.waits {
             Waits::Low(high) => {
+                self.push(edge)?;
                 await_high(frames, frame, edge);
                 Ok(Turn::Ask(high))
             }
             Waits::High(low) => {
-                drop_top(frames);
                 let whole = self.join_joined(all, frame.asked, frame.level, low, edge)?;
+                drop_top(frames);
+                self.pop();
                 Ok(Turn::Given(whole))
             }
         }
@@ -123,11 +130,12 @@ impl Diagrams {
         frames: &mut Vec<Frame<Pair>>,
         whole: Pair,
     ) -> Result<Edge, StoreFault>
-        requires live { AreBothLive self.old whole }
+        requires held { AreBothHeld self.old self.old.state.stack whole }
         requires none_waits { frames.old.items ≡ [] }
         ensures given { IfOk result (λ e. HasFunction self.new (joined_of all self.old whole.a.0 whole.b.0) e.0) }
-        ensures grows { Grows self.old self.new (MayJoin all self.old whole.a.0 whole.b.0) }
-        ensures full { result ≡ Err StoreFault.Full → IsFull self.new.state }
+        ensures works { Works self.old self.new self.old.state.stack }
+        ensures over { IsOver self.old.state.stack self.new.state.stack }
+        ensures full { result ≡ Err StoreFault.Full → IsSpent self.new self.old.state.stack (MayJoin all self.old whole.a.0 whole.b.0) }
     {
         let mut turn = Turn::Ask(whole);
         loop {
@@ -143,21 +151,36 @@ impl Diagrams {
         }
     }
 
+    /// The same, with the memory that is kept for frames.
+    fn framed_join(&mut self, all: bool, whole: Pair) -> Result<Edge, StoreFault>
+        requires { AreBothHeld self.old self.old.state.stack whole }
+        ensures given { IfOk result (λ e. HasFunction self.new (joined_of all self.old whole.a.0 whole.b.0) e.0) }
+        ensures works { Works self.old self.new self.old.state.stack }
+        ensures over { IsOver self.old.state.stack self.new.state.stack }
+        ensures full { result ≡ Err StoreFault.Full → IsSpent self.new self.old.state.stack (MayJoin all self.old whole.a.0 whole.b.0) }
+    {
+        let mut frames = self.take_joins();
+        let given = self.joined_in(all, &mut frames, whole);
+        self.put_joins(frames);
+        given
+    }
+
     /// `and` of two edges where `all` holds, and else `or`.
     pub(crate) fn joined(&mut self, all: bool, a: Edge, b: Edge) -> Result<Edge, StoreFault>
-        requires a_live { IsEdge self.old.state a.0 }
-        requires b_live { IsEdge self.old.state b.0 }
+        requires a_held { IsHeld self.old.state a.0 }
+        requires b_held { IsHeld self.old.state b.0 }
         ensures joined { IfOk result (λ e. HasFunction self.new (joined (join_of all) (function_at self.old a.0) (function_at self.old b.0)) e.0) }
-        ensures grows { Grows self.old self.new (IsJoinOfParts (join_of all) (diagram_of self.old.state a.0) (diagram_of self.old.state b.0)) }
-        ensures full { result ≡ Err StoreFault.Full → IsFull self.new.state }
+        ensures works { Works self.old self.new self.old.state.stack }
+        ensures stack { self.new.state.stack ≡ self.old.state.stack }
+        ensures full { result ≡ Err StoreFault.Full → IsSpent self.new self.old.state.stack (IsJoinOfParts (join_of all) (diagram_of self.old.state a.0) (diagram_of self.old.state b.0)) }
     {
         let asked = Pair { a, b };
         if let Some(edge) = self.known_joined(all, asked) {
             return Ok(edge);
         }
-        let mut frames = self.take_joins();
-        let given = self.joined_in(all, &mut frames, asked);
-        self.put_joins(frames);
+        let depth = self.depth();
+        let given = self.framed_join(all, asked);
+        self.cut(depth);
         given
     }
 }

@@ -7,7 +7,7 @@ ghost use Rattle.bdd_store.specs.State.{IsEdge, diagram_of};
 ghost use Rattle.bdd_ops.specs.Paths.{Agrees};
 ghost use Rattle.bdd_ops.specs.Together.{all_in};
 
-use crate::diagrams::Diagrams;
+use crate::work::Work;
 use bdd_store::Edge;
 
 /// One edge more, where there is room.
@@ -19,7 +19,7 @@ fn push_edge(left: &mut Vec<Edge>, edge: Edge)
     let _ = left.push(edge);
 }
 
-impl Diagrams {
+impl Work {
     /// One edge more, unless it is true.
     fn push_unless_true(&self, left: &mut Vec<Edge>, e: Edge)
         requires live { IsEdge self.now.state e.0 }

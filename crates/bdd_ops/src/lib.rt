@@ -6,8 +6,12 @@
 //! whose parts are asked first waits in a list of frames in memory (`frames`), so that its depth takes none of the machine's
 //! stack.
 //!
-//! Contract (`GivesRoot`): an operation's root means its operation, and a refusal leaves what is kept; each node that is
-//! there then was there or is an unfinished result; `Full` comes only where the store then holds exactly its budget.
+//! Results that a question still needs while others are asked stand on the store's stack, so that a full store can free all else and
+//! go on. The steps work on `Work`; between the calls of `Diagrams` nothing is on the stack.
+//!
+//! Contract (`GivesRoot`): an operation's root means its operation, and a refusal leaves what is kept; `Full` comes only
+//! where the store then holds exactly its budget, and each node is a constant or stands in a kept root or an unfinished
+//! result.
 //! Path: store → **operations** → formulas, regions.
 #![tactic(auto)]
 
@@ -31,6 +35,7 @@ mod rows;
 mod shift;
 mod split;
 mod together;
+mod work;
 
 pub use bdd_store::{Root, StoreFault};
 pub use diagrams::Diagrams;

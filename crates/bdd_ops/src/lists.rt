@@ -1,19 +1,20 @@
 //! The lists of levels that answers are about.
 
-ghost use Rattle.std.specs.Prelude.{◌≡◌, [], ◌∷◌, ◌++◌, OnOk, ◌<◌, ◌↔◌, ℕ, length, IfOk, IfSome, IsTrue, true, slice_index_or};
+ghost use Rattle.std.specs.Prelude.{◌≡◌, [], ◌∷◌, ◌++◌, OnOk, ◌<◌, ◌≤◌, ◌↔◌, ℕ, length, IfOk, IfSome, IsTrue, true, slice_index_or};
 ghost use Rattle.bdd_ops.specs.Functions.{is_among};
 ghost use Rattle.bdd_ops.specs.Contents.{list_at};
 
-use crate::diagrams::Diagrams;
 use crate::level_list::{LevelList, list_of};
+use crate::work::Work;
 use bdd_store::StoreFault;
 
-impl Diagrams {
-    /// The place of a list of levels among those that answers are about.
-    fn find_list(&self, levels: &[u32]) -> Option<usize>
+impl Work {
+    /// The place of a list of levels from one place on and before another.
+    fn find_between(&self, levels: &[u32], from: usize, end: usize) -> Option<usize>
+        requires { end ≤ length self.now.lists }
         ensures { IfSome result (λ i. (i < length self.now.lists) × (list_at self.now i ≡ levels.now)) }
     {
-        for i in 0..self.lists.len() {
+        for i in from..end {
             if self.lists[i].is(levels) {
                 return Some(i);
             }
@@ -21,10 +22,24 @@ impl Diagrams {
         None
     }
 
+    /// The place of a list of levels among those that answers are about. It is looked for behind the one that was asked for
+    /// last first, since most are asked for in turns.
+    fn find_list(&self, levels: &[u32]) -> Option<usize>
+        ensures { IfSome result (λ i. (i < length self.now.lists) × (list_at self.now i ≡ levels.now)) }
+    {
+        let count = self.lists.len();
+        let next = self.next.min(count);
+        match self.find_between(levels, next, count) {
+            Some(place) => Some(place),
+            None => self.find_between(levels, 0, next),
+        }
+    }
+
     /// Forgets all answers and what lists they are about.
     fn forget(&mut self)
         ensures table { self.new.state.table ≡ self.old.state.table }
         ensures kept { self.new.state.kept ≡ self.old.state.kept }
+        ensures stack { self.new.state.stack ≡ self.old.state.stack }
         ensures lists { self.new.lists ≡ [] }
     {
         self.store.forget();
@@ -87,15 +102,19 @@ impl Diagrams {
         ensures given { IfOk result (λ i. (i < length self.new.lists) × (list_at self.new i ≡ levels.now)) }
         ensures table { self.new.state.table ≡ self.old.state.table }
         ensures kept { self.new.state.kept ≡ self.old.state.kept }
+        ensures stack { self.new.state.stack ≡ self.old.state.stack }
         ensures memory { result ≡ Err StoreFault.Full → ⊥ }
     {
         if let Some(place) = self.find_list(levels) {
+            self.next = place.saturating_add(1);
             return Ok(place);
         }
         if !self.has_room() {
             self.forget();
         }
-        self.add_list(levels)
+        let place = self.add_list(levels)?;
+        self.next = place.saturating_add(1);
+        Ok(place)
     }
 
     /// Whether a level is in a list.

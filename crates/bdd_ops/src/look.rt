@@ -5,12 +5,12 @@ ghost use Rattle.spec_model.specs.DiagramReads.{bits_of};
 ghost use Rattle.bdd_store.specs.State.{IsRoot};
 ghost use Rattle.bdd_ops.specs.Contents.{function_at};
 
-use crate::diagrams::Diagrams;
+use crate::work::Work;
 use bdd_store::Root;
 
-impl Diagrams {
+impl Work {
     /// The diagram's value where each level has this bit.
-    pub fn eval(&self, a: &Root, bits: &[bool]) -> bool
+    pub(crate) fn eval(&self, a: &Root, bits: &[bool]) -> bool
         requires kept { IsRoot self.now.state a.now }
         requires one_each { length bits.now ≡ self.now.state.table.levels }
         ensures { result ≡ function_at self.now a.now (bits_of bits.now) }

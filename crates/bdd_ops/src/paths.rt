@@ -11,7 +11,7 @@ ghost use Rattle.bdd_ops.specs.Paths.{AgreesAt, fixed_at, IsFirst, HasNone};
 ghost use Rattle.bdd_ops.specs.Together.{IsChosen, HasNoneWith};
 ghost use Rattle.bdd_ops.specs.Ways.{HasNoneBehind, IsWay, IsLed, IsFirstPart, IsLast, IsNextBranch};
 
-use crate::diagrams::Diagrams;
+use crate::work::Work;
 use bdd_store::{Edge, Root};
 
 /// Whether a bit may stand where this is fixed.
@@ -40,7 +40,7 @@ pub struct Branch {
     pub part: Edge,
 }
 
-impl Diagrams {
+impl Work {
     /// Which constant an edge is that has no level.
     pub(crate) fn truth(&self, e: Edge) -> bool
         requires live { IsEdge self.now.state e.0 }
@@ -173,7 +173,7 @@ impl Diagrams {
     /// and answers whether there are any. `fixed` and `out` have a place for each level; where there are none, what
     /// `out` holds then means nothing. It takes no memory, and one look at each level where nothing is fixed; where what
     /// is fixed later rules a part out, it goes down from the root again to the last level that has a bit left.
-    pub fn first_path(&self, a: &Root, fixed: &[Option<bool>], out: &mut [bool]) -> bool
+    pub(crate) fn first_path(&self, a: &Root, fixed: &[Option<bool>], out: &mut [bool]) -> bool
         requires kept { IsRoot self.now.state a.now }
         requires fixed_each { length fixed.now ≡ self.now.state.table.levels }
         requires out_each { length out.old ≡ self.now.state.table.levels }

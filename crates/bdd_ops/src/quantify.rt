@@ -1,20 +1,20 @@
 //! "Some" and "all" over a list of levels.
 
-ghost use Rattle.std.specs.Prelude.{◌≡◌, ◌<◌, [], Bool, true, not, length, IfOk, IsTrue, MatchBool, MatchOption};
-ghost use Rattle.bdd_store.specs.State.{IsEdge, diagram_of, IsFull};
+ghost use Rattle.std.specs.Prelude.{◌≡◌, ◌<◌, ◌++◌, ◌∷◌, [], Bool, true, not, length, IfOk, OnErr, IsTrue, MatchBool, MatchOption};
+ghost use Rattle.bdd_store.specs.State.{IsEdge, IsHeld, diagram_of};
 ghost use Rattle.spec_model.specs.Diagrams.{constant};
-ghost use Rattle.bdd_ops.specs.Functions.{joined_over, join_of, is_among};
+ghost use Rattle.bdd_ops.specs.Functions.{joined, joined_over, join_of, is_among};
 ghost use Rattle.bdd_ops.specs.Reading.{IgnoresTo};
 ghost use Rattle.bdd_ops.specs.Contents.{function_at, list_at};
-ghost use Rattle.bdd_ops.specs.Steps.{HasFunction, IsUnfinished, IsQuantifiedPart, JoinsOrSplits, joined_or_split, Grows, level_at};
-ghost use Rattle.bdd_ops.specs.Frames.{IsTop};
+ghost use Rattle.bdd_ops.specs.Steps.{HasFunction, IsUnfinished, IsQuantifiedPart, JoinsOrSplits, joined_or_split, IsJoinOfParts, IsSpent, Works, level_at};
+ghost use Rattle.bdd_ops.specs.Frames.{IsTop, MovesStack, IsOver};
 ghost use Rattle.bdd_ops.specs.Questions.{Asks, AreHalves, IsAnswered, GivesTop, quantifying, over_at, MayMake};
 
-use crate::diagrams::Diagrams;
 use crate::frames::{Frame, Turn, Waits, await_high, drop_top, push, top, waiting};
+use crate::work::Work;
 use bdd_store::{Edge, StoreFault};
 
-impl Diagrams {
+impl Work {
     /// Whether an edge is a constant, or its level is past the list.
     fn is_free(&self, list: usize, a: Edge) -> bool
         requires list { list < length self.now.lists }
@@ -37,6 +37,35 @@ impl Diagrams {
         self.covers(list, level) && self.is_constant(low, !all)
     }
 
+    /// Both put on the stack, and joined.
+    fn push_and_join(&mut self, all: bool, low: Edge, high: Edge) -> Result<Edge, StoreFault>
+        requires low_live { IsEdge self.old.state low.0 }
+        requires high_live { IsEdge self.old.state high.0 }
+        ensures joined { IfOk result (λ e. HasFunction self.new (joined (join_of all) (function_at self.old low.0) (function_at self.old high.0)) e.0) }
+        ensures works { Works self.old self.new (self.old.state.stack ++ low.0 ∷ high.0 ∷ []) }
+        ensures over { IsOver self.old.state.stack self.new.state.stack }
+        ensures full { result ≡ Err StoreFault.Full → IsSpent self.new (self.old.state.stack ++ low.0 ∷ high.0 ∷ []) (IsJoinOfParts (join_of all) (diagram_of self.old.state low.0) (diagram_of self.old.state high.0)) }
+    {
+        self.push(low)?;
+        self.push(high)?;
+        self.joined(all, low, high)
+    }
+
+    /// Two answers joined. Nothing else holds them meanwhile.
+    fn joined_answers(&mut self, all: bool, low: Edge, high: Edge) -> Result<Edge, StoreFault>
+        requires low_live { IsEdge self.old.state low.0 }
+        requires high_live { IsEdge self.old.state high.0 }
+        ensures joined { IfOk result (λ e. HasFunction self.new (joined (join_of all) (function_at self.old low.0) (function_at self.old high.0)) e.0) }
+        ensures works { Works self.old self.new (self.old.state.stack ++ low.0 ∷ high.0 ∷ []) }
+        ensures stack { self.new.state.stack ≡ self.old.state.stack }
+        ensures full { result ≡ Err StoreFault.Full → IsSpent self.new (self.old.state.stack ++ low.0 ∷ high.0 ∷ []) (IsJoinOfParts (join_of all) (diagram_of self.old.state low.0) (diagram_of self.old.state high.0)) }
+    {
+        let depth = self.depth();
+        let given = self.push_and_join(all, low, high);
+        self.cut(depth);
+        given
+    }
+
     /// What the two parts at a level give: joined where the level is in the list, and else the node of both.
     pub(crate) fn join_over(
         &mut self,
@@ -53,11 +82,12 @@ impl Diagrams {
         requires low_ignores { IgnoresTo level (function_at self.old low.0) }
         requires high_ignores { IgnoresTo level (function_at self.old high.0) }
         ensures given { IfOk result (λ e. HasFunction self.new (joined_or_split (join_of all) (list_at self.old list) level (function_at self.old low.0) (function_at self.old high.0)) e.0) }
-        ensures grows { Grows self.old self.new (JoinsOrSplits (join_of all) (list_at self.old list) level (diagram_of self.old.state low.0) (diagram_of self.old.state high.0)) }
-        ensures full { result ≡ Err StoreFault.Full → IsFull self.new.state }
+        ensures works { Works self.old self.new (self.old.state.stack ++ low.0 ∷ high.0 ∷ []) }
+        ensures stack { self.new.state.stack ≡ self.old.state.stack }
+        ensures full { result ≡ Err StoreFault.Full → IsSpent self.new (self.old.state.stack ++ low.0 ∷ high.0 ∷ []) (JoinsOrSplits (join_of all) (list_at self.old list) level (diagram_of self.old.state low.0) (diagram_of self.old.state high.0)) }
     {
         if self.covers(list, level) {
-            self.joined(all, low, high)
+            self.joined_answers(all, low, high)
         } else {
             self.join(level, low, high)
         }
@@ -109,9 +139,11 @@ impl Diagrams {
     ) -> Result<Edge, StoreFault>
         requires list { list < length self.old.lists }
         requires halves { AreHalves (quantifying all list self.old) level asked low.0 high.0 }
+        requires held { IsHeld self.old.state asked.0 }
         ensures given { IfOk result (λ e. HasFunction self.new (over_at all self.new list asked.0) e.0) }
-        ensures grows { Grows self.old self.new (MayMake all self.old list asked.0) }
-        ensures full { result ≡ Err StoreFault.Full → IsFull self.new.state }
+        ensures works { Works self.old self.new self.old.state.stack }
+        ensures stack { self.new.state.stack ≡ self.old.state.stack }
+        ensures full { result ≡ Err StoreFault.Full → IsSpent self.new self.old.state.stack (MayMake all self.old list asked.0) }
     {
         let edge = self.join_over(all, list, level, low, high)?;
         self.remember_quantified(all, list, asked, edge);
@@ -130,10 +162,13 @@ impl Diagrams {
     ) -> Result<Turn<Edge>, StoreFault>
         requires list { list < length self.old.lists }
         requires answered { IsAnswered (quantifying all list self.old) frame edge.0 }
+        requires held { IsHeld self.old.state frame.asked.0 }
         requires top { IsTop frames.old.items frame }
         ensures gives { IfOk result (λ turn. GivesTop (quantifying all list self.new) frame frames.old.items frames.new.items turn) }
-        ensures grows { Grows self.old self.new (MayMake all self.old list frame.asked.0) }
-        ensures full { result ≡ Err StoreFault.Full → IsFull self.new.state }
+        ensures works { Works self.old self.new self.old.state.stack }
+        ensures moves { IfOk result (λ turn. MovesStack frames.old.items frames.new.items self.old.state.stack self.new.state.stack) }
+        ensures refused { OnErr result (self.new.state.stack ≡ self.old.state.stack) }
+        ensures full { result ≡ Err StoreFault.Full → IsSpent self.new self.old.state.stack (MayMake all self.old list frame.asked.0) }
     {
         match frame.waits {
             Waits::Low(high) => {
@@ -142,12 +177,14 @@ impl Diagrams {
                     self.remember_quantified(all, list, frame.asked, edge);
                     return Ok(Turn::Given(edge));
                 }
+                self.push(edge)?;
                 await_high(frames, frame, edge);
                 Ok(Turn::Ask(high))
             }
             Waits::High(low) => {
-                drop_top(frames);
                 let whole = self.join_quantified(all, list, frame.asked, frame.level, low, edge)?;
+                drop_top(frames);
+                self.pop();
                 Ok(Turn::Given(whole))
             }
         }
@@ -162,11 +199,12 @@ impl Diagrams {
         whole: Edge,
     ) -> Result<Edge, StoreFault>
         requires list { list < length self.old.lists }
-        requires live { IsEdge self.old.state whole.0 }
+        requires held { IsHeld self.old.state whole.0 }
         requires none_waits { frames.old.items ≡ [] }
         ensures given { IfOk result (λ e. HasFunction self.new (over_at all self.old list whole.0) e.0) }
-        ensures grows { Grows self.old self.new (MayMake all self.old list whole.0) }
-        ensures full { result ≡ Err StoreFault.Full → IsFull self.new.state }
+        ensures works { Works self.old self.new self.old.state.stack }
+        ensures over { IsOver self.old.state.stack self.new.state.stack }
+        ensures full { result ≡ Err StoreFault.Full → IsSpent self.new self.old.state.stack (MayMake all self.old list whole.0) }
     {
         let mut turn = Turn::Ask(whole);
         loop {
@@ -182,6 +220,21 @@ impl Diagrams {
         }
     }
 
+    /// The same, with the memory that is kept for frames.
+    fn framed_quantified(&mut self, all: bool, list: usize, whole: Edge) -> Result<Edge, StoreFault>
+        requires list { list < length self.old.lists }
+        requires held { IsHeld self.old.state whole.0 }
+        ensures given { IfOk result (λ e. HasFunction self.new (over_at all self.old list whole.0) e.0) }
+        ensures works { Works self.old self.new self.old.state.stack }
+        ensures over { IsOver self.old.state.stack self.new.state.stack }
+        ensures full { result ≡ Err StoreFault.Full → IsSpent self.new self.old.state.stack (MayMake all self.old list whole.0) }
+    {
+        let mut frames = self.take_edges();
+        let given = self.quantified_in(all, list, &mut frames, whole);
+        self.put_edges(frames);
+        given
+    }
+
     /// "All" or "some", where it isn't known.
     pub(crate) fn quantified_anew(
         &mut self,
@@ -190,24 +243,26 @@ impl Diagrams {
         a: Edge,
     ) -> Result<Edge, StoreFault>
         requires list { list < length self.old.lists }
-        requires live { IsEdge self.old.state a.0 }
+        requires held { IsHeld self.old.state a.0 }
         ensures given { IfOk result (λ e. HasFunction self.new (over_at all self.old list a.0) e.0) }
-        ensures grows { Grows self.old self.new (MayMake all self.old list a.0) }
-        ensures full { result ≡ Err StoreFault.Full → IsFull self.new.state }
+        ensures works { Works self.old self.new self.old.state.stack }
+        ensures stack { self.new.state.stack ≡ self.old.state.stack }
+        ensures full { result ≡ Err StoreFault.Full → IsSpent self.new self.old.state.stack (MayMake all self.old list a.0) }
     {
-        let mut frames = self.take_edges();
-        let given = self.quantified_in(all, list, &mut frames, a);
-        self.put_edges(frames);
+        let depth = self.depth();
+        let given = self.framed_quantified(all, list, a);
+        self.cut(depth);
         given
     }
 
     /// "All" or "some" over a list.
     pub(crate) fn quantified(&mut self, all: bool, list: usize, a: Edge) -> Result<Edge, StoreFault>
         requires list { list < length self.old.lists }
-        requires live { IsEdge self.old.state a.0 }
+        requires held { IsHeld self.old.state a.0 }
         ensures given { IfOk result (λ e. HasFunction self.new (joined_over (join_of all) (list_at self.old list) (function_at self.old a.0)) e.0) }
-        ensures grows { Grows self.old self.new (IsUnfinished (join_of all) (IsQuantifiedPart (join_of all) (list_at self.old list) (diagram_of self.old.state a.0))) }
-        ensures full { result ≡ Err StoreFault.Full → IsFull self.new.state }
+        ensures works { Works self.old self.new self.old.state.stack }
+        ensures stack { self.new.state.stack ≡ self.old.state.stack }
+        ensures full { result ≡ Err StoreFault.Full → IsSpent self.new self.old.state.stack (IsUnfinished (join_of all) (IsQuantifiedPart (join_of all) (list_at self.old list) (diagram_of self.old.state a.0))) }
     {
         match self.known_quantified(all, list, a) {
             Some(edge) => Ok(edge),

@@ -1,18 +1,18 @@
 //! "Some make both true" over a list of levels.
 
-ghost use Rattle.std.specs.Prelude.{◌≡◌, ◌<◌, [], true, false, length, IfOk, MatchOption};
-ghost use Rattle.bdd_store.specs.State.{IsEdge, diagram_of, IsFull};
+ghost use Rattle.std.specs.Prelude.{◌≡◌, ◌<◌, [], true, false, length, IfOk, OnErr, MatchOption};
+ghost use Rattle.bdd_store.specs.State.{IsEdge, IsHeld, diagram_of};
 ghost use Rattle.bdd_ops.specs.Functions.{joined, joined_over, join_of};
 ghost use Rattle.bdd_ops.specs.Contents.{function_at, list_at};
-ghost use Rattle.bdd_ops.specs.Steps.{HasFunction, IsUnfinished, IsRelatedPart, IsConjunctionAt, Grows, level_at};
-ghost use Rattle.bdd_ops.specs.Frames.{IsTop};
-ghost use Rattle.bdd_ops.specs.Questions.{Asks, AreHalves, IsAnswered, GivesTop, AreBothLive, relating, related_at, MayRelate};
+ghost use Rattle.bdd_ops.specs.Steps.{HasFunction, IsUnfinished, IsRelatedPart, IsConjunctionAt, IsSpent, Works, level_at};
+ghost use Rattle.bdd_ops.specs.Frames.{IsTop, MovesStack, IsOver};
+ghost use Rattle.bdd_ops.specs.Questions.{Asks, AreHalves, IsAnswered, GivesTop, AreBothLive, AreBothHeld, relating, related_at, MayRelate};
 
-use crate::diagrams::Diagrams;
 use crate::frames::{Frame, Pair, Turn, Waits, await_high, drop_top, push, top, waiting};
+use crate::work::Work;
 use bdd_store::{Edge, StoreFault};
 
-impl Diagrams {
+impl Work {
     /// The conjunction, where it is one of the two.
     fn conjunction_at_once(&self, a: Edge, b: Edge) -> Option<Edge>
         requires a_live { IsEdge self.now.state a.0 }
@@ -39,10 +39,11 @@ impl Diagrams {
     /// The answer, where it is known without the parts'.
     fn known_related(&mut self, list: usize, asked: Pair) -> Result<Option<Edge>, StoreFault>
         requires list { list < length self.old.lists }
-        requires live { AreBothLive self.old asked }
+        requires held { AreBothHeld self.old self.old.state.stack asked }
         ensures given { IfOk result (λ known. MatchOption known (level_at self.new asked.a.0 < self.new.state.table.levels) (λ e. HasFunction self.new (related_at self.new list asked.a.0 asked.b.0) e.0)) }
-        ensures grows { Grows self.old self.new (MayRelate self.old list asked.a.0 asked.b.0) }
-        ensures full { result ≡ Err StoreFault.Full → IsFull self.new.state }
+        ensures works { Works self.old self.new self.old.state.stack }
+        ensures stack { self.new.state.stack ≡ self.old.state.stack }
+        ensures full { result ≡ Err StoreFault.Full → IsSpent self.new self.old.state.stack (MayRelate self.old list asked.a.0 asked.b.0) }
     {
         if let Some(edge) = self.conjunction_at_once(asked.a, asked.b) {
             if let Some(known) = self.known_quantified(false, list, edge) {
@@ -62,10 +63,11 @@ impl Diagrams {
         asked: Pair,
     ) -> Result<Turn<Pair>, StoreFault>
         requires list { list < length self.old.lists }
-        requires live { AreBothLive self.old asked }
+        requires held { AreBothHeld self.old self.old.state.stack asked }
         ensures asks { IfOk result (λ turn. Asks (relating list self.new) asked frames.old.items frames.new.items turn) }
-        ensures grows { Grows self.old self.new (MayRelate self.old list asked.a.0 asked.b.0) }
-        ensures full { result ≡ Err StoreFault.Full → IsFull self.new.state }
+        ensures works { Works self.old self.new self.old.state.stack }
+        ensures stack { self.new.state.stack ≡ self.old.state.stack }
+        ensures full { result ≡ Err StoreFault.Full → IsSpent self.new self.old.state.stack (MayRelate self.old list asked.a.0 asked.b.0) }
     {
         if let Some(edge) = self.known_related(list, asked)? {
             return Ok(Turn::Given(edge));
@@ -93,9 +95,11 @@ impl Diagrams {
     ) -> Result<Edge, StoreFault>
         requires list { list < length self.old.lists }
         requires halves { AreHalves (relating list self.old) level asked low.0 high.0 }
+        requires held { AreBothHeld self.old self.old.state.stack asked }
         ensures given { IfOk result (λ e. HasFunction self.new (related_at self.new list asked.a.0 asked.b.0) e.0) }
-        ensures grows { Grows self.old self.new (MayRelate self.old list asked.a.0 asked.b.0) }
-        ensures full { result ≡ Err StoreFault.Full → IsFull self.new.state }
+        ensures works { Works self.old self.new self.old.state.stack }
+        ensures stack { self.new.state.stack ≡ self.old.state.stack }
+        ensures full { result ≡ Err StoreFault.Full → IsSpent self.new self.old.state.stack (MayRelate self.old list asked.a.0 asked.b.0) }
     {
         let edge = self.join_over(false, list, level, low, high)?;
         self.remember_related(list, asked.a, asked.b, edge);
@@ -113,10 +117,13 @@ impl Diagrams {
     ) -> Result<Turn<Pair>, StoreFault>
         requires list { list < length self.old.lists }
         requires answered { IsAnswered (relating list self.old) frame edge.0 }
+        requires held { AreBothHeld self.old self.old.state.stack frame.asked }
         requires top { IsTop frames.old.items frame }
         ensures gives { IfOk result (λ turn. GivesTop (relating list self.new) frame frames.old.items frames.new.items turn) }
-        ensures grows { Grows self.old self.new (MayRelate self.old list frame.asked.a.0 frame.asked.b.0) }
-        ensures full { result ≡ Err StoreFault.Full → IsFull self.new.state }
+        ensures works { Works self.old self.new self.old.state.stack }
+        ensures moves { IfOk result (λ turn. MovesStack frames.old.items frames.new.items self.old.state.stack self.new.state.stack) }
+        ensures refused { OnErr result (self.new.state.stack ≡ self.old.state.stack) }
+        ensures full { result ≡ Err StoreFault.Full → IsSpent self.new self.old.state.stack (MayRelate self.old list frame.asked.a.0 frame.asked.b.0) }
     {
         match frame.waits {
             Waits::Low(high) => {
@@ -125,12 +132,14 @@ impl Diagrams {
                     self.remember_related(list, frame.asked.a, frame.asked.b, edge);
                     return Ok(Turn::Given(edge));
                 }
+                self.push(edge)?;
                 await_high(frames, frame, edge);
                 Ok(Turn::Ask(high))
             }
             Waits::High(low) => {
-                drop_top(frames);
                 let whole = self.join_related(list, frame.asked, frame.level, low, edge)?;
+                drop_top(frames);
+                self.pop();
                 Ok(Turn::Given(whole))
             }
         }
@@ -144,11 +153,12 @@ impl Diagrams {
         whole: Pair,
     ) -> Result<Edge, StoreFault>
         requires list { list < length self.old.lists }
-        requires live { AreBothLive self.old whole }
+        requires held { AreBothHeld self.old self.old.state.stack whole }
         requires none_waits { frames.old.items ≡ [] }
         ensures given { IfOk result (λ e. HasFunction self.new (related_at self.old list whole.a.0 whole.b.0) e.0) }
-        ensures grows { Grows self.old self.new (MayRelate self.old list whole.a.0 whole.b.0) }
-        ensures full { result ≡ Err StoreFault.Full → IsFull self.new.state }
+        ensures works { Works self.old self.new self.old.state.stack }
+        ensures over { IsOver self.old.state.stack self.new.state.stack }
+        ensures full { result ≡ Err StoreFault.Full → IsSpent self.new self.old.state.stack (MayRelate self.old list whole.a.0 whole.b.0) }
     {
         let mut turn = Turn::Ask(whole);
         loop {
@@ -164,18 +174,34 @@ impl Diagrams {
         }
     }
 
+    /// The same, with the memory that is kept for frames.
+    fn framed_related(&mut self, list: usize, whole: Pair) -> Result<Edge, StoreFault>
+        requires list { list < length self.old.lists }
+        requires held { AreBothHeld self.old self.old.state.stack whole }
+        ensures given { IfOk result (λ e. HasFunction self.new (related_at self.old list whole.a.0 whole.b.0) e.0) }
+        ensures works { Works self.old self.new self.old.state.stack }
+        ensures over { IsOver self.old.state.stack self.new.state.stack }
+        ensures full { result ≡ Err StoreFault.Full → IsSpent self.new self.old.state.stack (MayRelate self.old list whole.a.0 whole.b.0) }
+    {
+        let mut frames = self.take_pairs();
+        let given = self.related_in(list, &mut frames, whole);
+        self.put_pairs(frames);
+        given
+    }
+
     /// The function that is true where some values at the list's levels make both edges true.
     pub(crate) fn related(&mut self, list: usize, a: Edge, b: Edge) -> Result<Edge, StoreFault>
         requires list { list < length self.old.lists }
-        requires a_live { IsEdge self.old.state a.0 }
-        requires b_live { IsEdge self.old.state b.0 }
+        requires a_held { IsHeld self.old.state a.0 }
+        requires b_held { IsHeld self.old.state b.0 }
         ensures given { IfOk result (λ e. HasFunction self.new (joined_over (join_of false) (list_at self.old list) (joined (join_of true) (function_at self.old a.0) (function_at self.old b.0))) e.0) }
-        ensures grows { Grows self.old self.new (IsUnfinished (join_of false) (IsRelatedPart (list_at self.old list) (diagram_of self.old.state a.0) (diagram_of self.old.state b.0))) }
-        ensures full { result ≡ Err StoreFault.Full → IsFull self.new.state }
+        ensures works { Works self.old self.new self.old.state.stack }
+        ensures stack { self.new.state.stack ≡ self.old.state.stack }
+        ensures full { result ≡ Err StoreFault.Full → IsSpent self.new self.old.state.stack (IsUnfinished (join_of false) (IsRelatedPart (list_at self.old list) (diagram_of self.old.state a.0) (diagram_of self.old.state b.0))) }
     {
-        let mut frames = self.take_pairs();
-        let given = self.related_in(list, &mut frames, Pair { a, b });
-        self.put_pairs(frames);
+        let depth = self.depth();
+        let given = self.framed_related(list, Pair { a, b });
+        self.cut(depth);
         given
     }
 }

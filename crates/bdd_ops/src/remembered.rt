@@ -8,7 +8,7 @@ ghost use Rattle.bdd_ops.specs.Contents.{function_at, list_at, over_op};
 ghost use Rattle.bdd_ops.specs.Steps.{IsChoice, SameNodes, HasFunction};
 ghost use Rattle.bdd_ops.specs.Questions.{joined_of};
 
-use crate::diagrams::Diagrams;
+use crate::work::Work;
 use bdd_store::Edge;
 
 /// The number of the operation `ite` in answers.
@@ -23,7 +23,7 @@ fn quantifier(all: bool, list: usize) -> u32
     first + 4 * list as u32
 }
 
-impl Diagrams {
+impl Work {
     /// The answer to a choice, if one was remembered.
     pub(crate) fn recall_choice(&self, a: Edge, b: Edge, c: Edge) -> Option<Edge>
         requires a_live { IsEdge self.now.state a.0 }
@@ -40,7 +40,8 @@ impl Diagrams {
         requires b_live { IsEdge self.old.state b.0 }
         requires c_live { IsEdge self.old.state c.0 }
         requires choice { IsChoice self.old (function_at self.old a.0) (function_at self.old b.0) (function_at self.old c.0) r.0 }
-        ensures { SameNodes self.old self.new }
+        ensures same { SameNodes self.old self.new }
+        ensures stack { self.new.state.stack ≡ self.old.state.stack }
     {
         self.store.remember(CHOICE, a, b, c, r);
     }
@@ -64,7 +65,8 @@ impl Diagrams {
         requires a_live { IsEdge self.old.state a.0 }
         requires b_live { IsEdge self.old.state b.0 }
         requires joined { HasFunction self.old (joined_of all self.old a.0 b.0) r.0 }
-        ensures { SameNodes self.old self.new }
+        ensures same { SameNodes self.old self.new }
+        ensures stack { self.new.state.stack ≡ self.old.state.stack }
     {
         let decides = self.constant_edge(!all);
         if all {
@@ -89,7 +91,8 @@ impl Diagrams {
         requires list { list < length self.old.lists }
         requires live { IsEdge self.old.state a.0 }
         requires quantified { HasFunction self.old (joined_over (join_of all) (list_at self.old list) (function_at self.old a.0)) r.0 }
-        ensures { SameNodes self.old self.new }
+        ensures same { SameNodes self.old self.new }
+        ensures stack { self.new.state.stack ≡ self.old.state.stack }
     {
         let none = self.store.fixed(false);
         self.store.remember(quantifier(all, list), a, none, none, r);
@@ -112,7 +115,8 @@ impl Diagrams {
         requires a_live { IsEdge self.old.state a.0 }
         requires b_live { IsEdge self.old.state b.0 }
         requires related { HasFunction self.old (joined_over (join_of false) (list_at self.old list) (joined (join_of true) (function_at self.old a.0) (function_at self.old b.0))) r.0 }
-        ensures { SameNodes self.old self.new }
+        ensures same { SameNodes self.old self.new }
+        ensures stack { self.new.state.stack ≡ self.old.state.stack }
     {
         let none = self.store.fixed(false);
         self.store.remember(10 + 4 * list as u32, a, b, none, r);
@@ -133,7 +137,8 @@ impl Diagrams {
         requires list { list < length self.old.lists }
         requires live { IsEdge self.old.state a.0 }
         requires moved { HasFunction self.old (shifted (list_at self.old list) (function_at self.old a.0)) r.0 }
-        ensures { SameNodes self.old self.new }
+        ensures same { SameNodes self.old self.new }
+        ensures stack { self.new.state.stack ≡ self.old.state.stack }
     {
         let none = self.store.fixed(false);
         self.store.remember(11 + 4 * list as u32, a, none, none, r);

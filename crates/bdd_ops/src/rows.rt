@@ -10,7 +10,7 @@ ghost use Rattle.bdd_ops.specs.Paths.{Agrees};
 ghost use Rattle.bdd_ops.specs.Together.{IsRow, IsChosen, IsSettled, SettlesRow, all_in, first_bit, AreFirst};
 ghost use Rattle.bdd_ops.specs.Searching.{top_of};
 
-use crate::diagrams::Diagrams;
+use crate::work::Work;
 use bdd_store::Edge;
 
 /// The bit that comes first where this is fixed.
@@ -33,7 +33,7 @@ pub fn write_first(fixed: &[Option<bool>], out: &mut [bool])
     }
 }
 
-impl Diagrams {
+impl Work {
     /// The part of an edge that a bit at a level leads to: the edge itself where it stands later.
     pub(crate) fn chosen(&self, e: Edge, level: usize, bit: bool) -> Edge
         requires live { IsEdge self.now.state e.0 }

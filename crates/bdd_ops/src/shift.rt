@@ -1,17 +1,18 @@
 //! Diagrams with their levels moved.
 
-ghost use Rattle.std.specs.Prelude.{◌≡◌, ◌<◌, [], length, IfOk, MatchOption};
-ghost use Rattle.bdd_store.specs.State.{IsEdge, diagram_of, IsFull};
+ghost use Rattle.std.specs.Prelude.{◌≡◌, ◌<◌, [], length, IfOk, OnErr, MatchOption};
+ghost use Rattle.bdd_store.specs.State.{IsHeld, diagram_of};
 ghost use Rattle.spec_model.specs.Diagrams.{shifted};
 ghost use Rattle.bdd_ops.specs.Contents.{function_at, list_at};
-ghost use Rattle.bdd_ops.specs.Steps.{HasFunction, IsShiftedPart, IsShift, Grows, level_at};
-ghost use Rattle.bdd_ops.specs.MovedFrames.{IsMovable, Moves, AsksMoved, AreHalves, IsAnswered, GivesMoved};
+ghost use Rattle.bdd_ops.specs.Steps.{HasFunction, IsShiftedPart, IsShift, IsSpent, Works, level_at};
+ghost use Rattle.bdd_ops.specs.Frames.{IsTop, MovesStack, IsOver};
+ghost use Rattle.bdd_ops.specs.Questions.{Asks, AreHalves, IsAnswered, GivesTop, IsMovable, Moves, MayMove, moving};
 
-use crate::diagrams::Diagrams;
-use crate::frames::{Frame, Turn, Waits, push, waiting, waiting_high};
+use crate::frames::{Frame, Turn, Waits, await_high, drop_top, push, top, waiting};
+use crate::work::Work;
 use bdd_store::{Edge, StoreFault};
 
-impl Diagrams {
+impl Work {
     /// The moved edge, where it is known without its parts.
     fn known_moved(&self, list: usize, asked: Edge) -> Option<Edge>
         requires { IsMovable self.now list asked }
@@ -31,7 +32,7 @@ impl Diagrams {
         asked: Edge,
     ) -> Result<Turn<Edge>, StoreFault>
         requires { IsMovable self.now list asked }
-        ensures asks { IfOk result (λ turn. AsksMoved self.now list asked frames.old.items frames.new.items turn) }
+        ensures asks { IfOk result (λ turn. Asks (moving list self.now) asked frames.old.items frames.new.items turn) }
         ensures memory { result ≡ Err StoreFault.Full → ⊥ }
     {
         if let Some(edge) = self.known_moved(list, asked) {
@@ -52,10 +53,12 @@ impl Diagrams {
         low: Edge,
         high: Edge,
     ) -> Result<Edge, StoreFault>
-        requires { AreHalves self.old list level asked low.0 high.0 }
+        requires halves { AreHalves (moving list self.old) level asked low.0 high.0 }
+        requires held { IsHeld self.old.state asked.0 }
         ensures given { IfOk result (λ e. Moves self.new list asked e.0) }
-        ensures grows { Grows self.old self.new (IsShiftedPart (list_at self.old list) (diagram_of self.old.state asked.0)) }
-        ensures full { result ≡ Err StoreFault.Full → IsFull self.new.state }
+        ensures works { Works self.old self.new self.old.state.stack }
+        ensures stack { self.new.state.stack ≡ self.old.state.stack }
+        ensures full { result ≡ Err StoreFault.Full → IsSpent self.new self.old.state.stack (MayMove self.old list asked.0) }
     {
         let to = self.target(list, level);
         let edge = self.join(to, low, high)?;
@@ -71,18 +74,25 @@ impl Diagrams {
         frame: Frame<Edge>,
         edge: Edge,
     ) -> Result<Turn<Edge>, StoreFault>
-        requires { IsAnswered self.old list frame edge.0 }
-        ensures gives { IfOk result (λ turn. GivesMoved self.new list frame frames.old.items frames.new.items turn) }
-        ensures grows { Grows self.old self.new (IsShiftedPart (list_at self.old list) (diagram_of self.old.state frame.asked.0)) }
-        ensures full { result ≡ Err StoreFault.Full → IsFull self.new.state }
+        requires answered { IsAnswered (moving list self.old) frame edge.0 }
+        requires held { IsHeld self.old.state frame.asked.0 }
+        requires top { IsTop frames.old.items frame }
+        ensures gives { IfOk result (λ turn. GivesTop (moving list self.new) frame frames.old.items frames.new.items turn) }
+        ensures works { Works self.old self.new self.old.state.stack }
+        ensures moves { IfOk result (λ turn. MovesStack frames.old.items frames.new.items self.old.state.stack self.new.state.stack) }
+        ensures refused { OnErr result (self.new.state.stack ≡ self.old.state.stack) }
+        ensures full { result ≡ Err StoreFault.Full → IsSpent self.new self.old.state.stack (MayMove self.old list frame.asked.0) }
     {
         match frame.waits {
             Waits::Low(high) => {
-                push(frames, waiting_high(frame, edge))?;
+                self.push(edge)?;
+                await_high(frames, frame, edge);
                 Ok(Turn::Ask(high))
             }
             Waits::High(low) => {
                 let whole = self.join_moved(list, frame.asked, frame.level, low, edge)?;
+                drop_top(frames);
+                self.pop();
                 Ok(Turn::Given(whole))
             }
         }
@@ -96,17 +106,19 @@ impl Diagrams {
         whole: Edge,
     ) -> Result<Edge, StoreFault>
         requires movable { IsMovable self.old list whole }
+        requires held { IsHeld self.old.state whole.0 }
         requires none_waits { frames.old.items ≡ [] }
         ensures given { IfOk result (λ e. HasFunction self.new (shifted (list_at self.old list) (function_at self.old whole.0)) e.0) }
-        ensures grows { Grows self.old self.new (IsShiftedPart (list_at self.old list) (diagram_of self.old.state whole.0)) }
-        ensures full { result ≡ Err StoreFault.Full → IsFull self.new.state }
+        ensures works { Works self.old self.new self.old.state.stack }
+        ensures over { IsOver self.old.state.stack self.new.state.stack }
+        ensures full { result ≡ Err StoreFault.Full → IsSpent self.new self.old.state.stack (MayMove self.old list whole.0) }
     {
         let mut turn = Turn::Ask(whole);
         loop {
             match turn {
                 Turn::Ask(asked) => turn = self.ask_moved(list, frames, asked)?,
                 Turn::Given(edge) => {
-                    let Some(frame) = frames.pop() else {
+                    let Some(frame) = top(frames) else {
                         return Ok(edge);
                     };
                     turn = self.give_moved(list, frames, frame, edge)?;
@@ -115,21 +127,37 @@ impl Diagrams {
         }
     }
 
+    /// The same, with the memory that is kept for frames.
+    fn framed_move(&mut self, list: usize, whole: Edge) -> Result<Edge, StoreFault>
+        requires movable { IsMovable self.old list whole }
+        requires held { IsHeld self.old.state whole.0 }
+        ensures given { IfOk result (λ e. HasFunction self.new (shifted (list_at self.old list) (function_at self.old whole.0)) e.0) }
+        ensures works { Works self.old self.new self.old.state.stack }
+        ensures over { IsOver self.old.state.stack self.new.state.stack }
+        ensures full { result ≡ Err StoreFault.Full → IsSpent self.new self.old.state.stack (MayMove self.old list whole.0) }
+    {
+        let mut frames = self.take_edges();
+        let given = self.moved_in(list, &mut frames, whole);
+        self.put_edges(frames);
+        given
+    }
+
     /// The diagram whose levels are those that the list gives for the edge's.
     pub(crate) fn moved(&mut self, list: usize, a: Edge) -> Result<Edge, StoreFault>
         requires list { list < length self.old.lists }
-        requires live { IsEdge self.old.state a.0 }
+        requires held { IsHeld self.old.state a.0 }
         requires shift { IsShift self.old.state.table.levels (list_at self.old list) (diagram_of self.old.state a.0) }
         ensures given { IfOk result (λ e. HasFunction self.new (shifted (list_at self.old list) (function_at self.old a.0)) e.0) }
-        ensures grows { Grows self.old self.new (IsShiftedPart (list_at self.old list) (diagram_of self.old.state a.0)) }
-        ensures full { result ≡ Err StoreFault.Full → IsFull self.new.state }
+        ensures works { Works self.old self.new self.old.state.stack }
+        ensures stack { self.new.state.stack ≡ self.old.state.stack }
+        ensures full { result ≡ Err StoreFault.Full → IsSpent self.new self.old.state.stack (IsShiftedPart (list_at self.old list) (diagram_of self.old.state a.0)) }
     {
         if let Some(edge) = self.known_moved(list, a) {
             return Ok(edge);
         }
-        let mut frames = self.take_edges();
-        let given = self.moved_in(list, &mut frames, a);
-        self.put_edges(frames);
+        let depth = self.depth();
+        let given = self.framed_move(list, a);
+        self.cut(depth);
         given
     }
 }

@@ -8,7 +8,7 @@ ghost use Rattle.bdd_ops.specs.Paths.{IsFirst, HasNone};
 ghost use Rattle.bdd_ops.specs.Together.{Together, all_of};
 
 use crate::OutOfMemory;
-use crate::diagrams::Diagrams;
+use crate::work::Work;
 use bdd_store::{Edge, Root};
 use std::alloc::{AllocError, Global};
 use std::marker::Model;
@@ -73,9 +73,9 @@ impl Conjunction {
     }
 }
 
-impl Diagrams {
+impl Work {
     /// Asks for one root more.
-    pub fn include(&self, root: &Root, all: &mut Conjunction)
+    pub(crate) fn include(&self, root: &Root, all: &mut Conjunction)
         requires kept { IsRoot self.now.state root.now }
         requires room { length all.old.roots < all.old.most }
         ensures { all.new ≡ record { levels = all.old.levels; most = all.old.most; roots = all.old.roots ++ root.now ∷ [] } }
@@ -84,7 +84,7 @@ impl Diagrams {
     }
 
     /// Asks for these roots too.
-    pub fn include_all(&self, roots: &[Root], all: &mut Conjunction)
+    pub(crate) fn include_all(&self, roots: &[Root], all: &mut Conjunction)
         requires kept { All (λ n. IsRoot self.now.state n) roots.now }
         requires room { length all.old.roots + length roots.now ≤ all.old.most }
         ensures { all.new ≡ record { levels = all.old.levels; most = all.old.most; roots = all.old.roots ++ roots.now } }
@@ -99,7 +99,7 @@ impl Diagrams {
     /// there are none, what `out` holds then means nothing. It takes no memory. Levels at which no edge stands cost
     /// nothing, each edge passes fixed levels at once, and an edge that is true then is left out; in the worst case it tries
     /// both bits of each free level, as the question is satisfiability.
-    pub fn first_common_path(
+    pub(crate) fn first_common_path(
         &self,
         all: &mut Conjunction,
         fixed: &[Option<bool>],

@@ -8,7 +8,7 @@ use Rattle.bdd_bits.specs.Calls.{KeepsRoots, SameNodes}
 use Rattle.regions.specs.declared.types.Halt.{Halt}
 use Rattle.regions.specs.declared.types.Halt.TheVariants as halt
 use Rattle.bit_compile.specs.Making.{Makes}
-use Rattle.bit_compile.proofs.MakingLemmas.{keeps_then, is_root, root_added, not_budget, given_back}
+use Rattle.bit_compile.proofs.MakingLemmas.{is_root, root_added, not_budget, given_back}
 use Rattle.bdd_sets.specs.declared.moves.Members.{Members}
 use Rattle.bdd_sets.specs.declared.moves.NextLevels.{NextLevels}
 use Rattle.bdd_sets.specs.Members.{MoveFunctions, AreRoots, AreMembers, all_true, functions_at, move_functions, reply_of, avoiding, lists_at}
@@ -80,9 +80,9 @@ pub fits_after : (old mid : Contents) (b : ℕ) (g : Function) (m : Members) (le
 fits_after old mid b g m levels e makes are kept fits =
     subst (λ (k : MoveFunctions). FitsEarly k levels mid e) (sym (members_kept old mid m makes.keeps are)) (early_stays old mid (move_functions old m) levels e makes.keeps kept fits)
 
--- the target is still there where the early way found the store full and what nothing needs is freed
-pub still_target : (base old mid freed : Contents) (target : ℕ) (f g : Function) → Makes base old (Ok target) f → Makes old mid (Err halt.Budget) g → SameRoots mid.state freed.state → KeepsRoots mid freed → Makes base freed (Ok target) f
-still_target base old mid freed target f g first refused roots keeps = made_still base old freed target f first (λ n. roots n ∙ refused.refused n) (keeps_then old mid freed refused.keeps refused.refused keeps)
+-- the target is still there where the early way found the store full
+pub still_target : (base old mid : Contents) (target : ℕ) (f g : Function) → Makes base old (Ok target) f → Makes old mid (Err halt.Budget) g → Makes base mid (Ok target) f
+still_target base old mid target f g first refused = made_still base old mid target f first refused.refused refused.keeps
 
 and_true : (a : Bool) → (a && true) ≡ a
 and_true true = refl

@@ -1,8 +1,8 @@
-//! What players force, the early way first. Where it finds the store full, all that it made is given back, what no kept
-//! root needs is freed, and the plain way is tried, whose refusal alone is answered. Where lines are grouped, which is under
-//! no declared order, its own refusal is answered, and nothing is told of it.
+//! What players force, the early way first. Where it finds the store full, all that it made is given back, and the plain way
+//! is tried, whose refusal alone is answered. Where lines are grouped, which is under no declared order, its own refusal is
+//! answered, and nothing is told of it.
 
-ghost use Rattle.std.specs.Prelude.{◌≡◌, ◌≤◌, ◌+◌, ℕ, true, false, Ok, None};
+ghost use Rattle.std.specs.Prelude.{◌≡◌, ◌≤◌, ◌+◌, ℕ, true, false, Ok};
 ghost use Rattle.spec_model.specs.Diagrams.{Function, ite, shifted};
 ghost use Rattle.bdd_store.specs.State.{IsRoot, roots_at};
 ghost use Rattle.bdd_ops.specs.Functions.{joined, join_of};
@@ -38,19 +38,18 @@ pub struct Early {
 }
 
 impl Early {
-    /// The products of a game's lines, or none where one is refused. Where `near` has the bits in the order of their levels,
-    /// the lines are grouped.
+    /// The products of a game's lines, in groups if they are asked for, or none where one is refused.
     pub fn make(
         diagrams: &mut Diagrams,
         alloc: Global,
         members: &Members,
         levels: &NextLevels,
-        near: &Option<Vec<u32>>,
+        grouped: bool,
     ) -> Option<Early>
         requires { AreMembers diagrams.old members.now }
         ensures fits { FitsEarly (move_functions diagrams.old members.now) levels.now diagrams.new result }
-        ensures lines { near.now ≡ None → AreLinesOf (lists_at diagrams.old members.now) diagrams.new result }
-        ensures plain { near.now ≡ None → is_grouped result ≡ false }
+        ensures lines { grouped ≡ false → AreLinesOf (lists_at diagrams.old members.now) diagrams.new result }
+        ensures plain { grouped ≡ false → is_grouped result ≡ false }
         ensures added { (n : ℕ) → roots_at diagrams.new.state n ≡ roots_at diagrams.old.state n + roots_of_early n result }
         ensures keeps { KeepsRoots diagrams.old diagrams.new }
     {
@@ -60,16 +59,16 @@ impl Early {
             &members.outputs,
             &members.update,
             &levels.reply,
-            near,
+            grouped,
         );
         let Ok(replies) = made else {
             return None;
         };
-        match Product::make(diagrams, alloc, &members.inputs, &[], &levels.all, near) {
+        match Product::make(diagrams, alloc, &members.inputs, &[], &levels.all, grouped) {
             Ok(inputs) => Some(Early {
                 replies,
                 inputs,
-                grouped: near.is_some(),
+                grouped,
             }),
             Err(_) => {
                 replies.release(diagrams);
@@ -141,7 +140,6 @@ fn avoided_first(
                 diagrams.release(target);
                 return Err(Halt::Budget);
             }
-            diagrams.reclaim();
             avoided_plainly(diagrams, target, members, levels)
         }
     }

@@ -85,19 +85,18 @@ fn groups_of(diagrams: &mut Diagrams, alloc: Global, members: &[Root]) -> Result
     Ok(list)
 }
 
-/// Members in groups, in the order of the levels at which they begin, where these are the bits in the order of their levels.
+/// Members in groups, in the order of the levels at which they begin.
 fn sorted_groups(
     diagrams: &mut Diagrams,
     alloc: Global,
     members: &[Root],
-    bits: &[u32],
     first: First,
 ) -> Result<Vec<Root>, Halt>
     requires { AreRoots diagrams.old members.now }
     ensures lines { MakesLines diagrams.old diagrams.new result (all_true (functions_at diagrams.old members.now)) }
     ensures some { IfOk result (λ roots. 0 < length roots.items) }
 {
-    let sorted = sorted(diagrams, alloc, members, bits, first)?;
+    let sorted = sorted(diagrams, alloc, members, first)?;
     let made = groups_of(diagrams, alloc, &sorted);
     release_list(diagrams, sorted);
     made
@@ -108,14 +107,13 @@ fn fewest_groups(
     diagrams: &mut Diagrams,
     alloc: Global,
     members: &[Root],
-    bits: &[u32],
 ) -> Result<Vec<Root>, Halt>
     requires { AreRoots diagrams.old members.now }
     ensures lines { MakesLines diagrams.old diagrams.new result (all_true (functions_at diagrams.old members.now)) }
     ensures some { IfOk result (λ roots. 0 < length roots.items) }
 {
-    let deepest = sorted_groups(diagrams, alloc, members, bits, First::Deepest)?;
-    match sorted_groups(diagrams, alloc, members, bits, First::Topmost) {
+    let deepest = sorted_groups(diagrams, alloc, members, First::Deepest)?;
+    match sorted_groups(diagrams, alloc, members, First::Topmost) {
         Ok(topmost) => {
             if topmost.len() < deepest.len() {
                 release_list(diagrams, deepest);
@@ -132,13 +130,12 @@ fn fewest_groups(
     }
 }
 
-/// The members of two lists in groups, where these are the bits in the order of their levels.
+/// The members of two lists in groups.
 pub fn grouped(
     diagrams: &mut Diagrams,
     alloc: Global,
     first: &[Root],
     second: &[Root],
-    bits: &[u32],
 ) -> Result<Vec<Root>, Halt>
     requires first { AreRoots diagrams.old first.now }
     requires second { AreRoots diagrams.old second.now }
@@ -148,7 +145,7 @@ pub fn grouped(
 {
     let all = with_kept(diagrams, Vec::new(alloc), first)?;
     let all = with_kept(diagrams, all, second)?;
-    let made = fewest_groups(diagrams, alloc, &all, bits);
+    let made = fewest_groups(diagrams, alloc, &all);
     release_list(diagrams, all);
     made
 }

@@ -1,6 +1,6 @@
 //! Products of lines, and levels taken out of a target joined with them.
 
-ghost use Rattle.std.specs.Prelude.{◌≡◌, ◌<◌, ◌≤◌, ◌+◌, ℕ, List, Ok, None, IfOk, length};
+ghost use Rattle.std.specs.Prelude.{◌≡◌, ◌<◌, ◌≤◌, ◌+◌, ℕ, List, Ok, false, IfOk, length};
 ghost use Rattle.spec_model.specs.Diagrams.{Function, and_exists_over};
 ghost use Rattle.bdd_store.specs.State.{IsRoot, roots_at};
 ghost use Rattle.bdd_bits.specs.Contents.{Contents, function_at};
@@ -26,14 +26,13 @@ pub struct Product {
     pub outs: Vec<Vec<u32>>,
 }
 
-/// The lines of a product of two lists of members: in groups where `near` has the bits in the order of their levels, and
-/// else in their order.
+/// The lines of a product of two lists of members: in groups, if they are asked for, and else in their order.
 fn lines_by(
     diagrams: &mut Diagrams,
     alloc: Global,
     first: &[Root],
     second: &[Root],
-    near: &Option<Vec<u32>>,
+    in_groups: bool,
 ) -> Result<Vec<Root>, Halt>
     requires first { AreRoots diagrams.old first.now }
     requires second { AreRoots diagrams.old second.now }
@@ -41,34 +40,34 @@ fn lines_by(
         MakesLines old diagrams.new result (both_lists (functions_at old first.now) (functions_at old second.now)) }
     ensures some { IfOk result (λ roots. 0 < length roots.items) }
     ensures members { let old = diagrams.old in
-        near.now ≡ None → IfOk result (λ roots. AreOfMembers (functions_at old first.now) (functions_at old second.now) (functions_at diagrams.new roots.items)) }
+        in_groups ≡ false → IfOk result (λ roots. AreOfMembers (functions_at old first.now) (functions_at old second.now) (functions_at diagrams.new roots.items)) }
 {
-    match near {
-        None => lines_of(diagrams, alloc, first, second),
-        Some(bits) => grouped(diagrams, alloc, first, second, bits),
+    if in_groups {
+        grouped(diagrams, alloc, first, second)
+    } else {
+        lines_of(diagrams, alloc, first, second)
     }
 }
 
 impl Product {
-    /// The product of two lists of members, out of which the levels `out` are taken. Where `near` has the bits in the order of
-    /// their levels, the members are grouped, and nothing is told of each line. `Budget`: the store is full. `Memory`: none
-    /// was given.
+    /// The product of two lists of members, out of which the levels `out` are taken. Where the members are to stand in groups,
+    /// nothing is told of each line. `Budget`: the store is full. `Memory`: none was given.
     pub fn make(
         diagrams: &mut Diagrams,
         alloc: Global,
         first: &[Root],
         second: &[Root],
         out: &[u32],
-        near: &Option<Vec<u32>>,
+        in_groups: bool,
     ) -> Result<Product, Halt>
         requires first { AreRoots diagrams.old first.now }
         requires second { AreRoots diagrams.old second.now }
         ensures product { let old = diagrams.old in
             MakesProduct old diagrams.new result (both_lists (functions_at old first.now) (functions_at old second.now)) out.now }
         ensures members { let old = diagrams.old in
-            near.now ≡ None → IfOk result (λ p. AreOfMembers (functions_at old first.now) (functions_at old second.now) (functions_at diagrams.new p.lines.items)) }
+            in_groups ≡ false → IfOk result (λ p. AreOfMembers (functions_at old first.now) (functions_at old second.now) (functions_at diagrams.new p.lines.items)) }
     {
-        let lines = lines_by(diagrams, alloc, first, second, near)?;
+        let lines = lines_by(diagrams, alloc, first, second, in_groups)?;
         match spread(diagrams, alloc, &lines, out) {
             Ok(outs) => Ok(Product { lines, outs }),
             Err(halt) => {

@@ -11,7 +11,7 @@ ghost use Rattle.bdd_ops.specs.Steps.{IsUnfinished, IsQuantifiedPart};
 ghost use Rattle.bit_compile.specs.Making.{MakesOnce};
 ghost use Rattle.bdd_products.specs.Products.{LeavesRoots, IgnoresAll};
 
-use bdd_bits::{Diagrams, Root, StoreFault};
+use bdd_bits::{Diagrams, Root};
 use bit_compile::steps::told;
 use regions::Halt;
 
@@ -21,14 +21,7 @@ fn exists(diagrams: &mut Diagrams, a: &Root, levels: &[u32]) -> Result<Root, Hal
     ensures { MakesOnce diagrams.old diagrams.new result (exists_over levels.now (function_at diagrams.old a.now))
         (IsUnfinished (join_of false) (IsQuantifiedPart (join_of false) (levels_of diagrams.old.order levels.now) (diagram_of diagrams.old.state a.now))) }
 {
-    match diagrams.exists(a, levels) {
-        Ok(root) => Ok(root),
-        Err(StoreFault::Memory) => Err(Halt::Memory),
-        Err(StoreFault::Full) => {
-            diagrams.reclaim();
-            told(diagrams.exists(a, levels))
-        }
-    }
+    told(diagrams.exists(a, levels))
 }
 
 /// Whether a diagram reads none of these levels.

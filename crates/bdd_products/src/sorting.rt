@@ -1,13 +1,12 @@
 //! Members in the order of the levels at which they begin.
 
-ghost use Rattle.std.specs.Prelude.{◌<◌, length, IfOk, IsPermutation};
+ghost use Rattle.std.specs.Prelude.{◌≡◌, ◌<◌, length, IfOk, Err, IsPermutation};
 ghost use Rattle.std.specs.List.{All};
 ghost use Rattle.bdd_store.specs.State.{IsRoot};
 ghost use Rattle.bdd_sets.specs.Members.{AreRoots, all_true, functions_at};
 ghost use Rattle.bdd_sets.specs.Lists.{MakesList};
-ghost use Rattle.bdd_products.specs.Products.{LeavesRoots, MakesLines, members_in};
+ghost use Rattle.bdd_products.specs.Products.{MakesLines, members_in};
 
-use crate::reading::ignores;
 use bdd_bits::{Diagrams, Root};
 use bdd_sets::lists::push_made;
 use bit_compile::steps::keep;
@@ -21,45 +20,34 @@ pub enum First {
     Topmost,
 }
 
-/// How many of the bits, from the first on, come before those that a member reads. They are looked at by halves.
-fn unread(diagrams: &mut Diagrams, member: &Root, bits: &[u32]) -> Result<usize, Halt>
-    requires { IsRoot diagrams.old.state member.now }
-    ensures { LeavesRoots diagrams.old diagrams.new result }
+/// The level at which a member begins to read, and one behind all levels for a constant.
+fn begin_of(diagrams: &Diagrams, member: &Root) -> usize
+    requires { IsRoot diagrams.now.state member.now }
 {
-    let mut from = 0;
-    let mut end = bits.len();
-    while from < end {
-        let mid = from + (end - from - 1) / 2;
-        let (_, rest) = bits.split_at(from);
-        let (tried, _) = rest.split_at(mid + 1 - from);
-        if ignores(diagrams, member, tried)? {
-            from = mid + 1;
-        } else {
-            end = mid;
-        }
+    match diagrams.first_level(member) {
+        Some(level) => level as usize,
+        None => usize::MAX,
     }
-    Ok(from)
 }
 
 /// The place of each member, with a number by which it is put in order; equals are in their order.
 fn places_of(
-    diagrams: &mut Diagrams,
+    diagrams: &Diagrams,
     alloc: Global,
     members: &[Root],
-    bits: &[u32],
     first: First,
 ) -> Result<Vec<(usize, usize)>, Halt>
-    requires { AreRoots diagrams.old members.now }
+    requires { AreRoots diagrams.now members.now }
     ensures places { IfOk result (λ places. IsPermutation members.now (members_in members.now places.items)) }
     ensures within { IfOk result (λ places. All (λ p. p.1 < length members.now) places.items) }
-    ensures leaves { LeavesRoots diagrams.old diagrams.new result }
+    ensures memory { result ≡ Err Halt.Budget → ⊥ }
 {
     let mut places = Vec::new(alloc);
     for place in 0..members.len() {
-        let before = unread(diagrams, &members[place], bits)?;
+        let begin = begin_of(diagrams, &members[place]);
         let number = match first {
-            First::Deepest => bits.len().saturating_sub(before),
-            First::Topmost => before,
+            First::Deepest => usize::MAX - begin,
+            First::Topmost => begin,
         };
         if places.push((number, place)).is_err() {
             return Err(Halt::Memory);
@@ -90,18 +78,16 @@ fn picked(
     Ok(list)
 }
 
-/// A second root of each member, in the order of the levels at which they begin, where these are the bits in the order of
-/// their levels.
+/// A second root of each member, in the order of the levels at which they begin.
 pub fn sorted(
     diagrams: &mut Diagrams,
     alloc: Global,
     members: &[Root],
-    bits: &[u32],
     first: First,
 ) -> Result<Vec<Root>, Halt>
     requires { AreRoots diagrams.old members.now }
     ensures { MakesLines diagrams.old diagrams.new result (all_true (functions_at diagrams.old members.now)) }
 {
-    let places = places_of(diagrams, alloc, members, bits, first)?;
+    let places = places_of(diagrams, alloc, members, first)?;
     picked(diagrams, alloc, members, &places)
 }

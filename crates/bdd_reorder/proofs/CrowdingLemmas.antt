@@ -42,5 +42,5 @@ module _ (old mid : Contents) (M N : Function → Type 0) (a : ℕ → ℕ) (wid
         running = c.running;
         on_held = all_wider (IsHeldSince mid.state M) (IsHeldSince old.state N) held_back (arguments_of c.running) c.on_held;
         reduced = c.reduced;
-        needed = λ n live. needed_back t (IsUnfinishedOf c.running (diagram_at t n)) n (c.needed n live);
+        needed = λ n live. needed_back t (StandsIn t (IsUnfinishedOf c.running) n) n (c.needed n live);
       }

@@ -33,14 +33,14 @@ pub record StandsIn (t : Table) (IsHeld : Diagram → Type 0) (n : ℕ) : Type 0
   pub part : IsPartOf (diagram_at t n) (diagram_at t root)
 
 -- The table holds exactly its budget of nodes: the constants, parts of diagrams that were kept at first, which are all
--- there, or whose functions are named, and unfinished results of one operation on such diagrams.
+-- there, or whose functions are named, and parts of unfinished results of one operation on such diagrams.
 pub record IsCrowdedSince (old : State) (t : Table) (IsNamed : Function → Type 0) : Type 0 where
   pub filled : IsFilled t
   pub rooted : (n : ℕ) → IsRoot old n → IsLive t n
   pub running : Running
   pub on_held : AllByRecursion (IsHeldSince old IsNamed) (arguments_of running)
   pub reduced : AllByRecursion IsReduced (arguments_of running)
-  pub needed : (n : ℕ) → IsLive t n → (n < 2) ⊎ (StandsIn t (IsHeldSince old IsNamed) n ⊎ IsUnfinishedOf running (diagram_at t n))
+  pub needed : (n : ℕ) → IsLive t n → (n < 2) ⊎ (StandsIn t (IsHeldSince old IsNamed) n ⊎ StandsIn t (IsUnfinishedOf running) n)
 
 -- The budget is filled by what was kept at first, by rearranged functions of some of these diagrams and of some parts of one
 -- of them, which is reduced, by one level's bit at most, and by one operation's unfinished results on these.

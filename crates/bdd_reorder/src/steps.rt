@@ -1,4 +1,4 @@
-//! Single operations. Where the budget is reached, what no kept root needs is freed, and the operation is tried once more.
+//! Single operations, and what fills the budget where one is refused.
 
 ghost use Rattle.std.specs.Prelude.{◌<◌};
 ghost use Rattle.spec_model.specs.Diagrams.{ite};
@@ -14,14 +14,7 @@ fn var(diagrams: &mut Diagrams, level: u32) -> Result<Root, StoreFault>
     requires { level < diagrams.old.state.table.levels }
     ensures { MakesOne diagrams.old diagrams.new result (λ s. s level) NoFunction }
 {
-    match diagrams.var(level) {
-        Ok(root) => Ok(root),
-        Err(StoreFault::Memory) => Err(StoreFault::Memory),
-        Err(StoreFault::Full) => {
-            diagrams.reclaim();
-            diagrams.var(level)
-        }
-    }
+    diagrams.var(level)
 }
 
 /// The diagram that is `b` where `a` is true, and else `c`.
@@ -31,14 +24,7 @@ fn ite(diagrams: &mut Diagrams, a: &Root, b: &Root, c: &Root) -> Result<Root, St
     requires c_kept { IsRoot diagrams.old.state c.now }
     ensures { MakesOne diagrams.old diagrams.new result (ite (function_at diagrams.old a.now) (function_at diagrams.old b.now) (function_at diagrams.old c.now)) NoFunction }
 {
-    match diagrams.ite(a, b, c) {
-        Ok(root) => Ok(root),
-        Err(StoreFault::Memory) => Err(StoreFault::Memory),
-        Err(StoreFault::Full) => {
-            diagrams.reclaim();
-            diagrams.ite(a, b, c)
-        }
-    }
+    diagrams.ite(a, b, c)
 }
 
 /// The diagram that is `high` where the level's bit is true, and else `low`. The two may read that level and earlier ones.

@@ -1,6 +1,5 @@
 pub mod BitLemmas
 pub mod SetLemmas
-pub mod StepLemmas
 pub mod QuantLemmas
 pub mod MoveLemmas
 pub mod ForceLemmas

@@ -17,8 +17,8 @@ use bit_compile::{Codes, compile};
 use regions::Halt;
 use spec_model::game::{Game, Goal};
 
-/// The diagrams of goals of a game, at the present bits. `Budget`: at the second try of an operation, after the store was
-/// reclaimed, it held its budget of nodes. `Memory`: none was given. Neither changes what is kept.
+/// The diagrams of goals of a game, at the present bits. `Budget`: the store held its budget of nodes, and an
+/// operation needed each of them. `Memory`: none was given. Neither changes what is kept.
 pub fn goal_roots(
     diagrams: &mut Diagrams,
     codes: &Codes,

@@ -1,4 +1,4 @@
-//! Further operations, tried once more after reclaiming where the store is full.
+//! Further operations, whose refusals are told as halts.
 
 ghost use Rattle.std.specs.Prelude.{false};
 ghost use Rattle.spec_model.specs.Diagrams.{ite, and_exists_over, shifted};
@@ -10,7 +10,7 @@ ghost use Rattle.bdd_bits.specs.Calls.{RisesOver};
 ghost use Rattle.bdd_bits.specs.Orders.{levels_of, moved_levels};
 ghost use Rattle.bit_compile.specs.Making.{MakesOnce};
 
-use bdd_bits::{Diagrams, Root, StoreFault};
+use bdd_bits::{Diagrams, Root};
 use bit_compile::steps::told;
 use regions::Halt;
 
@@ -21,14 +21,7 @@ pub fn ite(diagrams: &mut Diagrams, a: &Root, b: &Root, c: &Root) -> Result<Root
     requires c_kept { IsRoot diagrams.old.state c.now }
     ensures { MakesOnce diagrams.old diagrams.new result (ite (function_at diagrams.old a.now) (function_at diagrams.old b.now) (function_at diagrams.old c.now)) (IsChoiceOfParts (diagram_of diagrams.old.state a.now) (diagram_of diagrams.old.state b.now) (diagram_of diagrams.old.state c.now)) }
 {
-    match diagrams.ite(a, b, c) {
-        Ok(root) => Ok(root),
-        Err(StoreFault::Memory) => Err(Halt::Memory),
-        Err(StoreFault::Full) => {
-            diagrams.reclaim();
-            told(diagrams.ite(a, b, c))
-        }
-    }
+    told(diagrams.ite(a, b, c))
 }
 
 /// The diagram that is true where some values at `levels` make both true.
@@ -37,14 +30,7 @@ pub fn and_exists(diagrams: &mut Diagrams, a: &Root, b: &Root, levels: &[u32]) -
     requires b_kept { IsRoot diagrams.old.state b.now }
     ensures { MakesOnce diagrams.old diagrams.new result (and_exists_over levels.now (function_at diagrams.old a.now) (function_at diagrams.old b.now)) (IsUnfinished (join_of false) (IsRelatedPart (levels_of diagrams.old.order levels.now) (diagram_of diagrams.old.state a.now) (diagram_of diagrams.old.state b.now))) }
 {
-    match diagrams.and_exists(a, b, levels) {
-        Ok(root) => Ok(root),
-        Err(StoreFault::Memory) => Err(Halt::Memory),
-        Err(StoreFault::Full) => {
-            diagrams.reclaim();
-            told(diagrams.and_exists(a, b, levels))
-        }
-    }
+    told(diagrams.and_exists(a, b, levels))
 }
 
 /// The diagram that reads at level `to[k]` what `a` reads at level `k`.
@@ -53,12 +39,5 @@ pub fn shift(diagrams: &mut Diagrams, a: &Root, to: &[u32]) -> Result<Root, Halt
     requires rising { RisesOver diagrams.old.state.table.levels diagrams.old.order to.now (function_at diagrams.old a.now) }
     ensures { MakesOnce diagrams.old diagrams.new result (shifted to.now (function_at diagrams.old a.now)) (IsShiftedPart (moved_levels diagrams.old.order to.now) (diagram_of diagrams.old.state a.now)) }
 {
-    match diagrams.shift(a, to) {
-        Ok(root) => Ok(root),
-        Err(StoreFault::Memory) => Err(Halt::Memory),
-        Err(StoreFault::Full) => {
-            diagrams.reclaim();
-            told(diagrams.shift(a, to))
-        }
-    }
+    told(diagrams.shift(a, to))
 }

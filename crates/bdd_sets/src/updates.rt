@@ -42,8 +42,8 @@ fn update_member(
 }
 
 /// For each hidden table, the diagram of where its next value is the one that follows: at the first move its first value,
-/// later what its table gives at the state before. `Budget`: at the second try of an operation, after the store was
-/// reclaimed, it held its budget of nodes. `Memory`: none was given. Neither leaves a root.
+/// later what its table gives at the state before. `Budget`: the store held its budget of nodes, and an operation
+/// needed each of them. `Memory`: none was given. Neither leaves a root.
 pub fn update_members(
     diagrams: &mut Diagrams,
     codes: &Codes,

@@ -1,3 +1,4 @@
 pub mod Whole
 pub mod Counts
 pub mod Reclaiming
+pub mod Held

@@ -1,22 +1,25 @@
 -- What a store keeps true gives what callers see of it, and each change keeps it.
-use Rattle.std.proofs.Common.{◌≡◌, ◌≢◌, ℕ, ◌<◌, ◌≤◌, ◌^◌, ◌==◌, ◌⊎◌, Bool, true, false, cond, List, [], ◌∷◌, zero, suc, Some, None, Result, Ok, Err, IfOk, OnErr, length, get_or, refl, sym, ◌∙◌, ap, subst, inl, inr, arith}
+use Rattle.std.proofs.Common.{◌≡◌, ◌≢◌, ℕ, ◌<◌, ◌≤◌, ◌^◌, ◌==◌, ◌⊎◌, Bool, true, false, cond, List, [], ◌∷◌, ◌++◌, zero, suc, Some, None, Result, Ok, Err, IfOk, OnErr, length, get_or, refl, sym, ◌∙◌, ap, subst, inl, inr, arith}
 use Rattle.std.specs.Prelude.{sum, count_by}
+use Rattle.std.specs.List.{Contains}
 use Rattle.std.proofs.lemmas.Bool.{cases_lt, cases_eq, ne_eqb, eq-eqb}
+use Rattle.std.proofs.lemmas.List.Elements.{Contains-append_left, Contains-push_cases}
 use Rattle.spec_model.specs.Diagrams.{Diagram, constant, branch, IsLater}
 use mir.Val.{bool_byte}
 use Rattle.spec_model.proofs.Diagrams.{same_function}
-use Rattle.node_table.specs.Table.{Table, count_of, level_at, low_at, high_at, is_marked, IsLive, IsSound, IsFit, IsNodeAt, HasNode, IsNew, AddsNode, KeepsLive, parts_of, diagram_at}
+use Rattle.node_table.specs.Table.{Table, count_of, level_at, low_at, high_at, is_marked, IsLive, IsSound, IsFit, IsNodeAt, HasNode, IsNew, parts_of, diagram_at}
 use Rattle.node_table.proofs.Meaning.{diagram_at-constant, diagram_at-inner, diagram_at-reduced, diagram_at-within, one_node, later_at}
 use Rattle.node_table.proofs.Adding.{node_meaning}
 use Rattle.node_table.proofs.Marking.{parts_of-inner, parts_of-level, parts_of-constant}
 use Rattle.bdd_cache.specs.declared.answer.Answer.{Answer}
 use Rattle.bdd_cache.specs.Kept.{IsKept}
-use Rattle.bdd_store.specs.State.{State, IsStore, IsEdge, HasDiagram, diagram_of, HasParts, IsConstant, IsNewStore, MakesOnly}
+use Rattle.bdd_store.specs.State.{State, IsStore, IsEdge, HasDiagram, diagram_of, HasParts, IsConstant, IsNewStore}
 use Rattle.bdd_store.specs.State.{IsFull}
 use Rattle.bdd_store.specs.Kept.{IsWhole, AddsOne, SameCounts}
 use Rattle.node_table.specs.declared.fault.NodeFault.{NodeFault}
 use Rattle.node_table.specs.declared.fault.NodeFault.TheVariants.{Full as NodesFull, Memory as NodesMemory}
 use Rattle.bdd_store.specs.declared.edge.Edge.{Edge}
+use Rattle.bdd_store.specs.declared.root.Root.{Root}
 use Rattle.bdd_store.specs.declared.fault.StoreFault.{StoreFault}
 use Rattle.bdd_store.specs.declared.fault.StoreFault.TheVariants.{Full, Memory}
 
@@ -24,6 +27,7 @@ pub store_of_whole : (s : State) (roots : ℕ) → IsWhole s roots → IsStore s
 store_of_whole s roots whole = record {
   sound = whole.sound;
   roots_live = whole.roots_live;
+  stack_live = whole.stack_live;
   answers_live = whole.answers_live;
   reduced = diagram_at-reduced s.table whole.sound;
   within = diagram_at-within s.table whole.sound;
@@ -38,13 +42,27 @@ LiveAnswer s a = IsEdge s a.a × IsEdge s a.b × IsEdge s a.c × IsEdge s a.r
 
 pub whole_answers : (s : State) (roots : ℕ) (answers : List Answer) → IsWhole s roots → ((a : Answer) → IsKept answers a → LiveAnswer s a) → IsWhole (record s { answers = answers }) roots
 whole_answers s roots answers whole live =
-    record { sound = whole.sound; unmarked = whole.unmarked; roots_live = whole.roots_live; answers_live = live; counted = whole.counted; small = whole.small }
+    record { sound = whole.sound; unmarked = whole.unmarked; roots_live = whole.roots_live; stack_live = whole.stack_live; answers_live = live; counted = whole.counted; small = whole.small }
+
+-- ---- the stack
+
+pub whole_stack : (s : State) (roots : ℕ) (stack : List ℕ) → IsWhole s roots → ((n : ℕ) → Contains stack n → IsEdge s n) → IsWhole (record s { stack = stack }) roots
+whole_stack s roots stack whole live =
+    record { sound = whole.sound; unmarked = whole.unmarked; roots_live = whole.roots_live; stack_live = live; answers_live = whole.answers_live; counted = whole.counted; small = whole.small }
+
+-- one more live node
+pub pushed_live : (s : State) (roots : ℕ) (e : ℕ) → IsWhole s roots → IsEdge s e → (n : ℕ) → Contains (s.stack ++ e ∷ []) n → IsEdge s n
+pushed_live s roots e whole live n there = elim (Contains-push_cases s.stack e n there) [ inl before ↦ whole.stack_live n before | inr is ↦ subst (IsEdge s) is live ]
+
+-- fewer nodes
+pub fewer_live : (s : State) (roots : ℕ) (stack rest : List ℕ) → IsWhole s roots → s.stack ≡ stack ++ rest → (n : ℕ) → Contains stack n → IsEdge s n
+fewer_live s roots stack rest whole is n there = whole.stack_live n (subst (λ (xs : List ℕ). Contains xs n) (sym is) (Contains-append_left stack rest n there))
 
 -- ---- roots
 
 pub whole_kept : (s : State) (roots roots' : ℕ) (kept : List ℕ) → IsWhole s roots → ((n : ℕ) → 0 < get_or kept n 0 → IsEdge s n) → roots' ≡ sum kept → length kept ≤ 2 ^ 32 → IsWhole (record s { kept = kept }) roots'
 whole_kept s roots roots' kept whole live counted small =
-    record { sound = whole.sound; unmarked = whole.unmarked; roots_live = live; answers_live = whole.answers_live; counted = counted; small = small }
+    record { sound = whole.sound; unmarked = whole.unmarked; roots_live = live; stack_live = whole.stack_live; answers_live = whole.answers_live; counted = counted; small = small }
 
 abbrev one_if : Bool → ℕ
 one_if b = cond b 1 0
@@ -137,24 +155,11 @@ whole_nodes s roots t whole sound marks live = record {
   sound = sound;
   unmarked = λ n. marks n ∙ whole.unmarked n;
   roots_live = λ n some. live n (whole.roots_live n some);
+  stack_live = λ n there. live n (whole.stack_live n there);
   answers_live = λ a kept. let was = whole.answers_live a kept in (live a.a was.0, live a.b was.1, live a.c was.2, live a.r was.3);
   counted = whole.counted;
   small = whole.small;
 }
-
--- at most one node is new, and it stands for the level and the two parts
-pub node_made : (s : State) (t : Table) (level low high : ℕ) (q : Result ℕ NodeFault) → KeepsLive s.table t → IfOk q (λ n. (t ≡ s.table) ⊎ AddsNode s.table t n) →
-    IfOk q (λ n. diagram_at t n ≡ branch level (diagram_of s low) (diagram_of s high)) → OnErr q (t ≡ s.table) → MakesOnly s (record s { table = t }) (λ made. made ≡ branch level (diagram_of s low) (diagram_of s high))
-node_made s t level low high (Ok e) keeps added meaning only n live =
-    elim added [
-      | inl same ↦ let before : IsLive s.table n = subst (λ u. IsLive u n) same live in inl (before, keeps.meaning n before)
-      | inr adds ↦ elim (cases_eq n e) [
-        | inl is ↦ inr (ap (diagram_at t) is ∙ meaning)
-        | inr ne ↦ let before : IsLive s.table n = sym (adds.live n ne) ∙ live in inl (before, keeps.meaning n before)
-      ]
-    ]
-node_made s t level low high (Err fault) keeps added meaning only n live =
-    let before : IsLive s.table n = subst (λ u. IsLive u n) only live in inl (before, keeps.meaning n before)
 
 -- ---- parts
 
@@ -197,23 +202,25 @@ none_marked zero = refl
 none_marked (suc zero) = refl
 none_marked (suc (suc n)) = refl
 
-pub new_whole : (t : Table) (levels budget : ℕ) (answers : List Answer) → IsNew t levels budget → IsSound t → ((a : Answer) → IsKept answers a → ⊥) → IsWhole (record { table = t; kept = []; answers = answers }) 0
+pub new_whole : (t : Table) (levels budget : ℕ) (answers : List Answer) → IsNew t levels budget → IsSound t → ((a : Answer) → IsKept answers a → ⊥) → IsWhole (record { table = t; kept = []; stack = []; answers = answers }) 0
 new_whole t levels budget answers new sound none = record {
   sound = sound;
   unmarked = λ n. ap (λ marked. get_or marked n false) new.marked ∙ none_marked n;
   roots_live = λ n some. absurd (omega (arith, some));
+  stack_live = λ n there. absurd (omega (arith, there.1));
   answers_live = λ a kept. absurd (none a kept);
   counted = refl;
   small = omega arith;
 }
 
-pub is_new : (t : Table) (levels budget : ℕ) (answers : List Answer) → IsNew t levels budget → IsSound t → ((a : Answer) → IsKept answers a → ⊥) → IsNewStore (record { table = t; kept = []; answers = answers }) levels budget
+pub is_new : (t : Table) (levels budget : ℕ) (answers : List Answer) → IsNew t levels budget → IsSound t → ((a : Answer) → IsKept answers a → ⊥) → IsNewStore (record { table = t; kept = []; stack = []; answers = answers }) levels budget
 is_new t levels budget answers new sound none = record {
-  store = store_of_whole (record { table = t; kept = []; answers = answers }) 0 (new_whole t levels budget answers new sound none);
+  store = store_of_whole (record { table = t; kept = []; stack = []; answers = answers }) 0 (new_whole t levels budget answers new sound none);
   has_levels = new.has_levels;
   has_budget = new.has_budget;
   count = ap (count_by (λ b. b)) new.live;
   no_root = λ n. refl;
+  no_entry = refl;
   no_answer = none;
 }
 
@@ -248,6 +255,12 @@ nodes_memory h = cc
 
 pub store_memory : (h : ◌≡◌ {A = Result Edge StoreFault} (Err Memory) (Err Full)) → ⊥
 store_memory h = cc
+
+pub fault_of : {T E : Type 0} (e f : E) → ◌≡◌ {A = Result T E} (Err e) (Err f) → e ≡ f
+fault_of e f h = cc
+
+pub root_memory : (h : ◌≡◌ {A = Result Root StoreFault} (Err Memory) (Err Full)) → ⊥
+root_memory h = cc
 
 -- ---- roots that callers know
 

@@ -1,11 +1,9 @@
 //! Kept roots, counted at the places of their nodes.
 
-ghost use Rattle.std.specs.Prelude.{◌≡◌, ◌<◌, ◌≤◌, ◌+◌, ◌^◌, ℕ, sum, length, slice_index, OnOk, OnErr, vec_len};
-ghost use Rattle.node_table.specs.Table.{IsSound, IsLive};
-ghost use Rattle.bdd_store.specs.Kept.{AddsOne, SameCounts, MarksKept};
+ghost use Rattle.std.specs.Prelude.{◌≡◌, ◌<◌, ◌≤◌, ◌^◌, sum, slice_index, OnOk, OnErr, vec_len};
+ghost use Rattle.bdd_store.specs.Kept.{AddsOne, SameCounts};
 
 use crate::OutOfMemory;
-use node_table::Nodes;
 use std::alloc::AllocError;
 use std::marker::Model;
 
@@ -64,19 +62,4 @@ pub fn take_root(kept: &mut Vec<u32>, roots: &mut usize, n: u32)
 {
     kept[n as usize] -= 1;
     *roots -= 1;
-}
-
-/// Marks all that kept roots reach.
-pub fn mark_kept(nodes: &mut Nodes, kept: &[u32])
-    requires sound { IsSound nodes.old }
-    requires small { length kept.now ≤ 2 ^ 32 }
-    requires live { (n : ℕ) → 0 < slice_index kept.now n → IsLive nodes.old n }
-    ensures marks { MarksKept nodes.old nodes.new kept.now (length kept.now) }
-    ensures sound { IsSound nodes.new }
-{
-    for n in 0..kept.len() {
-        if kept[n] > 0 {
-            nodes.mark(n as u32);
-        }
-    }
 }

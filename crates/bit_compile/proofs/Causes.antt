@@ -12,12 +12,12 @@ use Rattle.bdd_bits.specs.Orders.{level_of}
 use Rattle.bdd_bits.proofs.CallLemmas.{same_order}
 use Rattle.bdd_ops.specs.Functions.{join_of}
 use Rattle.bdd_ops.specs.Steps.{IsJoinOfParts}
-use Rattle.bdd_ops.specs.Calls.{HasRoots, IsNegatedPart}
+use Rattle.bdd_ops.specs.Calls.{HasRoots, IsNegatedPart, IsNeeded, IsCrowded}
 use Rattle.bdd_bits.specs.Calls.{KeepsRoots, SameNodes}
 use Rattle.regions.specs.declared.types.Halt.{Halt}
 use Rattle.regions.specs.declared.types.Halt.TheVariants as halt
 use Rattle.bit_compile.specs.declared.cases.CaseRoot.{CaseRoot}
-use Rattle.bit_compile.specs.Making.{Makes, MakesOnce, IsNeeded, IsCrowded}
+use Rattle.bit_compile.specs.Making.{Makes, MakesOnce}
 use Rattle.bit_compile.specs.NamedCodes.{NoFunction}
 use Rattle.bit_compile.specs.Crowding.{Running, bit, negation, join, StandsIn, IsCrowdedBy, IsHeldSince, IsUnfinishedOf, HasCause, arguments_of}
 use Rattle.bit_compile.specs.Compiled.{Case}
@@ -47,7 +47,7 @@ module _ (t : Table) (H K : Diagram → Type 0) (wider : (d : Diagram) → H d �
         running = c.running;
         on_held = all_wider H K wider (arguments_of c.running) c.on_held;
         reduced = c.reduced;
-        needed = λ n live. needed_wider (IsUnfinishedOf c.running (diagram_at t n)) n (c.needed n live);
+        needed = λ n live. needed_wider (StandsIn t (IsUnfinishedOf c.running) n) n (c.needed n live);
       }
 
 -- ---- where no root was made before the call
@@ -156,13 +156,13 @@ pub root_kept : (old : State) (n : ℕ) → IsRoot old n → IsKeptRoot old (dia
 root_kept old n root = (n, root, refl)
 
 module _ (old new : Contents) (f : Function) (running : Running) (N : Function → Type 0) (kept : AllByRecursion (IsKeptRoot old.state) (arguments_of running)) where
-  needed_once : (n : ℕ) → SameRoots old.state new.state → KeepsRoots old new → HasRoots new.state → IsNeeded new.state (IsUnfinishedOf running) n → (n < 2) ⊎ (StandsIn new.state.table (IsHeldSince old N) n ⊎ IsUnfinishedOf running (diagram_of new.state n))
+  needed_once : (n : ℕ) → SameRoots old.state new.state → KeepsRoots old new → HasRoots new.state → IsNeeded new.state (IsUnfinishedOf running) n → (n < 2) ⊎ (StandsIn new.state.table (IsHeldSince old N) n ⊎ StandsIn new.state.table (IsUnfinishedOf running) n)
   needed_once n same keeps rooted (inl constant) = inl constant
   needed_once n same keeps rooted (inr (inl stands)) =
       let r = stands.0 in
       let before : IsRoot old.state r = subst (λ (k : ℕ). 0 < k) (same r) stands.1 in
       inr (inl (record { root = r; live = rooted r stands.1; held = inl (r, before, keeps.meaning r before); part = stands.2 }))
-  needed_once n same keeps rooted (inr (inr made)) = inr (inr made)
+  needed_once n same keeps rooted (inr (inr made)) = inr (inr (record { root = made.0; live = made.1; held = made.2; part = made.3 }))
 
   -- a kept root's diagram is that of a node, and reduced
   reduced_root : SameRoots old.state new.state → KeepsRoots old new → IsCrowded new.state (IsUnfinishedOf running) → (d : Diagram) → IsKeptRoot old.state d → IsReduced d

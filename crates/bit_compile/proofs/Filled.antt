@@ -8,7 +8,7 @@ use Rattle.std.proofs.lemmas.List.Elements.{Contains-append_left, Contains-appen
 use Rattle.std.proofs.lemmas.Bool.{cases_lt, false≢true}
 use Rattle.spec_model.specs.Diagrams.{Diagram, constant, branch, Function, value, IsPartOf, IsReduced, IsWithin}
 use Rattle.node_table.specs.Table.{Table, level_at, low_at, high_at, IsLive, diagram_at}
-use Rattle.node_table.proofs.Meaning.{diagram_at-constant, diagram_at-inner, diagram_at-reduced, diagram_at-within, one_node, part_itself}
+use Rattle.node_table.proofs.Meaning.{diagram_at-constant, diagram_at-inner, diagram_at-reduced, diagram_at-within, one_node}
 use Rattle.bit_compile.specs.Crowding.{arguments_of, IsUnfinishedOf, StandsIn, IsCrowdedBy}
 use Rattle.bit_compile.specs.Filling.{AreDifferent, IsConstant, IsPartOfOne, IsNamedDiagram, FillTogether, IsFilledBy}
 
@@ -148,8 +148,11 @@ module _ (t : Table) (N : Function → Type 0) (c : IsCrowdedBy t (λ d. N (valu
   abbrev IsMade : ℕ → Type 0
   IsMade n = IsLive t n × IsUnfinishedOf c.running (at n)
 
+  abbrev IsPartOfListed : List ℕ → ℕ → Type 0
+  IsPartOfListed listed n = (r : ℕ) × Contains listed r × IsPartOf (at n) (at r)
+
   abbrev IsCovered : (roots made : List ℕ) → ℕ → Type 0
-  IsCovered roots made n = (n < 2) ⊎ (((r : ℕ) × Contains roots r × IsPartOf (at n) (at r)) ⊎ Contains made n)
+  IsCovered roots made n = (n < 2) ⊎ (IsPartOfListed roots n ⊎ IsPartOfListed made n)
 
   record Sorted (ns : List ℕ) : Type 0 where
     roots : List ℕ
@@ -161,9 +164,9 @@ module _ (t : Table) (N : Function → Type 0) (c : IsCrowdedBy t (λ d. N (valu
   covered_more : (roots made more_roots more_made : List ℕ) → ((r : ℕ) → Contains roots r → Contains more_roots r) → ((n : ℕ) → Contains made n → Contains more_made n) → (n : ℕ) → IsCovered roots made n → IsCovered more_roots more_made n
   covered_more roots made more_roots more_made in_roots in_made n (inl less) = inl less
   covered_more roots made more_roots more_made in_roots in_made n (inr (inl stands)) = inr (inl (stands.0, in_roots stands.0 stands.1, stands.2))
-  covered_more roots made more_roots more_made in_roots in_made n (inr (inr there)) = inr (inr (in_made n there))
+  covered_more roots made more_roots more_made in_roots in_made n (inr (inr stands)) = inr (inr (stands.0, in_made stands.0 stands.1, stands.2))
 
-  sorted_next : (n : ℕ) (ns : List ℕ) → IsLive t n → Sorted ns → (n < 2) ⊎ (StandsIn t (λ d. N (value d)) n ⊎ IsUnfinishedOf c.running (at n)) → Sorted (n ∷ ns)
+  sorted_next : (n : ℕ) (ns : List ℕ) → IsLive t n → Sorted ns → (n < 2) ⊎ (StandsIn t (λ d. N (value d)) n ⊎ StandsIn t (IsUnfinishedOf c.running) n) → Sorted (n ∷ ns)
   sorted_next n ns live s (inl less) =
       record {
         roots = s.roots;
@@ -183,15 +186,15 @@ module _ (t : Table) (N : Function → Type 0) (c : IsCrowdedBy t (λ d. N (valu
           | inr later ↦ covered_more s.roots s.made (stands.root ∷ s.roots) s.made (λ r in_roots. contains_later stands.root r s.roots in_roots) (λ k in_made. in_made) m (s.cover m later)
         ];
       }
-  sorted_next n ns live s (inr (inr unfinished)) =
+  sorted_next n ns live s (inr (inr stands)) =
       record {
         roots = s.roots;
-        made = n ∷ s.made;
+        made = stands.root ∷ s.made;
         are_own = s.are_own;
-        are_made = ((live, unfinished), s.are_made);
+        are_made = ((stands.live, stands.held), s.are_made);
         cover = λ m there. elim (first_or_later n m ns there) [
-          | inl same ↦ inr (inr (subst (λ (k : ℕ). Contains (n ∷ s.made) k) same (contains_first n s.made)))
-          | inr later ↦ covered_more s.roots s.made s.roots (n ∷ s.made) (λ r in_roots. in_roots) (λ k in_made. contains_later n k s.made in_made) m (s.cover m later)
+          | inl same ↦ inr (inr (stands.root, contains_first stands.root s.made, subst (λ (k : ℕ). IsPartOf (at k) (at stands.root)) same stands.part))
+          | inr later ↦ covered_more s.roots s.made s.roots (stands.root ∷ s.made) (λ r in_roots. in_roots) (λ k in_made. contains_later stands.root k s.made in_made) m (s.cover m later)
         ];
       }
 
@@ -222,7 +225,7 @@ module _ (t : Table) (N : Function → Type 0) (c : IsCrowdedBy t (λ d. N (valu
     part_of_one : (n : ℕ) → IsCovered all_sorted.roots all_sorted.made n → IsConstant (at n) ⊎ IsPartOfOne (sets ++ results) (at n)
     part_of_one n (inl less) = inl (n == 1, diagram_at-constant t c.filled.sound n less)
     part_of_one n (inr (inl stands)) = inr (at stands.0, Contains-append_left sets results (at stands.0) (contains_map at roots stands.0 (Contains-append_right more all_sorted.roots stands.0 stands.1)), stands.2)
-    part_of_one n (inr (inr there)) = inr (at n, Contains-append_right sets results (at n) (contains_map at all_sorted.made n there), part_itself (at n))
+    part_of_one n (inr (inr stands)) = inr (at stands.0, Contains-append_right sets results (at stands.0) (contains_map at all_sorted.made stands.0 stands.1), stands.2)
 
     -- a listed diagram is a node's
     listed_live : (whole : Diagram) → Contains (sets ++ results) whole → (r : ℕ) × IsLive t r × (at r ≡ whole)

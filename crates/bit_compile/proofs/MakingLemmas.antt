@@ -1,21 +1,20 @@
--- Operations tried once more, and roots given back between them.
-use Rattle.std.proofs.Common.{◌≡◌, ℕ, ◌+◌, ◌<◌, Bool, true, false, Result, Ok, Err, is_ok, not, ◌&&◌, ◌-◌, ◌^◌, nat_le, zero, suc, refl, sym, ◌∙◌, ap, subst, arith, inl, inr, ◌⊎◌, cond, ◌==◌}
+-- Single operations, and roots given back between them.
+use Rattle.std.proofs.Common.{◌≡◌, ℕ, ◌+◌, ◌<◌, Bool, true, false, Result, Ok, Err, is_ok, not, ◌&&◌, ◌-◌, ◌^◌, nat_le, zero, suc, refl, sym, ◌∙◌, ap, subst, arith, cond}
 use Rattle.std.proofs.lemmas.Bool.{false≢true}
 use Rattle.std.proofs.lemmas.Bool.Decides.{nat_tests}
 use Rattle.node_table.specs.Table.{diagram_at}
 use Rattle.bdd_ops.specs.Functions.{joined, join_of}
-use Rattle.spec_model.specs.Diagrams.{Diagram, Function, IsPartOf, value}
+use Rattle.spec_model.specs.Diagrams.{Diagram, Function}
 use Rattle.bdd_store.specs.declared.fault.StoreFault.{StoreFault}
 use Rattle.bdd_store.specs.declared.fault.StoreFault.TheVariants as fault
-use Rattle.bdd_store.specs.State.{State, IsEdge, IsRoot, IsReached, diagram_of, AddsRoot, SameRoots, WasThere, IsFilled}
+use Rattle.bdd_store.specs.State.{State, IsRoot, AddsRoot, SameRoots, IsFilled}
 use Rattle.bdd_bits.specs.Contents.{Contents}
-use Rattle.bdd_bits.specs.Orders.{BitOrder}
 use Rattle.bdd_bits.specs.Calls.{GivesRoot, KeepsRoots, SameNodes}
 use Rattle.bdd_bits.proofs.CallLemmas.{same_function}
 use Rattle.regions.specs.declared.types.Halt.{Halt}
 use Rattle.regions.specs.declared.types.Halt.TheVariants as halt
 use Rattle.bit_compile.specs.Codes.{has_number}
-use Rattle.bit_compile.specs.Making.{halted, Makes, MakesOnce, IsNeeded, digit, with_digit}
+use Rattle.bit_compile.specs.Making.{halted, Makes, MakesOnce, digit, with_digit}
 
 pub root_stays : (old new : State) (n : ℕ) → SameRoots old new → IsRoot old n → IsRoot new n
 root_stays old new n same root = subst (λ (k : ℕ). 0 < k) (sym (same n)) root
@@ -40,112 +39,26 @@ is_memory (Err halt.Memory) = true
 not_memory : {E : Type 0} (r : Result ℕ Halt) → is_memory r ≡ true → r ≡ Err halt.Budget → E
 not_memory r is e = absurd (false≢true (sym (ap is_memory e) ∙ is))
 
--- what the first try gave
-pub at_once : (old new : Contents) (r : ℕ) (f : Function) (MayMake : Diagram → Type 0) → GivesRoot old new (Ok r) f MayMake → MakesOnce old new (Ok r) f MayMake
-at_once old new r f MayMake gives =
+-- what a call of the store gives, its refusal told as a halt
+pub told_once : (old new : Contents) (r : Result ℕ StoreFault) (f : Function) (MayMake : Diagram → Type 0) → GivesRoot old new r f MayMake → MakesOnce old new (halted r) f MayMake
+told_once old new (Ok r) f MayMake gives =
     record {
       makes = record { meaning = gives.meaning; added = gives.added; refused = gives.refused; keeps = gives.keeps; full = λ e. not_budget e };
       cause = λ e. not_budget e;
     }
-
-pub no_memory : (old new : Contents) (f : Function) (MayMake : Diagram → Type 0) → GivesRoot old new (Err fault.Memory) f MayMake → MakesOnce old new (Err halt.Memory) f MayMake
-no_memory old new f MayMake gives =
+told_once old new (Err fault.Full) f MayMake gives =
+    record {
+      makes = record { meaning = gives.meaning; added = gives.added; refused = gives.refused; keeps = gives.keeps; full = λ e. (gives.full refl).full };
+      cause = λ e. gives.full refl;
+    }
+told_once old new (Err fault.Memory) f MayMake gives =
     record {
       makes = record { meaning = gives.meaning; added = gives.added; refused = gives.refused; keeps = gives.keeps; full = λ e. not_memory (Err halt.Memory) refl e };
       cause = λ e. not_memory (Err halt.Memory) refl e;
     }
 
--- what reclaiming gives and leaves
-pub record Reclaims (old new : Contents) : Type 0 where
-  pub live : (n : ℕ) → IsEdge new.state n → (n < 2) ⊎ IsReached old.state n
-  pub meaning : (n : ℕ) → IsEdge new.state n → diagram_of new.state n ≡ diagram_of old.state n
-  pub roots : SameRoots old.state new.state
-  pub keeps : KeepsRoots old new
-
-module _ (old mid freed new : Contents) (f : Function) (MayMake : Diagram → Type 0) (first : GivesRoot old mid (Err fault.Full) f MayMake) (reclaims : Reclaims mid freed) where
-  pub same_roots : SameRoots old.state freed.state
-  same_roots n = reclaims.roots n ∙ first.refused n
-
-  pub keeps_freed : KeepsRoots old freed
-  keeps_freed = keeps_then old mid freed first.keeps first.refused reclaims.keeps
-
-  needed : SameRoots freed.state new.state → KeepsRoots freed new → (n : ℕ) → WasThere freed.state new.state n → IsNeeded new.state MayMake n
-  needed same keeps n there = by_cases (reclaims.live n there.0)
-    where
-      by_cases : (n < 2) ⊎ IsReached mid.state n → IsNeeded new.state MayMake n
-      by_cases (inl constant) = inl constant
-      by_cases (inr reached) =
-          let r = reached.0 in
-          let in_freed = root_stays mid.state freed.state r reclaims.roots reached.1 in
-          let whole = keeps.meaning r in_freed ∙ reclaims.keeps.meaning r reached.1 in
-          let part = there.1 ∙ reclaims.meaning n there.0 in
-          inr (inl (r, root_stays freed.state new.state r same in_freed, subst (λ (d : Diagram). IsPartOf d (diagram_of new.state r)) (sym part) (subst (λ (d : Diagram). IsPartOf (diagram_of mid.state n) d) (sym whole) reached.3)))
-
-  pub again : (r : Result ℕ StoreFault) → GivesRoot freed new r f MayMake → MakesOnce old new (halted r) f MayMake
-  again (Ok r) gives =
-      record {
-        makes = record {
-          meaning = gives.meaning;
-          added = λ n. gives.added n ∙ ap (λ k. k + cond (n == r) 1 0) (same_roots n);
-          refused = gives.refused;
-          keeps = keeps_then old freed new keeps_freed same_roots gives.keeps;
-          full = λ e. not_budget e;
-        };
-        cause = λ e. not_budget e;
-      }
-  again (Err fault.Full) gives =
-      record {
-        makes = record {
-          meaning = gives.meaning;
-          added = gives.added;
-          refused = λ n. gives.refused n ∙ same_roots n;
-          keeps = keeps_then old freed new keeps_freed same_roots gives.keeps;
-          full = λ e. gives.full refl;
-        };
-        cause = λ e. record {
-          full = gives.full refl;
-          rooted = gives.rooted refl;
-          needed = λ n edge. elim (gives.made n edge) [
-            | inl there ↦ needed gives.refused gives.keeps n there
-            | inr made ↦ inr (inr made)
-          ];
-        };
-      }
-  again (Err fault.Memory) gives =
-      record {
-        makes = record {
-          meaning = gives.meaning;
-          added = gives.added;
-          refused = λ n. gives.refused n ∙ same_roots n;
-          keeps = keeps_then old freed new keeps_freed same_roots gives.keeps;
-          full = λ e. not_memory (Err halt.Memory) refl e;
-        };
-        cause = λ e. not_memory (Err halt.Memory) refl e;
-      }
-
--- an operation told by the order, tried again on what is left
-pub again_under : (F : BitOrder → Function) (M : BitOrder → Diagram → Type 0) (old mid freed new : Contents) (r : Result ℕ StoreFault) → GivesRoot old mid (Err fault.Full) (F old.order) (M old.order) → Reclaims mid freed → GivesRoot freed new r (F freed.order) (M freed.order) → MakesOnce old new (halted r) (F old.order) (M old.order)
-again_under F M old mid freed new r first reclaims gives =
-    let keeps = keeps_freed old mid freed new (F old.order) (M old.order) first reclaims in
-    again old mid freed new (F old.order) (M old.order) first reclaims r (subst (λ (o : BitOrder). GivesRoot freed new r (F o) (M o)) keeps.order gives)
-
--- an operation on two kept roots, tried again on what is left
-pub again_on : (F : BitOrder → Diagram → Diagram → Function) (M : BitOrder → Diagram → Diagram → Diagram → Type 0) (old mid freed new : Contents) (a b : ℕ) (r : Result ℕ StoreFault) → IsRoot old.state a → IsRoot old.state b →
-    GivesRoot old mid (Err fault.Full) (F old.order (diagram_of old.state a) (diagram_of old.state b)) (M old.order (diagram_of old.state a) (diagram_of old.state b)) → Reclaims mid freed →
-    GivesRoot freed new r (F freed.order (diagram_of freed.state a) (diagram_of freed.state b)) (M freed.order (diagram_of freed.state a) (diagram_of freed.state b)) →
-    MakesOnce old new (halted r) (F old.order (diagram_of old.state a) (diagram_of old.state b)) (M old.order (diagram_of old.state a) (diagram_of old.state b))
-again_on F M old mid freed new a b r root_a root_b first reclaims gives =
-    let da = diagram_of old.state a in
-    let db = diagram_of old.state b in
-    let keeps = keeps_freed old mid freed new (F old.order da db) (M old.order da db) first reclaims in
-    let with_a = subst (λ (d : Diagram). GivesRoot freed new r (F freed.order d (diagram_of freed.state b)) (M freed.order d (diagram_of freed.state b))) (keeps.meaning a root_a) gives in
-    let with_b = subst (λ (d : Diagram). GivesRoot freed new r (F freed.order da d) (M freed.order da d)) (keeps.meaning b root_b) with_a in
-    again_under (λ (o : BitOrder). F o da db) (λ (o : BitOrder). M o da db) old mid freed new r first reclaims with_b
-
 pub told_makes : (old new : Contents) (r : Result ℕ StoreFault) (f : Function) (MayMake : Diagram → Type 0) → GivesRoot old new r f MayMake → Makes old new (halted r) f
-told_makes old new (Ok r) f MayMake gives = record { meaning = gives.meaning; added = gives.added; refused = gives.refused; keeps = gives.keeps; full = λ e. not_budget e }
-told_makes old new (Err fault.Full) f MayMake gives = record { meaning = gives.meaning; added = gives.added; refused = gives.refused; keeps = gives.keeps; full = λ e. gives.full refl }
-told_makes old new (Err fault.Memory) f MayMake gives = record { meaning = gives.meaning; added = gives.added; refused = gives.refused; keeps = gives.keeps; full = λ e. not_memory (Err halt.Memory) refl e }
+told_makes old new r f MayMake gives = (told_once old new r f MayMake gives).makes
 
 -- a call of the store that isn't refused for want of nodes
 pub never_told : (r : Result ℕ StoreFault) → (r ≡ Err fault.Full → ⊥) → halted r ≡ Err halt.Budget → ⊥

@@ -17,14 +17,14 @@ pub record StandsIn (t : Table) (IsHeld : Diagram → Type 0) (n : ℕ) : Type 0
   pub held : IsHeld (diagram_at t root)
   pub part : IsPartOf (diagram_at t n) (diagram_at t root)
 
--- The table holds exactly its budget of nodes: the constants, parts of diagrams that are held, and unfinished results of
--- one operation on such diagrams.
+-- The table holds exactly its budget of nodes: the constants, parts of diagrams that are held, and parts of unfinished
+-- results of one operation on such diagrams.
 pub record IsCrowdedBy (t : Table) (IsHeld : Diagram → Type 0) : Type 0 where
   pub filled : IsFilled t
   pub running : Running
   pub on_held : AllByRecursion IsHeld (arguments_of running)
   pub reduced : AllByRecursion IsReduced (arguments_of running)
-  pub needed : (n : ℕ) → IsLive t n → (n < 2) ⊎ (StandsIn t IsHeld n ⊎ IsUnfinishedOf running (diagram_at t n))
+  pub needed : (n : ℕ) → IsLive t n → (n < 2) ⊎ (StandsIn t IsHeld n ⊎ StandsIn t (IsUnfinishedOf running) n)
 
 -- a root of the diagram was kept, or its function is named
 abbrev pub IsHeldSince : Contents → (Function → Type 0) → Diagram → Type 0

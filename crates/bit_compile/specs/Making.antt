@@ -1,11 +1,11 @@
 -- What making a diagram in several operations gives and leaves, and when a budget ends it.
-use Rattle.std.specs.Prelude.{◌≡◌, ◌<◌, ◌⊎◌, ℕ, Bool, true, false, not, ◌&&◌, Result, Ok, Err, IfOk, OnErr}
-use Rattle.spec_model.specs.Diagrams.{Diagram, Function, IsPartOf}
+use Rattle.std.specs.Prelude.{◌≡◌, ℕ, Bool, true, false, not, ◌&&◌, Result, Ok, Err, IfOk, OnErr}
+use Rattle.spec_model.specs.Diagrams.{Diagram, Function}
 use Rattle.bdd_store.specs.declared.fault.StoreFault.{StoreFault}
 use Rattle.bdd_store.specs.declared.fault.StoreFault.TheVariants as fault
-use Rattle.bdd_store.specs.State.{State, IsEdge, IsRoot, diagram_of, AddsRoot, SameRoots, IsFull}
+use Rattle.bdd_store.specs.State.{AddsRoot, SameRoots, IsFull}
 use Rattle.bdd_bits.specs.Contents.{Contents, function_at}
-use Rattle.bdd_ops.specs.Calls.{HasRoots}
+use Rattle.bdd_ops.specs.Calls.{IsCrowded}
 use Rattle.bdd_bits.specs.Calls.{KeepsRoots}
 use Rattle.regions.specs.declared.types.Halt.{Halt}
 use Rattle.regions.specs.declared.types.Halt.TheVariants as halt
@@ -26,17 +26,7 @@ pub record Makes (old new : Contents) (result : Result ℕ Halt) (f : Function) 
   pub keeps : KeepsRoots old new
   pub full : result ≡ Err halt.Budget → IsFull new.state
 
--- the node is a constant, or stands in a kept root, or is an unfinished result
-abbrev pub IsNeeded : State → (Diagram → Type 0) → ℕ → Type 0
-IsNeeded s MayMake n = (n < 2) ⊎ (((r : ℕ) × IsRoot s r × IsPartOf (diagram_of s n) (diagram_of s r)) ⊎ MayMake (diagram_of s n))
-
--- the store holds exactly its budget of nodes, those of all kept roots among them, and needs each of them
-pub record IsCrowded (s : State) (MayMake : Diagram → Type 0) : Type 0 where
-  pub full : IsFull s
-  pub rooted : HasRoots s
-  pub needed : (n : ℕ) → IsEdge s n → IsNeeded s MayMake n
-
--- one operation, tried once more where it was refused
+-- one operation; `Budget` comes only where the store needs each of its nodes
 pub record MakesOnce (old new : Contents) (result : Result ℕ Halt) (f : Function) (MayMake : Diagram → Type 0) : Type 0 where
   pub makes : Makes old new result f
   pub cause : result ≡ Err halt.Budget → IsCrowded new.state MayMake

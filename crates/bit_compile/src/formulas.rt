@@ -20,8 +20,8 @@ use regions::Halt;
 use spec_model::expr::Expr;
 use spec_model::game::Game;
 
-/// The diagram of a formula over a state and the next one. `Budget`: at the second try of an operation, after the store
-/// was reclaimed, it held its budget of nodes. `Memory`: none was given. Neither changes a kept root.
+/// The diagram of a formula over a state and the next one. `Budget`: the store held its budget of nodes, and an
+/// operation needed each of them. `Memory`: none was given. Neither changes a kept root.
 pub fn compile(diagrams: &mut Diagrams, codes: &Codes, game: &Game, e: &Expr) -> Result<Root, Halt>
     requires made { WellMade (game_data game.now) }
     requires codes { codes.now ≡ state_domains (game_data game.now) }

@@ -1,8 +1,7 @@
-//! Single operations. Where the budget is reached, what no kept root needs is freed, and the operation is tried once
-//! more.
+//! Single operations, whose refusals are told as halts.
 //!
 //! Contract (`MakesOnce`): a root of the operation, or a refusal that leaves what is kept. `Budget` comes only where the
-//! store holds exactly its budget of nodes, each a constant, a part of a kept root or an unfinished result.
+//! store holds exactly its budget of nodes, each a constant, a part of a kept root or of an unfinished result.
 
 ghost use Rattle.std.specs.Prelude.{◌≡◌, ◌<◌, true, false, Err};
 ghost use Rattle.spec_model.specs.Diagrams.{value};
@@ -52,14 +51,7 @@ pub fn and(diagrams: &mut Diagrams, a: &Root, b: &Root) -> Result<Root, Halt>
     requires b_kept { IsRoot diagrams.old.state b.now }
     ensures { MakesOnce diagrams.old diagrams.new result (joined (join_of true) (function_at diagrams.old a.now) (function_at diagrams.old b.now)) (IsJoinOfParts (join_of true) (diagram_of diagrams.old.state a.now) (diagram_of diagrams.old.state b.now)) }
 {
-    match diagrams.and(a, b) {
-        Ok(root) => Ok(root),
-        Err(StoreFault::Memory) => Err(Halt::Memory),
-        Err(StoreFault::Full) => {
-            diagrams.reclaim();
-            told(diagrams.and(a, b))
-        }
-    }
+    told(diagrams.and(a, b))
 }
 
 /// The diagram that is true where one of them is.
@@ -69,14 +61,7 @@ pub fn or(diagrams: &mut Diagrams, a: &Root, b: &Root) -> Result<Root, Halt>
     requires b_kept { IsRoot diagrams.old.state b.now }
     ensures { MakesOnce diagrams.old diagrams.new result (joined (join_of false) (function_at diagrams.old a.now) (function_at diagrams.old b.now)) (IsJoinOfParts (join_of false) (diagram_of diagrams.old.state a.now) (diagram_of diagrams.old.state b.now)) }
 {
-    match diagrams.or(a, b) {
-        Ok(root) => Ok(root),
-        Err(StoreFault::Memory) => Err(Halt::Memory),
-        Err(StoreFault::Full) => {
-            diagrams.reclaim();
-            told(diagrams.or(a, b))
-        }
-    }
+    told(diagrams.or(a, b))
 }
 
 /// The diagram that is true where `a` is false.
@@ -85,14 +70,7 @@ pub fn not(diagrams: &mut Diagrams, a: &Root) -> Result<Root, Halt>
     requires { IsRoot diagrams.old.state a.now }
     ensures { MakesOnce diagrams.old diagrams.new result (negated (function_at diagrams.old a.now)) (IsNegatedPart (diagram_of diagrams.old.state a.now)) }
 {
-    match diagrams.not(a) {
-        Ok(root) => Ok(root),
-        Err(StoreFault::Memory) => Err(Halt::Memory),
-        Err(StoreFault::Full) => {
-            diagrams.reclaim();
-            told(diagrams.not(a))
-        }
-    }
+    told(diagrams.not(a))
 }
 
 /// The diagram that is true where the level's bit is.
@@ -100,12 +78,5 @@ pub fn var(diagrams: &mut Diagrams, level: u32) -> Result<Root, Halt>
     requires { level < diagrams.old.state.table.levels }
     ensures { MakesOnce diagrams.old diagrams.new result (λ s. s level) (λ made. value made ≡ (λ s. s (level_of diagrams.old.order level))) }
 {
-    match diagrams.var(level) {
-        Ok(root) => Ok(root),
-        Err(StoreFault::Memory) => Err(Halt::Memory),
-        Err(StoreFault::Full) => {
-            diagrams.reclaim();
-            told(diagrams.var(level))
-        }
-    }
+    told(diagrams.var(level))
 }

@@ -86,9 +86,8 @@ fn roots_of(diagrams: &mut Diagrams, scene: &Scene, lines: &[&Expr]) -> Result<V
 }
 
 /// The diagrams of the functions of a game's lines and goals: those of the initial lines, of the lines that are judged at each
-/// position, monitors' lines among them, and of the recurring goals. They stand at the levels of a state's order. `Budget`: at the
-/// second try of an operation, after the store was reclaimed, it held its budget of nodes. `Memory`: none was given. Either gives
-/// all back.
+/// position, monitors' lines among them, and of the recurring goals. They stand at the levels of a state's order. `Budget`: the
+/// store held its budget of nodes, and an operation needed each of them. `Memory`: none was given. Either gives all back.
 pub fn line_functions(
     diagrams: &mut Diagrams,
     codes: &Codes,

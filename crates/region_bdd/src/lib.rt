@@ -1,8 +1,8 @@
 //! Regions as diagrams: sets of states of a game of any size, in a store with a budget of nodes.
 //!
 //! Each region and each move that is held has its diagrams in a slot; the object keeps besides the diagrams of the game's
-//! own formulas. Where a call of the store is refused at its second try, the call of the object answers `Budget` and the
-//! object tells from then on which call it was and all that was held.
+//! own formulas. Where a call of the store is refused for want of nodes, the call of the object answers `Budget` and
+//! the object tells from then on which call it was and all that was held.
 //!
 //! Contract: `RegionBdd::make` gives an object that holds nothing, and `RegionBdd` meets the trait `Regions` whole. An object
 //! shows its budget where each bit stands at the level of its number, and 0 under the near order. Where it shows one and a

@@ -21,7 +21,7 @@ ghost use Rattle.region_bdd.specs.Seen.{seen};
 
 use crate::ending::{release_members, release_own};
 use crate::object::RegionBdd;
-use crate::ordering::{bits_near, order_of};
+use crate::ordering::{is_moved, order_of};
 use crate::own::Own;
 use crate::search::Search;
 use crate::slots::Slots;
@@ -127,23 +127,22 @@ fn formulas(
     }
 }
 
-/// The diagrams that an object keeps for itself, with the products of later lines where there is room. Where `near` has the
-/// bits in the order of their levels, which isn't the declared one, these lines are grouped. `Budget`: at the
-/// second try of an operation, after the store was reclaimed, it held its budget of nodes. `Memory`: none was given.
-/// Neither changes what is kept.
+/// The diagrams that an object keeps for itself, with the products of later lines where there is room, in groups if they are
+/// asked for, which is under no declared order. `Budget`: the store held its budget of nodes, and an operation needed each of
+/// them. `Memory`: none was given. Neither changes what is kept.
 fn own(
     diagrams: &mut Diagrams,
     alloc: Global,
     codes: &Codes,
     game: &Game,
     levels: &NextLevels,
-    near: &Option<Vec<u32>>,
+    grouped: bool,
 ) -> Result<Own, Halt>
     requires made { WellMade (game_data game.now) }
     requires codes { codes.now ≡ state_domains (game_data game.now) }
     requires fits { FitsNext (game_data game.now) levels.now.to.items diagrams.old }
     requires lists { AreLevelsOf (game_data game.now) levels.now }
-    requires named { IsDeclared diagrams.old → near.now ≡ None }
+    requires named { IsDeclared diagrams.old → grouped ≡ false }
     ensures part { let g = game_data game.now in
         MakesPart roots_of_own (FitOwn g levels.now.to.items) (IsOfGame g) diagrams.old diagrams.new result }
     ensures early { IfOk result (λ own. FitsOwnEarly levels.now diagrams.new own) }
@@ -152,7 +151,7 @@ fn own(
     match formulas(diagrams, codes, game, levels) {
         Ok(parts) => {
             let ((assume, guaranteed), (first, later)) = parts;
-            let early = Early::make(diagrams, alloc, &later, levels, near);
+            let early = Early::make(diagrams, alloc, &later, levels, grouped);
             Ok(Own {
                 step: StepRoots {
                     nothing,
@@ -230,13 +229,11 @@ impl RegionBdd {
         let Ok(order) = order_of(alloc, &game, &codes, &levels.to, near) else {
             return Err(Halt::Memory);
         };
-        let Ok(bits) = bits_near(alloc, &order) else {
-            return Err(Halt::Memory);
-        };
+        let grouped = is_moved(&order);
         let Ok(mut diagrams) = Diagrams::make(alloc, order, budget) else {
             return Err(Halt::Memory);
         };
-        let own = own(&mut diagrams, alloc, &codes, &game, &levels, &bits)?;
+        let own = own(&mut diagrams, alloc, &codes, &game, &levels, grouped)?;
         let Ok(search) = room(alloc, codes.levels(), &own) else {
             release_own(&mut diagrams, own);
             return Err(Halt::Memory);

@@ -1,6 +1,6 @@
 //! The order of the bits: as they are declared, or slots near those that lines tie them to.
 
-ghost use Rattle.std.specs.Prelude.{◌≡◌, false, length, IfOk, IfSome, None};
+ghost use Rattle.std.specs.Prelude.{◌≡◌, false, length, IfOk, IfSome};
 ghost use Rattle.spec_model.specs.GameViews.{game_data};
 ghost use Rattle.bit_compile.specs.Domains.{state_domains, level_count};
 ghost use Rattle.bdd_bits.specs.Orders.{IsDeclared};
@@ -76,16 +76,14 @@ pub fn order_of(
     Order::declared(alloc, codes.levels())
 }
 
-/// The bits in the order of their levels, if that isn't the declared one.
-pub fn bits_near(alloc: Global, order: &Order) -> Result<Option<Vec<u32>>, OutOfMemory>
-    ensures { IfOk result (λ near. IsDeclared order.now → near ≡ None) }
+/// Whether some bit stands at another level than that of its number.
+pub fn is_moved(order: &Order) -> bool
+    ensures { IsDeclared order.now → result ≡ false }
 {
-    let mut bits = Vec::new(alloc);
-    let mut moved = false;
     for level in 0..order.len() {
-        let bit = order.bit(level);
-        moved = moved || bit != level;
-        bits.push(bit)?;
+        if order.bit(level) != level {
+            return true;
+        }
     }
-    Ok(if moved { Some(bits) } else { None })
+    false
 }

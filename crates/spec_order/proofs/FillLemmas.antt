@@ -46,25 +46,22 @@ module _ (old : State) (t : Table) (N : Function → Type 0) (none : (n : ℕ) �
   copied d (inl kept) = absurd (let root = kept.1 in let no = none kept.0 in omega (arith, root, no))
   copied d (inr is) = is
 
-  stands : (n : ℕ) → copies.StandsIn t (copies.IsHeldSince old N) n → StandsIn t IsNamed n
-  stands n s = record { root = s.root; live = s.live; held = copied (diagram_at t s.root) s.held; part = s.part }
-
-  needed : (Made : Type 0) (n : ℕ) → (n < 2) ⊎ (copies.StandsIn t (copies.IsHeldSince old N) n ⊎ Made) → (n < 2) ⊎ (StandsIn t IsNamed n ⊎ Made)
-  needed Made n (inl constant) = inl constant
-  needed Made n (inr (inl s)) = inr (inl (stands n s))
-  needed Made n (inr (inr made)) = inr (inr made)
+  needed : (IsMade : Diagram → Type 0) (n : ℕ) → (n < 2) ⊎ (copies.StandsIn t (copies.IsHeldSince old N) n ⊎ copies.StandsIn t IsMade n) → (n < 2) ⊎ (StandsIn t IsNamed n ⊎ StandsIn t IsMade n)
+  needed IsMade n (inl constant) = inl constant
+  needed IsMade n (inr (inl s)) = inr (inl (record { root = s.root; live = s.live; held = copied (diagram_at t s.root) s.held; part = s.part }))
+  needed IsMade n (inr (inr s)) = inr (inr (record { root = s.root; live = s.live; held = s.held; part = s.part }))
 
   by_running : (r : copies.Running) → AllByRecursion (copies.IsHeldSince old N) (copies.arguments_of r) → AllByRecursion IsReduced (copies.arguments_of r) → IsFilled t →
-      ((n : ℕ) → IsLive t n → (n < 2) ⊎ (copies.StandsIn t (copies.IsHeldSince old N) n ⊎ copies.IsUnfinishedOf r (diagram_at t n))) → IsCrowdedBy t IsNamed
+      ((n : ℕ) → IsLive t n → (n < 2) ⊎ (copies.StandsIn t (copies.IsHeldSince old N) n ⊎ copies.StandsIn t (copies.IsUnfinishedOf r) n)) → IsCrowdedBy t IsNamed
   by_running (copies.bit level) held reduced filled needs =
-      record { filled = filled; running = bit level; on_held = tt; reduced = tt; needed = λ n live. needed (copies.IsUnfinishedOf (copies.bit level) (diagram_at t n)) n (needs n live) }
+      record { filled = filled; running = bit level; on_held = tt; reduced = tt; needed = λ n live. needed (copies.IsUnfinishedOf (copies.bit level)) n (needs n live) }
   by_running (copies.choice a b c) held reduced filled needs =
       record {
         filled = filled;
         running = choice a b c;
         on_held = all_wider (copies.IsHeldSince old N) IsNamed copied (a ∷ b ∷ c ∷ []) held;
         reduced = reduced;
-        needed = λ n live. needed (copies.IsUnfinishedOf (copies.choice a b c) (diagram_at t n)) n (needs n live);
+        needed = λ n live. needed (copies.IsUnfinishedOf (copies.choice a b c)) n (needs n live);
       }
 
   -- an operation of a copy is one of those that compiling runs

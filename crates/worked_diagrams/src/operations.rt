@@ -1,9 +1,10 @@
 //! Worked examples. A table of three levels has the value at the bits b0, b1 and b2 as its bit 4 * b0 + 2 * b1 + b2.
 
 ghost use Rattle.std.specs.Prelude.{◌≡◌, ◌<◌, ◌≤◌};
-ghost use Rattle.bdd_store.specs.State.{IsRoot, AddsRoot};
+ghost use Rattle.bdd_store.specs.State.{IsRoot, AddsRoot, SameRoots};
 
 use bdd_ops::{Conjunction, Diagrams, Root};
+use bdd_store::StoreFault;
 use std::alloc::Global;
 use std::process::Abort;
 use std::test::Fail;
@@ -150,6 +151,69 @@ fn tables_of_operations(rt: HostRuntime) -> Result<(), Fail> {
     diagrams.release(a);
     diagrams.release(b);
     diagrams.release(c);
+    Ok(())
+}
+
+/// The diagram of a level's bit.
+fn bit(rt: &impl Abort, diagrams: &mut Diagrams, level: u32) -> Root
+    requires below { level < diagrams.old.state.table.levels }
+    ensures added { AddsRoot diagrams.old.state diagrams.new.state result }
+    ensures levels { diagrams.new.state.table.levels ≡ diagrams.old.state.table.levels }
+{
+    diagrams.var(level).expect(rt, "a bit")
+}
+
+/// The value of a diagram over two levels at each pair of bits, the first level's bit false in the first two.
+fn four_values(diagrams: &Diagrams, a: &Root) -> [bool; 4]
+    requires kept { IsRoot diagrams.now.state a.now }
+    requires levels { diagrams.now.state.table.levels ≡ 2 }
+{
+    [
+        diagrams.eval(a, &[false, false]),
+        diagrams.eval(a, &[false, true]),
+        diagrams.eval(a, &[true, false]),
+        diagrams.eval(a, &[true, true]),
+    ]
+}
+
+/// The values of a conjunction, or why it was refused. Its root is given back.
+fn values_of_both(diagrams: &mut Diagrams, a: &Root, b: &Root) -> Result<[bool; 4], StoreFault>
+    requires a_kept { IsRoot diagrams.old.state a.now }
+    requires b_kept { IsRoot diagrams.old.state b.now }
+    requires levels { diagrams.old.state.table.levels ≡ 2 }
+    ensures roots { SameRoots diagrams.old.state diagrams.new.state }
+    ensures levels { diagrams.new.state.table.levels ≡ 2 }
+{
+    let both = diagrams.and(a, b)?;
+    let values = four_values(diagrams, &both);
+    diagrams.release(both);
+    Ok(values)
+}
+
+#[test]
+fn two_bits_fill_four_nodes(rt: HostRuntime) -> Result<(), Fail> {
+    let mut diagrams = Diagrams::make(rt.alloc(), 2, 4)?;
+    let a = bit(&rt, &mut diagrams, 0);
+    let b = bit(&rt, &mut diagrams, 1);
+    let both = values_of_both(&mut diagrams, &a, &b);
+    assert_eq!(rt; both, Err(StoreFault::Full));
+    assert_eq!(rt; four_values(&diagrams, &a), [false, false, true, true]);
+    assert_eq!(rt; four_values(&diagrams, &b), [false, true, false, true]);
+    diagrams.release(a);
+    diagrams.release(b);
+    Ok(())
+}
+
+#[test]
+fn two_bits_and_their_conjunction_fill_five_nodes(rt: HostRuntime) -> Result<(), Fail> {
+    let mut diagrams = Diagrams::make(rt.alloc(), 2, 5)?;
+    let a = bit(&rt, &mut diagrams, 0);
+    let b = bit(&rt, &mut diagrams, 1);
+    let both = values_of_both(&mut diagrams, &a, &b);
+    assert_eq!(rt; both, Ok([false, false, false, true]));
+    assert_eq!(rt; diagrams.nodes(), 5);
+    diagrams.release(a);
+    diagrams.release(b);
     Ok(())
 }
 

@@ -11,6 +11,7 @@ fn refusal(store: &mut Store, level: u32) -> Option<StoreFault>
     requires { level < store.old.table.levels }
     ensures roots { SameRoots store.old store.new }
     ensures levels { store.new.table.levels ≡ store.old.table.levels }
+    ensures stack { store.new.stack ≡ store.old.stack }
 {
     match store.var(level) {
         Ok(root) => {
@@ -24,7 +25,8 @@ fn refusal(store: &mut Store, level: u32) -> Option<StoreFault>
 /// Whether a second root is of the same node: it is given back.
 fn is_kept_twice(store: &mut Store, root: &Root) -> bool
     requires { IsRoot store.old root.now }
-    ensures { SameRoots store.old store.new }
+    ensures roots { SameRoots store.old store.new }
+    ensures stack { store.new.stack ≡ store.old.stack }
 {
     let Ok(again) = store.keep(root) else {
         return false;
@@ -46,6 +48,43 @@ fn a_full_store_has_room_after_a_reclaim(rt: HostRuntime) -> Result<(), Fail> {
     let second = store.var(1)?;
     assert_eq!(rt; store.nodes(), 3);
     store.release(second);
+    Ok(())
+}
+
+#[test]
+fn a_full_store_frees_what_no_root_reaches(rt: HostRuntime) -> Result<(), Fail> {
+    let mut store = Store::make(rt.alloc(), 2, 3)?;
+    let first = store.var(0)?;
+    store.release(first);
+    let second = store.var(1)?;
+    assert_eq!(rt; store.nodes(), 3);
+    store.release(second);
+    Ok(())
+}
+
+#[test]
+fn a_full_store_keeps_what_its_stack_holds(rt: HostRuntime) -> Result<(), Fail> {
+    let mut store = Store::make(rt.alloc(), 2, 3)?;
+    let first = store.var(0).expect(&rt, "a bit");
+    let edge = store.edge(&first);
+    store.push(edge).expect(&rt, "a place");
+    store.release(first);
+    assert_eq!(rt; refusal(&mut store, 1), Some(StoreFault::Full));
+    assert_eq!(rt; store.pop(), Some(edge));
+    assert_eq!(rt; refusal(&mut store, 1), None);
+    Ok(())
+}
+
+#[test]
+fn what_was_pushed_last_comes_off_first(rt: HostRuntime) -> Result<(), Fail> {
+    let mut store = Store::make(rt.alloc(), 2, 8)?;
+    assert_eq!(rt; store.pop(), None);
+    let (low, high) = (store.fixed(false), store.fixed(true));
+    store.push(low)?;
+    store.push(high)?;
+    assert_eq!(rt; store.pop(), Some(high));
+    assert_eq!(rt; store.pop(), Some(low));
+    assert_eq!(rt; store.pop(), None);
     Ok(())
 }
 

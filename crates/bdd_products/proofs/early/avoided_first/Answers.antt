@@ -45,13 +45,13 @@ avoided-requires c =
     let r = c.requires.target in
     let old = c.args.diagrams.now in
     let refused = (subst (λ (h : Halt). Makes old c.avoided_early.new.diagrams (Err h) (avoiding (move_functions old c.args.members.now) c.args.levels.now.reply.items c.args.levels.now.all.items (function_at old c.args.target))) c.in-Err-Budget.field-0-is (c.in-Err-Budget.ensures (move_functions old c.args.members.now) c.args.levels.now c.requires.fits)) in
-    (r.0, r.1, still_target r.0 old c.avoided_early.new.diagrams c.reclaim.new.self c.args.target r.1 _ r.2 refused c.reclaim.ensures.roots c.reclaim.ensures.keeps, r.3)
+    (r.0, r.1, still_target r.0 old c.avoided_early.new.diagrams c.args.target r.1 _ r.2 refused, r.3)
 
 pub returns-else-early-clause-made : goal.returns-else-early-clause-made
 returns-else-early-clause-made c = λ base f first are.
     let old = c.args.diagrams.now in
     let refused = (subst (λ (h : Halt). Makes old c.avoided_early.new.diagrams (Err h) (avoiding (move_functions old c.args.members.now) c.args.levels.now.reply.items c.args.levels.now.all.items (function_at old c.args.target))) c.in-Err-Budget.field-0-is (c.in-Err-Budget.ensures (move_functions old c.args.members.now) c.args.levels.now c.requires.fits)) in
-    c.avoided.ensures.made base f (still_target base old c.avoided_early.new.diagrams c.reclaim.new.self c.args.target f _ first refused c.reclaim.ensures.roots c.reclaim.ensures.keeps) are
+    c.avoided.ensures.made base f (still_target base old c.avoided_early.new.diagrams c.args.target f _ first refused) are
 
 pub returns-in-Ok-clause-cause : goal.returns-in-Ok-clause-cause
 returns-in-Ok-clause-cause c = λ plain base f first are. cause_ok base c.release.new.self c.in-Ok.made (IsOfAvoiding (lists_at base c.args.members.now) c.args.levels.now.reply.items f)
@@ -63,7 +63,7 @@ pub returns-else-early-clause-cause : goal.returns-else-early-clause-cause
 returns-else-early-clause-cause c = λ plain base f first are.
     let old = c.args.diagrams.now in
     let refused = (subst (λ (h : Halt). Makes old c.avoided_early.new.diagrams (Err h) (avoiding (move_functions old c.args.members.now) c.args.levels.now.reply.items c.args.levels.now.all.items (function_at old c.args.target))) c.in-Err-Budget.field-0-is (c.in-Err-Budget.ensures (move_functions old c.args.members.now) c.args.levels.now c.requires.fits)) in
-    c.avoided.ensures.cause base f (still_target base old c.avoided_early.new.diagrams c.reclaim.new.self c.args.target f _ first refused c.reclaim.ensures.roots c.reclaim.ensures.keeps) are
+    c.avoided.ensures.cause base f (still_target base old c.avoided_early.new.diagrams c.args.target f _ first refused) are
 
 pub release-requires-then-early : goal.release-requires-then-early
 release-requires-then-early c =

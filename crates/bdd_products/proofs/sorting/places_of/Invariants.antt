@@ -1,7 +1,5 @@
 use Rattle.std.proofs.Common.{◌≡◌, ◌<◌, take}
 use Rattle.std.specs.List.{All}
-use Rattle.bdd_store.specs.State.{SameRoots}
-use Rattle.bdd_bits.specs.Calls.{KeepsRoots}
 use Rattle.bdd_products.specs.Products.{members_in}
 use Rattle.bdd_products.proofs.sorting.places_of.Given as goal
 
@@ -11,6 +9,4 @@ invariant-loop-place l =
     record {
       places : members_in l.members l.places.items ≡ take l.place l.members;
       below : All (λ p. p.1 < l.place) l.places.items;
-      roots : SameRoots l.fn.diagrams.state l.diagrams.state;
-      keeps : KeepsRoots l.fn.diagrams l.diagrams;
     }

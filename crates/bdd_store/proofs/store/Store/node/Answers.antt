@@ -1,39 +1,62 @@
-use Rattle.std.proofs.Common.{◌≡◌, ◌<◌, subst, sym, ap, ◌∙◌}
-use Rattle.bdd_store.specs.State.{IsStore, IsEdge, diagram_of, MakesOnly}
-use Rattle.bdd_store.specs.contracts.store.Store.{the_view}
-use Rattle.bdd_store.proofs.Whole.{store_of_whole, whole_nodes, node_made, FullExactly, fit_of, full_exactly, ok_or_err, nodes_memory, store_memory}
+use Rattle.std.proofs.Common.{◌≡◌, ◌++◌, ◌∷◌, [], ℕ, Err, IfOk, OnErr, if◌then◌else◌, subst, sym, ap, ◌∙◌}
+use Rattle.spec_model.specs.Diagrams.{Bits, value, IsLater}
+use Rattle.bdd_store.specs.State.{IsFullOf, diagram_of}
+use Rattle.bdd_store.specs.Kept.{MakesRoom}
+use Rattle.bdd_store.proofs.Held.{low_held, high_held, room_keeps, full_before, full_after, still_held, keeps_behind, answers_behind, same_branch, had_branch}
 use Rattle.bdd_store.proofs.store.Store.node.Goals as goal
-use Rattle.std.proofs.lemmas.Bool.{false≢true, eq-eqb}
-use Rattle.std.specs.Prelude.{Err}
-use Rattle.spec_model.specs.Diagrams.{branch, IsLater}
-use Rattle.bdd_store.proofs.store.Store.node.Goals.{in-Ok, in-Err-Full, in-Err-Memory}
 
-pub returns-then-eq-clause-sound : goal.returns-then-eq-clause-sound
-returns-then-eq-clause-sound c = subst IsStore c.self.view_is (store_of_whole (the_view c.self.inside) c.self.inside.roots c.self.invariant)
+pub find_or_add-requires-in-Err-Full-clause-low_live : goal.find_or_add-requires-in-Err-Full-clause-low_live
+find_or_add-requires-in-Err-Full-clause-low_live c =
+    let room = subst (λ s. MakesRoom s c.make_room.new.self (s.stack ++ c.args.low.0 ∷ c.args.high.0 ∷ [])) c.in-Err-Full.ensures.unchanged c.make_room.ensures.room in
+    ((room_keeps c.args.self.now c.make_room.new.self (c.args.self.now.stack ++ c.args.low.0 ∷ c.args.high.0 ∷ []) room).held c.args.low.0 (low_held c.args.self.now c.args.self.now.stack c.args.low.0 c.args.high.0 c.requires.low_live)).0
 
-pub find_or_add-requires : goal.find_or_add-requires
-find_or_add-requires c =
-    fit_of c.self.inside.nodes c.args.level c.args.low.0 c.args.high.0 c.self.invariant.sound (subst (λ s. c.args.level < s.table.levels) (sym c.self.view_is) c.requires.below) (λ e. false≢true (c.if-eq.ensures ∙ eq-eqb c.args.low.0 c.args.high.0 e))
-    (subst (λ s. IsEdge s c.args.low.0) (sym c.self.view_is) c.requires.low_live) (subst (λ s. IsEdge s c.args.high.0) (sym c.self.view_is) c.requires.high_live) (subst (λ s. IsLater c.args.level (diagram_of s c.args.low.0)) (sym c.self.view_is) c.requires.low_later) (subst (λ s. IsLater c.args.level (diagram_of s c.args.high.0)) (sym c.self.view_is) c.requires.high_later)
+pub find_or_add-requires-in-Err-Full-clause-high_live : goal.find_or_add-requires-in-Err-Full-clause-high_live
+find_or_add-requires-in-Err-Full-clause-high_live c =
+    let room = subst (λ s. MakesRoom s c.make_room.new.self (s.stack ++ c.args.low.0 ∷ c.args.high.0 ∷ [])) c.in-Err-Full.ensures.unchanged c.make_room.ensures.room in
+    ((room_keeps c.args.self.now c.make_room.new.self (c.args.self.now.stack ++ c.args.low.0 ∷ c.args.high.0 ∷ []) room).held c.args.high.0 (high_held c.args.self.now c.args.self.now.stack c.args.low.0 c.args.high.0 c.requires.high_live)).0
 
-pub invariant_of-self : goal.invariant_of-self
-invariant_of-self c = whole_nodes (the_view c.self.inside) c.self.inside.roots c.find_or_add.new.self c.self.invariant c.find_or_add.ensures.sound c.find_or_add.ensures.marks c.find_or_add.ensures.keeps.live
+pub find_or_add-requires-in-Err-Full-clause-low_later : goal.find_or_add-requires-in-Err-Full-clause-low_later
+find_or_add-requires-in-Err-Full-clause-low_later c =
+    let room = subst (λ s. MakesRoom s c.make_room.new.self (s.stack ++ c.args.low.0 ∷ c.args.high.0 ∷ [])) c.in-Err-Full.ensures.unchanged c.make_room.ensures.room in
+    subst (IsLater c.args.level) (sym ((room_keeps c.args.self.now c.make_room.new.self (c.args.self.now.stack ++ c.args.low.0 ∷ c.args.high.0 ∷ []) room).held c.args.low.0 (low_held c.args.self.now c.args.self.now.stack c.args.low.0 c.args.high.0 c.requires.low_live)).1) c.requires.low_later
 
-pub returns-clause-sound : goal.returns-clause-sound
-returns-clause-sound c = store_of_whole _ c.self.inside.roots (invariant_of-self c)
+pub find_or_add-requires-in-Err-Full-clause-high_later : goal.find_or_add-requires-in-Err-Full-clause-high_later
+find_or_add-requires-in-Err-Full-clause-high_later c =
+    let room = subst (λ s. MakesRoom s c.make_room.new.self (s.stack ++ c.args.low.0 ∷ c.args.high.0 ∷ [])) c.in-Err-Full.ensures.unchanged c.make_room.ensures.room in
+    subst (IsLater c.args.level) (sym ((room_keeps c.args.self.now c.make_room.new.self (c.args.self.now.stack ++ c.args.low.0 ∷ c.args.high.0 ∷ []) room).held c.args.high.0 (high_held c.args.self.now c.args.self.now.stack c.args.low.0 c.args.high.0 c.requires.high_live)).1) c.requires.high_later
 
-pub returns-clause-keeps : goal.returns-clause-keeps
-returns-clause-keeps c = rw (← c.self.view_is) (record { levels = c.find_or_add.ensures.bounds.levels; budget = c.find_or_add.ensures.bounds.budget; live = c.find_or_add.ensures.keeps.live; meaning = c.find_or_add.ensures.keeps.meaning })
+pub returns-in-Err-Full-clause-branch : goal.returns-in-Err-Full-clause-branch
+returns-in-Err-Full-clause-branch c unlike =
+    let room = subst (λ s. MakesRoom s c.make_room.new.self (s.stack ++ c.args.low.0 ∷ c.args.high.0 ∷ [])) c.in-Err-Full.ensures.unchanged c.make_room.ensures.room in
+    subst (λ d. IfOk c.find_or_add-in-Err-Full.result (λ e. diagram_of c.find_or_add-in-Err-Full.new.self e.0 ≡ d)) (same_branch c.args.self.now c.make_room.new.self (c.args.self.now.stack ++ c.args.low.0 ∷ c.args.high.0 ∷ []) room c.args.level c.args.low.0 c.args.high.0 (low_held c.args.self.now c.args.self.now.stack c.args.low.0 c.args.high.0 c.requires.low_live) (high_held c.args.self.now c.args.self.now.stack c.args.low.0 c.args.high.0 c.requires.high_live)) (c.find_or_add-in-Err-Full.ensures.branch unlike)
 
-pub returns-clause-made : goal.returns-clause-made
-returns-clause-made c =
-    subst (λ s. MakesOnly s (record (the_view c.self.inside) { table = c.find_or_add.new.self }) (λ made. made ≡ branch c.args.level (diagram_of s c.args.low.0) (diagram_of s c.args.high.0))) c.self.view_is
-    (node_made (the_view c.self.inside) c.find_or_add.new.self c.args.level c.args.low.0 c.args.high.0 c.find_or_add.result c.find_or_add.ensures.keeps c.find_or_add.ensures.added c.find_or_add.ensures.meaning c.find_or_add.ensures.unchanged)
+pub returns-in-Err-Full-clause-value : goal.returns-in-Err-Full-clause-value
+returns-in-Err-Full-clause-value c =
+    let room = subst (λ s. MakesRoom s c.make_room.new.self (s.stack ++ c.args.low.0 ∷ c.args.high.0 ∷ [])) c.in-Err-Full.ensures.unchanged c.make_room.ensures.room in
+    subst (λ d. IfOk c.find_or_add-in-Err-Full.result (λ e. (s : Bits) → value (diagram_of c.find_or_add-in-Err-Full.new.self e.0) s ≡ (if s c.args.level then value (diagram_of c.args.self.now c.args.high.0) s else value d s))) ((room_keeps c.args.self.now c.make_room.new.self (c.args.self.now.stack ++ c.args.low.0 ∷ c.args.high.0 ∷ []) room).held c.args.low.0 (low_held c.args.self.now c.args.self.now.stack c.args.low.0 c.args.high.0 c.requires.low_live)).1
+    (subst (λ d. IfOk c.find_or_add-in-Err-Full.result (λ e. (s : Bits) → value (diagram_of c.find_or_add-in-Err-Full.new.self e.0) s ≡ (if s c.args.level then value d s else value (diagram_of c.make_room.new.self c.args.low.0) s))) ((room_keeps c.args.self.now c.make_room.new.self (c.args.self.now.stack ++ c.args.low.0 ∷ c.args.high.0 ∷ []) room).held c.args.high.0 (high_held c.args.self.now c.args.self.now.stack c.args.low.0 c.args.high.0 c.requires.high_live)).1 c.find_or_add-in-Err-Full.ensures.value)
 
-pub returns-clause-full : goal.returns-clause-full
-returns-clause-full c =
-    subst (λ s. FullExactly s c.args.level c.args.low.0 c.args.high.0 c.match-find_or_add.result) c.self.view_is (elim c.match-find_or_add.branch [
-      | in-Ok w ↦ full_exactly (the_view c.self.inside) c.args.level c.args.low.0 c.args.high.0 c.self.invariant.sound (subst (λ s. IsEdge s c.args.low.0) (sym c.self.view_is) c.requires.low_live) (subst (λ s. IsEdge s c.args.high.0) (sym c.self.view_is) c.requires.high_live) (λ e. false≢true (c.if-eq.ensures ∙ eq-eqb c.args.low.0 c.args.high.0 e)) c.find_or_add.result c.match-find_or_add.result c.find_or_add.ensures.full.0 c.find_or_add.ensures.full.1 (λ h. absurd (ok_or_err _ _ (sym w.in-Ok.is ∙ h))) (λ h. absurd (ok_or_err _ _ (sym w.result-is ∙ h)))
-      | in-Err-Full w ↦ full_exactly (the_view c.self.inside) c.args.level c.args.low.0 c.args.high.0 c.self.invariant.sound (subst (λ s. IsEdge s c.args.low.0) (sym c.self.view_is) c.requires.low_live) (subst (λ s. IsEdge s c.args.high.0) (sym c.self.view_is) c.requires.high_live) (λ e. false≢true (c.if-eq.ensures ∙ eq-eqb c.args.low.0 c.args.high.0 e)) c.find_or_add.result c.match-find_or_add.result c.find_or_add.ensures.full.0 c.find_or_add.ensures.full.1 (λ _. w.result-is) (λ _. w.in-Err-Full.is ∙ ap Err w.in-Err-Full.field-0-is)
-      | in-Err-Memory w ↦ full_exactly (the_view c.self.inside) c.args.level c.args.low.0 c.args.high.0 c.self.invariant.sound (subst (λ s. IsEdge s c.args.low.0) (sym c.self.view_is) c.requires.low_live) (subst (λ s. IsEdge s c.args.high.0) (sym c.self.view_is) c.requires.high_live) (λ e. false≢true (c.if-eq.ensures ∙ eq-eqb c.args.low.0 c.args.high.0 e)) c.find_or_add.result c.match-find_or_add.result c.find_or_add.ensures.full.0 c.find_or_add.ensures.full.1 (λ h. absurd (nodes_memory (sym (w.in-Err-Memory.is ∙ ap Err w.in-Err-Memory.field-0-is) ∙ h))) (λ h. absurd (store_memory (sym w.result-is ∙ h)))
-    ])
+pub returns-in-Err-Full-clause-keeps : goal.returns-in-Err-Full-clause-keeps
+returns-in-Err-Full-clause-keeps c =
+    let room = subst (λ s. MakesRoom s c.make_room.new.self (s.stack ++ c.args.low.0 ∷ c.args.high.0 ∷ [])) c.in-Err-Full.ensures.unchanged c.make_room.ensures.room in
+    keeps_behind c.args.self.now c.make_room.new.self (c.args.self.now.stack ++ c.args.low.0 ∷ c.args.high.0 ∷ []) room c.find_or_add-in-Err-Full.new.self c.find_or_add-in-Err-Full.ensures.keeps
+
+pub returns-in-Err-Full-clause-answers : goal.returns-in-Err-Full-clause-answers
+returns-in-Err-Full-clause-answers c =
+    let room = subst (λ s. MakesRoom s c.make_room.new.self (s.stack ++ c.args.low.0 ∷ c.args.high.0 ∷ [])) c.in-Err-Full.ensures.unchanged c.make_room.ensures.room in
+    answers_behind c.args.self.now c.make_room.new.self (c.args.self.now.stack ++ c.args.low.0 ∷ c.args.high.0 ∷ []) room c.find_or_add-in-Err-Full.new.self c.find_or_add-in-Err-Full.ensures.keeps c.find_or_add-in-Err-Full.ensures.answers
+
+pub returns-in-Err-Full-clause-full : goal.returns-in-Err-Full-clause-full
+returns-in-Err-Full-clause-full c =
+    let room = subst (λ s. MakesRoom s c.make_room.new.self (s.stack ++ c.args.low.0 ∷ c.args.high.0 ∷ [])) c.in-Err-Full.ensures.unchanged c.make_room.ensures.room in
+    let first = c.find_or_add.ensures.full.0 (c.in-Err-Full.is ∙ ap Err c.in-Err-Full.field-0-is) in (
+      (λ is. (first.0, first.1, full_before c.args.self.now c.make_room.new.self (c.args.self.now.stack ++ c.args.low.0 ∷ c.args.high.0 ∷ []) room first.2 (c.find_or_add-in-Err-Full.ensures.full.0 is).2)),
+      (λ h. c.find_or_add-in-Err-Full.ensures.full.1 (h.0, λ has. h.1 (had_branch c.args.self.now c.make_room.new.self (c.args.self.now.stack ++ c.args.low.0 ∷ c.args.high.0 ∷ []) room c.args.level c.args.low.0 c.args.high.0 (low_held c.args.self.now c.args.self.now.stack c.args.low.0 c.args.high.0 c.requires.low_live) (high_held c.args.self.now c.args.self.now.stack c.args.low.0 c.args.high.0 c.requires.high_live) has), full_after c.args.self.now c.make_room.new.self (c.args.self.now.stack ++ c.args.low.0 ∷ c.args.high.0 ∷ []) room c.make_room.ensures.sound.sound h.2)),
+    )
+
+pub returns-in-Err-Full-clause-filled : goal.returns-in-Err-Full-clause-filled
+returns-in-Err-Full-clause-filled c is =
+    let room = subst (λ s. MakesRoom s c.make_room.new.self (s.stack ++ c.args.low.0 ∷ c.args.high.0 ∷ [])) c.in-Err-Full.ensures.unchanged c.make_room.ensures.room in
+    let same = subst (λ r. OnErr r (c.find_or_add-in-Err-Full.new.self ≡ c.make_room.new.self)) is c.find_or_add-in-Err-Full.ensures.unchanged in
+    subst (λ xs. IsFullOf c.find_or_add-in-Err-Full.new.self (xs ++ c.args.low.0 ∷ c.args.high.0 ∷ [])) (sym (c.find_or_add-in-Err-Full.ensures.stack ∙ room.stack))
+    (subst (λ s. IsFullOf s (c.args.self.now.stack ++ c.args.low.0 ∷ c.args.high.0 ∷ [])) (sym same) (still_held c.args.self.now c.make_room.new.self (c.args.self.now.stack ++ c.args.low.0 ∷ c.args.high.0 ∷ []) room (c.find_or_add-in-Err-Full.ensures.full.0 is).2))

@@ -12,7 +12,7 @@ own-requires-clause-fits c =
     new_fits (game_data c.args.game) (length o.names) c.args.budget c.in-Ok-make.diagrams o c.in-Ok-next_levels.levels.to.items c.deref.result.now c.in-Ok-make.ensures.store c.in-Ok-make.ensures.order c.in-Ok-order_of.ensures.bits.0 c.deref.ensures.value c.in-Ok-order_of.ensures.bits.1
 
 pub own-requires-clause-named : goal.own-requires-clause-named
-own-requires-clause-named c = λ declared. c.in-Ok-bits_near.ensures (subst IsDeclared c.in-Ok-make.ensures.order declared)
+own-requires-clause-named c = λ declared. c.is_moved-grouped.ensures (subst IsDeclared c.in-Ok-make.ensures.order declared)
 
 pub release_own-requires : goal.release_own-requires
 release_own-requires c n = let all = c.in_ok-own.ensures.part.added n in omega (arith, all)

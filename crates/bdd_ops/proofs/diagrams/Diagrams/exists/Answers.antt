@@ -1,5 +1,0 @@
-use Rattle.bdd_ops.proofs.ListCallLemmas.{exists_start}
-use Rattle.bdd_ops.proofs.diagrams.Diagrams.exists.Goals as goal
-
-pub returns : goal.returns
-returns c = exists_start c.args.self.now c.list.new.self c.quantified_root.new.self c.quantified_root.result c.in_ok-list.list c.args.a.now c.args.levels.now c.list.ensures.table c.list.ensures.kept c.in_ok-list.ensures.given.1 c.quantified_root.ensures

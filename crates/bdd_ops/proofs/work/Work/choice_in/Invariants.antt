@@ -1,0 +1,17 @@
+use Rattle.std.proofs.Common.{◌≡◌, ◌+◌, ◌++◌}
+use Rattle.bdd_ops.specs.Steps.{Works}
+use Rattle.bdd_ops.specs.Frames.{answers_of, turns_next, turns_of_frames}
+use Rattle.bdd_ops.specs.Questions.{IsUnderWay, first_level, choosing}
+use Rattle.bdd_ops.proofs.work.Work.choice_in.Given as goal
+
+abbrev pub invariant-loop-turn : goal.invariant-loop-turn
+invariant-loop-turn l =
+    record {
+      works : Works l.fn.self l.self l.fn.self.state.stack;
+      stack : l.self.state.stack ≡ l.fn.self.state.stack ++ answers_of l.frames.items;
+      under_way : IsUnderWay (choosing l.self) l.fn.whole l.frames.items l.turn;
+    }
+
+-- the turns that are left at most
+abbrev pub decreases-loop-turn : goal.decreases-loop-turn
+decreases-loop-turn l = turns_next l.self.state.table.levels (first_level l.self) l.turn + turns_of_frames l.self.state.table.levels l.frames.items

@@ -1,0 +1,17 @@
+use Rattle.std.proofs.Common.{◌≡◌, ◌+◌, ◌++◌, min}
+use Rattle.bdd_ops.specs.Steps.{Works, level_at}
+use Rattle.bdd_ops.specs.Frames.{answers_of, turns_next, turns_of_frames}
+use Rattle.bdd_ops.specs.Questions.{IsUnderWay, joining}
+use Rattle.bdd_ops.proofs.work.Work.joined_in.Given as goal
+
+abbrev pub invariant-loop-turn : goal.invariant-loop-turn
+invariant-loop-turn l =
+    record {
+      works : Works l.fn.self l.self l.fn.self.state.stack;
+      stack : l.self.state.stack ≡ l.fn.self.state.stack ++ answers_of l.frames.items;
+      under_way : IsUnderWay (joining l.fn.all l.self) l.fn.whole l.frames.items l.turn;
+    }
+
+-- the turns that are left at most
+abbrev pub decreases-loop-turn : goal.decreases-loop-turn
+decreases-loop-turn l = turns_next l.self.state.table.levels (λ q. min (level_at l.self q.a.0) (level_at l.self q.b.0)) l.turn + turns_of_frames l.self.state.table.levels l.frames.items

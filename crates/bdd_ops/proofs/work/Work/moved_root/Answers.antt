@@ -1,0 +1,18 @@
+use Rattle.std.proofs.Common.{◌≡◌, Err, rules}
+use Rattle.bdd_ops.proofs.CallLemmas.{refused_on, given_call}
+use Rattle.bdd_store.specs.State.{diagram_of}
+use Rattle.bdd_ops.specs.Contents.{list_at}
+use Rattle.bdd_ops.proofs.ShiftLemmas.{shift_of_rising}
+use Rattle.bdd_ops.proofs.work.Work.moved_root.Goals as goal
+
+pub moved-requires-clause-shift : goal.moved-requires-clause-shift
+moved-requires-clause-shift c = rw c.edge-a.ensures.value (shift_of_rising c.args.self.now.state.table.levels (list_at c.args.self.now c.args.list) (diagram_of c.args.self.now.state c.args.a.now) c.edge-a.ensures.reduced c.edge-a.ensures.within c.requires.rising)
+
+pub returns-in_err-edge-clause-given : goal.returns-in_err-edge-clause-given
+returns-in_err-edge-clause-given c =
+    let same : c.from_residual.result ≡ Err c.in_err-edge.field-0.0 = search rules in
+    rw (← c.edge-a.ensures.value) (refused_on c.args.self.now c.moved.new.self c.moved.result c.from_residual.result c.in_err-edge.field-0.0 _ _ same c.in_err-edge.was c.edge-a.ensures.roots_live c.requires.idle c.moved.ensures.works c.moved.ensures.full)
+
+pub returns-clause-given : goal.returns-clause-given
+returns-clause-given c =
+    rw (← c.edge-a.ensures.value) (given_call c.args.self.now c.moved.new.self c.hold.new.self c.in_ok-edge.edge.0 c.hold.result _ _ c.edge-a.ensures.roots_live c.moved.ensures.works c.in_ok-edge.ensures.given c.hold.ensures.table c.hold.ensures.held c.hold.ensures.unchanged c.hold.ensures.memory)
