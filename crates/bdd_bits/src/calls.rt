@@ -1,6 +1,6 @@
 //! The calls that give roots.
 
-ghost use Rattle.std.specs.Prelude.{◌≡◌, ◌<◌, ◌++◌, ◌∷◌, [], true, false, IfOk, OnOk};
+ghost use Rattle.std.specs.Prelude.{◌≡◌, ◌<◌, true, false, IfOk, OnOk};
 ghost use Rattle.spec_model.specs.Diagrams.{ite, value, exists_over, and_exists_over, shifted};
 ghost use Rattle.spec_model.specs.DiagramReads.{forall_over};
 ghost use Rattle.bdd_store.specs.State.{IsRoot, diagram_of};
@@ -13,20 +13,9 @@ ghost use Rattle.bdd_bits.specs.Calls.{GivesRoot, RisesOver};
 
 use crate::OutOfMemory;
 use crate::diagrams::Diagrams;
-use crate::order::{Order, at};
+use crate::moves::put;
+use crate::order::Order;
 use bdd_ops::{Root, StoreFault};
-
-/// Adds a level, without a look for memory where there is room.
-fn put(levels: &mut Vec<u32>, level: u32) -> Result<(), OutOfMemory>
-    ensures { OnOk result (levels.new.items ≡ levels.old.items ++ level ∷ []) }
-{
-    if levels.len() < levels.capacity() {
-        levels.push_reserved(level);
-    } else {
-        levels.push(level)?;
-    }
-    Ok(())
-}
 
 /// Writes the levels of several bits.
 fn write_levels(order: &Order, bits: &[u32], levels: &mut Vec<u32>) -> Result<(), OutOfMemory>
@@ -35,18 +24,6 @@ fn write_levels(order: &Order, bits: &[u32], levels: &mut Vec<u32>) -> Result<()
     levels.clear();
     for &bit in bits {
         put(levels, order.level(bit))?;
-    }
-    Ok(())
-}
-
-/// Writes for each level the level of the bit that the list gives for its bit.
-fn write_moved(order: &Order, to: &[u32], levels: &mut Vec<u32>) -> Result<(), OutOfMemory>
-    ensures { OnOk result (levels.new.items ≡ moved_levels order.now to.now) }
-{
-    levels.clear();
-    for level in 0..order.len() {
-        let moved = at(to, order.bit(level));
-        put(levels, order.level(moved))?;
     }
     Ok(())
 }
@@ -156,8 +133,8 @@ impl Diagrams {
         requires rising { RisesOver self.old.state.table.levels self.old.order to.now (function_at self.old a.now) }
         ensures { GivesRoot self.old self.new result (shifted to.now (function_at self.old a.now)) (IsShiftedPart (moved_levels self.old.order to.now) (diagram_of self.old.state a.now)) }
     {
-        match write_moved(&self.order, to, &mut self.levels) {
-            Ok(()) => self.over_levels.shift(a, &self.levels),
+        match self.moves.learn(&self.order, to) {
+            Ok(()) => self.over_levels.shift(a, &self.moves.levels),
             Err(_) => Err(StoreFault::Memory),
         }
     }

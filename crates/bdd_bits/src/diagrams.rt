@@ -1,17 +1,21 @@
 //! Diagrams over bits: made, given back, compared.
 
-ghost use Rattle.std.specs.Prelude.{◌≡◌, ◌<◌, ◌≤◌, ◌↔◌, ◌⊎◌, ℕ, Bool, length, IfOk, IsTrue, MatchOption};
+ghost use Rattle.std.specs.Prelude.{◌≡◌, ◌<◌, ◌≤◌, ◌↔◌, ◌⊎◌, ◌++◌, ℕ, Bool, length, map, IfOk, OnOk, IsTrue, MatchOption};
 ghost use Rattle.spec_model.specs.DiagramReads.{bits_of};
 ghost use Rattle.spec_model.specs.Diagrams.{constant};
 ghost use Rattle.node_table.specs.Table.{count_of};
 ghost use Rattle.bdd_store.specs.State.{IsEdge, IsRoot, diagram_of, SameRoots, AddsRoot, IsNewStore, IsReached};
 ghost use Rattle.bdd_ops.specs.Steps.{level_at};
-ghost use Rattle.bdd_bits.specs.Orders.{IsOrder};
+ghost use Rattle.bdd_ops.specs.Straight.{levels_on};
+ghost use Rattle.bdd_bits.specs.Orders.{IsOrder, bit_of};
+ghost use Rattle.bdd_bits.specs.Moves.{AreMoves};
 ghost use Rattle.bdd_bits.specs.Contents.{Contents, over_levels, function_at, IsDeclared};
 ghost use Rattle.bdd_bits.specs.Calls.{KeepsRoots, SameNodes};
 
 use crate::OutOfMemory;
+use crate::moves::Moves;
 use crate::order::Order;
+use crate::placing::add_bits;
 use bdd_ops::{Diagrams as Levels, Root};
 use std::alloc::Global;
 use std::marker::Model;
@@ -23,6 +27,8 @@ pub struct Diagrams {
     pub(crate) order: Order,
     /// The levels of a list of bits, while a call works on them.
     pub(crate) levels: Vec<u32>,
+    /// The list by which bits were moved last.
+    pub(crate) moves: Moves,
 }
 
 impl Model for Diagrams {
@@ -30,7 +36,7 @@ impl Model for Diagrams {
 
     ghost view = { λ d. record { state = d.over_levels.state; lists = d.over_levels.lists; order = d.order } };
 
-    ghost invariant = { λ d. IsOrder d.over_levels.state.table.levels d.order };
+    ghost invariant = { λ d. IsOrder d.over_levels.state.table.levels d.order × AreMoves d.order d.moves };
 }
 
 impl Diagrams {
@@ -45,6 +51,7 @@ impl Diagrams {
             over_levels,
             order,
             levels: Vec::new(alloc),
+            moves: Moves::none(alloc),
         })
     }
 
@@ -99,6 +106,17 @@ impl Diagrams {
         ensures { MatchOption result ((b : Bool) × (diagram_of self.now.state a.now ≡ constant b)) (λ level. level ≡ level_at (over_levels self.now) a.now) }
     {
         self.over_levels.first_level(a)
+    }
+
+    /// Adds the bits that one path of a diagram reads, from the top down: at each node it goes to the part of the bit
+    /// `towards`, unless that is false, and then to the other one.
+    pub fn path(&self, a: &Root, towards: bool, bits: &mut Vec<u32>) -> Result<(), OutOfMemory>
+        requires { IsRoot self.now.state a.now }
+        ensures { OnOk result (bits.new.items ≡ bits.old.items ++ map (bit_of self.now.order) (levels_on towards (diagram_of self.now.state a.now))) }
+    {
+        let mut levels = Vec::new(*bits.allocator());
+        self.over_levels.path(a, towards, &mut levels)?;
+        add_bits(&self.order, &levels, bits)
     }
 
     /// The same diagrams, over the levels at which the bits stand.

@@ -10,6 +10,7 @@
 
 mod calls;
 mod diagrams;
+mod moves;
 mod order;
 mod paths;
 mod placing;

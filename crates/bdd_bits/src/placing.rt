@@ -1,8 +1,10 @@
 //! Bits, and what is fixed of them, written at their levels and back.
 
-ghost use Rattle.std.specs.Prelude.{◌≡◌, ◌<◌, ℕ, Option, None, false, length, slice_index_or};
+ghost use Rattle.std.specs.Prelude.{◌≡◌, ◌<◌, ◌++◌, ℕ, Option, None, false, OnOk, length, map, slice_index_or};
 ghost use Rattle.bdd_bits.specs.Orders.{bit_of, level_of};
 
+use crate::OutOfMemory;
+use crate::moves::put;
 use crate::order::Order;
 
 /// Writes what is fixed at each level: what is fixed of its bit.
@@ -36,4 +38,18 @@ pub(crate) fn write_bits(order: &Order, by_level: &[bool], bits: &mut [bool])
     for bit in 0..order.len() {
         bits[bit as usize] = by_level[order.level(bit) as usize];
     }
+}
+
+/// Adds for each of these levels the bit that stands there.
+pub(crate) fn add_bits(
+    order: &Order,
+    levels: &[u32],
+    bits: &mut Vec<u32>,
+) -> Result<(), OutOfMemory>
+    ensures { OnOk result (bits.new.items ≡ bits.old.items ++ map (bit_of order.now) levels.now) }
+{
+    for &level in levels {
+        put(bits, order.bit(level))?;
+    }
+    Ok(())
 }

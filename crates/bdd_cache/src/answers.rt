@@ -37,11 +37,13 @@ impl Model for Answers {
     ghost invariant = { λ answers. (0 < vec_len answers.cells) × (FIRST ≤ vec_capacity answers.cells) };
 }
 
-/// The number of a key: that of its first node, moved by what the rest is mixed into, by odd factors near the golden
-/// ratio's multiples (Knuth, multiplicative hashing). So answers about nodes that were made together stand together.
+/// The number of a key: four times that of the newer of its first two nodes, moved by what the other and the rest are mixed
+/// into, by an odd factor near the golden ratio's multiples (Knuth, multiplicative hashing). So answers about nodes that were
+/// made as late stand near each other.
 fn mixed(a: u32, b: u32, rest: u32) -> usize {
-    let pair = (u64::from(b) | (u64::from(rest) << 32)).wrapping_mul(0x9e37_79b9_7f4a_7c15);
-    (pair ^ (pair >> 32)).wrapping_add(u64::from(a)) as usize
+    let (older, newer) = if a < b { (a, b) } else { (b, a) };
+    let pair = (u64::from(older) | (u64::from(rest) << 32)).wrapping_mul(0x9e37_79b9_7f4a_7c15);
+    ((pair >> 54) + 4 * u64::from(newer)) as usize
 }
 
 /// The cell, or an empty one where its answer has a node that isn't live.

@@ -6,7 +6,8 @@ use Rattle.bdd_store.specs.declared.fault.StoreFault.TheVariants.{Full}
 use Rattle.bdd_store.specs.State.{State, IsEdge, IsRoot, diagram_of, AddsRoot, SameRoots, IsFull}
 use Rattle.bdd_ops.specs.Reading.{DependsOn}
 use Rattle.bdd_ops.specs.Contents.{Contents, function_at}
-pub use Rattle.bdd_ops.specs.Unfinished.{negated, IsNegatedPart, StandsInMade}
+pub use Rattle.bdd_ops.specs.Unfinished.{negated, IsNegatedPart}
+pub use Rattle.bdd_ops.specs.Standing.{StandsInMade}
 
 -- each kept root is the diagram that it was, and the levels and the budget stay
 pub record KeepsRoots (old new : Contents) : Type 0 where

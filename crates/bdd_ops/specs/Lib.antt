@@ -1,8 +1,10 @@
 pub mod Functions
 pub mod Contents
 pub mod Unfinished
+pub mod Standing
 pub mod Steps
 pub mod Calls
+pub mod Straight
 pub mod Paths
 pub mod Reading
 pub mod Together

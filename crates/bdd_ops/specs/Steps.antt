@@ -6,7 +6,8 @@ use Rattle.bdd_store.specs.State.{IsEdge, diagram_of, IsFull, IsHeldBy, KeepsHel
 use Rattle.bdd_ops.specs.Functions.{split, Join, joined, joined_over, join_of, is_among}
 use Rattle.bdd_ops.specs.Reading.{IgnoresTo}
 use Rattle.bdd_ops.specs.Contents.{Contents, function_at}
-pub use Rattle.bdd_ops.specs.Unfinished.{IsChoiceOfParts, IsJoinOfParts, JoinsResults, IsUnfinished, IsRelatedPart, IsShiftedPart, StandsInMade}
+pub use Rattle.bdd_ops.specs.Unfinished.{IsChoiceOfParts, IsJoinOfParts, JoinsResults, IsUnfinished, IsRelatedPart, IsShiftedPart}
+pub use Rattle.bdd_ops.specs.Standing.{StandsInMade}
 
 -- the diagram's level, and for a constant the number of levels
 abbrev pub level_of : ℕ → Diagram → ℕ

@@ -1,7 +1,6 @@
 -- Unfinished results of an operation: diagrams that it makes of parts of its arguments.
 use Rattle.std.specs.Prelude.{◌≡◌, ◌⊎◌, ℕ, true, false, List, not}
 use Rattle.spec_model.specs.Diagrams.{Diagram, value, ite, shifted, IsPartOf, Function}
-use Rattle.bdd_store.specs.State.{State, IsEdge, diagram_of}
 use Rattle.bdd_ops.specs.Functions.{Join, joined, joined_over, join_of}
 
 -- the diagram is the choice between parts of these three
@@ -57,7 +56,3 @@ pub record IsNegatedPart (a made : Diagram) : Type 0 where
   pub x : Diagram
   pub x_part : IsPartOf x a
   pub is_negated : value made ≡ negated (value x)
-
--- the node stands in one that may be made
-abbrev pub StandsInMade : State → (Diagram → Type 0) → ℕ → Type 0
-StandsInMade s MayMake n = (r : ℕ) × IsEdge s r × MayMake (diagram_of s r) × IsPartOf (diagram_of s n) (diagram_of s r)

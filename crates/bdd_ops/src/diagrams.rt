@@ -6,13 +6,14 @@ ghost use Rattle.bdd_ops.specs.Functions.{join_of, joined};
 ghost use Rattle.bdd_ops.specs.Paths.{HasNone, IsFirst};
 ghost use Rattle.bdd_ops.specs.Splits.{AddsBoth, SplitsAt};
 ghost use Rattle.bdd_ops.specs.Steps.{IsChoiceOfParts, IsJoinOfParts, IsQuantifiedPart, IsRelatedPart, IsShiftedPart, IsUnfinished, level_at};
+ghost use Rattle.bdd_ops.specs.Straight.{levels_on};
 ghost use Rattle.bdd_ops.specs.Together.{all_of};
 ghost use Rattle.bdd_store.specs.State.{AddsRoot, IsEdge, IsNewStore, IsReached, IsRoot, SameRoots, diagram_of};
 ghost use Rattle.node_table.specs.Table.{count_of};
 ghost use Rattle.spec_model.specs.DiagramReads.{bits_of, forall_over};
 ghost use Rattle.spec_model.specs.Diagrams.{and_exists_over, constant, exists_over, ite, shifted, value};
 ghost use Rattle.std.specs.List.{All};
-ghost use Rattle.std.specs.Prelude.{Bool, Err, IfOk, IsTrue, MatchOption, OnErr, [], false, length, true, ℕ, ◌++◌, ◌+◌, ◌<◌, ◌↔◌, ◌∷◌, ◌≡◌, ◌≤◌, ◌⊎◌};
+ghost use Rattle.std.specs.Prelude.{Bool, Err, IfOk, IsTrue, MatchOption, OnErr, OnOk, [], false, length, true, ℕ, ◌++◌, ◌+◌, ◌<◌, ◌↔◌, ◌∷◌, ◌≡◌, ◌≤◌, ◌⊎◌};
 
 use crate::OutOfMemory;
 use crate::split::Split;
@@ -189,6 +190,15 @@ impl Diagrams {
         ensures { result ≡ function_at self.now a.now (bits_of bits.now) }
     {
         self.work.eval(a, bits)
+    }
+
+    /// Adds the levels that one path of a diagram reads, from the top down: at each node it goes to the part of the bit
+    /// `towards`, unless that is false, and then to the other one.
+    pub fn path(&self, a: &Root, towards: bool, levels: &mut Vec<u32>) -> Result<(), OutOfMemory>
+        requires { IsRoot self.now.state a.now }
+        ensures { OnOk result (levels.new.items ≡ levels.old.items ++ levels_on towards (diagram_of self.now.state a.now)) }
+    {
+        self.work.path(a, towards, levels)
     }
 
     /// Finds the first bits, level by level and false before true, that agree with what is fixed and make `a` true,

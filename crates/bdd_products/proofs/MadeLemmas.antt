@@ -74,6 +74,16 @@ module _ (old mid : Contents) (v : Vec ℕ Global) (whole : Function) (lines : M
       let there = makes_between old mid tried new (λ n. times_in n v.items) (record { keeps = lines.keeps; added = lines.added }) back nodes (Err h) (λ s. true) refused in
       record { conjunction = tt; added = tt; refused = there.refused; keeps = there.keeps; full = λ e. there.full (ap (λ (k : Halt). Err k) (ap (halt_or h) e)) }
 
+  -- what stays then has stayed from the beginning
+  keeps_then_lines : (c : Contents) → KeepsRoots mid c → KeepsRoots old c
+  keeps_then_lines c keeps =
+      record {
+        levels = keeps.levels ∙ lines.keeps.levels;
+        budget = keeps.budget ∙ lines.keeps.budget;
+        order = keeps.order ∙ lines.keeps.order;
+        meaning = λ n root. keeps.meaning n (lines_before n root) ∙ lines.keeps.meaning n root;
+      }
+
   -- these lines, where the others are given back
   pub others_back : (tried new : Contents) (w : Vec ℕ Global) (f : Function) → MakesLines mid tried (Ok w) f → ((n : ℕ) → roots_at tried.state n ≡ roots_at new.state n + times_in n w.items) → SameNodes tried new → MakesLines old new (Ok v) whole
   others_back tried new w f made back nodes =
@@ -85,12 +95,14 @@ module _ (old mid : Contents) (v : Vec ℕ Global) (whole : Function) (lines : M
         keeps = keeps_then_lines new keeps;
         full = λ e. absurd (false≢true (sym (ap is_ok e)));
       }
-    where
-      keeps_then_lines : (c : Contents) → KeepsRoots mid c → KeepsRoots old c
-      keeps_then_lines c keeps =
-          record {
-            levels = keeps.levels ∙ lines.keeps.levels;
-            budget = keeps.budget ∙ lines.keeps.budget;
-            order = keeps.order ∙ lines.keeps.order;
-            meaning = λ n root. keeps.meaning n (lines_before n root) ∙ lines.keeps.meaning n root;
-          }
+
+  -- these lines, where others are refused
+  pub others_refused : (tried : Contents) (h : Halt) (f : Function) → MakesLines mid tried (Err h) f → MakesLines old tried (Ok v) whole
+  others_refused tried h f made =
+      record {
+        conjunction = ap all_true (functions_kept mid tried made.keeps v.items lines_roots) ∙ lines.conjunction;
+        added = λ n. (let same = made.refused n in let all = lines.added n in omega (arith, same, all));
+        refused = tt;
+        keeps = keeps_then_lines tried made.keeps;
+        full = λ e. absurd (false≢true (sym (ap is_ok e)));
+      }

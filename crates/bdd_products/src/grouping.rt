@@ -102,7 +102,37 @@ fn sorted_groups(
     made
 }
 
-/// Members in the fewer groups of two orders, those that begin deepest first or those that begin at the top.
+/// The groups, or those of another order, where these are made and are fewer than so many. The others are given back.
+fn fewer(
+    diagrams: &mut Diagrams,
+    alloc: Global,
+    members: &[Root],
+    groups: Vec<Root>,
+    first: First,
+    end: usize,
+) -> Vec<Root>
+    requires groups { (base : Contents) × MakesLines base diagrams.old (Ok groups) (all_true (functions_at base members.now)) × AreRoots base members.now }
+    requires some { 0 < length groups.items }
+    ensures lines { (base : Contents) → MakesLines base diagrams.old (Ok groups) (all_true (functions_at base members.now)) → AreRoots base members.now →
+        MakesLines base diagrams.new (Ok result) (all_true (functions_at base members.now)) }
+    ensures some { 0 < length result.items }
+{
+    match sorted_groups(diagrams, alloc, members, first) {
+        Ok(other) => {
+            if other.len() < end {
+                release_list(diagrams, groups);
+                other
+            } else {
+                release_list(diagrams, other);
+                groups
+            }
+        }
+        Err(_) => groups,
+    }
+}
+
+/// Members in groups of one of three orders, of those that are made: the deepest first, the topmost first, where these are
+/// fewer, or the last of the deepest first, where these are fewer than half. Where the first order is refused, that is answered.
 fn fewest_groups(
     diagrams: &mut Diagrams,
     alloc: Global,
@@ -112,22 +142,11 @@ fn fewest_groups(
     ensures lines { MakesLines diagrams.old diagrams.new result (all_true (functions_at diagrams.old members.now)) }
     ensures some { IfOk result (λ roots. 0 < length roots.items) }
 {
-    let deepest = sorted_groups(diagrams, alloc, members, First::Deepest)?;
-    match sorted_groups(diagrams, alloc, members, First::Topmost) {
-        Ok(topmost) => {
-            if topmost.len() < deepest.len() {
-                release_list(diagrams, deepest);
-                Ok(topmost)
-            } else {
-                release_list(diagrams, topmost);
-                Ok(deepest)
-            }
-        }
-        Err(halt) => {
-            release_list(diagrams, deepest);
-            Err(halt)
-        }
-    }
+    let groups = sorted_groups(diagrams, alloc, members, First::Deepest)?;
+    let end = groups.len();
+    let groups = fewer(diagrams, alloc, members, groups, First::Topmost, end);
+    let end = groups.len() / 2;
+    Ok(fewer(diagrams, alloc, members, groups, First::LastOfDeepest, end))
 }
 
 /// The members of two lists in groups.

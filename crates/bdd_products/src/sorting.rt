@@ -1,6 +1,6 @@
 //! Members in the order of the levels at which they begin.
 
-ghost use Rattle.std.specs.Prelude.{◌≡◌, ◌<◌, length, IfOk, Err, IsPermutation};
+ghost use Rattle.std.specs.Prelude.{◌≡◌, ◌<◌, length, reverse, IfOk, Err, IsPermutation};
 ghost use Rattle.std.specs.List.{All};
 ghost use Rattle.bdd_store.specs.State.{IsRoot};
 ghost use Rattle.bdd_sets.specs.Members.{AreRoots, all_true, functions_at};
@@ -13,11 +13,13 @@ use bit_compile::steps::keep;
 use regions::Halt;
 use std::alloc::Global;
 
-/// Which members come first: those that begin deepest, or those that begin at the top.
+/// Which members come first: those that begin deepest or those that begin at the top, equals in their order; or those that
+/// begin deepest, the last of equals first.
 #[derive(Clone, Copy)]
 pub enum First {
     Deepest,
     Topmost,
+    LastOfDeepest,
 }
 
 /// The level at which a member begins to read, and one behind all levels for a constant.
@@ -47,7 +49,7 @@ fn places_of(
         let begin = begin_of(diagrams, &members[place]);
         let number = match first {
             First::Deepest => usize::MAX - begin,
-            First::Topmost => begin,
+            First::Topmost | First::LastOfDeepest => begin,
         };
         if places.push((number, place)).is_err() {
             return Err(Halt::Memory);
@@ -57,6 +59,33 @@ fn places_of(
         return Err(Halt::Memory);
     }
     Ok(places)
+}
+
+/// The last first.
+fn turned(mut places: Vec<(usize, usize)>) -> Vec<(usize, usize)>
+    ensures { result.items ≡ reverse places.items }
+{
+    places.reverse();
+    places
+}
+
+/// The place of each member, in the order in which they come.
+fn order_of(
+    diagrams: &Diagrams,
+    alloc: Global,
+    members: &[Root],
+    first: First,
+) -> Result<Vec<(usize, usize)>, Halt>
+    requires { AreRoots diagrams.now members.now }
+    ensures places { IfOk result (λ places. IsPermutation members.now (members_in members.now places.items)) }
+    ensures within { IfOk result (λ places. All (λ p. p.1 < length members.now) places.items) }
+    ensures memory { result ≡ Err Halt.Budget → ⊥ }
+{
+    let places = places_of(diagrams, alloc, members, first)?;
+    match first {
+        First::LastOfDeepest => Ok(turned(places)),
+        First::Deepest | First::Topmost => Ok(places),
+    }
 }
 
 /// A second root of each member, in the order of these places.
@@ -88,6 +117,6 @@ pub fn sorted(
     requires { AreRoots diagrams.old members.now }
     ensures { MakesLines diagrams.old diagrams.new result (all_true (functions_at diagrams.old members.now)) }
 {
-    let places = places_of(diagrams, alloc, members, first)?;
+    let places = order_of(diagrams, alloc, members, first)?;
     picked(diagrams, alloc, members, &places)
 }

@@ -117,6 +117,9 @@ module _ (t : Table) (slots : List ℕ) (count free : ℕ) (kept : IsKept t slot
     pub grown_has : IsNodeAt grown_table node n
     grown_has = record { inner = inner; live = settles.live_here; has = settles.here }
 
+    pub grown_node : IsNodeAt grown_table node n
+    grown_node = record { inner = inner; live = settles.live_here; has = settles.here }
+
     pub grown_adds : AddsNode t grown_table n
     grown_adds = record {
       bounds = record { levels = refl; budget = refl };

@@ -4,7 +4,7 @@ use Rattle.std.specs.Prelude.{count_by}
 use Rattle.std.proofs.lemmas.Bool.{cases_lt, cases_eq, cases_order, lt-ltb, le-ltb, ne_eqb, eq-eqb, false≢true}
 use Rattle.std.proofs.lemmas.List.Sums.{sum_by-set, sum_by-cons, sum_by-take-le, count_by_more_yes}
 use Rattle.node_table.specs.declared.node.Node.{Node}
-use Rattle.node_table.specs.Index.{start_of, slot_after, slot_for, named_at, used, node_of, EndsAt, IsNamed, IsIndex, LiveBelow, IsFlagged, IsApart}
+use Rattle.node_table.specs.Index.{near_of, start_of, slot_after, slot_for, named_at, used, node_of, EndsAt, IsNamed, IsIndex, LiveBelow, IsFlagged, IsApart}
 
 -- ---- steps
 
@@ -28,8 +28,8 @@ slot_after-more size start steps at within less e inside =
           omega (arith, h, slot_after-far size start (steps + 1) (omega arith))
     ]
 
-pub slot_after-wraps : (size start steps at : ℕ) → start < size → steps < size → at ≡ slot_after size start steps → at + 1 ≡ size → steps + 1 < size → 0 ≡ slot_after size start (steps + 1)
-slot_after-wraps size start steps at within less e last more =
+pub slot_after-wraps : (size start steps at : ℕ) → start < size → steps < size → at ≡ slot_after size start steps → at + 1 ≡ size → 0 ≡ slot_after size start (steps + 1)
+slot_after-wraps size start steps at within less e last =
     elim (cases_lt (start + steps) size) [
       | inl near ↦ let h : at ≡ start + steps = e ∙ slot_after-near size start steps near in
           omega (arith, h, slot_after-far size start (steps + 1) (omega (arith, h, last)))
@@ -44,6 +44,12 @@ met size start at within less =
       | inl before ↦ (at + size - start, omega arith, slot_after-far size start (at + size - start) (omega arith) ∙ omega arith)
       | inr behind ↦ (at - start, omega arith, slot_after-near size start (at - start) (omega arith) ∙ omega arith)
     ]
+
+-- behind the first slot
+pub slot_for-more : (slots : List ℕ) (node : Node) (steps : ℕ) → slot_for slots node (steps + 1) ≡ slot_after (length slots) (start_of node (length slots)) steps
+slot_for-more slots node steps =
+    ap (λ b. cond b (near_of node (length slots)) (slot_after (length slots) (start_of node (length slots)) (steps + 1 - 1))) (ne_eqb (steps + 1) 0 (λ e. omega (arith, e))) ∙
+    ap (slot_after (length slots) (start_of node (length slots))) (omega arith)
 
 -- ---- counts
 
@@ -68,11 +74,11 @@ used-empty (n ∷ slots) empty =
     omega (arith, none, parts, used-empty slots (λ k. empty (suc k)))
 
 -- a search that passed each slot means that all are used
-pub all_used : (slots : List ℕ) (node : Node) → start_of node (length slots) < length slots → ((d : ℕ) → d < length slots → named_at slots node d ≢ 0) → used slots ≡ length slots
+pub all_used : (slots : List ℕ) (node : Node) → start_of node (length slots) < length slots → ((d : ℕ) → d < length slots → named_at slots node (d + 1) ≢ 0) → used slots ≡ length slots
 all_used slots node start passed =
     count_by-all (λ n. not (n == 0)) slots 0 (λ k less.
     let at = met (length slots) (start_of node (length slots)) k start less in
-    let other : get_or slots k 0 ≢ 0 = subst (λ i. get_or slots i 0 ≢ 0) at.2 (passed at.0 at.1) in
+    let other : get_or slots k 0 ≢ 0 = subst (λ i. get_or slots i 0 ≢ 0) (slot_for-more slots node at.0 ∙ at.2) (passed at.0 at.1) in
     ap not (ne_eqb (get_or slots k 0) 0 other))
 
 -- ---- an empty slot
@@ -94,7 +100,7 @@ kept_slot : (slots : List ℕ) (at n k : ℕ) → get_or slots at 0 ≡ 0 → ge
 kept_slot slots at n k empty some = get_or-set_other slots at k n 0 (λ e. some (ap (λ i. get_or slots i 0) e ∙ empty))
 
 named_at-set : (slots : List ℕ) (at n : ℕ) (node : Node) (steps : ℕ) → named_at (set slots at n) node steps ≡ get_or (set slots at n) (slot_for slots node steps) 0
-named_at-set slots at n node steps = ap (λ size. get_or (set slots at n) (slot_after size (start_of node size) steps) 0) (length-set slots at n)
+named_at-set slots at n node steps = ap (λ size. get_or (set slots at n) (cond (steps == 0) (near_of node size) (slot_after size (start_of node size) (steps - 1))) 0) (length-set slots at n)
 
 kept_name : (slots : List ℕ) (at n : ℕ) (node : Node) (steps : ℕ) → get_or slots at 0 ≡ 0 → named_at slots node steps ≢ 0 →
     named_at (set slots at n) node steps ≡ named_at slots node steps
@@ -105,7 +111,7 @@ module _ (slots : List ℕ) (nodes : List Node) (at n : ℕ) (ends : EndsAt slot
   new_is_named : IsNamed (set slots at n) nodes n
   new_is_named = record {
     steps = ends.steps;
-    within = subst (λ size. ends.steps < size) (sym (length-set slots at n)) ends.within;
+    within = subst (λ size. ends.steps ≤ size) (sym (length-set slots at n)) ends.within;
     named = named_at-set slots at n (node_of nodes n) ends.steps ∙ (ap (λ k. get_or (set slots at n) k 0) (sym ends.place) ∙ get_or-set_same slots at n 0 within);
     passed = λ d less e. (ends.passed d less).0 (sym (kept_name slots at n (node_of nodes n) d empty (ends.passed d less).0) ∙ e);
   }
@@ -113,7 +119,7 @@ module _ (slots : List ℕ) (nodes : List Node) (at n : ℕ) (ends : EndsAt slot
   old_is_named : (k : ℕ) → k ≢ 0 → IsNamed slots nodes k → IsNamed (set slots at n) nodes k
   old_is_named k other is_named = record {
     steps = is_named.steps;
-    within = subst (λ size. is_named.steps < size) (sym (length-set slots at n)) is_named.within;
+    within = subst (λ size. is_named.steps ≤ size) (sym (length-set slots at n)) is_named.within;
     named = kept_name slots at n (node_of nodes k) is_named.steps empty (λ e. other (sym is_named.named ∙ e)) ∙ is_named.named;
     passed = λ d less e. is_named.passed d less (sym (kept_name slots at n (node_of nodes k) d empty (is_named.passed d less)) ∙ e);
   }

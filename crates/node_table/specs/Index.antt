@@ -5,22 +5,32 @@ use Rattle.node_table.specs.declared.node.Node.{Node}
 use Rattle.spec_model.specs.Diagrams.{IsPartOf}
 use Rattle.node_table.specs.Table.{Table, no_node, IsSound, IsLive, IsMarked, MarksNode, count_of, is_marked, level_at, diagram_at}
 
--- what level and high part are mixed into, by odd factors near the golden ratio's multiples (Knuth, multiplicative
--- hashing)
-abbrev pub mixed : Node → ℕ
-mixed node = (node.high * 0x9e3779b97f4a7c15 % 2 ^ 64 + node.level * 0xd6e8feb86659fd93 % 2 ^ 64) % 2 ^ 64
+-- what two numbers are mixed into, by odd factors near the golden ratio's multiples (Knuth, multiplicative hashing)
+abbrev pub mixed : ℕ → ℕ → ℕ
+mixed part level = (part * 0x9e3779b97f4a7c15 % 2 ^ 64 + level * 0xd6e8feb86659fd93 % 2 ^ 64) % 2 ^ 64
 
--- the slot where the search for a node begins: nodes over low parts that were made together stand together
+-- the part of a node that has the greater number, and the other one
+abbrev pub newer : Node → ℕ
+newer node = if nat_lt node.low node.high then node.high else node.low
+
+abbrev pub older : Node → ℕ
+older node = if nat_lt node.low node.high then node.low else node.high
+
+-- the slot where the search for a node looks first: it stands near those of nodes over parts that were made as late
+abbrev pub near_of : Node → ℕ → ℕ
+near_of node size = bit_and (mixed (older node) node.level / 2 ^ 54 + 4 * newer node) (size - 1)
+
+-- the slot from which the search goes on: nodes over low parts that were made together stand together
 abbrev pub start_of : Node → ℕ → ℕ
-start_of node size = bit_and (mixed node / 2 ^ 32 + 4 * node.low) (size - 1)
+start_of node size = bit_and (mixed node.high node.level / 2 ^ 32 + 4 * node.low) (size - 1)
 
 -- the slot that is so many steps behind another, the first following the last
 abbrev pub slot_after : ℕ → ℕ → ℕ → ℕ
 slot_after size start steps = if nat_lt (start + steps) size then start + steps else start + steps - size
 
--- the slot of the search's steps
+-- the slot of the search's steps: the first, and then one behind the other
 abbrev pub slot_for : List ℕ → Node → ℕ → ℕ
-slot_for slots node steps = slot_after (length slots) (start_of node (length slots)) steps
+slot_for slots node steps = if steps == 0 then near_of node (length slots) else slot_after (length slots) (start_of node (length slots)) (steps - 1)
 
 -- what stands in the slot of the search's steps
 abbrev pub named_at : List ℕ → Node → ℕ → ℕ
@@ -33,10 +43,18 @@ used slots = count_by (λ n. not (n == 0)) slots
 abbrev pub node_of : List Node → ℕ → Node
 node_of nodes n = slice_index_or nodes n no_node
 
+-- what stands in a slot is another node's number
+abbrev pub IsPassed : List Node → Node → ℕ → Type 0
+IsPassed nodes node named = (named ≢ 0) × (node_of nodes named ≢ node)
+
+-- the slot is empty, or names the node
+abbrev pub HasEnded : List ℕ → List Node → Node → ℕ → Type 0
+HasEnded slots nodes node at = (slice_index slots at ≡ 0) ⊎ ((slice_index slots at ≢ 0) × (node_of nodes (slice_index slots at) ≡ node))
+
 -- the search for a node ends at the slot: each slot before it names another node, and it is empty or names that node
 pub record EndsAt (slots : List ℕ) (nodes : List Node) (node : Node) (at : ℕ) : Type 0 where
   pub steps : ℕ
-  pub within : steps < length slots
+  pub within : steps ≤ length slots
   pub place : at ≡ slot_for slots node steps
   pub passed : (d : ℕ) → d < steps → (named_at slots node d ≢ 0) × (node_of nodes (named_at slots node d) ≢ node)
   pub ends : (slice_index slots at ≡ 0) ⊎ ((slice_index slots at ≢ 0) × (node_of nodes (slice_index slots at) ≡ node))
@@ -44,7 +62,7 @@ pub record EndsAt (slots : List ℕ) (nodes : List Node) (node : Node) (at : ℕ
 -- the search for a node's own triple meets its number before an empty slot
 pub record IsNamed (slots : List ℕ) (nodes : List Node) (n : ℕ) : Type 0 where
   pub steps : ℕ
-  pub within : steps < length slots
+  pub within : steps ≤ length slots
   pub named : named_at slots (node_of nodes n) steps ≡ n
   pub passed : (d : ℕ) → d < steps → named_at slots (node_of nodes n) d ≢ 0
 

@@ -27,4 +27,4 @@ returns-in-Ok c =
     let both : Function = joined (join_of true) (value e) (value f) in
     as_seen (λ (d : Contents). and_exists_over bits (function_at d a) (function_at d b)) (λ (d : Contents). IsUnfinished (join_of false) (IsRelatedPart (levels_of d.order bits) (diagram_of d.state a) (diagram_of d.state b))) _ _ _ _ c.self.view_is
     (list_gives (λ (ls : List ℕ). and_exists_over ls (value e) (value f)) (λ (ls : List ℕ). IsUnfinished (join_of false) (IsRelatedPart ls e f)) _ _ _ _ _ _ (c.deref.ensures.value ∙ c.in-Ok.ensures) refl
-    (exists_over_bits _ c.self.inside.order c.self.invariant bits both) c.and_exists.ensures)
+    (exists_over_bits _ c.self.inside.order c.self.invariant.0 bits both) c.and_exists.ensures)

@@ -7,4 +7,4 @@ pub returns : goal.returns
 returns c =
     let o = c.self.inside.order in
     subst (λ (d : Contents). IsTrue c.equal.result ↔ (function_at d c.args.a.now ≡ function_at d c.args.b.now)) c.self.view_is
-    (λ same. ap (over_bits o) (c.equal.ensures.0 same), λ same. c.equal.ensures.1 (over_bits_one _ o c.self.invariant _ _ same))
+    (λ same. ap (over_bits o) (c.equal.ensures.0 same), λ same. c.equal.ensures.1 (over_bits_one _ o c.self.invariant.0 _ _ same))

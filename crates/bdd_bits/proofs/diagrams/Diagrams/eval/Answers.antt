@@ -25,4 +25,4 @@ returns-clause-value c =
     let ok = c.all.inside.room.by_level.ok.0 in
     let written : c.deref.result.now ≡ placed = c.deref.ensures.value ∙ with_items_is c.all.inside.room.by_level placed (omega (arith, ok, long, whole)) in
     subst (λ (e : Contents). c.eval.result ≡ function_at e c.args.a.now (bits_of bits)) c.self.view_is
-    (c.eval.ensures ∙ (ap (λ (bs : List Bool). value d (bits_of bs)) written ∙ ap (value d) (sym (bits_by_level v.state.table.levels v.order c.self.invariant bits placed each placed_each (λ level below. c.write_by_level.ensures level (omega (arith, below, each)))))))
+    (c.eval.ensures ∙ (ap (λ (bs : List Bool). value d (bits_of bs)) written ∙ ap (value d) (sym (bits_by_level v.state.table.levels v.order c.self.invariant.0 bits placed each placed_each (λ level below. c.write_by_level.ensures level (omega (arith, below, each)))))))

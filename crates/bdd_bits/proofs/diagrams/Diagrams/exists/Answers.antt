@@ -23,4 +23,4 @@ returns-in-Ok c =
     let e : Diagram = diagram_of c.self.inside.over_levels.state a in
     as_seen (λ (d : Contents). exists_over bits (function_at d a)) (λ (d : Contents). IsUnfinished (join_of false) (IsQuantifiedPart (join_of false) (levels_of d.order bits) (diagram_of d.state a))) _ _ _ _ c.self.view_is
     (list_gives (λ (ls : List ℕ). exists_over ls (value e)) (λ (ls : List ℕ). IsUnfinished (join_of false) (IsQuantifiedPart (join_of false) ls e)) _ _ _ _ _ _ (c.deref.ensures.value ∙ c.in-Ok.ensures) refl
-    (exists_over_bits _ c.self.inside.order c.self.invariant bits (value e)) c.exists.ensures)
+    (exists_over_bits _ c.self.inside.order c.self.invariant.0 bits (value e)) c.exists.ensures)

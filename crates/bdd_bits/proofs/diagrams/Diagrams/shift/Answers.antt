@@ -20,8 +20,8 @@ pub shift-requires-clause-rising : goal.shift-requires-clause-rising
 shift-requires-clause-rising c =
     let rises = subst (λ (d : Contents). Rises d.state.table.levels d.order c.args.to.now (function_at d c.args.a.now)) (sym c.self.view_is) c.requires.rising in
     let d : Diagram = diagram_of c.self.inside.over_levels.state c.args.a.now in
-    subst (λ (ls : List ℕ). RisesOver c.self.inside.over_levels.state.table.levels ls (value d)) (sym (c.deref.ensures.value ∙ c.in-Ok.ensures))
-    (levels_rise _ c.self.inside.order c.self.invariant c.args.to.now (value d) rises)
+    subst (λ (ls : List ℕ). RisesOver c.self.inside.over_levels.state.table.levels ls (value d)) (sym (c.deref.ensures.value ∙ c.in-Ok.ensures.levels))
+    (levels_rise _ c.self.inside.order c.self.invariant.0 c.args.to.now (value d) rises)
 
 pub returns-in-Ok : goal.returns-in-Ok
 returns-in-Ok c =
@@ -29,4 +29,4 @@ returns-in-Ok c =
     let to = c.args.to.now in
     let short = subst (λ (d : Contents). length to ≤ d.state.table.levels) (sym c.self.view_is) c.requires.rising.short in
     as_seen (λ (d : Contents). shifted to (function_at d a)) (λ (d : Contents). IsShiftedPart (moved_levels d.order to) (diagram_of d.state a)) _ _ _ _ c.self.view_is
-    (shift_gives _ _ _ _ _ _ c.self.invariant (c.deref.ensures.value ∙ c.in-Ok.ensures) refl short c.shift.ensures)
+    (shift_gives _ _ _ _ _ _ c.self.invariant.0 (c.deref.ensures.value ∙ c.in-Ok.ensures.levels) refl short c.shift.ensures)

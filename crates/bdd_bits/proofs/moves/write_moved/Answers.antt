@@ -1,5 +1,5 @@
 use Rattle.bdd_bits.proofs.ShiftLemmas.{moved_more}
-use Rattle.bdd_bits.proofs.calls.write_moved.Goals as goal
+use Rattle.bdd_bits.proofs.moves.write_moved.Goals as goal
 
 pub loop-level-preserved : goal.loop-level-preserved
 loop-level-preserved c =
