@@ -102,7 +102,8 @@ fn sorted_groups(
     made
 }
 
-/// The groups, or those of another order, where these are made and are fewer than so many. The others are given back.
+/// The groups, or those of another order, where these are made and are fewer than so many. The others are given back. None are
+/// made where they can't be fewer, since each order has a group.
 fn fewer(
     diagrams: &mut Diagrams,
     alloc: Global,
@@ -117,6 +118,9 @@ fn fewer(
         MakesLines base diagrams.new (Ok result) (all_true (functions_at base members.now)) }
     ensures some { 0 < length result.items }
 {
+    if end < 2 {
+        return groups;
+    }
     match sorted_groups(diagrams, alloc, members, first) {
         Ok(other) => {
             if other.len() < end {

@@ -8,6 +8,7 @@ pub mod Lists
 pub mod Popped
 pub mod Parted
 pub mod Climbed
+pub mod Counted
 pub mod Turned
 pub mod Givings
 pub mod Rounds

@@ -1,6 +1,8 @@
 pub mod Held
 pub mod Givens
 pub mod Solved
+pub mod Counted
+pub mod Numbers
 pub mod Solution
 pub mod Layered
 pub mod Moment

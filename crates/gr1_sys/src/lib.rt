@@ -4,12 +4,17 @@
 //! above the layer below (Bloem et al. 2012, solving GR(1) games). Each round of the solver holds one value of Z and the
 //! layers for it: those of earlier values are spent.
 //!
-//! Contract: `solve_sys` and `SysLayers::k`; `spend_all` gives back many regions. Path: regions → **layers** → controller.
+//! Where the number K alone is asked for, a layer is spent as soon as the next one is made.
+//!
+//! Contract: `solve_sys`, `SysLayers::k` and `count_sys`; `spend_all` gives back many regions. Path: regions → **layers** →
+//! controller.
 #![tactic(auto)]
 
 mod climbing;
+mod counting;
 mod givens;
 mod joining;
+mod lasts;
 mod layers;
 mod parts;
 mod ranks;
@@ -17,6 +22,7 @@ mod solving;
 mod spending;
 mod turns;
 
+pub use counting::count_sys;
 pub use joining::{and_in, or_in};
 pub use layers::{SysLayer, SysLayers};
 pub use solving::solve_sys;

@@ -1,20 +1,16 @@
 -- What is found of its game is found of a specification.
-use Rattle.std.proofs.Common.{◌≡◌, inl, inr, ℕ, Bool, true, false, not, List, length, Some, None, Vec, slice_get, refl, sym, ap, subst, arith, ◌∙◌}
+use Rattle.std.proofs.Common.{◌≡◌, inl, inr, ℕ, Bool, true, false, not, List, length, Some, None, slice_get, refl, sym, ap, subst, arith, ◌∙◌}
 use Rattle.std.proofs.lemmas.Bool.{false≢true}
 use Rattle.spec_model.specs.Syntax.{Specification}
 use Rattle.spec_model.specs.Games.{GameData}
 use Rattle.spec_model.specs.Sets.{StateSet, system_forces, environment_forces}
 use Rattle.spec_model.specs.WellMade.{WellMade}
 use Rattle.hidden_game.specs.GameOf.{game_of}
-use Rattle.std.specs.declared.alloc.Global.{Global}
 use Rattle.regions.specs.Kept.{Kept, IsSameGame}
 use Rattle.gr1_law.specs.Layers.{LayerSets, IsWinning, round_count, goal_sets}
 use Rattle.gr1_law.specs.EnvLayers.{EnvLayerSets, AreEnvLayers, IsLayerCount, AreDelayCounts, denial_count}
-use Rattle.gr1_sys.specs.declared.layers.SysLayer.{SysLayer}
-use Rattle.gr1_sys.specs.Held.{ranks_of}
 use Rattle.gr1_env.specs.declared.layers.EnvLayer.{EnvLayer}
 use Rattle.gr1_env.specs.Solved.{counts_of, denials_of, WonByEnvironment}
-use Rattle.controller.specs.Made.{AreLayersOf}
 use Rattle.spec_model.specs.Agreement.{Agrees}
 use Rattle.spec_model.specs.Laws.{NumbersRise}
 use Rattle.gr1_law.proofs.Settling.{some_ranks}
@@ -110,8 +106,3 @@ pub lost_game : {G R M : Type 0} (k : Kept R M) (layers : List (EnvLayer G R M))
 lost_game k layers e n m own shifts denials =
     subst (λ (n : ℕ). IsLostGame k.game n m) (sym shifts)
     (record { layers = e; counts = counts_of layers; are_layers = own.are.lost.layers; last = own.last; greatest = own.are.lost.delays; forced = own.are.lost.forced; denials = denials ∙ own.denials })
-
--- the layers of the winning states are held
-pub won_game : {G R M : Type 0} (k : Kept R M) (z : R) (layers : List (Vec (SysLayer G R M) Global)) (l : LayerSets) (n : ℕ) → AreLayersOf k z layers l → n ≡ round_count (ranks_of layers) → IsWonGame k.game n
-won_game k z layers l n own rounds =
-    record { winning_states = k.set z; layers = l; ranks = ranks_of layers; winning = own.winning; greatest = own.ranks; forced = own.forced; rounds = rounds }

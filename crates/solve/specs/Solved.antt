@@ -12,6 +12,9 @@ use Rattle.gr1_env.specs.Solved.{counts_of, denials_of}
 use Rattle.controller.specs.Made.{AreLayersOf}
 use Rattle.counterstrategy.specs.Made.{AreLayersOf as AreLostLayersOf}
 use Rattle.solve.specs.Budgets.{HoldsNothing, HoldsOneMoment}
+use Rattle.solve.specs.Winners.{IsWonGame}
+use Rattle.solve.specs.declared.solving.Opposed.{Opposed}
+use Rattle.solve.specs.declared.solving.Opposed.TheVariants as opposed
 use Rattle.solve.specs.declared.solving.Solved.{Solved}
 use Rattle.solve.specs.declared.solving.Solved.TheVariants.{BySystem, ByEnvironment}
 
@@ -32,3 +35,8 @@ module _ {G R M : Type 0} where
     pub layers : HoldsLayers new solved
     pub free : new.jam ≡ None
     pub of_one_moment : HoldsNothing old → HoldsOneMoment new
+
+  -- the system wins with this number, or the environment's layers are held
+  abbrev pub IsOpposed : {ghosts : Ghosts G R M} → Kept R M → Kept R M → Opposed G R M ghosts → Type 0
+  IsOpposed old new (opposed.BySystem k) = IsWonGame old.game k
+  IsOpposed old new (opposed.ByEnvironment layers) = IsSolved old new (ByEnvironment layers)

@@ -16,6 +16,8 @@ use Rattle.controller.specs.declared.controller.Controller.{Controller}
 use Rattle.controller.specs.Objects as controllers
 use Rattle.solve.specs.declared.answers.Numbers.{Numbers}
 use Rattle.solve.specs.declared.answers.Numbers.TheVariants as numbers
+use Rattle.solve.specs.declared.answers.Opposition.{Opposition}
+use Rattle.solve.specs.declared.answers.Opposition.TheVariants as opposition
 use Rattle.solve.specs.declared.answers.Verdict.{Verdict}
 use Rattle.solve.specs.declared.answers.Verdict.TheVariants.{Realizable, Unrealizable}
 use Rattle.solve.specs.Spaces.{space_kept}
@@ -55,3 +57,8 @@ AreNumbersOf s (numbers.Unrealizable n m) = IsWonByEnvironment s n m
 abbrev pub IsVerdictOn : Specification → Verdict → Type 0
 IsVerdictOn s (Realizable k play) = IsWonBySystem s k × IsPlayFor space_kept s k play
 IsVerdictOn s (Unrealizable n m play) = IsWonByEnvironment s n m × IsCounterplayFor space_kept s n m play
+
+-- the winner, with the numbers, and the environment's strategy where it wins
+abbrev pub IsOppositionOn : Specification → Opposition → Type 0
+IsOppositionOn s (opposition.Realizable k) = IsWonBySystem s k
+IsOppositionOn s (opposition.Unrealizable n m play) = IsWonByEnvironment s n m × IsCounterplayFor space_kept s n m play

@@ -2,23 +2,13 @@
 use Rattle.std.specs.Prelude.{◌≡◌, ℕ, true, List, None}
 use Rattle.spec_model.specs.Syntax.{Specification}
 use Rattle.spec_model.specs.Games.{GameData}
-use Rattle.spec_model.specs.Sets.{StateSet, system_forces, environment_forces}
+use Rattle.spec_model.specs.Sets.{environment_forces}
 use Rattle.spec_model.specs.Verdicts.{SystemWins, EnvironmentWins}
 use Rattle.hidden_game.specs.GameOf.{game_of}
-use Rattle.gr1_law.specs.Layers.{LayerSets, IsWinning, AreGreatestRanks, round_count}
 use Rattle.gr1_law.specs.EnvLayers.{EnvLayerSets, AreEnvLayers, IsLayerCount, AreDelayCounts, denial_count}
+pub use Rattle.gr1_sys.specs.Numbers.{IsWonGame}
 
 -- ---- games
-
--- The system wins: it forces the first state into the winning states, and K is one more than the greatest ranks together.
-pub record IsWonGame (g : GameData) (k : ℕ) : Type 0 where
-  pub winning_states : StateSet
-  pub layers : LayerSets
-  pub ranks : List ℕ
-  pub winning : IsWinning g winning_states layers
-  pub greatest : AreGreatestRanks g layers ranks
-  pub forced : system_forces g winning_states None ≡ true
-  pub rounds : k ≡ round_count ranks
 
 -- The environment wins: it forces the first state into its last layer. N is the number of that layer, and M one more than the
 -- greatest ranks together, of the layer from 1 to N and the goal for which they are most.

@@ -27,3 +27,17 @@ pub enum Verdict {
         play: Counterstrategy<Space>,
     },
 }
+
+/// Who wins, with the numbers, and where the environment does with its strategy, which has given no input.
+pub enum Opposition {
+    /// The system, with K rounds.
+    Realizable {
+        k: u64,
+    },
+    /// The environment, with N shifts and M denials in a row. The play must be closed.
+    Unrealizable {
+        n: u64,
+        m: u64,
+        play: Counterstrategy<Space>,
+    },
+}

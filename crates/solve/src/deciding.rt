@@ -9,11 +9,11 @@ ghost use Rattle.spec_model.specs.Views.{spec_data};
 ghost use Rattle.spec_model.specs.WellTyped.{WellTyped};
 ghost use Rattle.spec_model.specs.Cores.{with_guarantees};
 ghost use Rattle.solve.specs.Budgets.{MayHalt};
-ghost use Rattle.solve.specs.Verdicts.{AreNumbersOf, IsVerdictOn};
+ghost use Rattle.solve.specs.Verdicts.{AreNumbersOf, IsVerdictOn, IsOppositionOn};
 
-use crate::answers::{Numbers, Verdict};
+use crate::answers::{Numbers, Opposition, Verdict};
 use crate::playing::{environment_play, system_play};
-use crate::solving::{Solved, game_numbers, solve_game};
+use crate::solving::{Opposed, Solved, game_numbers, oppose_game, solve_game};
 use crate::space::space_of;
 use regions::Halt;
 use spec_model::spec::Spec;
@@ -93,6 +93,39 @@ pub fn whole_verdict(alloc: Global, spec: &Spec, budget: u32) -> Result<Verdict,
         Ok(verdict) => Ok(verdict),
         Err(Halt::Memory) => Err(Halt::Memory),
         Err(Halt::Budget) => verdict_under(alloc, spec, budget, false),
+    }
+}
+
+/// Who wins a specification, with the numbers, and with the environment's strategy where it does, in one attempt. The cause of a
+/// refusal is told of the declared order alone.
+fn opposition_under(alloc: Global, spec: &Spec, budget: u32, near: bool) -> Result<Opposition, Halt>
+    requires typed { WellTyped (spec_data spec.now) }
+    requires budget { 2 ≤ budget }
+    ensures opposition { IfOk result (IsOppositionOn (spec_data spec.now)) }
+    ensures cause { near ≡ false → IfErr result (MayHalt budget (spec_data spec.now)) }
+{
+    let mut g = space_of(alloc, spec, budget, near)?;
+    match oppose_game(alloc, &mut g)? {
+        Opposed::BySystem(k) => Ok(Opposition::Realizable { k }),
+        Opposed::ByEnvironment(layers) => {
+            let (n, m, play) = environment_play(alloc, g, layers)?;
+            Ok(Opposition::Unrealizable { n, m, play })
+        }
+    }
+}
+
+/// Who wins a specification, with the numbers, and with the environment's strategy where it does, which must be closed. Of the
+/// system's layers none is held but the last one of a goal. `Budget`: the nodes ran out. `Memory`: none was given.
+pub fn whole_opposition(alloc: Global, spec: &Spec, budget: u32) -> Result<Opposition, Halt>
+    requires typed { WellTyped (spec_data spec.now) }
+    requires budget { 2 ≤ budget }
+    ensures opposition { IfOk result (IsOppositionOn (spec_data spec.now)) }
+    ensures cause { IfErr result (MayHalt budget (spec_data spec.now)) }
+{
+    match opposition_under(alloc, spec, budget, true) {
+        Ok(opposition) => Ok(opposition),
+        Err(Halt::Memory) => Err(Halt::Memory),
+        Err(Halt::Budget) => opposition_under(alloc, spec, budget, false),
     }
 }
 

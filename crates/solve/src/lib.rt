@@ -22,15 +22,15 @@ mod separation;
 mod solving;
 mod space;
 
-pub use answers::{Numbers, Verdict};
+pub use answers::{Numbers, Opposition, Verdict};
 pub use cores::{core_of, core_of_lost};
-pub use deciding::{numbers, verdict, whole_numbers, whole_verdict};
+pub use deciding::{numbers, verdict, whole_numbers, whole_opposition, whole_verdict};
 pub use laws::{
     crowded_only_below_the_need, fewer_guarantees_stay_realizable, no_specification_is_won_by_both,
     one_of_both_wins, realizable_or_unrealizable,
 };
 pub use playing::{environment_play, system_play};
 pub use separation::{Separation, separated};
-pub use solving::{Solved, game_numbers, solve_game};
+pub use solving::{Opposed, Solved, game_numbers, oppose_game, solve_game};
 pub use space::Space;
 pub use spec_order::{Better, OrderFault, OrderReport, order_of};

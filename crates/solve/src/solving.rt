@@ -5,12 +5,12 @@ ghost use Rattle.spec_model.specs.WellMade.{WellMade};
 ghost use Rattle.regions.specs.Kept.{IsSameGame};
 ghost use Rattle.solve.specs.Budgets.{SolverHalts};
 ghost use Rattle.solve.specs.WinnerLaws.{EnvironmentForces};
-ghost use Rattle.solve.specs.Solved.{IsSolved, HoldsLayers};
+ghost use Rattle.solve.specs.Solved.{IsSolved, IsOpposed};
 ghost use Rattle.solve.specs.Verdicts.{AreNumbersOfGame};
 
 use crate::answers::Numbers;
 use gr1_env::{EnvLayers, solve_env};
-use gr1_sys::{SysLayers, solve_sys};
+use gr1_sys::{SysLayers, count_sys, solve_sys};
 use regions::{Halt, Regions};
 use std::alloc::Global;
 
@@ -54,23 +54,27 @@ pub fn solve_game<G: Regions>(alloc: Global, g: &mut G) -> Result<Solved<G>, Hal
     }
 }
 
-/// The winner's numbers, by its layers, which are spent. It takes no memory.
-pub fn counted<G: Regions>(g: &mut G, solved: Solved<G>) -> Numbers
-    requires holds { HoldsLayers (G.kept g.old) solved }
-    ensures { AreNumbersOfGame (G.kept g.old).game result }
+/// K where the system wins, of whose layers none is held; or the layers of the environment where it does, which must be spent.
+pub enum Opposed<G: Regions> {
+    /// The system wins, with K rounds.
+    BySystem(u64),
+    /// The environment wins.
+    ByEnvironment(EnvLayers<G>),
+}
+
+/// The layers of the environment where it wins the game of these regions, else K. `Budget`: the nodes ran out. `Memory`: none was
+/// given.
+pub fn oppose_game<G: Regions>(alloc: Global, g: &mut G) -> Result<Opposed<G>, Halt>
+    requires free { (G.kept g.old).jam ≡ None }
+    requires made { WellMade (G.kept g.old).game }
+    ensures opposed { IfOk result (IsOpposed (G.kept g.old) (G.kept g.new)) }
+    ensures cause { IfErr result (SolverHalts G.kept (G.kept g.old)) }
+    ensures keeps { IsSameGame (G.kept g.old) (G.kept g.new) }
 {
-    match solved {
-        Solved::BySystem(layers) => {
-            let k = layers.k();
-            layers.spend_all(g);
-            Numbers::Realizable { k }
-        }
-        Solved::ByEnvironment(layers) => {
-            let n = layers.n();
-            let m = layers.m();
-            layers.spend_all(g);
-            Numbers::Unrealizable { n, m }
-        }
+    match count_sys(alloc, g) {
+        Ok(Some(k)) => Ok(Opposed::BySystem(k)),
+        Ok(None) => Ok(Opposed::ByEnvironment(environment_layers(alloc, g)?)),
+        Err(halt) => Err(halt),
     }
 }
 
@@ -81,6 +85,13 @@ pub fn game_numbers<G: Regions>(alloc: Global, g: &mut G) -> Result<Numbers, Hal
     ensures numbers { IfOk result (AreNumbersOfGame (G.kept g.old).game) }
     ensures cause { IfErr result (SolverHalts G.kept (G.kept g.old)) }
 {
-    let solved = solve_game(alloc, g)?;
-    Ok(counted(g, solved))
+    match oppose_game(alloc, g)? {
+        Opposed::BySystem(k) => Ok(Numbers::Realizable { k }),
+        Opposed::ByEnvironment(layers) => {
+            let n = layers.n();
+            let m = layers.m();
+            layers.spend_all(g);
+            Ok(Numbers::Unrealizable { n, m })
+        }
+    }
 }

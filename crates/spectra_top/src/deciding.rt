@@ -14,7 +14,10 @@ ghost use Rattle.spectra_top.specs.Saying.{SaysNoVerdict};
 use crate::ordering::serve_order;
 use command_words::{Command, Request};
 use regions::Halt;
-use solve::{Numbers, Separation, Verdict, core_of_lost, separated, whole_numbers, whole_verdict};
+use solve::{
+    Numbers, Opposition, Separation, Verdict, core_of_lost, separated, whole_numbers,
+    whole_opposition, whole_verdict,
+};
 use sp_outside::{Sink, Source};
 use spec_model::spec::Spec;
 use spectra_talks::auditing::audit;
@@ -112,12 +115,9 @@ fn serve_counter<I: Source, O: Sink>(
     ensures { let at = moments I.left O.written I.reads I.faults O.faults in
         Decides commands.Counter nodes (spec_data spec.now) (at input.old output.old) (at input.new output.new) result }
 {
-    match whole_verdict(alloc, spec, nodes) {
-        Ok(Verdict::Realizable { k, play }) => {
-            let _g = play.close();
-            say_realizable_instead(alloc, k, output)
-        }
-        Ok(Verdict::Unrealizable { n, m, play }) => {
+    match whole_opposition(alloc, spec, nodes) {
+        Ok(Opposition::Realizable { k }) => say_realizable_instead(alloc, k, output),
+        Ok(Opposition::Unrealizable { n, m, play }) => {
             counter(alloc, spec, n, m, play, input, output)
         }
         Err(halt) => say_no_verdict(alloc, nodes, halt, output),
