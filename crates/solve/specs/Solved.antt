@@ -1,7 +1,7 @@
 -- A game that is solved: the layers of the side that wins are held.
 use Rattle.std.specs.Prelude.{◌≡◌, true, List, length, None}
 use Rattle.spec_model.specs.Sets.{environment_forces}
-use Rattle.regions.specs.Kept.{Kept}
+use Rattle.regions.specs.Kept.{Kept, Stays}
 use Rattle.regions.specs.declared.regions.Regions.{Ghosts}
 use Rattle.gr1_law.specs.Layers.{LayerSets}
 use Rattle.gr1_law.specs.EnvLayers.{EnvLayerSets, AreEnvLayers, IsLayerCount, AreDelayCounts, denial_count}
@@ -36,7 +36,7 @@ module _ {G R M : Type 0} where
     pub free : new.jam ≡ None
     pub of_one_moment : HoldsNothing old → HoldsOneMoment new
 
-  -- the system wins with this number, or the environment's layers are held
+  -- the system wins with this number, and nothing else is held; or the environment's layers are held
   abbrev pub IsOpposed : {ghosts : Ghosts G R M} → Kept R M → Kept R M → Opposed G R M ghosts → Type 0
-  IsOpposed old new (opposed.BySystem k) = IsWonGame old.game k
+  IsOpposed old new (opposed.BySystem k) = IsWonGame old.game k × Stays old new
   IsOpposed old new (opposed.ByEnvironment layers) = IsSolved old new (ByEnvironment layers)

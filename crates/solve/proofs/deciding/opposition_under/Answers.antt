@@ -9,7 +9,7 @@ use Rattle.solve.proofs.deciding.opposition_under.Goals as goal
 pub returns-in-BySystem-clause-opposition : goal.returns-in-BySystem-clause-opposition
 returns-in-BySystem-clause-opposition c =
     let h = rw c.in-BySystem.is at c.in_ok-k.ensures.opposed in
-    won_by (spec_data c.args.spec.now) c.requires.typed _ c.in_ok-g.ensures.made.game _ h
+    won_by (spec_data c.args.spec.now) c.requires.typed _ c.in_ok-g.ensures.made.game _ h.0
 
 pub returns-in_ok-n-in-ByEnvironment : goal.returns-in_ok-n-in-ByEnvironment
 returns-in_ok-n-in-ByEnvironment c =

@@ -10,7 +10,7 @@ pub spend_all-requires : goal.spend_all-requires
 spend_all-requires g c = let h = rw c.in-ByEnvironment.is at c.in_ok-k.ensures.opposed in h.layers.1.are.held
 
 pub returns-in-BySystem-clause-numbers : goal.returns-in-BySystem-clause-numbers
-returns-in-BySystem-clause-numbers g c = let h = rw c.in-BySystem.is at c.in_ok-k.ensures.opposed in h
+returns-in-BySystem-clause-numbers g c = let h = rw c.in-BySystem.is at c.in_ok-k.ensures.opposed in h.0
 
 pub returns-in-ByEnvironment-clause-numbers : goal.returns-in-ByEnvironment-clause-numbers
 returns-in-ByEnvironment-clause-numbers g c =

@@ -8,7 +8,7 @@ use Rattle.solve.proofs.solving.oppose_game.Goals as goal
 pub returns-in-Ok-Some-clause-opposed : goal.returns-in-Ok-Some-clause-opposed
 returns-in-Ok-Some-clause-opposed g c =
     let h = rw c.in-Ok-Some.field-0-is at c.in-Ok-Some.ensures in
-    h.counted
+    (h.counted, h.held)
 
 pub environment_layers-requires-clause-forces : goal.environment_layers-requires-clause-forces
 environment_layers-requires-clause-forces g c =
